@@ -12,9 +12,12 @@ use Rattle.console.specs.declared.configuration.Configured.{Configured}
 use Rattle.console.specs.declared.configuration.ConfiguredInterface.{ConfiguredInterface}
 use Rattle.console.specs.declared.configuration.ConfigurationError.{ConfigurationError}
 use Rattle.console.specs.declared.configuration.ConfigurationError.TheVariants as configuration
-use Rattle.sockets.specs.Wires.{IsRefusalOf}
+use Rattle.sockets.specs.Wires.{IsRefusalOf, IsWhyNoneWaits}
+use Rattle.sockets.specs.declared.wire.Wire.{Wire}
 use Rattle.sockets.specs.declared.error.SocketError.{SocketError}
 use Rattle.sockets.specs.declared.error.SocketError.TheVariants as socket_error
+use Rattle.daemon.specs.Lines.{Fails}
+use Rattle.daemon.specs.Texts.{HasFailed}
 use Rattle.daemon.specs.Refusals.{IsLaterWhy, IsPortOf, IsWhy, of_sockets, of_text}
 use Rattle.daemon.specs.Statuses.{EndsSo, HasRanFor, status_of, status_of_ran}
 use Rattle.daemon.specs.declared.error.RouteError.{RouteError}
@@ -36,40 +39,66 @@ pub until_fault : {A : Type 0} (ended : Ended) (old new : ℕ) (end : LinkEnd) �
 until_fault ended old new end lived fault is failed none =
     lived (fault.1 (omega (arith, none, ltb-true 0 new (sym is ∙ failed))))
 
-pub ends_so : (text : List ℕ) (outcome : Result Ran RouteError) (status : ℕ)
-    → IfOk outcome (HasRanFor text) → IfErr outcome (IsWhy text)
+pub ends_so : (unwritten : Type 0) (text : List ℕ) (outcome : Result Ran RouteError) (status : ℕ)
+    → IfOk outcome (HasRanFor text) → IfErr outcome (IsWhy unwritten text)
     → IfOk outcome (λ ran. status ≡ status_of_ran ran)
-    → IfErr outcome (λ error. (status ≡ status_of error) ⊎ (status ≡ 3)) → EndsSo text status
-ends_so text (Ok ran) status has why is told = inl (ran, has, is)
-ends_so text (Err error) status has why is told = inr (error, why, told)
+    → IfErr outcome (λ error. (status ≡ status_of error) ⊎ ((status ≡ 3) × unwritten))
+    → EndsSo unwritten text status
+ends_so unwritten text (Ok ran) status has why is told = inl (ran, has, is)
+ends_so unwritten text (Err error) status has why is told = inr (error, why, told)
 
 -- ---- why none ran
 
-pub later_why : (text : List ℕ) (configured : Configured) (error : RouteError)
-    → Says text configured → IsLaterWhy error → IsWhy text error
-later_why text configured (Configuration line) says is = inr (is, (configured, says))
-later_why text configured (Bind port) says is = absurd is
-later_why text configured (Hooks number) says is = (is, (configured, says))
-later_why text configured Socket says is = (configured, says)
-later_why text configured Output says is = (configured, says)
-later_why text configured Memory says is = tt
+pub failed_once : {Output : Type 0} (fails : Fails Output) (before after : Output)
+    → fails before after → HasFailed fails
+failed_once fails before after failed = (before, after, failed)
 
-pub text_why : {X : Type 0} (text : List ℕ) (read : Result X ConfigurationError)
-    (why : ConfigurationError) (error : RouteError) → read ≡ Err why
+-- before anything is printed
+pub unprinted_why : (unwritten : Type 0) (error : RouteError) → IsLaterWhy ⊥ error
+    → IsLaterWhy unwritten error
+unprinted_why unwritten (Configuration line) is = is
+unprinted_why unwritten (Bind port) is = absurd is
+unprinted_why unwritten (Hooks number) is = is
+unprinted_why unwritten Socket is = tt
+unprinted_why unwritten Output is = absurd is
+unprinted_why unwritten Memory is = tt
+
+pub unwaited_why : {Socket : Type 0} (unwritten : Type 0) (fails : Socket → Type 0)
+    (wires : List (Wire Socket)) (why : SocketError) (error : RouteError)
+    → IsWhyNoneWaits fails wires why → error ≡ of_sockets why → IsLaterWhy unwritten error
+unwaited_why unwritten fails wires (socket_error.Bind port) error is same = absurd is
+unwaited_why unwritten fails wires socket_error.Wait error is same =
+    subst (IsLaterWhy unwritten) (sym same) tt
+unwaited_why unwritten fails wires socket_error.Memory error is same =
+    subst (IsLaterWhy unwritten) (sym same) tt
+
+pub later_why : (unwritten : Type 0) (text : List ℕ) (configured : Configured) (error : RouteError)
+    → Says text configured → IsLaterWhy unwritten error → IsWhy unwritten text error
+later_why unwritten text configured (Configuration line) says is = inr (is, (configured, says))
+later_why unwritten text configured (Bind port) says is = absurd is
+later_why unwritten text configured (Hooks number) says is = (is, (configured, says))
+later_why unwritten text configured Socket says is = (configured, says)
+later_why unwritten text configured Output says is = (is, (configured, says))
+later_why unwritten text configured Memory says is = tt
+
+pub text_why : {X : Type 0} (unwritten : Type 0) (text : List ℕ)
+    (read : Result X ConfigurationError) (why : ConfigurationError) (error : RouteError)
+    → read ≡ Err why
     → ((number : ℕ) → read ≡ Err (configuration.Line number) → Refuses text number)
-    → error ≡ of_text why → IsWhy text error
-text_why text read (configuration.Line number) error is refuses same =
-    subst (IsWhy text) (sym same) (inl (refuses number is))
-text_why text read configuration.Memory error is refuses same = subst (IsWhy text) (sym same) tt
+    → error ≡ of_text why → IsWhy unwritten text error
+text_why unwritten text read (configuration.Line number) error is refuses same =
+    subst (IsWhy unwritten text) (sym same) (inl (refuses number is))
+text_why unwritten text read configuration.Memory error is refuses same =
+    subst (IsWhy unwritten text) (sym same) tt
 
-pub socket_why : (text : List ℕ) (configured : Configured)
+pub socket_why : (unwritten : Type 0) (text : List ℕ) (configured : Configured)
     (interfaces : List ConfiguredInterface) (why : SocketError) (error : RouteError)
     → Says text configured → interfaces ≡ configured.interfaces
-    → IsRefusalOf (λ _. ⊤) interfaces why → error ≡ of_sockets why → IsWhy text error
-socket_why text configured interfaces (socket_error.Bind port) error says are is same =
-    subst (IsWhy text) (sym same)
+    → IsRefusalOf (λ _. ⊤) interfaces why → error ≡ of_sockets why → IsWhy unwritten text error
+socket_why unwritten text configured interfaces (socket_error.Bind port) error says are is same =
+    subst (IsWhy unwritten text) (sym same)
     (configured, says, subst (λ l. IsPortOf l port) are is.1)
-socket_why text configured interfaces socket_error.Wait error says are is same =
-    subst (IsWhy text) (sym same) (configured, says)
-socket_why text configured interfaces socket_error.Memory error says are is same =
-    subst (IsWhy text) (sym same) tt
+socket_why unwritten text configured interfaces socket_error.Wait error says are is same =
+    subst (IsWhy unwritten text) (sym same) (configured, says)
+socket_why unwritten text configured interfaces socket_error.Memory error says are is same =
+    subst (IsWhy unwritten text) (sym same) tt

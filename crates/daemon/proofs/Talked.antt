@@ -1,15 +1,18 @@
 -- What is said at the console, put together.
-use Rattle.std.proofs.Common.{◌≡◌, ℕ, List, [], ◌∷◌, Option, Result, Ok, Err, inl, inr, refl, subst}
-use Rattle.std.specs.Io.KnownBytes.{Appends}
-use Rattle.std.proofs.KnownBytes.{Appends-nil, Appends-trans}
+use Rattle.std.proofs.Common.{◌≡◌, ◌⊎◌, inl, inr, ℕ, true, false, List, [], ◌∷◌, Option, None, Some}
+use Rattle.std.proofs.Common.{Result, Ok, Err, refl, subst}
 use Rattle.operator.specs.Answers.{Sources}
 use Rattle.operator.specs.Texts.{told_text}
 use Rattle.operator.specs.declared.told.Told.{Told}
+use Rattle.operator.specs.declared.told.Told.TheVariants as told
 use Rattle.daemon.specs.Lines.{Fails, Gives, IsGiven}
-use Rattle.daemon.specs.Talks.{HasAnswered, HasTalked, IsOver, IsReplied, IsReply, Place, texts_of}
+use Rattle.daemon.specs.Talks.{HasAnswered, HasTalked, IsOver, IsReplied, IsReply, Place}
+use Rattle.daemon.specs.Talks.{reply_of, was_mute}
+use Rattle.daemon.specs.Texts.{HasFailed, Takes, TakesEach}
 use Rattle.daemon.specs.declared.lines.Given.{Given}
+use Rattle.daemon.specs.declared.lines.Given.TheVariants as given
 use Rattle.daemon.specs.declared.talk.Parting.{Parting}
-use Rattle.daemon.specs.declared.talk.Parting.TheVariants.{Mute}
+use Rattle.daemon.specs.declared.talk.Parting.TheVariants.{Done, Deaf, Mute}
 
 -- what was found is what was given
 pub replied : {Input : Type 0} (gives : Gives Input) (fails : Fails Input) (s : Sources)
@@ -25,78 +28,83 @@ replied gives fails s interfaces before reply after gave found is given replies 
 
 -- ---- line by line
 
--- these were answered up to now, and the output grew by their texts
-pub record Talking {Input : Type 0} (gives : Gives Input) (fails : Fails Input) (s : Sources)
-    (interfaces : ℕ) (start : Place Input)
-    (old : Option (List ℕ)) (now : Place Input) (new : Option (List ℕ)) : Type 0 where
+-- these were answered up to now, and the output took their texts
+pub record Talking {Input Output : Type 0} (gives : Gives Input) (fails : Fails Input)
+    (takes : Takes Output) (s : Sources) (interfaces : ℕ) (start : Place Input) (old : Output)
+    (now : Place Input) (new : Output) : Type 0 where
   pub answers : List Told
   pub answered : HasAnswered gives fails s interfaces start answers now
-  pub grown : Appends old new (texts_of answers)
+  pub taken : TakesEach takes old answers new
 
-pub not_talked : {Input : Type 0} (gives : Gives Input) (fails : Fails Input) (s : Sources)
-    (interfaces : ℕ) (start : Place Input) (old : Option (List ℕ))
-    → Talking gives fails s interfaces start old start old
-not_talked gives fails s interfaces start old = record {
+pub not_talked : {Input Output : Type 0} (gives : Gives Input) (fails : Fails Input)
+    (takes : Takes Output) (s : Sources) (interfaces : ℕ) (start : Place Input) (old : Output)
+    → Talking gives fails takes s interfaces start old start old
+not_talked gives fails takes s interfaces start old = record {
   answers = [];
   answered = refl;
-  grown = Appends-nil old;
+  taken = refl;
 }
 
-pub talked_on : {Input : Type 0} (gives : Gives Input) (fails : Fails Input) (s : Sources)
-    (interfaces many : ℕ) (start : Place Input) (old : Option (List ℕ)) (between : Place Input)
-    (printed : Option (List ℕ)) (answer : Told) (now : Place Input) (new : Option (List ℕ))
-    → Talking gives fails s interfaces start old between printed → many ≡ interfaces
+pub talked_on : {Input Output : Type 0} (gives : Gives Input) (fails : Fails Input)
+    (takes : Takes Output) (s : Sources) (interfaces many : ℕ) (start : Place Input) (old : Output)
+    (between : Place Input) (printed : Output) (answer : Told) (now : Place Input) (new : Output)
+    → Talking gives fails takes s interfaces start old between printed → many ≡ interfaces
     → IsReplied gives fails s many between (Ok answer) now
-    → Appends printed new (told_text answer)
-    → Talking gives fails s interfaces start old now new
-talked_on gives fails s interfaces many start old between printed answer now new so same replies
-    grows = record {
+    → takes printed (told_text answer) new
+    → Talking gives fails takes s interfaces start old now new
+talked_on gives fails takes s interfaces many start old between printed answer now new so same
+    replies took = record {
       answers = answer ∷ so.answers;
       answered = (
         between,
         so.answered,
         subst (λ n. IsReplied gives fails s n between (Ok answer) now) same replies,
       );
-      grown = Appends-trans old printed new (texts_of so.answers) (told_text answer) so.grown grows;
+      taken = (printed, so.taken, took);
     }
 
-pub talked : {Input : Type 0} (gives : Gives Input) (fails : Fails Input) (s : Sources)
-    (interfaces many : ℕ) (start : Place Input) (old : Option (List ℕ)) (between : Place Input)
-    (printed : Option (List ℕ)) (parting : Parting) (now : Place Input) (new : Option (List ℕ))
-    → Talking gives fails s interfaces start old between printed → many ≡ interfaces
-    → IsOver gives fails s many between printed parting now new
-    → HasTalked gives fails s interfaces start old parting now new
-talked gives fails s interfaces many start old between printed parting now new so same over =
-    record {
+pub talked : {Input Output : Type 0} (gives : Gives Input) (fails : Fails Input)
+    (takes : Takes Output) (unwritable : Fails Output) (s : Sources) (interfaces many : ℕ)
+    (start : Place Input) (old : Output) (between : Place Input) (printed : Output)
+    (parting : Parting) (now : Place Input) (new : Output)
+    → Talking gives fails takes s interfaces start old between printed → many ≡ interfaces
+    → IsOver gives fails unwritable s many between printed parting now new
+    → HasTalked gives fails takes unwritable s interfaces start old parting now new
+talked gives fails takes unwritable s interfaces many start old between printed parting now new so
+    same over = record {
       answers = so.answers;
       between = between;
       printed = printed;
       answered = so.answered;
-      grown = so.grown;
-      over = subst (λ n. IsOver gives fails s n between printed parting now new) same over;
+      taken = so.taken;
+      over = subst (λ n. IsOver gives fails unwritable s n between printed parting now new) same
+          over;
     }
 
 -- ---- the end
 
-pub over_unread : {Input : Type 0} (gives : Gives Input) (fails : Fails Input) (s : Sources)
-    (interfaces : ℕ) (before : Place Input) (old : Option (List ℕ)) (parting : Parting)
-    (after : Place Input) (new : Option (List ℕ)) (reply : Result Told Parting)
+pub over_unread : {Input Output : Type 0} (gives : Gives Input) (fails : Fails Input)
+    (unwritable : Fails Output) (s : Sources) (interfaces : ℕ) (before : Place Input) (old : Output)
+    (parting : Parting) (after : Place Input) (new : Output) (reply : Result Told Parting)
     → reply ≡ Err parting → IsReplied gives fails s interfaces before reply after
-    → new ≡ old → IsOver gives fails s interfaces before old parting after new
-over_unread gives fails s interfaces before old parting after new reply is replies same =
+    → new ≡ old → IsOver gives fails unwritable s interfaces before old parting after new
+over_unread gives fails unwritable s interfaces before old parting after new reply is replies same =
     record {
       how = inl (subst (λ r. IsReplied gives fails s interfaces before r after) is replies, same);
     }
 
-pub over_unprinted : {Input : Type 0} (gives : Gives Input) (fails : Fails Input) (s : Sources)
-    (interfaces : ℕ) (before : Place Input) (old : Option (List ℕ)) (after : Place Input)
-    (new : Option (List ℕ)) (answer : Told) (reply : Result Told Parting) → reply ≡ Ok answer
-    → IsReplied gives fails s interfaces before reply after
-    → IsOver gives fails s interfaces before old Mute after new
-over_unprinted gives fails s interfaces before old after new answer reply is replies =
-    record {
+-- the answer was to be printed when the output was as it was before it
+pub over_unprinted : {Input Output : Type 0} (gives : Gives Input) (fails : Fails Input)
+    (unwritable : Fails Output) (s : Sources) (interfaces : ℕ) (before : Place Input)
+    (old printed : Output) (after : Place Input) (new : Output) (answer : Told)
+    (reply : Result Told Parting) → reply ≡ Ok answer
+    → IsReplied gives fails s interfaces before reply after → printed ≡ old
+    → unwritable printed new → IsOver gives fails unwritable s interfaces before old Mute after new
+over_unprinted gives fails unwritable s interfaces before old printed after new answer reply is
+    replies same failed = record {
       how = inr (
         refl,
+        subst (λ o. unwritable o new) same failed,
         (
           answer,
           subst (λ r. IsReplied gives fails s interfaces before r after) is
@@ -104,3 +112,41 @@ over_unprinted gives fails s interfaces before old after new answer reply is rep
         ),
       );
     }
+
+-- no reply makes the console mute
+is_no_reply : (answer : Option Told) → Err Mute ≡ reply_of answer → ⊥
+is_no_reply None is = let e : Err Mute ≡ Err Done = is in cc
+is_no_reply (Some answer) is = let e : Err Mute ≡ Ok answer = is in cc
+
+never_mute : {Input : Type 0} (s : Sources) (interfaces : ℕ) (gave : Given)
+    (before after : Place Input) → IsReply s interfaces gave before (Err Mute) after → ⊥
+never_mute s interfaces (given.Line line) before after is = is_no_reply is.0 is.2
+never_mute s interfaces given.Memory before after is =
+    let e : Err Mute ≡ Ok told.Memory = is.0 in cc
+never_mute s interfaces given.End before after is = let e : Err Mute ≡ Err Done = is.0 in cc
+never_mute s interfaces given.Failed before after is = let e : Err Mute ≡ Err Deaf = is.0 in cc
+
+over_mute : {Input Output : Type 0} (gives : Gives Input) (fails : Fails Input)
+    (unwritable : Fails Output) (s : Sources) (interfaces : ℕ) (before : Place Input) (old : Output)
+    (after : Place Input) (new : Output)
+    → ((IsReplied gives fails s interfaces before (Err Mute) after × (new ≡ old))
+    ⊎ ((Mute ≡ Mute) × unwritable old new
+    × ((answer : Told) × IsReplied gives fails s interfaces before (Ok answer) after)))
+    → HasFailed unwritable
+over_mute gives fails unwritable s interfaces before old after new (inl replied) =
+    absurd (never_mute s interfaces replied.0.gave before after replied.0.is_reply)
+over_mute gives fails unwritable s interfaces before old after new (inr unprinted) =
+    (old, new, unprinted.1)
+
+-- where it is mute, a write has failed
+pub talked_mute : {Input Output : Type 0} (gives : Gives Input) (fails : Fails Input)
+    (takes : Takes Output) (unwritable : Fails Output) (s : Sources) (interfaces : ℕ)
+    (start : Place Input) (old : Output) (parting : Parting) (now : Place Input) (new : Output)
+    → HasTalked gives fails takes unwritable s interfaces start old parting now new
+    → was_mute parting ≡ true → HasFailed unwritable
+talked_mute gives fails takes unwritable s interfaces start old Done now new so is =
+    absurd (let e : false ≡ true = is in cc)
+talked_mute gives fails takes unwritable s interfaces start old Deaf now new so is =
+    absurd (let e : false ≡ true = is in cc)
+talked_mute gives fails takes unwritable s interfaces start old Mute now new so is =
+    over_mute gives fails unwritable s interfaces so.between so.printed now new so.over.how

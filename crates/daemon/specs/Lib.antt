@@ -4,3 +4,4 @@ pub mod Refusals
 pub mod Statuses
 pub mod Sums
 pub mod Talks
+pub mod Texts

@@ -30,14 +30,15 @@ of_hooks hook_error.Memory = Memory
 
 -- ---- of a router that a text says
 
--- its configuration is said, but it doesn't run over sockets that were had
-abbrev pub IsLaterWhy : RouteError → Type 0
-IsLaterWhy (Configuration line) = line ≡ 1
-IsLaterWhy (Bind port) = ⊥
-IsLaterWhy (Hooks number) = (number ≡ 1) ⊎ (number ≡ 3)
-IsLaterWhy Socket = Unit {0}
-IsLaterWhy Output = Unit {0}
-IsLaterWhy Memory = Unit {0}
+-- Its configuration is said, but it doesn't run over sockets that were had. Here and below
+-- `unwritten` says that the output couldn't be written.
+abbrev pub IsLaterWhy : (unwritten : Type 0) → RouteError → Type 0
+IsLaterWhy unwritten (Configuration line) = line ≡ 1
+IsLaterWhy unwritten (Bind port) = ⊥
+IsLaterWhy unwritten (Hooks number) = (number ≡ 1) ⊎ (number ≡ 3)
+IsLaterWhy unwritten Socket = Unit {0}
+IsLaterWhy unwritten Output = unwritten
+IsLaterWhy unwritten Memory = Unit {0}
 
 -- one of these interfaces is to have its socket at this port
 abbrev pub IsPortOf : List ConfiguredInterface → (port : ℕ) → Type 0
@@ -46,14 +47,14 @@ IsPortOf interfaces port = SomeIndex interfaces (λ k.
 
 -- Why no router that this text says runs: the first line that is wrong or missing, or that of the
 -- router, where it isn't within the profile; a port of one of its interfaces; no places for those
--- who ask the programs.
-abbrev pub IsWhy : (text : List ℕ) → RouteError → Type 0
-IsWhy text (Configuration line) =
+-- who ask the programs; output that couldn't be written.
+abbrev pub IsWhy : (unwritten : Type 0) → (text : List ℕ) → RouteError → Type 0
+IsWhy unwritten text (Configuration line) =
     Refuses text line ⊎ ((line ≡ 1) × ((configured : Configured) × Says text configured))
-IsWhy text (Bind port) =
+IsWhy unwritten text (Bind port) =
     (configured : Configured) × Says text configured × IsPortOf configured.interfaces port
-IsWhy text (Hooks number) =
+IsWhy unwritten text (Hooks number) =
     ((number ≡ 1) ⊎ (number ≡ 3)) × ((configured : Configured) × Says text configured)
-IsWhy text Socket = (configured : Configured) × Says text configured
-IsWhy text Output = (configured : Configured) × Says text configured
-IsWhy text Memory = Unit {0}
+IsWhy unwritten text Socket = (configured : Configured) × Says text configured
+IsWhy unwritten text Output = unwritten × ((configured : Configured) × Says text configured)
+IsWhy unwritten text Memory = Unit {0}

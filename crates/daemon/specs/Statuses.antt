@@ -15,7 +15,7 @@ use Rattle.daemon.specs.declared.ran.Ran.{Ran}
 use Rattle.daemon.specs.Refusals.{IsWhy}
 use Rattle.daemon.specs.Talks.{is_deaf}
 
--- 1 refused, 3 a socket or a stream, 4 memory
+-- 1 refused, 3 a socket or the output, 4 memory
 abbrev pub status_of : RouteError → ℕ
 status_of (Configuration line) = 1
 status_of (Hooks number) = 1
@@ -60,9 +60,10 @@ HasRanFor text ran =
     (configured : Configured) × Says text configured
     × HasRanOver (length configured.interfaces) configured ran
 
--- the program ends as such a router ran; or, where none did, as the reason says, or as a stream that
--- failed when that was told
-abbrev pub EndsSo : (text : List ℕ) → (status : ℕ) → Type 0
-EndsSo text status =
+-- the program ends as such a router ran; or, where none did, as the reason says, or as output that
+-- couldn't be written when that was told
+abbrev pub EndsSo : (unwritten : Type 0) → (text : List ℕ) → (status : ℕ) → Type 0
+EndsSo unwritten text status =
     ((ran : Ran) × HasRanFor text ran × (status ≡ status_of_ran ran))
-    ⊎ ((error : RouteError) × IsWhy text error × ((status ≡ status_of error) ⊎ (status ≡ 3)))
+    ⊎ ((error : RouteError) × IsWhy unwritten text error
+    × ((status ≡ status_of error) ⊎ ((status ≡ 3) × unwritten)))

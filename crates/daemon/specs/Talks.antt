@@ -1,7 +1,6 @@
 -- What is said at the console, from its first line to its end.
-use Rattle.std.specs.Prelude.{◌≡◌, ◌⊎◌, ℕ, Bool, true, false, List, [], ◌∷◌, ◌++◌}
+use Rattle.std.specs.Prelude.{◌≡◌, ◌⊎◌, ℕ, Bool, true, false, List, [], ◌∷◌}
 use Rattle.std.specs.Prelude.{Option, None, Some, Result, Ok, Err, string_bytes}
-use Rattle.std.specs.Io.KnownBytes.{Appends}
 use mathlib.Core.List.{IsPrefix}
 use Rattle.maps.specs.Words.{SeatView}
 use Rattle.hooks.specs.declared.operation.LoaderOperation.{LoaderOperation}
@@ -9,10 +8,10 @@ use Rattle.worker.specs.TurnError.{TurnError}
 use Rattle.worker.specs.Turns.{Offers, Refuses, Took}
 use Rattle.worker.specs.Work.TheVariants.{Tick}
 use Rattle.operator.specs.Answers.{IsDone, IsMadeUp, IsObeyed, IsRefusedOnce, Sources, change}
-use Rattle.operator.specs.Texts.{told_text}
 use Rattle.operator.specs.declared.told.Told.{Told}
 use Rattle.operator.specs.declared.told.Told.TheVariants as told
 use Rattle.daemon.specs.Lines.{Fails, Gives, IsGiven}
+use Rattle.daemon.specs.Texts.{Takes, TakesEach}
 use Rattle.daemon.specs.declared.lines.Given.{Given}
 use Rattle.daemon.specs.declared.lines.Given.TheVariants as given
 use Rattle.daemon.specs.declared.talk.Parted.{Parted}
@@ -92,31 +91,27 @@ HasAnswered {Input = Input} gives fails s interfaces start (answer ∷ earlier) 
     (between : Place Input) × HasAnswered gives fails s interfaces start earlier between
     × IsReplied gives fails s interfaces between (Ok answer) now
 
--- their texts, the latest last
-abbrev pub texts_of : List Told → List ℕ
-texts_of [] = []
-texts_of (answer ∷ earlier) = texts_of earlier ++ told_text answer
-
--- the console ends: nothing is printed any more, since there is no answer; or an answer couldn't be
--- printed, and then it is mute
-pub record IsOver {Input : Type 0} (gives : Gives Input) (fails : Fails Input) (s : Sources)
-    (interfaces : ℕ) (before : Place Input) (old : Option (List ℕ)) (parting : Parting)
-    (after : Place Input) (new : Option (List ℕ)) : Type 0 where
+-- The console ends: nothing is printed any more, since there is no answer; or an answer was to be
+-- printed, and the output couldn't be written, and then it is mute.
+pub record IsOver {Input Output : Type 0} (gives : Gives Input) (fails : Fails Input)
+    (unwritable : Fails Output) (s : Sources) (interfaces : ℕ) (before : Place Input) (old : Output)
+    (parting : Parting) (after : Place Input) (new : Output) : Type 0 where
   pub how : (IsReplied gives fails s interfaces before (Err parting) after × (new ≡ old))
-      ⊎ ((parting ≡ Mute)
+      ⊎ ((parting ≡ Mute) × unwritable old new
       × ((answer : Told) × IsReplied gives fails s interfaces before (Ok answer) after))
 
--- All that the input gave was answered in its order, until the console ended so. The output, where
--- its bytes are known, grew by the answers' texts, in their order, and by nothing else.
-pub record HasTalked {Input : Type 0} (gives : Gives Input) (fails : Fails Input) (s : Sources)
-    (interfaces : ℕ) (start : Place Input) (old : Option (List ℕ)) (parting : Parting)
-    (now : Place Input) (new : Option (List ℕ)) : Type 0 where
+-- All that the input gave was answered in its order, until the console ended so. The output took
+-- the answers' texts, in their order, and nothing else.
+pub record HasTalked {Input Output : Type 0} (gives : Gives Input) (fails : Fails Input)
+    (takes : Takes Output) (unwritable : Fails Output) (s : Sources) (interfaces : ℕ)
+    (start : Place Input) (old : Output) (parting : Parting) (now : Place Input) (new : Output)
+    : Type 0 where
   pub answers : List Told
   pub between : Place Input
-  pub printed : Option (List ℕ)
+  pub printed : Output
   pub answered : HasAnswered gives fails s interfaces start answers between
-  pub grown : Appends old printed (texts_of answers)
-  pub over : IsOver gives fails s interfaces between printed parting now new
+  pub taken : TakesEach takes old answers printed
+  pub over : IsOver gives fails unwritable s interfaces between printed parting now new
 
 -- ---- from the start
 
@@ -130,15 +125,16 @@ IsTicked offers took refuses known now counted counts =
     × ((error : TurnError) × IsRefusedOnce offers refuses known now counted Tick error))
 
 -- the first is a Tick's turn, and then line follows line
-pub record Converses {Input : Type 0} (gives : Gives Input) (fails : Fails Input) (s : Sources)
-    (interfaces : ℕ) (begun : Place Input) (old : Option (List ℕ)) (parting : Parting)
-    (now : Place Input) (new : Option (List ℕ)) : Type 0 where
+pub record Converses {Input Output : Type 0} (gives : Gives Input) (fails : Fails Input)
+    (takes : Takes Output) (unwritable : Fails Output) (s : Sources) (interfaces : ℕ)
+    (begun : Place Input) (old : Output) (parting : Parting) (now : Place Input) (new : Output)
+    : Type 0 where
   pub known : List LoaderOperation
   pub events : ℕ
   pub seat : SeatView
   pub learnt : IsPrefix begun.known known
   pub ticked : IsTicked s.offers s.took s.refuses begun.known known begun.events events
-  pub talked : HasTalked gives fails s interfaces
+  pub talked : HasTalked gives fails takes unwritable s interfaces
       (record begun { known = known; events = events; seat = seat }) old parting now new
 
 -- ---- how it ended

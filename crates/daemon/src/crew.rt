@@ -1,18 +1,20 @@
 //! The workers on threads of their own, the console beside them, and back.
-ghost use Rattle.std.specs.Prelude.{◌≡◌, ◌+◌, All, length, map, vec_len, IfOk};
+ghost use Rattle.std.specs.Prelude.{◌≡◌, ◌+◌, true, All, length, map, vec_len, IfOk};
 ghost use Rattle.links.specs.Descending.{CountDownTo};
 ghost use Rattle.maps.specs.Words.{IsOf};
 ghost use Rattle.worker.specs.Opening.{IsSetUpFor};
+ghost use Rattle.daemon.specs.Talks.{is_mute};
+ghost use Rattle.daemon.specs.Texts.{HasFailed};
 
 use crate::labor::{Worked, Workers, work};
 use crate::lines::ReadsBytes;
 use crate::pairs::next_pair;
 use crate::talk::{Console, Parted, talk};
+use crate::texts::WritesTexts;
 use log::Log;
 use operator::Desk;
 use sockets::{Sockets, SystemSeconds};
 use std::alloc::{AllocError, Global};
-use std::io::Write;
 use std::rt::Files;
 use std::sync::Wait;
 use std::sync::atomic::Ordering;
@@ -26,7 +28,7 @@ use worker::{Book, Closed, Core, Hub, Port, Setup, Signal, Site, close_hub, open
 /// There is a link for each port but the operator's: port n's receives at interface n. The book
 /// took just as many events as all shares count; the shared words come back with all their seats,
 /// as [`Shared::close`](maps::Shared::close) asks for them. Beside that stands how each link ended,
-/// and the conversation.
+/// and the conversation: it is mute only where the output couldn't be written.
 ///
 /// `AllocError` comes where an allocation was refused, or where a thread couldn't be started.
 pub fn side_by_side<
@@ -35,7 +37,7 @@ pub fn side_by_side<
     S: Wait + Clock + Files + AllocGlobal,
     Q: Wait + Drop,
     I: ReadsBytes,
-    O: Write,
+    O: WritesTexts,
 >(
     rt: &R,
     alloc: Global,
@@ -55,6 +57,7 @@ pub fn side_by_side<
     ensures seats { IfOk result (λ r.
         (length r.0.seats.items ≡ r.0.shared.seats) × All (IsOf r.0.shared) r.0.seats.items) }
     ensures ends { IfOk result (λ r. vec_len r.1 + 1 ≡ vec_len setup.seats) }
+    ensures mute { IfOk result (λ r. is_mute r.2 ≡ true → HasFailed O.fails) }
 {
     let (hub, ports, rest) = open_hub::<L>(alloc, setup, core)?;
     match in_scope(rt, &hub, ports, workers, links, desk, console) {
@@ -76,7 +79,7 @@ fn in_scope<
     S: Wait + Clock + Files + AllocGlobal,
     Q: Wait + Drop,
     I: ReadsBytes,
-    O: Write,
+    O: WritesTexts,
 >(
     rt: &R,
     hub: &Hub<L, Book<L>>,
@@ -91,6 +94,7 @@ fn in_scope<
     requires interfaces { CountDownTo 1 (map (λ l. l.own) links.items) }
     ensures ports { IfOk result (λ back. vec_len back.0 ≡ vec_len ports) }
     ensures ends { IfOk result (λ back. vec_len back.1 + 1 ≡ vec_len ports) }
+    ensures mute { IfOk result (λ back. is_mute back.2 ≡ true → HasFailed O.fails) }
 {
     thread::scope(
         thread::scope_env(),
@@ -101,6 +105,7 @@ fn in_scope<
             requires interfaces { CountDownTo 1 (map (λ l. l.own) links.items) }
             ensures ports { IfOk result (λ back. vec_len back.0 ≡ vec_len ports) }
             ensures ends { IfOk result (λ back. vec_len back.1 + 1 ≡ vec_len ports) }
+            ensures mute { IfOk result (λ back. is_mute back.2 ≡ true → HasFailed O.fails) }
         { crew(scope, rt, hub, workers, links, desk, console, ports) },
     )
 }
@@ -114,7 +119,7 @@ fn crew<
     S: Wait + Clock + Files + AllocGlobal,
     Q: Wait + Drop,
     I: ReadsBytes,
-    O: Write,
+    O: WritesTexts,
 >(
     scope: &Scope<'s, E>,
     rt: &R,
@@ -130,6 +135,7 @@ fn crew<
     requires interfaces { CountDownTo 1 (map (λ l. l.own) links.items) }
     ensures ports { IfOk result (λ back. vec_len back.0 ≡ vec_len ports) }
     ensures ends { IfOk result (λ back. vec_len back.1 + 1 ≡ vec_len ports) }
+    ensures mute { IfOk result (λ back. is_mute back.2 ≡ true → HasFailed O.fails) }
 {
     let mut ports = ports;
     let back = Vec::with_capacity(workers.alloc, ports.len())?;

@@ -34,7 +34,7 @@ pub enum RouteError {
 }
 
 impl RouteError {
-    /// The status that the program ends with: 1 refused, 3 a socket or a stream, 4 memory.
+    /// The status that the program ends with: 1 refused, 3 a socket or the output, 4 memory.
     pub fn status(&self) -> u8
         ensures { result ≡ status_of self.now }
     {

@@ -14,8 +14,10 @@ mod pairs;
 mod ran;
 mod running;
 mod talk;
+mod texts;
 mod totals;
 
 pub use error::RouteError;
 pub use ran::Ran;
 pub use running::{operate, route, run_router};
+pub use texts::{Unwritable, WritesTexts};

@@ -11,6 +11,7 @@ ghost use Rattle.daemon.specs.Refusals.{IsLaterWhy, IsWhy};
 ghost use Rattle.daemon.specs.Statuses.{EndsSo, HasRan, HasRanFor, HasRanOver, IsConfigOf};
 ghost use Rattle.daemon.specs.Statuses.{status_of, status_of_ran};
 ghost use Rattle.daemon.specs.Talks.{is_mute};
+ghost use Rattle.daemon.specs.Texts.{HasFailed};
 
 use crate::crew::side_by_side;
 use crate::error::RouteError;
@@ -18,15 +19,16 @@ use crate::labor::{Worked, Workers};
 use crate::lines::ReadsBytes;
 use crate::ran::Ran;
 use crate::talk::{Console, Parted};
+use crate::texts::WritesTexts;
 use crate::totals::{Printed, print_totals};
 use console::{Config, Configured, ConfiguredInterface, Interface, read_configuration};
 use hooks::Loader;
 use links::Seconds;
 use log::Log;
 use operator::{Desk, Outlet};
-use sockets::{SocketError, Sockets, SystemSeconds, Wire, bind_each, listening};
+use sockets::{Sockets, SystemSeconds, Wire, bind_each, listening};
 use std::alloc::{AllocError, Global};
-use std::io::{BufRead, Write};
+use std::io::BufRead;
 use std::marker::{Brand, PhantomData};
 use std::net::Net;
 use std::rt::Files;
@@ -60,7 +62,7 @@ fn config_of<C: Seconds>(
 ) -> Result<Config, RouteError>
     ensures start { IfOk result (λ config. C.shows clock.old config.start clock.new) }
     ensures said { IfOk result (IsConfigOf configured.now) }
-    ensures refused { IfErr result IsLaterWhy }
+    ensures refused { IfErr result (IsLaterWhy ⊥) }
 {
     let interfaces = interfaces_of(alloc, configured.interfaces.as_slice())?;
     Ok(Config {
@@ -73,7 +75,7 @@ fn config_of<C: Seconds>(
 // The router at its start.
 fn core_of(alloc: Global, config: &Config) -> Result<Core, RouteError>
     ensures core { IfOk result (λ core. core ≡ initial config.now) }
-    ensures refused { IfErr result IsLaterWhy }
+    ensures refused { IfErr result (IsLaterWhy ⊥) }
 {
     match Core::new(alloc, config) {
         Ok(core) => Ok(core),
@@ -90,7 +92,7 @@ fn run_crew<
     R: Threads + Wait + Clock + Log + Files + AllocGlobal + Sync,
     Q: Wait + Drop,
     I: ReadsBytes,
-    O: Write,
+    O: WritesTexts,
 >(
     rt: &R,
     setup: Setup,
@@ -107,7 +109,7 @@ fn run_crew<
     requires told { desk.old.interfaces ≡ vec_len links }
     ensures ends { IfOk result (λ r. vec_len r.0 + 1 ≡ vec_len setup.seats) }
     ensures heard { IfOk result (λ r. is_mute r.1 ≡ false) }
-    ensures refused { IfErr result IsLaterWhy }
+    ensures refused { IfErr result (IsLaterWhy (HasFailed O.fails)) }
 {
     let alloc = workers.alloc;
     let (closed, ends, parted) = side_by_side(
@@ -170,7 +172,7 @@ fn run_all<
     R: Threads + Wait + Clock + Log + Files + AllocGlobal + Sync + Drop,
     Q: Wait + Drop,
     I: ReadsBytes,
-    O: Write,
+    O: WritesTexts,
 >(
     rt: &'x R,
     setup: Setup,
@@ -187,7 +189,7 @@ fn run_all<
     requires links { vec_len setup.seats ≡ vec_len links + 1 }
     requires interfaces { CountDownTo 1 (map (λ l. l.own) links.items) }
     ensures ran { IfOk result (HasRan L.origin (vec_len links.entry)) }
-    ensures refused { IfErr result IsLaterWhy }
+    ensures refused { IfErr result (IsLaterWhy (HasFailed O.fails)) }
 {
     let alloc = rt.alloc();
     let interfaces = if links.len() <= 63 {
@@ -234,12 +236,12 @@ fn run_all<
 /// `Hooks` where the programs have no places, also for more than 63 sockets; `Configuration` with
 /// line 1 where the router isn't within the profile; `Output` where the output can't be written,
 /// `Memory` where memory was refused or a thread couldn't be started.
-#[tactic(auto, using(crate::proofs::Fresh::all_ask, crate::proofs::AsMany::ran_from))]
+#[tactic(auto, using(crate::proofs::Fresh::all_ask, crate::proofs::AsMany::ran_from, crate::proofs::Ended::unprinted_why))]
 pub fn operate<
     'x,
     R: Threads + Wait + Clock + Log + Files + AllocGlobal + Sync + Drop,
     I: BufRead,
-    O: Write,
+    O: WritesTexts,
 >(
     rt: &'x R,
     config: &Config,
@@ -250,7 +252,7 @@ pub fn operate<
 ) -> Result<Ran, RouteError>
     requires { CountDownTo 1 (map (λ l. l.own) links.items) }
     ensures ran { IfOk result (HasRan (initial config.now) (vec_len links.entry)) }
-    ensures refused { IfErr result IsLaterWhy }
+    ensures refused { IfErr result (IsLaterWhy (HasFailed O.fails)) }
 {
     let ports = links.len().saturating_add(1);
     let (loader, setup) = Setup::new(rt.alloc(), rt, ports)?;
@@ -265,7 +267,7 @@ fn operate_at_same<
     'x,
     R: Threads + Wait + Clock + Log + Files + AllocGlobal + Sync + Drop,
     I: BufRead,
-    O: Write,
+    O: WritesTexts,
 >(
     rt: &'x R,
     config: &Config,
@@ -279,36 +281,17 @@ fn operate_at_same<
     requires links { All (λ l. (l.wires.now ≡ own.wires.now) × (l.faults ≡ 0)) links.items }
     requires fine { own.faults ≡ 0 }
     ensures ran { IfOk result (HasRan (initial config.now) (vec_len links.entry)) }
-    ensures refused { IfErr result IsLaterWhy }
+    ensures refused { IfErr result (IsLaterWhy (HasFailed O.fails)) }
 {
     operate(rt, config, links, own, input, output)
 }
 
-// The links of the workers at these sockets, whose ports were had.
-fn links_of<'x, R: Net>(
-    rt: &R,
-    alloc: Global,
-    wires: &'x [Wire],
-) -> Result<Vec<Sockets<'x>>, RouteError>
-    ensures each { IfOk result (λ links. vec_len links ≡ length wires.now) }
-    ensures interfaces { IfOk result (λ links. CountDownTo 1 (map (λ l. l.own) links.items)) }
-    ensures wires { IfOk result (λ links.
-        All (λ l. (l.wires.now ≡ wires.now) × (l.faults ≡ 0)) links.items) }
-    ensures refused { IfErr result IsLaterWhy }
-{
-    match listening(rt, alloc, wires) {
-        Ok(links) => Ok(links),
-        Err(SocketError::Memory) => Err(RouteError::Memory),
-        Err(_) => Err(RouteError::Socket),
-    }
-}
-
 // Runs the router of a configuration over the sockets of its interfaces, in their order.
-#[tactic(auto, using(crate::proofs::AsMany::ran_over))]
+#[tactic(auto, using(crate::proofs::AsMany::ran_over, crate::proofs::Ended::unprinted_why, crate::proofs::Ended::unwaited_why))]
 fn run_over<
     R: Net + Threads + Wait + Clock + Log + Files + AllocGlobal + Sync + Drop,
     I: BufRead,
-    O: Write,
+    O: WritesTexts,
 >(
     rt: &R,
     configured: &Configured,
@@ -318,11 +301,11 @@ fn run_over<
 ) -> Result<Ran, RouteError>
     requires { AreBound (λ _ _. ⊤) configured.now.interfaces wires.now }
     ensures ran { IfOk result (HasRanOver (length wires.now) configured.now) }
-    ensures refused { IfErr result IsLaterWhy }
+    ensures refused { IfErr result (IsLaterWhy (HasFailed O.fails)) }
 {
     let mut clock = SystemSeconds::new(rt);
     let config = config_of(rt.alloc(), &mut clock, configured)?;
-    let links = links_of(rt, rt.alloc(), wires)?;
+    let links = listening(rt, rt.alloc(), wires)?;
     let own = Sockets::of_console(wires);
     let ran = operate_at_same(rt, &config, links, own, input, output)?;
     Ok(ran)
@@ -343,10 +326,10 @@ fn run_over<
 pub fn run_router<
     R: Net + Threads + Wait + Clock + Log + Files + AllocGlobal + Sync + Drop,
     I: BufRead,
-    O: Write,
+    O: WritesTexts,
 >(rt: &R, text: &str, input: &mut I, output: &mut O) -> Result<Ran, RouteError>
     ensures ran { IfOk result (HasRanFor text.now) }
-    ensures refused { IfErr result (IsWhy text.now) }
+    ensures refused { IfErr result (IsWhy (HasFailed O.fails) text.now) }
 {
     let alloc = rt.alloc();
     let configured = read_configuration(alloc, text)?;
@@ -356,14 +339,16 @@ pub fn run_router<
 }
 
 // The status after a router ran. Where none did, a line on `output` says why.
-fn told<O: Write>(outcome: Result<Ran, RouteError>, output: &mut O) -> u8
+#[tactic(auto, using(crate::proofs::Ended::failed_once))]
+fn told<O: WritesTexts>(outcome: Result<Ran, RouteError>, output: &mut O) -> u8
     ensures ran { IfOk outcome (λ ran. result ≡ status_of_ran ran) }
-    ensures refused { IfErr outcome (λ error. (result ≡ status_of error) ⊎ (result ≡ 3)) }
+    ensures refused { IfErr outcome (λ error.
+        (result ≡ status_of error) ⊎ ((result ≡ 3) × HasFailed O.fails)) }
     ensures few { result ≤ 4 }
 {
     match outcome {
         Ok(ran) => ran.status(),
-        Err(error) => match writeln!(output, "{error}") {
+        Err(error) => match output.write_text(format_args!("{error}\n")) {
             Ok(()) => error.status(),
             Err(_) => RouteError::Output.status(),
         },
@@ -376,10 +361,10 @@ fn told<O: Write>(outcome: Result<Ran, RouteError>, output: &mut O) -> u8
 pub fn route<
     R: Net + Threads + Wait + Clock + Log + Files + AllocGlobal + Sync + Drop,
     I: BufRead,
-    O: Write,
+    O: WritesTexts,
 >(rt: &R, text: &str, input: &mut I, output: &mut O) -> u8
     ensures few { result ≤ 4 }
-    ensures ends { EndsSo text.now result }
+    ensures ends { EndsSo (HasFailed O.fails) text.now result }
 {
     let outcome = run_router(rt, text, input, output);
     told(outcome, output)

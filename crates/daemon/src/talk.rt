@@ -1,6 +1,5 @@
 //! The console: lines in, lines out, at port 0.
-ghost use Rattle.std.specs.Prelude.{◌≡◌, IfErr, OnOk};
-ghost use Rattle.std.specs.Io.KnownBytes.{Appends};
+ghost use Rattle.std.specs.Prelude.{◌≡◌, true, IfErr, OnOk};
 ghost use mathlib.Core.List.{IsPrefix};
 ghost use Rattle.hooks.specs.Known.{known_to, operations_of};
 ghost use Rattle.worker.specs.Turns.{IsListed};
@@ -18,11 +17,12 @@ ghost use Rattle.daemon.specs.Talks.{
   place,
   reply_of,
 };
+ghost use Rattle.daemon.specs.Texts.{HasFailed};
 
 use crate::lines::{Given, ReadsBytes, next_line};
+use crate::texts::WritesTexts;
 use links::{Seconds, Transport};
 use operator::{Desk, Outlet, Told};
-use std::io::Write;
 use std::rt::Files;
 use std::sync::Wait;
 use worker::{Hub, Port, Site, Taker, Work};
@@ -106,7 +106,7 @@ fn answer_next<
     K: Transport + Drop,
     C: Seconds + Drop,
     I: ReadsBytes,
-    O: Write,
+    O: WritesTexts,
 >(
     hub: &Hub<L, B>,
     port: &mut Port<L>,
@@ -141,7 +141,7 @@ fn obey_next<
     K: Transport + Drop,
     C: Seconds + Drop,
     I: ReadsBytes,
-    O: Write,
+    O: WritesTexts,
 >(
     hub: &Hub<L, B>,
     port: &mut Port<L>,
@@ -155,21 +155,20 @@ fn obey_next<
         desk.old.unrefreshed port.old.share.amount port.old.seat) (Ok answer)
         (place console.new.input.now (operations_of desk.new.loader) (known_to port.new.asker)
         desk.new.unrefreshed port.new.share.amount port.new.seat)
-        × Appends (O.contents console.old.output.now) (O.contents console.new.output.now)
-        (told_text answer)) }
-    ensures over { IfErr result (λ parting. IsOver I.gives I.fails
+        × O.takes console.old.output.now (told_text answer) console.new.output.now) }
+    ensures over { IfErr result (λ parting. IsOver I.gives I.fails O.fails
         (sources B.offers B.took B.refuses B.wanted (IsListed B.own B.neighbor_at)
         IsAnyFile IsAnyPath) desk.old.interfaces
         (place console.old.input.now (operations_of desk.old.loader) (known_to port.old.asker)
         desk.old.unrefreshed port.old.share.amount port.old.seat)
-        (O.contents console.old.output.now) parting
+        console.old.output.now parting
         (place console.new.input.now (operations_of desk.new.loader) (known_to port.new.asker)
         desk.new.unrefreshed port.new.share.amount port.new.seat)
-        (O.contents console.new.output.now)) }
+        console.new.output.now) }
     ensures interfaces { desk.new.interfaces ≡ desk.old.interfaces }
 {
     match answer_next(hub, port, desk, console) {
-        Ok(told) => match told.print(console.output) {
+        Ok(told) => match console.output.write_text(&told) {
             Ok(()) => Ok(()),
             Err(_) => Err(Parting::Mute),
         },
@@ -187,22 +186,22 @@ fn answer_all<
     K: Transport + Drop,
     C: Seconds + Drop,
     I: ReadsBytes,
-    O: Write,
+    O: WritesTexts,
 >(
     hub: &Hub<L, B>,
     port: &mut Port<L>,
     desk: &mut Desk<L, Q, K, C>,
     console: &mut Console<'_, S, I, O>,
 ) -> Parting
-    ensures { HasTalked I.gives I.fails
+    ensures { HasTalked I.gives I.fails O.takes O.fails
         (sources B.offers B.took B.refuses B.wanted (IsListed B.own B.neighbor_at)
         IsAnyFile IsAnyPath) desk.old.interfaces
         (place console.old.input.now (operations_of desk.old.loader) (known_to port.old.asker)
         desk.old.unrefreshed port.old.share.amount port.old.seat)
-        (O.contents console.old.output.now) result
+        console.old.output.now result
         (place console.new.input.now (operations_of desk.new.loader) (known_to port.new.asker)
         desk.new.unrefreshed port.new.share.amount port.new.seat)
-        (O.contents console.new.output.now) }
+        console.new.output.now }
 {
     let rt = console.rt;
     for _ in rt.forever() {
@@ -223,22 +222,23 @@ pub fn talk<
     K: Transport + Drop,
     C: Seconds + Drop,
     I: ReadsBytes,
-    O: Write,
+    O: WritesTexts,
 >(
     hub: &Hub<L, B>,
     port: Port<L>,
     desk: &mut Desk<L, Q, K, C>,
     console: &mut Console<'_, S, I, O>,
 ) -> (Port<L>, Parted)
-    ensures { Converses I.gives I.fails
+    ensures conversed { Converses I.gives I.fails O.takes O.fails
         (sources B.offers B.took B.refuses B.wanted (IsListed B.own B.neighbor_at)
         IsAnyFile IsAnyPath) desk.old.interfaces
         (place console.old.input.now (operations_of desk.old.loader) (known_to port.asker)
         desk.old.unrefreshed port.share.amount port.seat)
-        (O.contents console.old.output.now) result.1.parting
+        console.old.output.now result.1.parting
         (place console.new.input.now (operations_of desk.new.loader) (known_to result.0.asker)
         desk.new.unrefreshed result.0.share.amount result.0.seat)
-        (O.contents console.new.output.now) }
+        console.new.output.now }
+    ensures mute { is_mute result.1 ≡ true → HasFailed O.fails }
 {
     let mut port = port;
     tick(console.rt, hub, &mut port, &mut desk.outlet);

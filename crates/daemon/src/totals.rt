@@ -1,16 +1,16 @@
 //! The exact counters, once all workers are back.
 ghost use Rattle.std.specs.Prelude.{◌≡◌, ℕ, List, All, length, IfErr, OnOk};
-ghost use Rattle.std.specs.Io.KnownBytes.{Appends};
 ghost use Rattle.console.specs.Answers.{counter_lines};
 ghost use Rattle.maps.specs.Words.{IsOf};
 ghost use Rattle.daemon.specs.Refusals.{IsLaterWhy};
 ghost use Rattle.daemon.specs.Sums.{AreTotals};
+ghost use Rattle.daemon.specs.Texts.{HasFailed};
 
 use crate::error::RouteError;
+use crate::texts::WritesTexts;
 use console::totals_text;
 use maps::{Seat, Shared, Totals};
 use std::alloc::Global;
-use std::io::Write;
 
 /// The exact counters were printed. Only [`print_totals`] makes one, so whoever has it did that.
 #[derive(Clone, Copy)]
@@ -29,13 +29,18 @@ fn sums_of(shared: Shared, seats: Vec<Seat>) -> Totals
 }
 
 // Prints these sums.
-fn print_sums<O: Write>(alloc: Global, totals: &Totals, output: &mut O) -> Result<(), RouteError>
-    ensures printed { OnOk result (Appends (O.contents output.old) (O.contents output.new)
-        (counter_lines 0 totals.now.sums)) }
-    ensures refused { IfErr result IsLaterWhy }
+#[tactic(auto, using(crate::proofs::Ended::failed_once))]
+fn print_sums<O: WritesTexts>(
+    alloc: Global,
+    totals: &Totals,
+    output: &mut O,
+) -> Result<(), RouteError>
+    ensures printed { OnOk result
+        (O.takes output.old (counter_lines 0 totals.now.sums) output.new) }
+    ensures refused { IfErr result (IsLaterWhy (HasFailed O.fails)) }
 {
     let text = totals_text(alloc, &totals.sums)?;
-    match output.write_all(text.as_bytes()) {
+    match output.write_text(text.as_str()) {
         Ok(()) => Ok(()),
         Err(_) => Err(RouteError::Output),
     }
@@ -43,7 +48,7 @@ fn print_sums<O: Write>(alloc: Global, totals: &Totals, output: &mut O) -> Resul
 
 /// Closes the words that the programs share, of which all seats are back, and prints for each
 /// counter the sum of all that was added to it.
-pub fn print_totals<O: Write>(
+pub fn print_totals<O: WritesTexts>(
     alloc: Global,
     shared: Shared,
     seats: Vec<Seat>,
@@ -52,8 +57,8 @@ pub fn print_totals<O: Write>(
     requires all { length seats.items ≡ shared.seats }
     requires table { All (IsOf shared) seats.items }
     ensures printed { OnOk result ((sums : List ℕ) × AreTotals seats.items sums
-        × Appends (O.contents output.old) (O.contents output.new) (counter_lines 0 sums)) }
-    ensures refused { IfErr result IsLaterWhy }
+        × O.takes output.old (counter_lines 0 sums) output.new) }
+    ensures refused { IfErr result (IsLaterWhy (HasFailed O.fails)) }
 {
     let totals = sums_of(shared, seats);
     print_sums(alloc, &totals, output)?;

@@ -1,13 +1,10 @@
 //! What a line of the console is answered.
-ghost use Rattle.std.specs.Prelude.{◌≡◌, OnOk};
-ghost use Rattle.std.specs.Io.KnownBytes.{Appends};
-ghost use Rattle.operator.specs.Texts.{told_text};
+ghost use Rattle.std.specs.Prelude.{◌≡◌};
 ghost use Rattle.operator.specs.declared.told.Told.TheVariants as told;
 ghost use Rattle.worker.specs.Numbers.{turn_error_number};
 
 use isa::Hook;
 use std::fmt;
-use std::io::{self, Write};
 use worker::TurnError;
 
 /// What a line is answered. The text is what is printed.
@@ -39,15 +36,6 @@ impl Told {
         ensures { result ≡ told.Refused (turn_error_number error) }
     {
         Told::Refused(error.number())
-    }
-
-    /// Prints the answer.
-    pub fn print<O: Write>(&self, output: &mut O) -> io::Result<()>
-        ensures { OnOk result (Appends (O.contents output.old) (O.contents output.new)
-            (told_text self.now)) }
-    {
-        write!(output, "{self}")?;
-        output.flush()
     }
 }
 

@@ -9,7 +9,7 @@ use Rattle.daemon.proofs.talk.answer_all.Given as goal
 abbrev pub invariant-loop : goal.invariant-loop
 invariant-loop g l = record {
   interfaces : l.desk.interfaces ≡ l.initial.desk.interfaces;
-  talking : Talking g.I.ReadsBytes.gives g.I.ReadsBytes.fails
+  talking : Talking g.I.ReadsBytes.gives g.I.ReadsBytes.fails g.O.WritesTexts.takes
       (sources g.B.Taker.offers g.B.Taker.took g.B.Taker.refuses g.B.Taker.wanted
       (IsListed g.B.Taker.own g.B.Taker.neighbor_at)
       IsAnyFile IsAnyPath)
@@ -17,9 +17,9 @@ invariant-loop g l = record {
       (place l.initial.console.input.now (operations_of l.initial.desk.loader)
       (known_to l.initial.port.asker)
       l.initial.desk.unrefreshed l.initial.port.share.amount l.initial.port.seat)
-      (g.O.Write.contents l.initial.console.output.now)
+      l.initial.console.output.now
       (place l.console.input.now (operations_of l.desk.loader) (known_to l.port.asker)
       l.desk.unrefreshed l.port.share.amount
       l.port.seat)
-      (g.O.Write.contents l.console.output.now);
+      l.console.output.now;
 }

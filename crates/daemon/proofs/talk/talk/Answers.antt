@@ -1,8 +1,9 @@
 use Rattle.hooks.specs.Known.{known_to}
+use Rattle.daemon.proofs.Talked.{talked_mute}
 use Rattle.daemon.proofs.talk.talk.Goals as goal
 
-pub returns : goal.returns
-returns g c = record {
+pub returns-clause-conversed : goal.returns-clause-conversed
+returns-clause-conversed g c = record {
   known = known_to c.tick.new.port.asker;
   events = c.tick.new.port.share.amount;
   seat = c.tick.new.port.seat;
@@ -10,3 +11,6 @@ returns g c = record {
   ticked = c.tick.ensures.ticked;
   talked = c.answer_all-parting.ensures;
 }
+
+pub returns-clause-mute : goal.returns-clause-mute
+returns-clause-mute g c is = talked_mute _ _ _ _ _ _ _ _ _ _ _ c.answer_all-parting.ensures is
