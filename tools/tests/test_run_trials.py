@@ -8,6 +8,8 @@ TOOL = pathlib.Path(__file__).resolve().parents[1] / "run-trials"
 PRINTS = """#!/bin/sh
 [ "$1" = fail ] && { echo "usage" >&2; exit 2; }
 [ "$1" = read ] && { cat "$2"; exit 0; }
+[ "$1" = input ] && exec cat
+[ "$1" = talk ] && { while read -r line; do echo "$2 $line"; done; exit 0; }
 echo "$@"
 """
 
@@ -92,6 +94,67 @@ $ routerd read text
                 status, told = self.play(f"== none\nfile it hex 07\n{line}\n")
                 self.assertEqual((status, "run-trials: " in told), (2, True))
         self.assertEqual(self.play("file it hex 07\n")[0], 2)
+
+    def test_an_input_is_read_and_fails_behind_its_bytes(self):
+        rows = """== input
+file text
+| one
+| two
+$ routerd input <text
+> one
+> two
+= 0
+$ routerd input <text!
+> one
+> two
+! reset
+= 1
+$ routerd input
+= 0
+"""
+        self.assertEqual(self.play(rows), (0, "run-trials: 1 cases, 3 commands, 0 wrong\n"))
+        self.assertEqual(self.play(rows.replace("<text!", "<text"))[0], 1)
+
+    def test_an_output_is_cut_at_each_byte(self):
+        rows = "== seven\n$ routerd 7 8\n> 7 8\n= 0\ncut {}\n"
+        self.assertEqual(self.play(rows.format(1)), (0, "run-trials: 1 cases, 6 commands, 0 wrong\n"))
+        status, told = self.play(rows.format(3))
+        self.assertEqual((status, "status 1 in place of 3 where 0 of 4 bytes are taken" in told), (1, True))
+        self.assertEqual(self.play("== none\n$ routerd input\n= 0\ncut 1\n")[0], 2)
+
+    def test_ports_are_free_and_the_same_for_a_number(self):
+        rows = "== ports\n$ routerd {port 1} {port 2} {port 1}\n> {port 1} {port 2} {port 1}\n- {port 3}\n= 0\n"
+        self.assertEqual(self.play(rows)[0], 0)
+        self.assertEqual(self.play("== ports\n$ routerd {port 1}\n> {port 2}\n= 0\n")[0], 1)
+
+    def test_bytes_and_where_a_part_stands(self):
+        rows = "== bytes\n$ routerd {byte c3}{byte a9} b\n~ \u00e9 b{lf}\n= 0\n$ routerd fail\n! {start}usage{lf}\n= 2\n"
+        self.assertEqual(self.play(rows)[0], 0)
+        self.assertEqual(self.play(rows.replace("{start}", "{start}s"))[0], 1)
+
+    def test_commands_run_together_until_all_is_printed(self):
+        rows = """== two
+& routerd talk a
+< first
+? one
+? two
+~ a first{lf}a one{lf}a two{lf}
+= 0
+& routerd talk b
+? three
+~ b three{lf}b three{lf}
+- four
+= 0
+$ routerd 7
+> 7
+= 0
+"""
+        self.assertEqual(self.play(rows), (0, "run-trials: 1 cases, 3 commands, 0 wrong\n"))
+        for old, new in (("- four", "- three"), ("= 0\n&", "= 1\n&")):
+            with self.subTest(new):
+                status, told = self.play(rows.replace(old, new, 1))
+                self.assertEqual((status, "some.rows: two: line 2" in told), (1, True))
+        self.assertEqual(self.play("== none\n& routerd talk a\n= 0\n")[0], 2)
 
     def test_planted_faults_are_found(self):
         rows = "== seven\n$ routerd 7 8\n> 7 8\n= 0\nfile it hex 07\nholds it hex 07\n"
