@@ -1,8 +1,5 @@
-//! Routers that run: what `sockets`, `operator` and `daemon` do with sockets, threads and a
-//! console.
+//! What `sockets` and `daemon` do with sockets that fail, and the texts of faults.
 
 mod failing_sockets;
-mod networks;
 mod refusals;
 mod refused_sends;
-mod sessions;

@@ -1,5 +1,5 @@
 //! `routerd`: runs a router, and assembles, lists, verifies and runs its programs. What it does is
-//! in `commands` and `daemon`. Running routers are tested in `command_tests`.
+//! in `commands` and `daemon`. Running routers are tested by trials/sessions.rows.
 #![tactic(auto)]
 
 ghost use Rattle.std.specs.Prelude.{◌≤◌};

@@ -1,30 +1,33 @@
 //! Why a router doesn't run, in words.
 use daemon::RouteError;
+use std::alloc::Global;
 use std::process::Abort;
-use std::test::Fail;
 
-fn tells<R: AllocGlobal + Abort>(
-    rt: &R,
-    error: &RouteError,
-    text: &str,
-    status: u8,
-) -> Result<(), Fail> {
-    let told = format!(in rt.alloc(); "{error}")?;
-    let is_so = told.as_str() == text && error.status() == status;
-    assert!(rt; is_so, "{text}");
-    Ok(())
+// A fault, its text and its status.
+type Row = (RouteError, &'static str, u8);
+
+const ROWS: &[Row] = &[
+    (RouteError::Configuration(3), "config refusal line 3", 1),
+    (RouteError::Bind(7001), "cannot bind 7001", 3),
+    (RouteError::Hooks(3), "hook refusal 3", 1),
+    (RouteError::Memory, "out of memory", 4),
+];
+
+fn tells(alloc: Global, row: &Row) -> bool {
+    match format!(in alloc; "{}", row.0) {
+        Ok(told) => told.as_str() == row.1 && row.0.status() == row.2,
+        Err(_) => false,
+    }
 }
 
+// An allocation may be refused once.
 #[test]
-fn a_refusal_has_its_text_and_status(rt: HostRuntime) -> Result<(), Fail> {
-    let rows = [
-        (RouteError::Configuration(3), "config refusal line 3", 1),
-        (RouteError::Bind(7001), "cannot bind 7001", 3),
-        (RouteError::Hooks(3), "hook refusal 3", 1),
-        (RouteError::Memory, "out of memory", 4),
-    ];
-    for (error, text, status) in &rows {
-        tells(&rt, error, text, *status)?;
+fn a_refusal_has_its_text_and_status(rt: HostRuntime) {
+    for row in ROWS {
+        assert!(rt;
+            tells(rt.alloc(), row) || tells(rt.alloc(), row),
+            "{}",
+            row.1
+        );
     }
-    Ok(())
 }

@@ -1,5 +1,5 @@
 //! A link whose socket refuses sends, as by a rule of a firewall, for some calls.
-use links::{LinkFault, Transport};
+use links::Transport;
 use sockets::{DatagramSocket, Sockets, Wire, came, sent};
 use std::io;
 use std::process::Abort;
@@ -9,12 +9,6 @@ use std::sync::atomic::{AtomicUsize, Ordering};
 // ENOBUFS, ECONNREFUSED, EHOSTDOWN and EHOSTUNREACH of Linux, and at last EINVAL, which a route
 // gives that lets packets vanish: a packet is lost, and the socket is of use.
 const OF_A_SEND: [i32; 14] = [1, 13, 11, 12, 90, 99, 100, 101, 102, 105, 111, 112, 113, 22];
-
-// The same without EINVAL, which no route can be the reason of there.
-const OF_A_RECEIVE: [i32; 13] = [1, 13, 11, 12, 90, 99, 100, 101, 102, 105, 111, 112, 113];
-
-// EBADF, EFAULT, ENOTSOCK, EOPNOTSUPP and EAFNOSUPPORT: it isn't.
-const OF_A_SOCKET: [i32; 5] = [9, 14, 88, 95, 97];
 
 // Refuses its calls with these numbers of the system, one after the other, and none after the last;
 // it counts what it was handed for port 7002.
@@ -60,72 +54,115 @@ impl<'a> DatagramSocket for Refusing<'a> {
     }
 }
 
-// Whether a send at the interface is sent, or lost, as it is to be.
-fn goes<L: Transport>(link: &mut L, interface: u16, bytes: &[u8], is_sent: bool) -> bool {
-    link.send(interface, bytes) == Ok(is_sent)
-}
+// A send at an interface: whether the packet is sent (else it is lost); `None` if the link fails.
+type Send<'a> = (u16, &'a [u8], Option<bool>);
 
-// Each refused send is lost, and one at the other interface goes out.
-fn loses_each<L: Transport>(rt: &impl Abort, link: &mut L) {
-    for number in &OF_A_SEND {
-        let is_so = goes(link, 2, b"lost", false) && goes(link, 1, b"at 1", true);
-        assert!(rt; is_so, "{number}");
+const LOST: Send<'_> = (2, b"lost", Some(false));
+
+const AT_1: Send<'_> = (1, b"at 1", Some(true));
+
+const SENT: Send<'_> = (2, b"sent", Some(true));
+
+const AT_0: Send<'_> = (0, b"none", Some(false));
+
+const AT_3: Send<'_> = (3, b"none", Some(false));
+
+const FAULT: Send<'_> = (2, b"fault", None);
+
+const NONE: Send<'_> = (2, b"none", Some(false));
+
+// The numbers with which the socket of interface 2 refuses its first calls, the sends, and the
+// number of bytes that this socket takes.
+type Row<'a> = (&'a [i32], &'a [Send<'a>], usize);
+
+const ROWS: &[Row<'_>] = &[
+    // each refused send is lost, one at the other interface goes out, and so does the next one; at
+    // an interface that there isn't none does
+    (
+        &OF_A_SEND,
+        &[
+            LOST, AT_1, LOST, AT_1, LOST, AT_1, LOST, AT_1, LOST, AT_1, LOST, AT_1, LOST, AT_1,
+            LOST, AT_1, LOST, AT_1, LOST, AT_1, LOST, AT_1, LOST, AT_1, LOST, AT_1, LOST, AT_1,
+            SENT, AT_0, AT_3,
+        ],
+        4,
+    ),
+    // EBADF, EFAULT, ENOTSOCK, EOPNOTSUPP and EAFNOSUPPORT: the socket is of no use, and the link
+    // sends nothing more
+    (&[9], &[FAULT, NONE], 0),
+    (&[14], &[FAULT, NONE], 0),
+    (&[88], &[FAULT, NONE], 0),
+    (&[95], &[FAULT, NONE], 0),
+    (&[97], &[FAULT, NONE], 0),
+];
+
+fn goes<L: Transport>(link: &mut L, sends: &[Send<'_>]) -> bool {
+    for send in sends {
+        let (interface, bytes, wanted) = *send;
+        if link.send(interface, bytes).ok() != wanted {
+            return false;
+        }
     }
+    true
 }
 
-// Whether the next send goes out, and none at an interface that there isn't.
-fn goes_on<L: Transport>(link: &mut L) -> bool {
-    goes(link, 2, b"sent", true) && goes(link, 0, b"none", false) && goes(link, 3, b"none", false)
-}
-
-// At the interface whose peer is 7002.
-#[test]
-fn a_send_that_is_refused_is_a_lost_packet(rt: HostRuntime) {
+fn plays(numbers: &[i32], sends: &[Send<'_>], handed: usize) -> bool {
     let wires = [
         Wire::new(Refusing::new(&[]), 7001),
-        Wire::new(Refusing::new(&OF_A_SEND), 7002),
+        Wire::new(Refusing::new(numbers), 7002),
     ];
     let mut link = Sockets::of_console(&wires);
-    loses_each(&rt, &mut link);
-    assert!(rt; goes_on(&mut link));
-    assert!(rt; wires[1].socket().handed.load(Ordering::SeqCst) == 4);
-}
-
-// Whether the first send is a fault, and the link sends nothing more.
-fn ends<L: Transport>(link: &mut L) -> bool {
-    link.send(1, b"fault").is_err() && goes(link, 1, b"none", false)
-}
-
-// Whether this number of the system is a fault, after which the socket is handed nothing.
-fn is_a_fault(number: i32) -> bool {
-    let numbers = [number];
-    let wires = [Wire::new(Refusing::new(&numbers), 7002)];
-    let mut link = Sockets::of_console(&wires);
-    let has_ended = ends(&mut link);
-    has_ended && wires[0].socket().handed.load(Ordering::SeqCst) == 0
+    goes(&mut link, sends) && wires[1].socket().handed.load(Ordering::SeqCst) == handed
 }
 
 #[test]
-fn a_socket_of_no_use_is_a_fault(rt: HostRuntime) {
-    for number in &OF_A_SOCKET {
-        assert!(rt; is_a_fault(*number), "{number}");
+fn a_send_that_is_refused_is_a_lost_packet_or_a_fault(rt: HostRuntime) {
+    for row in ROWS {
+        let (numbers, sends, handed) = *row;
+        assert!(rt; plays(numbers, sends, handed), "{numbers:?}");
     }
 }
 
-// What a receive gives that is refused with this number of the system.
-fn received(number: i32) -> Result<Option<usize>, LinkFault> {
-    came(Err(io::Error::from_raw_os_error(number)))
+// A number of the system, and whether a receive that is refused with it gives nothing; else it is a
+// fault. No route can be the reason of EINVAL there.
+const OF_A_RECEIVE: &[(i32, bool)] = &[
+    (1, true),
+    (13, true),
+    (11, true),
+    (12, true),
+    (90, true),
+    (99, true),
+    (100, true),
+    (101, true),
+    (102, true),
+    (105, true),
+    (111, true),
+    (112, true),
+    (113, true),
+    (22, false),
+    (9, false),
+    (14, false),
+    (88, false),
+    (95, false),
+    (97, false),
+];
+
+fn gives_nothing(number: i32) -> bool {
+    came(Err(io::Error::from_raw_os_error(number))) == Ok(None)
 }
 
-// To receive, nearly the same.
+fn is_a_fault(number: i32) -> bool {
+    came(Err(io::Error::from_raw_os_error(number))).is_err()
+}
+
 #[test]
 fn a_receive_that_is_refused_gives_nothing(rt: HostRuntime) {
-    for number in &OF_A_RECEIVE {
-        assert!(rt; received(*number) == Ok(None), "{number}");
+    for row in OF_A_RECEIVE {
+        let (number, is_passing) = *row;
+        assert!(rt;
+            gives_nothing(number) == is_passing && is_a_fault(number) != is_passing,
+            "{number}"
+        );
     }
-    for number in &OF_A_SOCKET {
-        assert!(rt; received(*number).is_err(), "{number}");
-    }
-    assert!(rt; received(22).is_err());
     assert!(rt; came(Ok(44)) == Ok(Some(44)) && sent(Ok(44)) == Ok(true));
 }
