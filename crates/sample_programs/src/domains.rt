@@ -10,16 +10,10 @@ use std::process::Abort;
 enum Numbers {
     Every,
     Only(u64),
-    /// From the first number to the second.
-    Between(u64, u64),
-    /// With the bits of the second number under the first.
-    Known(u64, u64),
-    /// Both: from the first number to the second, with the bits of the fourth under the third.
+    /// From the first number to the second, with the bits of the fourth under the third.
     Stated(u64, u64, u64, u64),
     /// From the first number to the second, by their signs.
     Signed(u64, u64),
-    /// With no other bits than these.
-    Masked(u64),
 }
 
 /// A call of a domain.
@@ -37,11 +31,10 @@ enum Call {
 #[derive(Clone, Copy)]
 enum Seen {
     Nothing,
-    Same(Numbers),
     Range(u64, u64),
     Multiple(u32),
-    Within(Numbers),
-    NotWithin(Numbers),
+    /// Whether it is within these numbers, and whether they are within it.
+    Compared(Numbers, bool, bool),
 }
 
 type Row = (Call, Seen);
@@ -65,11 +58,11 @@ const ZERO: Numbers = Numbers::Only(0);
 const INTERVALS: &[Row] = &[
     // the least precision of arithmetic
     (
-        Call::Alu(Operation::Add, W64, Numbers::Between(1, 10), LESS_ONE),
+        Call::Alu(Operation::Add, W64, Numbers::Stated(1, 10, 0, 0), LESS_ONE),
         Seen::Range(0, 9),
     ),
     (
-        Call::Alu(Operation::Add, W64, Numbers::Between(0, 10), LESS_ONE),
+        Call::Alu(Operation::Add, W64, Numbers::Stated(0, 10, 0, 0), LESS_ONE),
         Seen::Range(0, u64::MAX),
     ),
     (
@@ -80,35 +73,40 @@ const INTERVALS: &[Row] = &[
         Call::Alu(
             Operation::ShiftLeft,
             W64,
-            Numbers::Between(0, 255),
+            Numbers::Stated(0, 255, 0, 0),
             Numbers::Only(3),
         ),
         Seen::Range(0, 2040),
     ),
     // 0 to 10 isn't 0, 0 to 5 is 9, and 0 to 100 is below 0
     (
-        Call::Left(Test::NotEqual, W64, Numbers::Between(0, 10), ZERO),
-        Seen::Same(Numbers::Between(1, 10)),
+        Call::Left(Test::NotEqual, W64, Numbers::Stated(0, 10, 0, 0), ZERO),
+        Seen::Compared(Numbers::Stated(1, 10, 0, 0), true, true),
     ),
     (
-        Call::Right(Test::NotEqual, W64, Numbers::Between(0, 10), ZERO),
-        Seen::Same(ZERO),
+        Call::Right(Test::NotEqual, W64, Numbers::Stated(0, 10, 0, 0), ZERO),
+        Seen::Compared(ZERO, true, true),
     ),
     (
-        Call::Left(Test::Equal, W64, Numbers::Between(0, 5), Numbers::Only(9)),
+        Call::Left(
+            Test::Equal,
+            W64,
+            Numbers::Stated(0, 5, 0, 0),
+            Numbers::Only(9),
+        ),
         Seen::Nothing,
     ),
     (
-        Call::Left(Test::SignedLess, W64, Numbers::Between(0, 100), ZERO),
+        Call::Left(Test::SignedLess, W64, Numbers::Stated(0, 100, 0, 0), ZERO),
         Seen::Nothing,
     ),
     // other operations
     (
-        Call::Alu(Operation::Add, W32, LESS_ONE, Numbers::Between(1, 1)),
+        Call::Alu(Operation::Add, W32, LESS_ONE, Numbers::Stated(1, 1, 0, 0)),
         Seen::Range(0, 0),
     ),
     (
-        Call::Unary(UnaryOperation::Negate(W32), Numbers::Between(1, 3)),
+        Call::Unary(UnaryOperation::Negate(W32), Numbers::Stated(1, 3, 0, 0)),
         Seen::Range(4_294_967_293, 4_294_967_295),
     ),
     (
@@ -127,15 +125,15 @@ const INTERVALS: &[Row] = &[
     ),
     // intervals within others, and what they are multiples of
     (
-        Call::Is(Numbers::Between(2, 3)),
-        Seen::Within(Numbers::Between(1, 3)),
+        Call::Is(Numbers::Stated(2, 3, 0, 0)),
+        Seen::Compared(Numbers::Stated(1, 3, 0, 0), true, false),
     ),
     (
-        Call::Is(Numbers::Between(0, 3)),
-        Seen::NotWithin(Numbers::Between(1, 3)),
+        Call::Is(Numbers::Stated(0, 3, 0, 0)),
+        Seen::Compared(Numbers::Stated(1, 3, 0, 0), false, true),
     ),
     (Call::Is(ZERO), Seen::Multiple(64)),
-    (Call::Is(Numbers::Between(1, 8)), Seen::Multiple(0)),
+    (Call::Is(Numbers::Stated(1, 8, 0, 0)), Seen::Multiple(0)),
     // signed orders trim signed bounds: at most 63, and of these the nonnegative, the positive and
     // the negative ones
     (Call::Is(AT_MOST_63), Seen::Range(0, u64::MAX)),
@@ -167,11 +165,11 @@ const INTERVALS: &[Row] = &[
     // a signed test of halves leaves whole numbers
     (
         Call::Left(Test::SignedLess, W32, AROUND_ZERO, ZERO),
-        Seen::Same(AROUND_ZERO),
+        Seen::Compared(AROUND_ZERO, true, true),
     ),
     (
         Call::Right(Test::SignedLess, W32, AROUND_ZERO, ZERO),
-        Seen::Same(ZERO),
+        Seen::Compared(ZERO, true, true),
     ),
     // signed bounds are kept by moves, sums and differences: of -8 to 7 8 added, -8 subtracted, the
     // bits of 8 flipped, 8 added in the lower halves; and moved
@@ -198,59 +196,72 @@ const INTERVALS: &[Row] = &[
     ),
     (
         Call::Alu(Operation::Move, W64, EIGHT, AROUND_ZERO),
-        Seen::Same(AROUND_ZERO),
+        Seen::Compared(AROUND_ZERO, true, true),
     ),
-    (Call::Is(AROUND_ZERO), Seen::Within(Numbers::Every)),
-    (Call::Is(Numbers::Every), Seen::NotWithin(AROUND_ZERO)),
-    (Call::Is(Numbers::Between(0, 7)), Seen::Within(AROUND_ZERO)),
     (
-        Call::Is(Numbers::Between(0, 8)),
-        Seen::NotWithin(AROUND_ZERO),
+        Call::Is(AROUND_ZERO),
+        Seen::Compared(Numbers::Every, true, false),
+    ),
+    (
+        Call::Is(Numbers::Every),
+        Seen::Compared(AROUND_ZERO, false, true),
+    ),
+    (
+        Call::Is(Numbers::Stated(0, 7, 0, 0)),
+        Seen::Compared(AROUND_ZERO, true, false),
+    ),
+    (
+        Call::Is(Numbers::Stated(0, 8, 0, 0)),
+        Seen::Compared(AROUND_ZERO, false, false),
     ),
 ];
 
 // A byte, and eight times it.
-const BYTE: Numbers = Numbers::Known(0xffff_ffff_ffff_ff00, 0);
+const BYTE: Numbers = Numbers::Stated(0, u64::MAX, 0xffff_ffff_ffff_ff00, 0);
 
-const EIGHTH: Numbers = Numbers::Known(0xffff_ffff_ffff_f807, 0);
+const EIGHTH: Numbers = Numbers::Stated(0, u64::MAX, 0xffff_ffff_ffff_f807, 0);
 
-const LOW_BYTE: Numbers = Numbers::Known(0xff, 0x0f);
+const LOW_BYTE: Numbers = Numbers::Stated(0, u64::MAX, 0xff, 0x0f);
 
-const LOW_BITS: Numbers = Numbers::Known(0xf0ff, 0x000f);
+const LOW_BITS: Numbers = Numbers::Stated(0, u64::MAX, 0xf0ff, 0x000f);
 
-const HALF: Numbers = Numbers::Known(0xffff_ffff, 1);
+const HALF: Numbers = Numbers::Stated(0, u64::MAX, 0xffff_ffff, 1);
 
 const KNOWN_BITS: &[Row] = &[
     // bit operations know their bits
     (
         Call::Alu(Operation::And, W64, Numbers::Every, Numbers::Only(255)),
-        Seen::Same(BYTE),
+        Seen::Compared(BYTE, true, true),
     ),
     (
         Call::Alu(Operation::ShiftLeft, W64, BYTE, Numbers::Only(3)),
-        Seen::Same(EIGHTH),
+        Seen::Compared(EIGHTH, true, true),
     ),
     (
         Call::Alu(Operation::Xor, W64, LOW_BYTE, Numbers::Only(0xff)),
-        Seen::Same(Numbers::Known(0xff, 0xf0)),
+        Seen::Compared(Numbers::Stated(0, u64::MAX, 0xff, 0xf0), true, true),
     ),
     (
         Call::Alu(Operation::Or, W64, LOW_BYTE, Numbers::Only(0xf00)),
-        Seen::Same(Numbers::Known(0xfff, 0xf0f)),
+        Seen::Compared(Numbers::Stated(0, u64::MAX, 0xfff, 0xf0f), true, true),
     ),
     (
         Call::Alu(Operation::ShiftRight, W64, EIGHTH, Numbers::Only(3)),
-        Seen::Same(BYTE),
+        Seen::Compared(BYTE, true, true),
     ),
     (Call::Is(EIGHTH), Seen::Multiple(3)),
     // sums and differences know their low bits
     (
         Call::Alu(Operation::Add, W64, LOW_BITS, Numbers::Only(1)),
-        Seen::Same(Numbers::Known(0xff, 0x10)),
+        Seen::Compared(Numbers::Stated(0, u64::MAX, 0xff, 0x10), true, true),
     ),
     (
         Call::Alu(Operation::Subtract, W32, LOW_BITS, Numbers::Only(16)),
-        Seen::Same(Numbers::Known(0xffff_ffff_0000_00ff, 0xff)),
+        Seen::Compared(
+            Numbers::Stated(0, u64::MAX, 0xffff_ffff_0000_00ff, 0xff),
+            true,
+            true,
+        ),
     ),
     // numbers give their result
     (
@@ -260,7 +271,7 @@ const KNOWN_BITS: &[Row] = &[
             Numbers::Only(0xffff_ffff_0000_0005),
             ZERO,
         ),
-        Seen::Same(Numbers::Only(5)),
+        Seen::Compared(Numbers::Only(5), true, true),
     ),
     (
         Call::Alu(
@@ -269,7 +280,7 @@ const KNOWN_BITS: &[Row] = &[
             Numbers::Only(1 << 63),
             LESS_ONE,
         ),
-        Seen::Same(Numbers::Only(1 << 63)),
+        Seen::Compared(Numbers::Only(1 << 63), true, true),
     ),
     // -13
     (
@@ -279,7 +290,7 @@ const KNOWN_BITS: &[Row] = &[
             Numbers::Only(0xffff_ffff_ffff_fff3),
             Numbers::Only(3),
         ),
-        Seen::Same(LESS_ONE),
+        Seen::Compared(LESS_ONE, true, true),
     ),
     (
         Call::Alu(
@@ -288,11 +299,11 @@ const KNOWN_BITS: &[Row] = &[
             Numbers::Only(1 << 31),
             Numbers::Only(2),
         ),
-        Seen::Same(ZERO),
+        Seen::Compared(ZERO, true, true),
     ),
     (
         Call::Alu(Operation::Divide, W64, Numbers::Only(7), Numbers::Only(2)),
-        Seen::Same(Numbers::Only(3)),
+        Seen::Compared(Numbers::Only(3), true, true),
     ),
     (
         Call::Alu(
@@ -301,15 +312,15 @@ const KNOWN_BITS: &[Row] = &[
             Numbers::Only(0x8000_0000),
             Numbers::Only(31),
         ),
-        Seen::Same(Numbers::Only(0xffff_ffff)),
+        Seen::Compared(Numbers::Only(0xffff_ffff), true, true),
     ),
     (
         Call::Alu(Operation::Move, W32, Numbers::Only(1), LESS_ONE),
-        Seen::Same(Numbers::Only(0xffff_ffff)),
+        Seen::Compared(Numbers::Only(0xffff_ffff), true, true),
     ),
     (
         Call::Alu(Operation::Add, W64, LESS_ONE, Numbers::Only(1)),
-        Seen::Same(ZERO),
+        Seen::Compared(ZERO, true, true),
     ),
     // swaps and negations
     (
@@ -317,15 +328,15 @@ const KNOWN_BITS: &[Row] = &[
             UnaryOperation::Reorder(ByteOrder::Big, SwapWidth::Bits32),
             Numbers::Only(0x1122_3344_5566_7788),
         ),
-        Seen::Same(Numbers::Only(0x8877_6655)),
+        Seen::Compared(Numbers::Only(0x8877_6655), true, true),
     ),
     (
         Call::Unary(UnaryOperation::Negate(W32), HALF),
-        Seen::Same(Numbers::Only(0xffff_ffff)),
+        Seen::Compared(Numbers::Only(0xffff_ffff), true, true),
     ),
     (
         Call::Unary(UnaryOperation::Negate(W64), HALF),
-        Seen::Same(Numbers::Every),
+        Seen::Compared(Numbers::Every, true, true),
     ),
     // 5 is 9; an odd number is one with a given upper byte; a number's lower half is that of 2^32;
     // 9 is less than 5
@@ -337,69 +348,82 @@ const KNOWN_BITS: &[Row] = &[
         Call::Left(
             Test::Equal,
             W64,
-            Numbers::Known(1, 1),
-            Numbers::Known(0xff00, 0x1200),
+            Numbers::Stated(0, u64::MAX, 1, 1),
+            Numbers::Stated(0, u64::MAX, 0xff00, 0x1200),
         ),
-        Seen::Same(Numbers::Known(0xff01, 0x1201)),
+        Seen::Compared(Numbers::Stated(0, u64::MAX, 0xff01, 0x1201), true, true),
     ),
     (
         Call::Right(
             Test::Equal,
             W64,
-            Numbers::Known(1, 1),
-            Numbers::Known(0xff00, 0x1200),
+            Numbers::Stated(0, u64::MAX, 1, 1),
+            Numbers::Stated(0, u64::MAX, 0xff00, 0x1200),
         ),
-        Seen::Same(Numbers::Known(0xff01, 0x1201)),
+        Seen::Compared(Numbers::Stated(0, u64::MAX, 0xff01, 0x1201), true, true),
     ),
     (
         Call::Left(Test::Equal, W32, Numbers::Every, Numbers::Only(1 << 32)),
-        Seen::Same(Numbers::Known(0xffff_ffff, 0)),
+        Seen::Compared(Numbers::Stated(0, u64::MAX, 0xffff_ffff, 0), true, true),
     ),
     (
         Call::Right(Test::Equal, W32, Numbers::Every, Numbers::Only(1 << 32)),
-        Seen::Same(Numbers::Only(1 << 32)),
+        Seen::Compared(Numbers::Only(1 << 32), true, true),
     ),
     (
         Call::Left(Test::Less, W64, Numbers::Only(9), Numbers::Only(5)),
-        Seen::Same(Numbers::Only(9)),
+        Seen::Compared(Numbers::Only(9), true, true),
     ),
     (
         Call::Right(Test::Less, W64, Numbers::Only(9), Numbers::Only(5)),
-        Seen::Same(Numbers::Only(5)),
+        Seen::Compared(Numbers::Only(5), true, true),
     ),
     // ranges, and places: 7 within odd numbers, and vice versa; even numbers within all
     (Call::Is(Numbers::Only(7)), Seen::Range(7, 7)),
     (
-        Call::Is(Numbers::Known(0xf0, 0x30)),
+        Call::Is(Numbers::Stated(0, u64::MAX, 0xf0, 0x30)),
         Seen::Range(0x30, 0xffff_ffff_ffff_ff3f),
     ),
     (
         Call::Is(Numbers::Only(7)),
-        Seen::Within(Numbers::Known(1, 1)),
+        Seen::Compared(Numbers::Stated(0, u64::MAX, 1, 1), true, false),
     ),
     (
-        Call::Is(Numbers::Known(1, 1)),
-        Seen::NotWithin(Numbers::Only(7)),
+        Call::Is(Numbers::Stated(0, u64::MAX, 1, 1)),
+        Seen::Compared(Numbers::Only(7), false, true),
     ),
-    (Call::Is(Numbers::Known(1, 0)), Seen::Within(Numbers::Every)),
+    (
+        Call::Is(Numbers::Stated(0, u64::MAX, 1, 0)),
+        Seen::Compared(Numbers::Every, true, false),
+    ),
     (Call::Is(ZERO), Seen::Multiple(64)),
     (Call::Is(Numbers::Only(24)), Seen::Multiple(3)),
 ];
 
 // The multiples of eight below 256.
-const EIGHTS: Numbers = Numbers::Masked(0xf8);
+const EIGHTS: Numbers = Numbers::Stated(0, 0xf8, !0xf8, 0);
 
 // No number.
 const NONE: Numbers = Numbers::Stated(1, 2, 8, 8);
 
 const PAIRS: &[Row] = &[
     // the parts narrow each other
-    (Call::Is(Numbers::Known(!0xff, 0)), Seen::Range(0, 255)),
+    (
+        Call::Is(Numbers::Stated(0, u64::MAX, !0xff, 0)),
+        Seen::Range(0, 255),
+    ),
     (
         Call::Is(Numbers::Stated(3, 300, 0xf01, 0x100)),
         Seen::Range(256, 300),
     ),
-    (Call::Is(EIGHTS), Seen::Range(0, 0xf8)),
+    (
+        Call::Alu(Operation::And, W64, Numbers::Every, Numbers::Only(0xf8)),
+        Seen::Range(0, 0xf8),
+    ),
+    (
+        Call::Alu(Operation::And, W64, Numbers::Every, Numbers::Only(0xf8)),
+        Seen::Compared(EIGHTS, true, true),
+    ),
     (
         Call::Alu(Operation::Or, W64, EIGHTS, Numbers::Only(1)),
         Seen::Range(1, 0xf9),
@@ -408,7 +432,7 @@ const PAIRS: &[Row] = &[
     // those that are at least 0xf8 and those above it; and of no number those other than 0
     (
         Call::Left(Test::GreaterOrEqual, W64, EIGHTS, Numbers::Only(0xf8)),
-        Seen::Same(Numbers::Only(0xf8)),
+        Seen::Compared(Numbers::Only(0xf8), true, true),
     ),
     (
         Call::Left(Test::Greater, W64, EIGHTS, Numbers::Only(0xf8)),
@@ -419,12 +443,12 @@ const PAIRS: &[Row] = &[
 
 const PAIRS_OF_INTERVALS: &[Row] = &[
     (Call::Is(Numbers::Only(1)), Seen::Range(1, 1)),
-    (Call::Is(Numbers::Between(1, 1)), Seen::Range(1, 1)),
+    (Call::Is(Numbers::Stated(1, 1, 0, 0)), Seen::Range(1, 1)),
     (
         Call::Alu(
             Operation::Add,
             W64,
-            Numbers::Between(1, 2),
+            Numbers::Stated(1, 2, 0, 0),
             Numbers::Only(1),
         ),
         Seen::Range(2, 3),
@@ -433,17 +457,53 @@ const PAIRS_OF_INTERVALS: &[Row] = &[
         Call::Unary(UnaryOperation::Negate(W64), Numbers::Only(1)),
         Seen::Range(u64::MAX, u64::MAX),
     ),
-    (Call::Is(Numbers::Only(1)), Seen::Within(Numbers::Every)),
     (
         Call::Is(Numbers::Only(1)),
-        Seen::NotWithin(Numbers::Between(2, 3)),
+        Seen::Compared(Numbers::Every, true, false),
     ),
     (
-        Call::Left(Test::Equal, W64, Numbers::Between(2, 3), Numbers::Only(1)),
+        Call::Is(Numbers::Only(1)),
+        Seen::Compared(Numbers::Stated(2, 3, 0, 0), false, false),
+    ),
+    (
+        Call::Left(
+            Test::Equal,
+            W64,
+            Numbers::Stated(2, 3, 0, 0),
+            Numbers::Only(1),
+        ),
         Seen::Nothing,
     ),
     (Call::Is(ZERO), Seen::Multiple(64)),
 ];
+
+// A domain.
+#[derive(Clone, Copy)]
+enum Kind {
+    Intervals,
+    KnownBits,
+    Pairs,
+    PairsOfIntervals,
+}
+
+const TABLES: &[(Kind, &str, &[Row])] = &[
+    (Kind::Intervals, "intervals", INTERVALS),
+    (Kind::KnownBits, "known bits", KNOWN_BITS),
+    (Kind::Pairs, "pairs", PAIRS),
+    (
+        Kind::PairsOfIntervals,
+        "pairs of intervals",
+        PAIRS_OF_INTERVALS,
+    ),
+];
+
+// What a test leaves of the left numbers, or of the right ones.
+fn tested<D: Domain>(is_left: bool, test: Test, width: Width, left: D, right: D) -> Option<D> {
+    match D::assume(test, width, left, right) {
+        Some((left, right)) => Some(if is_left { left } else { right }),
+        None => None,
+    }
+}
 
 // What the test leaves of the numbers; all of them if it leaves none.
 fn left_by<D: Domain>(test: Test, value: D, number: u64) -> D {
@@ -462,11 +522,8 @@ fn value_of<D: Domain>(numbers: Numbers) -> D {
     match numbers {
         Numbers::Every => D::top(),
         Numbers::Only(number) => D::constant(number),
-        Numbers::Between(low, high) => D::stated(low, high, 0, 0),
-        Numbers::Known(mask, value) => D::stated(0, u64::MAX, mask, value),
         Numbers::Stated(low, high, mask, value) => D::stated(low, high, mask, value),
         Numbers::Signed(low, high) => between_signed(low, high),
-        Numbers::Masked(mask) => D::alu(Operation::And, W64, D::top(), D::constant(mask)),
     }
 }
 
@@ -478,12 +535,10 @@ fn answer<D: Domain>(call: Call) -> Option<D> {
         }
         Call::Unary(operation, operand) => Some(D::unary(operation, value_of(operand))),
         Call::Left(test, width, left, right) => {
-            let (found, _) = D::assume(test, width, value_of(left), value_of(right))?;
-            Some(found)
+            tested(true, test, width, value_of(left), value_of(right))
         }
         Call::Right(test, width, left, right) => {
-            let (_, found) = D::assume(test, width, value_of(left), value_of(right))?;
-            Some(found)
+            tested(false, test, width, value_of(left), value_of(right))
         }
     }
 }
@@ -491,14 +546,12 @@ fn answer<D: Domain>(call: Call) -> Option<D> {
 fn is_seen<D: Domain>(found: D, seen: Seen) -> bool {
     match seen {
         Seen::Nothing => false,
-        Seen::Same(numbers) => {
-            let other: D = value_of(numbers);
-            found.within(other) && other.within(found)
-        }
         Seen::Range(low, high) => found.range() == (low, high),
         Seen::Multiple(exponent) => found.multiple() == exponent,
-        Seen::Within(numbers) => found.within(value_of(numbers)),
-        Seen::NotWithin(numbers) => !found.within(value_of(numbers)),
+        Seen::Compared(numbers, is_within, has_within) => {
+            let other: D = value_of(numbers);
+            found.within(other) == is_within && other.within(found) == has_within
+        }
     }
 }
 
@@ -511,16 +564,30 @@ fn holds<D: Domain>(row: Row) -> bool {
     }
 }
 
-fn all_hold<D: Domain>(rt: &impl Abort, name: &str, rows: &[Row]) {
-    for (number, row) in rows.iter().enumerate() {
-        assert!(rt; holds::<D>(*row), "{name}: row {number}");
+fn holds_of(kind: Kind, row: Row) -> bool {
+    match kind {
+        Kind::Intervals => holds::<Interval>(row),
+        Kind::KnownBits => holds::<KnownBits>(row),
+        Kind::Pairs => holds::<Pair<Interval, KnownBits>>(row),
+        Kind::PairsOfIntervals => holds::<Pair<Interval, Interval>>(row),
     }
+}
+
+// The number of the first row that doesn't hold of the domain, or the number of all rows.
+fn first_wrong(kind: Kind, rows: &[Row]) -> usize {
+    for (number, row) in rows.iter().enumerate() {
+        if !holds_of(kind, *row) {
+            return number;
+        }
+    }
+    rows.len()
 }
 
 #[test]
 fn each_domain_gives_its_numbers(rt: HostRuntime) {
-    all_hold::<Interval>(&rt, "intervals", INTERVALS);
-    all_hold::<KnownBits>(&rt, "known bits", KNOWN_BITS);
-    all_hold::<Pair<Interval, KnownBits>>(&rt, "pairs", PAIRS);
-    all_hold::<Pair<Interval, Interval>>(&rt, "pairs of intervals", PAIRS_OF_INTERVALS);
+    for table in TABLES {
+        let (kind, name, rows) = *table;
+        let wrong = first_wrong(kind, rows);
+        assert!(rt; wrong == rows.len(), "{name}: row {wrong}");
+    }
 }

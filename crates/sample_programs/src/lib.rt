@@ -1,8 +1,6 @@
-//! Programs that are verified and run, by both interpreters: worked ones, sums, and an object with
-//! each of its bits flipped. trials/programs.rows has many more, played by the built programs. Each
-//! is a text of assembly in few lines, in which a semicolon or a label's colon ends a line, and
-//! `any` stands for the set of all numbers. `domains` tests the abstract domains, and `questions`
-//! programs at hooks.
+//! Programs that are verified and run, by both interpreters: accepted ones, sums, and an object
+//! with each of its bits flipped. trials/programs.rows has more, with what they answer, played by
+//! the built programs. `domains` tests the abstract domains, and `questions` programs at hooks.
 #![tactic(auto)]
 
 #[cfg(test)]
@@ -14,6 +12,6 @@ mod questions;
 #[cfg(test)]
 mod safe;
 #[cfg(test)]
-mod trials;
+mod sums;
 #[cfg(test)]
-mod worked;
+mod trials;

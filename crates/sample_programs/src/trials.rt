@@ -1,103 +1,53 @@
-//! How a program is tried: verified, and run on many inputs. If memory was refused, the program is
-//! made once more, since a test run may refuse one allocation.
-ghost use Rattle.std.specs.Prelude.{◌≡◌, length, map, IfOk};
-ghost use Rattle.std.specs.List.{range_with_len, slice_range};
+//! How a program is tried: verified, and run on many inputs. Where memory is refused, there is no
+//! answer, and the tests ask once more, since a run of them may refuse one allocation.
+ghost use Rattle.std.specs.Prelude.{◌≡◌, length, IfSome};
+ghost use Rattle.std.specs.List.{slice_range};
 ghost use Rattle.isa.specs.Hooks.{hook_number};
 ghost use Rattle.machine.specs.Memory.{number_of};
-ghost use Rattle.maps.specs.Words.{IsOf, fresh};
+ghost use Rattle.maps.specs.Words.{IsOf};
 
 use asm::assemble;
-use interp::{Run, Trap, run, run_checked};
+use interp::{Run, run, run_checked};
 use isa::{Code, Hook, decode};
 use machine::Input;
-use maps::{MapsError, Seat, Shared};
+use maps::{Seat, Shared};
 use object_verdicts::verify_object;
 use std::alloc::Global;
-use std::test::Fail;
 use verifier::Accepted;
 use words::{Address, Prefix, TableRow};
 
-// The text with a line feed after each semicolon and each label, and with the set of all numbers in
-// place of `any`.
-fn stated(alloc: Global, text: &str) -> Option<String> {
-    let lines = text.replace(alloc, "; ", "\n").ok()?;
-    let lines = lines.replace(alloc, ": ", ":\n").ok()?;
-    lines
-        .replace(alloc, "any", "number 0 18446744073709551615 0 0")
-        .ok()
-}
-
-fn made_once(alloc: Global, text: &str) -> Option<Vec<u8>> {
-    let text = stated(alloc, text)?;
-    let object = assemble(alloc, &text).ok()?;
-    object::write(alloc, &object).ok()
-}
-
-/// The object file of a text in which a semicolon or a label's colon ends a line, and `any` is the
-/// set of all numbers.
+/// The object file of a text.
 pub fn file_of(alloc: Global, text: &str) -> Option<Vec<u8>> {
-    match made_once(alloc, text) {
-        None => made_once(alloc, text),
-        made => made,
+    match assemble(alloc, text) {
+        Ok(object) => object::write(alloc, &object).ok(),
+        Err(_) => None,
     }
 }
 
-/// A program's code, and the program as it was accepted.
-#[derive(Drop)]
-pub struct ProgramTrial {
-    pub code: Code,
-    pub accepted: Accepted,
-}
-
-fn code_once(alloc: Global, bytes: &[u8]) -> Option<Code> {
-    let object = object::read(alloc, bytes).ok()?;
-    decode(alloc, object.code()).ok()
+/// The accepted program of an object file.
+pub fn accepted_in(alloc: Global, bytes: &[u8]) -> Option<Accepted> {
+    match verify_object(alloc, bytes) {
+        Ok(accepted) => Some(accepted),
+        Err(_) => None,
+    }
 }
 
 fn code_in(alloc: Global, bytes: &[u8]) -> Option<Code> {
-    match code_once(alloc, bytes) {
-        None => code_once(alloc, bytes),
-        made => made,
-    }
-}
-
-fn accepted_in(alloc: Global, bytes: &[u8]) -> Option<Accepted> {
-    match verify_object(alloc, bytes) {
-        Err(_) => verify_object(alloc, bytes).ok(),
-        Ok(accepted) => Some(accepted),
-    }
-}
-
-/// The program of an object file; `None` if it is refused.
-pub fn tried(alloc: Global, bytes: &[u8]) -> Option<ProgramTrial> {
-    let accepted = accepted_in(alloc, bytes)?;
-    let code = code_in(alloc, bytes)?;
-    Some(ProgramTrial { code, accepted })
-}
-
-/// The program of a text; `None` if it is refused.
-pub fn trial_of(alloc: Global, text: &str) -> Option<ProgramTrial> {
-    let bytes = file_of(alloc, text)?;
-    tried(alloc, &bytes)
-}
-
-/// A table with `count` seats.
-pub fn table(alloc: Global, count: usize) -> Result<(Shared, Vec<Seat>), MapsError>
-    ensures { IfOk result (λ r. r.1.items ≡ map (fresh r.0.table) (range_with_len 0 count)) }
-{
-    match Shared::new(alloc, count) {
-        Err(MapsError::Memory) => Shared::new(alloc, count),
-        made => made,
+    match object::read(alloc, bytes) {
+        Ok(object) => decode(alloc, object.code()).ok(),
+        Err(_) => None,
     }
 }
 
 /// A table with one seat, and its seat.
-pub fn one_seat(alloc: Global) -> Result<(Shared, Seat), Fail>
-    ensures { IfOk result (λ r. IsOf r.0 r.1) }
+pub fn one_seat(alloc: Global) -> Option<(Shared, Seat)>
+    ensures { IfSome result (λ r. IsOf r.0 r.1) }
 {
-    let (words, mut seats) = table(alloc, 1)?;
-    let seat = seats.pop().ok_or("no seat")?;
-    Ok((words, seat))
+    let Ok((words, mut seats)) = Shared::new(alloc, 1) else {
+        return None;
+    };
+    let seat = seats.pop()?;
+    Some((words, seat))
 }
 
 /// A context of zeros except for its hook.
@@ -106,20 +56,6 @@ fn bare_context(hook: Hook) -> [u8; 64]
 {
     let mut context = [0; 64];
     context[0] = hook.number();
-    context
-}
-
-/// A context with 7 at byte 4, 2^63 + 4,660 at byte 8, 200 at byte 16 and 64 at byte 20.
-pub fn rich_context(hook: Hook) -> [u8; 64]
-    ensures { number_of (slice_range result 0 4) ≡ hook_number hook }
-{
-    let mut context = bare_context(hook);
-    context[4] = 7;
-    context[8] = 0x34;
-    context[9] = 0x12;
-    context[15] = 0x80;
-    context[16] = 200;
-    context[20] = 64;
     context
 }
 
@@ -144,87 +80,111 @@ const PACKET: &[u8] = &[
 ];
 
 /// The row of a table for 192.0.2.0/24 with cost 20.
-pub fn row() -> Result<TableRow, Fail> {
-    let prefix = Prefix::new(Address::new(0xc000_0200), 24).ok_or("prefix")?;
-    Ok(TableRow { prefix, cost: 20 })
+pub fn row() -> Option<TableRow> {
+    let prefix = Prefix::new(Address::new(0xc000_0200), 24)?;
+    Some(TableRow { prefix, cost: 20 })
 }
 
-/// The outcome of a run of an accepted program, on a table of its own.
-fn ended_of(alloc: Global, accepted: &Accepted, input: &Input) -> Result<Run, Fail>
+// The outcome of the run at one seat, if the checked run at the other has the same one within the
+// program's bound.
+fn agreed_at(
+    code: &Code,
+    accepted: &Accepted,
+    input: &Input,
+    words: (&Shared, &Shared),
+    one: &mut Seat,
+    other: &mut Seat,
+) -> Option<Run>
+    requires one { IsOf words.0.now one.old }
+    requires other { IsOf words.1.now other.old }
+    requires hook { number_of (slice_range input.now.context 0 4) ≡ hook_number accepted.now.hook }
+{
+    let bound = accepted.bound();
+    let ended = run(accepted, input, words.0, one);
+    let checked = run_checked(code, accepted.hook(), bound, input, words.1, other);
+    if checked == Ok(ended) && ended.used <= bound {
+        Some(ended)
+    } else {
+        None
+    }
+}
+
+// The same, each on a table of its own.
+fn agreed(alloc: Global, code: &Code, accepted: &Accepted, input: &Input) -> Option<Run>
     requires { number_of (slice_range input.now.context 0 4) ≡ hook_number accepted.now.hook }
 {
-    let (words, mut seat) = one_seat(alloc)?;
-    Ok(run(accepted, input, &words, &mut seat))
+    let (first, mut one) = one_seat(alloc)?;
+    let (second, mut other) = one_seat(alloc)?;
+    agreed_at(
+        code,
+        accepted,
+        input,
+        (&first, &second),
+        &mut one,
+        &mut other,
+    )
 }
 
-/// The outcome of a checked run, on a table of its own. Its limit is the accepted program's bound.
-fn checked_of(
+// The same on the input of this number: a packet of up to 20 bytes, one row or none.
+fn agreed_of(
     alloc: Global,
-    trial: &ProgramTrial,
-    input: &Input,
-) -> Result<Result<Run, Trap>, Fail> {
-    let (words, mut seat) = one_seat(alloc)?;
-    let (hook, limit) = (trial.accepted.hook(), trial.accepted.bound());
-    Ok(run_checked(&trial.code, hook, limit, input, &words, &mut seat))
-}
-
-/// The outcomes of the run and of the checked run, each on a table of its own.
-fn both_runs(
-    alloc: Global,
-    trial: &ProgramTrial,
-    input: &Input,
-) -> Result<(Run, Result<Run, Trap>), Fail>
-    requires { number_of (slice_range input.now.context 0 4) ≡ hook_number trial.now.accepted.hook }
-{
-    let ended = ended_of(alloc, &trial.accepted, input)?;
-    let checked = checked_of(alloc, trial, input)?;
-    Ok((ended, checked))
-}
-
-// Whether they agree on the input of this number, within the program's bound.
-fn agree_at(
-    alloc: Global,
-    trial: &ProgramTrial,
+    code: &Code,
+    accepted: &Accepted,
     rows: &[TableRow],
     number: u8,
-) -> Result<bool, Fail> {
+) -> Option<Run> {
     let input = Input {
-        context: varied_context(trial.accepted.hook(), number),
+        context: varied_context(accepted.hook(), number),
         packet: PACKET.get(..usize::from(number % 21)).unwrap_or(&[]),
         rows: rows.get(usize::from(number % 2)..).unwrap_or(&[]),
     };
-    let (ended, checked) = both_runs(alloc, trial, &input)?;
-    Ok(checked == Ok(ended) && ended.used <= trial.accepted.bound())
+    agreed(alloc, code, accepted, &input)
 }
 
-/// Whether `run` and `run_checked` agree on the program, within its bound, on a hundred inputs: a
-/// packet of up to 20 bytes, one row or none, and different contexts.
-pub fn runs_agree(alloc: Global, trial: &ProgramTrial) -> Result<bool, Fail> {
-    let rows = [row()?];
-    for number in 0..100u8 {
-        if !agree_at(alloc, trial, &rows, number)? {
-            return Ok(false);
+/// How a program was tried.
+#[derive(Clone, Copy)]
+pub enum Verdict {
+    Refused,
+    /// `run` and `run_checked` differ on an input, or its bound is too low.
+    Wrong,
+    /// They agree on all inputs: the program's bound, and the outcome on the last input.
+    Right(u64, Run),
+}
+
+// How the program was tried on the inputs below this number.
+fn tried_on(alloc: Global, code: &Code, accepted: &Accepted, inputs: u8) -> Verdict {
+    let Some(row) = row() else {
+        return Verdict::Wrong;
+    };
+    let rows = [row];
+    let mut last = None;
+    for number in 0..inputs {
+        last = agreed_of(alloc, code, accepted, &rows, number);
+        if last.is_none() {
+            return Verdict::Wrong;
         }
     }
-    Ok(true)
+    match last {
+        Some(ended) => Verdict::Right(accepted.bound(), ended),
+        None => Verdict::Wrong,
+    }
 }
 
-// Whether its run and its checked run on the rich context have this outcome.
-fn ends_so(alloc: Global, trial: &ProgramTrial, wanted: Run) -> Result<bool, Fail> {
-    let rows = [row()?];
-    let input = Input {
-        context: rich_context(trial.accepted.hook()),
-        packet: PACKET,
-        rows: &rows,
+/// How the program of an object file was tried on the inputs below this number.
+pub fn tried(alloc: Global, bytes: &[u8], inputs: u8) -> Verdict {
+    let Some(accepted) = accepted_in(alloc, bytes) else {
+        return Verdict::Refused;
     };
-    Ok(both_runs(alloc, trial, &input)? == (wanted, Ok(wanted)))
+    let Some(code) = code_in(alloc, bytes) else {
+        return Verdict::Refused;
+    };
+    tried_on(alloc, &code, &accepted, inputs)
 }
 
-/// Whether the program of the text is accepted with this bound, and its run on the rich context, by
-/// `run` and by `run_checked`, has this outcome.
-pub fn ends(alloc: Global, text: &str, bound: u64, wanted: Run) -> Result<bool, Fail> {
-    match trial_of(alloc, text) {
-        None => Ok(false),
-        Some(trial) => Ok(trial.accepted.bound() == bound && ends_so(alloc, &trial, wanted)?),
+/// The same of a text.
+pub fn tried_text(alloc: Global, text: &str, inputs: u8) -> Verdict {
+    match file_of(alloc, text) {
+        Some(bytes) => tried(alloc, &bytes, inputs),
+        None => Verdict::Refused,
     }
 }

@@ -1,16 +1,70 @@
 //! A loader, one of its askers, and a seat of a table.
-ghost use Rattle.std.specs.Prelude.{◌≡◌, All, IfOk};
+ghost use Rattle.std.specs.Prelude.{◌≡◌, All, IfOk, IfSome};
 ghost use Rattle.maps.specs.Words.{IsOf};
 ghost use Rattle.hooks.specs.Known.{IsNew, asks_of, history_of};
 
-use crate::questions::samples::{accepted, external, moment, route};
-use crate::trials::{one_seat, row};
-use hooks::{Asker, HookError, Loader, programs};
+use crate::trials::{accepted_in, file_of, one_seat, row};
+use hooks::{ASKERS, Asker, HookError, Loader, programs};
 use machine::Hook;
 use maps::{Seat, Shared};
-use std::alloc::{AllocError, Global};
+use std::alloc::Global;
 use std::sync::Wait;
-use std::test::Fail;
+use verifier::Accepted;
+use words::{Address, External, ExternalType, Hops, Prefix, Route, RouteKind, Second, TableRow};
+
+/// The moment of every question.
+pub fn moment() -> Second {
+    Second::new(5)
+}
+
+/// Answers 7 at `price`.
+pub const SEVEN: &str = "hook price\nrank 0\nr0 = 7\nexit";
+
+/// The program of the text.
+pub fn accepted(alloc: Global, text: &str) -> Option<Accepted> {
+    let bytes = file_of(alloc, text)?;
+    accepted_in(alloc, &bytes)
+}
+
+/// What is asked about.
+#[derive(Clone, Copy)]
+pub struct Subjects {
+    /// 203.0.113.0/24 of type 2 with the configured metric 20 and the configured tag 0x05060708.
+    pub external: External,
+    /// 192.0.2.0/24 within the area, with cost 20 by interface 1, twice.
+    pub routes: [Route; 2],
+    /// The same network with cost 20.
+    pub rows: [TableRow; 1],
+}
+
+fn route() -> Option<Route> {
+    let prefix = Prefix::new(Address::new(0xc000_0200), 24)?;
+    Some(Route {
+        prefix,
+        kind: RouteKind::Intra,
+        cost: 20,
+        distance: 0,
+        hops: Hops::only(1),
+        tag: 0,
+    })
+}
+
+pub fn samples() -> Option<Subjects> {
+    let prefix = Prefix::new(Address::new(0xcb00_7100), 24)?;
+    let external = External {
+        prefix,
+        metric: 20,
+        kind: ExternalType::Type2,
+        tag: 0x0506_0708,
+    };
+    let routes = [route()?, route()?];
+    let rows = [row()?];
+    Some(Subjects {
+        external,
+        routes,
+        rows,
+    })
+}
 
 /// The asker belongs to the loader, and the seat to the table.
 #[derive(Drop)]
@@ -23,58 +77,53 @@ pub struct HookTrial<R: Wait + Drop> {
     ghost table: { IsOf shared seat },
 }
 
-/// A loader with `askers` askers. Retries once: a test run may refuse one allocation.
-pub fn loader_and_askers<R: Wait + Drop + Copy>(
+// A loader with as many askers as there may be. It says less than `programs`, so that search goes
+// through less.
+fn loader_and_askers<R: Wait + Drop>(
     alloc: Global,
     rt: R,
-    askers: usize,
 ) -> Result<(Loader<R>, Vec<Asker>), HookError>
     ensures { IfOk result (λ t. All (IsNew (history_of t.0)) t.1.items) }
 {
-    match programs(alloc, rt, askers) {
-        Err(HookError::Memory | HookError::Places) => programs(alloc, rt, askers),
-        made => made,
-    }
+    programs(alloc, rt, ASKERS)
 }
 
-/// A loader with its only asker.
-pub fn loader_and_asker<R: Wait + Drop + Copy>(
-    alloc: Global,
-    rt: R,
-) -> Result<(Loader<R>, Asker), HookError>
-    ensures { IfOk result (λ t. asks_of t.1 ≡ history_of t.0) }
+// A loader with the last of its askers.
+fn loader_and_asker<R: Wait + Drop>(alloc: Global, rt: R) -> Option<(Loader<R>, Asker)>
+    ensures { IfSome result (λ t. asks_of t.1 ≡ history_of t.0) }
 {
-    let (loader, mut askers) = loader_and_askers(alloc, rt, 1)?;
-    let Some(asker) = askers.pop() else {
-        return Err(HookError::Places);
+    let Ok((loader, mut askers)) = loader_and_askers(alloc, rt) else {
+        return None;
     };
-    Ok((loader, asker))
+    let Some(asker) = askers.pop() else {
+        return None;
+    };
+    Some((loader, asker))
 }
 
-impl<R: Wait + Drop + Copy> HookTrial<R> {
+impl<R: Wait + Drop> HookTrial<R> {
     /// A trial with no program attached.
-    pub fn new(alloc: Global, rt: R) -> Result<HookTrial<R>, Fail> {
-        let (loader, asker) = loader_and_asker(alloc, rt)?;
+    pub fn new(alloc: Global, rt: R) -> Option<HookTrial<R>> {
         let (shared, seat) = one_seat(alloc)?;
-        Ok(HookTrial {
+        let (loader, asker) = loader_and_asker(alloc, rt)?;
+        Some(HookTrial {
             loader,
             asker,
             shared,
             seat,
         })
     }
-}
 
-impl<R: Wait + Drop> HookTrial<R> {
-    /// Attaches the program of the text.
-    pub fn attach(&mut self, alloc: Global, text: &str) -> Result<(), Fail> {
-        let program = accepted(alloc, text).ok_or("refused")?;
-        self.loader.attach(program)?;
-        Ok(())
+    /// Attaches the program of the text. Returns whether it did.
+    pub fn attach(&mut self, alloc: Global, text: &str) -> bool {
+        match accepted(alloc, text) {
+            Some(program) => self.loader.attach(program).is_ok(),
+            None => false,
+        }
     }
 
-    pub fn detach(&mut self, hook: Hook) -> Result<(), AllocError> {
-        self.loader.detach(hook)
+    pub fn detach(&mut self, hook: Hook) -> bool {
+        self.loader.detach(hook).is_ok()
     }
 
     /// The asker learns of all that the loader has done.
@@ -91,40 +140,41 @@ impl<R: Wait + Drop> HookTrial<R> {
     }
 
     /// The word of `tag` with a table of one row, and the tag in it.
-    pub fn tag_words(&mut self) -> Result<Option<(u64, u32)>, Fail> {
-        let (external, rows) = (external()?, [row()?]);
+    pub fn tag(&mut self, of: &Subjects) -> Option<(u64, u32)> {
         let (shared, seat) = (&self.shared, &mut self.seat);
-        let found = self.asker.tag(&external, moment(), &rows, shared, seat);
-        Ok(found.map(|answer| (answer.word(), answer.tag())))
+        let answer = self
+            .asker
+            .tag(&of.external, moment(), &of.rows, shared, seat)?;
+        Some((answer.word(), answer.tag()))
     }
 
     /// The word of `price`.
-    pub fn price_word(&mut self) -> Result<Option<u64>, Fail> {
-        let external = external()?;
+    pub fn price(&mut self, of: &Subjects) -> Option<u64> {
         let (shared, seat) = (&self.shared, &mut self.seat);
-        let found = self.asker.price(&external, moment(), &[], shared, seat);
-        Ok(found.map(|answer| answer.word()))
+        let priced = self.asker.price(&of.external, moment(), &[], shared, seat)?;
+        Some(priced.word())
     }
 
     /// The word of `veto`.
-    pub fn veto_word(&mut self) -> Result<Option<u64>, Fail> {
-        let route = route()?;
+    pub fn veto(&mut self, of: &Subjects) -> Option<u64> {
         let (shared, seat) = (&self.shared, &mut self.seat);
-        let found = self.asker.veto(&route, moment(), &[], shared, seat);
-        Ok(found.map(|answer| answer.word()))
+        let vetoed = self.asker.veto(&of.routes[0], moment(), &[], shared, seat)?;
+        Some(vetoed.word())
     }
 
     /// The words of `tag` and `price`, if neither hook has a program.
-    pub fn configured_words(&mut self) -> Result<Option<(u64, u64)>, Fail> {
-        let external = external()?;
-        let found = self.asker.configured(&external, moment());
-        Ok(found.map(|(tag, price)| (tag.word(), price.word())))
+    pub fn configured(&mut self, of: &Subjects) -> Option<(u64, u64)> {
+        let (tag, price) = self.asker.configured(&of.external, moment())?;
+        Some((tag.word(), price.word()))
     }
 
-    /// How many of two routes are accepted, if `veto` has no program.
-    pub fn let_in(&mut self, alloc: Global) -> Result<Option<usize>, Fail> {
-        let routes = [route()?, route()?];
-        let found = self.asker.all_let_in(alloc, &routes, moment())?;
-        Ok(found.map(|answers| answers.len()))
+    /// How many of two routes are accepted, if `veto` has no program; none that there are if memory
+    /// was refused.
+    pub fn let_in(&mut self, alloc: Global, of: &Subjects) -> Option<usize> {
+        match self.asker.all_let_in(alloc, &of.routes, moment()) {
+            Ok(Some(answers)) => Some(answers.len()),
+            Ok(None) => None,
+            Err(_) => Some(usize::MAX),
+        }
     }
 }

@@ -1,6 +1,6 @@
 use Rattle.std.proofs.Common.{◌≡◌}
 use Rattle.hooks.specs.Known.{asks_of}
-use Rattle.sample_programs.proofs.questions.threads.Worker.ask_until_seven.Given as goal
+use Rattle.sample_programs.proofs.questions.threads.Worker.ask_for_others.Given as goal
 
 -- the asker's history and the seat's table are unchanged
 abbrev pub invariant-loop-turn : goal.invariant-loop-turn
