@@ -1,11 +1,44 @@
 //! How a figure of speed is measured and printed.
-use anyhow::{Result, ensure};
-use std::fmt;
+use hooks::HookError;
 use std::rt::Clock;
 use std::time::Instant;
 
 /// The number of measurements of each figure, after one that isn't counted.
 pub const MEASUREMENTS: usize = 11;
+
+/// Why there is no figure.
+#[derive(Clone, Copy)]
+pub enum NoFigure {
+    /// Memory was refused.
+    Memory,
+    /// The clock can't be read, or nothing can be printed.
+    System,
+    /// What is measured did something else: another word, a refused turn, an add that wasn't made.
+    Round,
+}
+
+impl From<HookError> for NoFigure {
+    fn from(_error: HookError) -> NoFigure {
+        NoFigure::Memory
+    }
+}
+
+impl NoFigure {
+    /// The line that is printed.
+    pub fn text(self) -> &'static str {
+        match self {
+            NoFigure::Memory => "bench: out of memory",
+            NoFigure::System => "bench: the clock or the output failed",
+            NoFigure::Round => "bench: what is measured did something else",
+        }
+    }
+}
+
+/// Work that is measured, round by round.
+pub trait Round {
+    /// Does it once; returns whether it succeeded.
+    fn succeeds(&mut self) -> bool;
+}
 
 /// The least and the median time of the measurements of a figure, in nanoseconds.
 #[derive(Clone, Copy)]
@@ -16,8 +49,8 @@ pub struct MeasuredTimes {
 
 impl MeasuredTimes {
     /// The times of all measurements.
-    pub fn of(measured: [u64; MEASUREMENTS]) -> MeasuredTimes {
-        let mut nanos = measured;
+    pub fn of(nanos: [u64; MEASUREMENTS]) -> MeasuredTimes {
+        let mut nanos = nanos;
         nanos.sort_unstable();
         MeasuredTimes {
             least: nanos[0],
@@ -26,85 +59,96 @@ impl MeasuredTimes {
     }
 }
 
-/// Nanoseconds since the start.
-pub fn nanoseconds_since<R: Clock>(rt: &R, start: Instant) -> Result<u64> {
-    Ok(u64::try_from(start.elapsed(rt)?.as_nanos()).unwrap_or(u64::MAX))
+/// When a measurement starts.
+pub fn start<R: Clock>(rt: &R) -> Result<Instant, NoFigure> {
+    match Instant::now(rt) {
+        Ok(start) => Ok(start),
+        Err(_) => Err(NoFigure::System),
+    }
 }
 
-/// Work that is measured, round by round.
-pub trait Round {
-    /// Does it once; returns whether it succeeded.
-    fn succeeds(&mut self) -> bool;
+/// How long a measurement took, in nanoseconds. If what is measured failed, that is an error, since
+/// it would be too fast.
+pub fn nanoseconds<R: Clock>(rt: &R, start: Instant, succeeded: bool) -> Result<u64, NoFigure> {
+    match start.elapsed(rt) {
+        Ok(passed) if succeeded => Ok(u64::try_from(passed.as_nanos()).unwrap_or(u64::MAX)),
+        Ok(_) => Err(NoFigure::Round),
+        Err(_) => Err(NoFigure::System),
+    }
 }
 
-// How many of that many rounds succeed.
-fn successes<W: Round>(rounds: u64, work: &mut W) -> u64 {
-    let mut done = 0u64;
+// Whether that many rounds succeed.
+fn all_succeed<W: Round>(rounds: u64, work: &mut W) -> bool {
+    let mut all = true;
     for _round in 0..rounds {
-        if work.succeeds() {
-            done = done.wrapping_add(1);
-        }
+        all = work.succeeds() && all;
     }
-    done
+    all
 }
 
-// One measurement: how long that many rounds take. If one fails, that is an error, since it would
-// be too fast.
-fn measure_once<R: Clock, W: Round>(rt: &R, rounds: u64, work: &mut W) -> Result<u64> {
-    let start = Instant::now(rt)?;
-    let done = successes(rounds, work);
-    let nanos = nanoseconds_since(rt, start)?;
-    ensure!(done == rounds, "{done} of {rounds} rounds succeeded");
-    Ok(nanos)
+// One measurement: how long that many rounds take.
+fn measure_once<R: Clock, W: Round>(rt: &R, rounds: u64, work: &mut W) -> Result<u64, NoFigure> {
+    match start(rt) {
+        Ok(start) => nanoseconds(rt, start, all_succeed(rounds, work)),
+        Err(why) => Err(why),
+    }
 }
 
-// How long that many rounds of the work take.
-fn measure<R: Clock, W: Round>(rt: &R, rounds: u64, work: &mut W) -> Result<MeasuredTimes> {
+fn measure<R: Clock, W: Round>(
+    rt: &R,
+    rounds: u64,
+    work: &mut W,
+) -> Result<MeasuredTimes, NoFigure> {
     let _warm_up = measure_once(rt, rounds, work)?;
-    let mut measured = [0; MEASUREMENTS];
+    let mut nanos = [0; MEASUREMENTS];
     for turn in 0..MEASUREMENTS {
-        measured[turn] = measure_once(rt, rounds, work)?;
+        nanos[turn] = measure_once(rt, rounds, work)?;
     }
-    Ok(MeasuredTimes::of(measured))
+    Ok(MeasuredTimes::of(nanos))
 }
 
-/// A time, in hundredths of a nanosecond.
+/// Whether all figures were printed so far, or why one wasn't: then no other one is.
+pub type PrintResult = Result<(), NoFigure>;
+
+/// What a figure is for: a measurement has so many rounds, and each of them so many units of this
+/// name.
 #[derive(Clone, Copy)]
-struct Hundredths {
-    amount: u128,
+pub struct Unit {
+    pub name: &'static str,
+    pub rounds: u64,
+    pub of_a_round: u64,
 }
 
-impl Hundredths {
-    /// The time of each, if this many of them take that many nanoseconds.
-    fn each(nanos: u64, many: u64) -> Hundredths {
-        Hundredths {
-            amount: nanos as u128 * 100 / (many.max(1) as u128),
-        }
+// The time of each, if this many of them take that many nanoseconds: whole ones, and hundredths.
+fn each(nanos: u64, many: u64) -> (u64, u64) {
+    let hundredths = nanos.saturating_mul(100) / many.max(1);
+    (hundredths / 100, hundredths % 100)
+}
+
+fn print_times<R: Print>(rt: &R, what: &str, unit: &Unit, times: MeasuredTimes) -> PrintResult {
+    let many = unit.rounds.saturating_mul(unit.of_a_round);
+    let (least, after) = each(times.least, many);
+    let (median, behind) = each(times.median, many);
+    let name = unit.name;
+    match println!(rt; "{what}: least {least}.{after:02}, median {median}.{behind:02} ns {name}") {
+        Ok(()) => Ok(()),
+        Err(_) => Err(NoFigure::System),
     }
 }
 
-impl fmt::Display for Hundredths {
-    fn fmt<W: fmt::Write>(&self, f: &mut fmt::Formatter<W>) -> fmt::Result {
-        let whole = self.amount / 100;
-        let part = self.amount % 100;
-        write!(f, "{whole}.{part:02}")
-    }
-}
-
-/// Measures that many rounds of the work, each of which handles the given number of a `unit`, and
-/// prints the least and the median time for one unit.
+/// Measures the work, and prints the least and the median time for one unit.
 pub fn report<R: Clock + Print, W: Round>(
     rt: &R,
+    printed: &mut PrintResult,
     what: &str,
-    rounds: u64,
-    size: u64,
-    unit: &str,
+    unit: &Unit,
     work: &mut W,
-) -> Result<()> {
-    let times = measure(rt, rounds, work)?;
-    let many = rounds.saturating_mul(size);
-    let least = Hundredths::each(times.least, many);
-    let median = Hundredths::each(times.median, many);
-    println!(rt; "{what}: least {least}, median {median} ns {unit}")?;
-    Ok(())
+) {
+    if printed.is_err() {
+        return;
+    }
+    *printed = match measure(rt, unit.rounds, work) {
+        Ok(times) => print_times(rt, what, unit, times),
+        Err(why) => Err(why),
+    };
 }

@@ -10,7 +10,6 @@ mod programs;
 mod run_speed;
 mod turn_speed;
 
-use anyhow::Result;
 use std::env;
 use std::process::ExitCode;
 use std::rt::Clock;
@@ -19,38 +18,44 @@ use std::thread::Threads;
 
 const USAGE: &str = "usage: bench run | hooks | maps | turn";
 
-// Prints the figures with this name, if there are any, or how the program is used.
-fn print<R: Clock + Print + AllocGlobal + Threads + Wait + Copy + Send + Sync + 'static>(
-    rt: &R,
-    name: &str,
-) -> Option<Result<()>> {
-    match name {
-        "run" => Some(run_speed::print(rt)),
-        "hooks" => Some(hook_speed::print(*rt)),
-        "maps" => Some(maps_speed::print(*rt)),
-        "turn" => Some(turn_speed::print(rt)),
-        "--help" => Some(print_usage(rt)),
-        _ => None,
+// Tells why nothing is printed. Returns the status.
+fn refuse<R: Eprint>(rt: &R, why: &str, status: u8) -> u8 {
+    let _told = eprintln!(rt; "{why}");
+    status
+}
+
+fn print_usage<R: Print>(rt: &R) -> u8 {
+    match println!(rt; "{USAGE}") {
+        Ok(()) => 0,
+        Err(_) => 1,
     }
 }
 
-fn print_usage<R: Print>(rt: &R) -> Result<()> {
-    println!(rt; "{USAGE}")?;
-    Ok(())
-}
-
-fn refuse(rt: &HostRuntime) -> Result<ExitCode> {
-    eprintln!(rt; "{USAGE}")?;
-    Ok(ExitCode::from(2))
-}
-
-fn main(rt: HostRuntime) -> Result<ExitCode> {
-    let words: Vec<String> = env::args(&rt)?.collect(rt.alloc())?;
-    let Some(name) = words.get(1) else {
-        return Ok(ExitCode::SUCCESS);
+// Prints the figures with this name, or how the program is used. Returns the status.
+fn print<R: Clock + Print + Eprint + AllocGlobal + Threads + Wait + Sync>(
+    rt: &R,
+    name: &str,
+) -> u8 {
+    let printed = match name {
+        "run" => run_speed::print(rt),
+        "hooks" => hook_speed::print(rt),
+        "maps" => maps_speed::print(rt),
+        "turn" => turn_speed::print(rt),
+        "--help" => return print_usage(rt),
+        _ => return refuse(rt, USAGE, 2),
     };
-    match print(&rt, name.as_str()) {
-        Some(printed) => printed.and(Ok(ExitCode::SUCCESS)),
-        None => refuse(&rt),
+    match printed {
+        Ok(()) => 0,
+        Err(why) => refuse(rt, why.text(), 1),
+    }
+}
+
+fn main(rt: HostRuntime) -> ExitCode {
+    let Ok(mut words) = env::args(&rt) else {
+        return ExitCode::from(1);
+    };
+    match words.nth(1) {
+        Some(name) => ExitCode::from(print(&rt, &name)),
+        None => ExitCode::SUCCESS,
     }
 }

@@ -1,190 +1,158 @@
 //! How many additions to the shared counters one, two and four seats make.
-ghost use Rattle.std.specs.Prelude.{◌≡◌, ◌<◌, length};
+ghost use Rattle.std.specs.Prelude.{◌≡◌, ◌<◌};
 ghost use Rattle.std.specs.List.{All};
-ghost use Rattle.std.specs.Arc.{arc_value};
 ghost use Rattle.maps.specs.Words.{IsOf};
 
-use crate::figures::{MEASUREMENTS, MeasuredTimes, nanoseconds_since};
-use anyhow::{Result, ensure};
+use crate::figures::{MEASUREMENTS, MeasuredTimes, NoFigure, PrintResult, nanoseconds, start};
 use maps::{Seat, Shared};
+use std::alloc::Global;
 use std::rt::Clock;
-use std::sync::{Arc, Barrier, Wait};
 use std::thread;
-use std::thread::{JoinHandle, Threads};
-use std::time::Instant;
+use std::thread::Threads;
 
-/// How many additions each seat makes.
+/// How many additions each seat makes in a round.
 const ADDS: u64 = 4_000_000;
 
-/// When a thread's additions began and ended, in nanoseconds since a common start, and how many
-/// were made.
-#[derive(Clone, Copy)]
-struct Adds {
-    began: u64,
-    ended: u64,
+// What is printed of so many seats, and whether each has a counter of its own.
+type SeatsRow = (&'static str, usize, bool);
+
+const ROWS: [SeatsRow; 6] = [
+    ("1 seats on counters of their own", 1, true),
+    ("1 seats on one counter", 1, false),
+    ("2 seats on counters of their own", 2, true),
+    ("2 seats on one counter", 2, false),
+    ("4 seats on counters of their own", 4, true),
+    ("4 seats on one counter", 4, false),
+];
+
+/// A seat that adds 1 to a counter, and how many of its additions of a round were made.
+#[derive(Drop)]
+struct Adder<'a> {
+    shared: &'a Shared,
+    seat: Seat,
+    index: usize,
     made: u64,
+    // what is changed in two adders never lies in one line of a cache
+    _apart: [u64; 16],
+    ghost table: { IsOf shared.now seat },
+    ghost counter: { index < 256 },
 }
 
-// Adds 1 that many times to one counter, and returns how many of these additions were made.
-fn add_many(shared: &Shared, seat: &mut Seat, index: usize) -> u64
-    requires table { IsOf shared.now seat.old }
-    requires index { index < 256 }
-{
-    let mut made = 0u64;
-    for _turn in 0..ADDS {
-        if shared.add(seat, index, 1) == 0 {
-            made = made.wrapping_add(1);
+impl Adder<'_> {
+    fn add_many(&mut self) {
+        let mut made = 0u64;
+        for _turn in 0..ADDS {
+            if self.shared.add(&mut self.seat, self.index, 1) == 0 {
+                made = made.wrapping_add(1);
+            }
         }
+        self.made = made;
     }
-    made
 }
 
-// Waits for the signal, and then adds.
-fn add_at_signal<R: Clock + Wait>(
-    rt: &R,
-    signal: &Barrier,
-    start: Instant,
-    shared: &Shared,
-    seat: Seat,
-    index: usize,
-) -> Result<Adds>
-    requires table { IsOf shared.now seat }
-    requires index { index < 256 }
-{
-    let mut seat = seat;
-    signal.wait(rt);
-    let began = nanoseconds_since(rt, start)?;
-    let made = add_many(shared, &mut seat, index);
-    let ended = nanoseconds_since(rt, start)?;
-    Ok(Adds { began, ended, made })
-}
-
-// Starts a thread that adds at the signal.
-fn start_thread<R: Clock + Threads + Wait + Copy + Send + 'static>(
-    rt: R,
-    signal: Arc<Barrier>,
-    start: Instant,
-    shared: Arc<Shared>,
-    seat: Seat,
-    index: usize,
-) -> Result<JoinHandle<Result<Adds>>>
-    requires table { IsOf (arc_value shared) seat }
-    requires index { index < 256 }
-{
-    let job = move || -> Result<Adds>
-        requires { IsOf (arc_value shared) seat × (index < 256) }
-    { add_at_signal(&rt, &*signal, start, &*shared, seat, index) };
-    Ok(thread::spawn(&rt, job)?)
-}
-
-// The same with clones of the signal and the table.
-fn start_another<R: Clock + Threads + Wait + Copy + Send + 'static>(
-    rt: R,
-    signal: &Arc<Barrier>,
-    start: Instant,
-    shared: &Arc<Shared>,
-    seat: Seat,
-    index: usize,
-) -> Result<JoinHandle<Result<Adds>>>
-    requires table { IsOf (arc_value shared.now) seat }
-    requires index { index < 256 }
-{
-    let signal = Arc::try_clone(signal)?;
-    let shared = Arc::try_clone(shared)?;
-    start_thread(rt, signal, start, shared, seat, index)
-}
-
-// Starts a thread for each seat: all on counter 0, or each on a separate one.
-fn start_threads<R: Clock + AllocGlobal + Threads + Wait + Copy + Send + 'static>(
-    rt: R,
-    signal: &Arc<Barrier>,
-    start: Instant,
-    shared: &Arc<Shared>,
+// An adder for each seat: all on counter 0, or each on a separate one.
+fn adders_of<'a>(
+    alloc: Global,
+    shared: &'a Shared,
     seats: Vec<Seat>,
     is_apart: bool,
-) -> Result<Vec<JoinHandle<Result<Adds>>>>
-    requires { All (λ s. IsOf (arc_value shared.now) s) seats.items }
+) -> Option<Vec<Adder<'a>>>
+    requires { All (λ s. IsOf shared.now s) seats.items }
 {
-    let mut threads = Vec::new(rt.alloc());
+    let mut adders = Vec::new(alloc);
     let mut seats = seats;
     while let Some(seat) = seats.pop() {
-        let index = if is_apart { seats.len() % 32 * 8 } else { 0 };
-        threads.push(start_another(rt, signal, start, shared, seat, index)?)?;
+        let adder = Adder {
+            shared,
+            seat,
+            index: if is_apart { seats.len() % 32 * 8 } else { 0 },
+            made: 0,
+            _apart: [0; 16],
+        };
+        if adders.push(adder).is_err() {
+            return None;
+        }
     }
-    Ok(threads)
+    Some(adders)
 }
 
-// From the first add of the threads to their last one.
-fn span<R: Threads>(rt: &R, threads: Vec<JoinHandle<Result<Adds>>>) -> Result<u64> {
-    let mut began = u64::MAX;
-    let mut ended = 0;
-    for thread in threads {
-        let adds = thread.join(rt)?;
-        ensure!(adds.made == ADDS, "{} of {ADDS} adds were made", adds.made);
-        began = began.min(adds.began);
-        ended = ended.max(adds.ended);
+// Has them add at once, each on a thread of its own. Returns whether all additions were made.
+fn add_at_once<R: Threads + Sync>(rt: &R, adders: &mut [Adder<'_>]) -> bool {
+    thread::for_each_mut(rt, adders, 64, &|_, adder| adder.add_many());
+    let mut all = true;
+    for adder in adders.iter() {
+        all = adder.made == ADDS && all;
     }
-    Ok(ended.saturating_sub(began))
+    all
 }
 
-// One measurement: how long it takes that many seats, each on a thread of its own.
-fn measure_once<R: Clock + AllocGlobal + Threads + Wait + Copy + Send + 'static>(
-    rt: R,
-    count: usize,
-    is_apart: bool,
-) -> Result<u64> {
-    let (words, seats) = Shared::new(rt.alloc(), count)?;
-    let shared = Arc::new(rt.alloc(), words)?;
-    let signal = Arc::new(rt.alloc(), Barrier::new(count))?;
-    let start = Instant::now(&rt)?;
-    let threads = start_threads(rt, &signal, start, &shared, seats, is_apart)?;
-    span(&rt, threads)
+// One measurement: how long it takes them.
+fn measure_once<R: Clock + Threads + Sync>(
+    rt: &R,
+    adders: &mut [Adder<'_>],
+) -> Result<u64, NoFigure> {
+    match start(rt) {
+        Ok(start) => nanoseconds(rt, start, add_at_once(rt, adders)),
+        Err(why) => Err(why),
+    }
 }
 
-fn measure<R: Clock + AllocGlobal + Threads + Wait + Copy + Send + 'static>(
-    rt: R,
-    count: usize,
-    is_apart: bool,
-) -> Result<MeasuredTimes> {
-    let _warm_up = measure_once(rt, count, is_apart)?;
-    let mut measured = [0; MEASUREMENTS];
+fn measure<R: Clock + Threads + Sync>(
+    rt: &R,
+    adders: &mut [Adder<'_>],
+) -> Result<MeasuredTimes, NoFigure> {
+    let _warm_up = measure_once(rt, adders)?;
+    let mut nanos = [0; MEASUREMENTS];
     for turn in 0..MEASUREMENTS {
-        measured[turn] = measure_once(rt, count, is_apart)?;
+        nanos[turn] = measure_once(rt, adders)?;
     }
-    Ok(MeasuredTimes::of(measured))
+    Ok(MeasuredTimes::of(nanos))
 }
 
-// Prints the most additions per second, and the median.
-fn print_each<R: Clock + Print + AllocGlobal + Threads + Wait + Copy + Send + 'static>(
-    rt: R,
-    count: usize,
-    is_apart: bool,
-) -> Result<()> {
-    let MeasuredTimes { least, median } = measure(rt, count, is_apart)?;
-    let cores = thread::available_parallelism(&rt)?;
-    let adds = (count as u128) * (ADDS as u128) * 1_000;
-    let most = adds / (least.max(1) as u128);
-    let median = adds / (median.max(1) as u128);
-    let counters = if is_apart {
-        "counters of their own"
-    } else {
-        "one counter"
+fn print_times<R: Print>(rt: &R, row: &SeatsRow, times: MeasuredTimes) -> PrintResult {
+    let (what, count, _is_apart) = *row;
+    let thousands = (count as u64).saturating_mul(ADDS).saturating_mul(1_000);
+    let most = thousands / times.least.max(1);
+    let median = thousands / times.median.max(1);
+    match println!(rt; "{what}: {most} million adds a second at most, median {median}") {
+        Ok(()) => Ok(()),
+        Err(_) => Err(NoFigure::System),
+    }
+}
+
+// Measures what these adders do, and prints the most additions per second, and the median.
+fn print_adds<R: Clock + Print + Threads + Sync>(
+    rt: &R,
+    row: &SeatsRow,
+    adders: Option<Vec<Adder<'_>>>,
+) -> PrintResult {
+    let Some(mut adders) = adders else {
+        return Err(NoFigure::Memory);
     };
-    println!(rt;
-        "{count} seats on {counters}, {cores} cores: {most} million adds a second at most, median \
-            {median}"
-    )?;
-    Ok(())
+    match measure(rt, &mut adders) {
+        Ok(times) => print_times(rt, row, times),
+        Err(why) => Err(why),
+    }
+}
+
+fn print_row<R: Clock + Print + AllocGlobal + Threads + Sync>(
+    rt: &R,
+    row: &SeatsRow,
+) -> PrintResult {
+    let (_what, count, is_apart) = *row;
+    match Shared::new(rt.alloc(), count) {
+        Ok((shared, seats)) => {
+            print_adds(rt, row, adders_of(rt.alloc(), &shared, seats, is_apart))
+        }
+        Err(_) => Err(NoFigure::Memory),
+    }
 }
 
 /// Prints how many additions per second one, two and four seats make, in parallel if there are
 /// enough cores.
-pub fn print<R: Clock + Print + AllocGlobal + Threads + Wait + Copy + Send + 'static>(
-    rt: R,
-) -> Result<()> {
-    for count in [1usize, 2, 4] {
-        print_each(rt, count, true)?;
-        print_each(rt, count, false)?;
+pub fn print<R: Clock + Print + AllocGlobal + Threads + Sync>(rt: &R) -> PrintResult {
+    for row in &ROWS {
+        print_row(rt, row)?;
     }
     Ok(())
 }

@@ -4,30 +4,29 @@ ghost use Rattle.isa.specs.Hooks.{hook_number};
 ghost use Rattle.machine.specs.Memory.{number_of};
 ghost use Rattle.maps.specs.Words.{IsOf};
 
-use crate::figures::{Round, report};
-use crate::programs::{program_of, straight_line};
-use anyhow::{Result, anyhow};
+use crate::figures::{NoFigure, PrintResult, Round, Unit, report};
+use crate::programs::accepted;
 use interp::{run, run_checked};
 use isa::{Code, Hook, decode};
 use machine::Input;
 use maps::{Seat, Shared};
-use object::Object;
-use std::alloc::Global;
+use std::alloc::{AllocError, Global};
 use std::rt::Clock;
 use verifier::Accepted;
 
 /// The number of slots of the code.
-const SLOTS: usize = 4_000;
+const SLOTS: u64 = 4_000;
 
-/// The number of runs in a measurement.
-const ROUNDS: u64 = 1_000;
+const INSTRUCTION: Unit = Unit {
+    name: "each",
+    rounds: 1_000,
+    of_a_round: SLOTS,
+};
 
-/// A program as code, and as it was accepted.
-#[derive(Drop)]
-struct Program {
-    code: Code,
-    accepted: Accepted,
-}
+const CHECKED: &str = "straight-line arithmetic, 4,000 slots: 4000 instructions a run\n  they take";
+
+const ACCEPTED: &str =
+    "accepted straight-line arithmetic, 4,000 slots: 4000 instructions a run\n  they take";
 
 /// The context of a hook: its number, and zeros.
 fn context_of(hook: Hook) -> [u8; 64]
@@ -38,93 +37,99 @@ fn context_of(hook: Hook) -> [u8; 64]
     context
 }
 
-// Runs the program once, on no packet and no table rows, and returns how many instructions it took;
-// 0 if a checked run didn't end.
-fn once(program: &Program, is_checked: bool, shared: &Shared, seat: &mut Seat) -> u64
-    requires { IsOf shared.now seat.old }
-    ensures { IsOf shared.now seat.new }
-{
-    let hook = program.accepted.hook();
-    let input = Input {
-        context: context_of(hook),
-        packet: &[],
-        rows: &[],
-    };
-    if !is_checked {
-        return run(&program.accepted, &input, shared, seat).used;
+// r0 = 0
+const START: [u8; 8] = [0xb7, 0, 0, 0, 0, 0, 0, 0];
+
+// r0 ^= 5; r0 -= 7; r0 += 3; r0 <<= 1
+const ARITHMETIC: [u8; 32] = [
+    0xa7, 0, 0, 0, 5, 0, 0, 0, 0x17, 0, 0, 0, 7, 0, 0, 0, 0x07, 0, 0, 0, 3, 0, 0, 0, 0x67, 0, 0, 0,
+    1, 0, 0, 0,
+];
+
+// r0 ^= 5; r0 -= 7; exit
+const END: [u8; 24] = [
+    0xa7, 0, 0, 0, 5, 0, 0, 0, 0x17, 0, 0, 0, 7, 0, 0, 0, 0x95, 0, 0, 0, 0, 0, 0, 0,
+];
+
+// 4,000 slots of code.
+fn straight_line(alloc: Global) -> Result<Vec<u8>, AllocError> {
+    let mut code = Vec::from_slice(alloc, &START)?;
+    for _turn in 0..999 {
+        code.extend_from_slice(&ARITHMETIC)?;
     }
-    match run_checked(&program.code, hook, 10_000_000, &input, shared, seat) {
-        Ok(run) => run.used,
-        Err(_) => 0,
-    }
+    code.extend_from_slice(&END)?;
+    Ok(code)
 }
 
-// Runs a program that takes that many instructions, on the only seat of a table of its own.
+/// Straight-line code as it was accepted, and as it is if each step is tested, and the only seat of
+/// a table.
 #[derive(Drop)]
-struct Running<'a> {
-    program: &'a Program,
+struct Running {
+    accepted: Accepted,
+    code: Code,
     is_checked: bool,
-    used: u64,
     shared: Shared,
     seat: Seat,
     ghost table: { IsOf shared seat },
 }
 
-impl<'a> Running<'a> {
-    fn new(alloc: Global, program: &'a Program, is_checked: bool) -> Result<Running<'a>> {
-        let (shared, mut seats) = Shared::new(alloc, 1)?;
-        let mut seat = seats.remove(0);
-        let used = once(program, is_checked, &shared, &mut seat);
-        Ok(Running {
-            program,
-            is_checked,
-            used,
+// Runs the code, on no packet and no table rows.
+impl Round for Running {
+    fn succeeds(&mut self) -> bool {
+        let hook = self.accepted.hook();
+        let input = Input {
+            context: context_of(hook),
+            packet: &[],
+            rows: &[],
+        };
+        let (shared, seat) = (&self.shared, &mut self.seat);
+        if !self.is_checked {
+            return run(&self.accepted, &input, shared, seat).used == SLOTS;
+        }
+        match run_checked(&self.code, hook, 10_000_000, &input, shared, seat) {
+            Ok(run) => run.used == SLOTS,
+            Err(_) => false,
+        }
+    }
+}
+
+fn with_table(alloc: Global, accepted: Accepted, code: Code) -> Option<Running> {
+    let Ok((shared, mut seats)) = Shared::new(alloc, 1) else {
+        return None;
+    };
+    match seats.pop() {
+        Some(seat) => Some(Running {
+            accepted,
+            code,
+            is_checked: true,
             shared,
             seat,
-        })
+        }),
+        None => None,
     }
 }
 
-impl Round for Running<'_> {
-    fn succeeds(&mut self) -> bool {
-        let used = once(self.program, self.is_checked, &self.shared, &mut self.seat);
-        used > 0 && used == self.used
-    }
-}
-
-fn print_runs<R: Clock + Print + AllocGlobal>(
-    rt: &R,
-    what: &str,
-    program: &Program,
-    is_checked: bool,
-) -> Result<()> {
-    let mut running = Running::new(rt.alloc(), program, is_checked)?;
-    let used = running.used;
-    println!(rt; "{what}, 4,000 slots: {used} instructions a run")?;
-    report(rt, "  they take", ROUNDS, used, "each", &mut running)
-}
-
-// The object of straight-line code, at `price`.
-fn object_of(alloc: Global) -> Result<Object> {
-    let code = straight_line(alloc, SLOTS)?;
-    match Object::new(Hook::Price, 1, code, Vec::new(alloc)) {
-        Some(object) => Ok(object),
-        None => Err(anyhow!("{SLOTS} slots are no object")),
-    }
-}
-
-fn whole_program(alloc: Global, object: &Object) -> Result<Program> {
-    let Ok(code) = decode(alloc, object.code()) else {
-        return Err(anyhow!("the code isn't decoded"));
+fn running_of(alloc: Global) -> Option<Running> {
+    let Ok(bytes) = straight_line(alloc) else {
+        return None;
     };
-    let accepted = program_of(alloc, object)?;
-    Ok(Program { code, accepted })
+    let Ok(code) = decode(alloc, &bytes) else {
+        return None;
+    };
+    match accepted(alloc, Hook::Price, bytes) {
+        Some(accepted) => with_table(alloc, accepted, code),
+        None => None,
+    }
 }
 
 /// Prints how long an instruction takes: in a checked run, and in a run of an accepted program.
-pub fn print<R: Clock + Print + AllocGlobal>(rt: &R) -> Result<()> {
-    let object = object_of(rt.alloc())?;
-    let program = whole_program(rt.alloc(), &object)?;
-    print_runs(rt, "straight-line arithmetic", &program, true)?;
-    print_runs(rt, "accepted straight-line arithmetic", &program, false)
+pub fn print<R: Clock + Print + AllocGlobal>(rt: &R) -> PrintResult {
+    let Some(mut running) = running_of(rt.alloc()) else {
+        return Err(NoFigure::Memory);
+    };
+    let mut printed = Ok(());
+    report(rt, &mut printed, CHECKED, &INSTRUCTION, &mut running);
+    running.is_checked = false;
+    report(rt, &mut printed, ACCEPTED, &INSTRUCTION, &mut running);
+    printed
 }

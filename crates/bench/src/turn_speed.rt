@@ -3,21 +3,29 @@
 ghost use Rattle.std.specs.Prelude.{◌≡◌};
 ghost use Rattle.worker.specs.Opening.{IsSetUpFor};
 
-use crate::figures::{MEASUREMENTS, MeasuredTimes, nanoseconds_since};
-use crate::programs::program;
-use anyhow::{Result, anyhow, ensure};
+use crate::figures::{NoFigure, PrintResult, Round, Unit, report};
+use crate::programs::attach;
 use flood::{Config, Interface};
 use hooks::Loader;
+use isa::Hook;
 use std::alloc::{AllocError, Global};
 use std::marker::Brand;
 use std::rt::Clock;
 use std::sync::Wait;
-use std::time::Instant;
 use words::{Address, RouterId, Second, Sequence};
-use worker::{Book, Core, Hub, Open, Port, Setup, Site, Work, open_hub, turn};
+use worker::{Core, Hub, Open, Port, Setup, Site, Taker, Work, open_hub, turn};
 
-/// How many turns one measurement takes.
-const TURNS: u64 = 10_000;
+const TURN: Unit = Unit {
+    name: "a turn",
+    rounds: 10_000,
+    of_a_round: 1,
+};
+
+// r1 = 5; r2 = 1; call 1; exit: adds to a counter.
+const ADDING: [u8; 32] = [
+    0xb7, 1, 0, 0, 5, 0, 0, 0, 0xb7, 2, 0, 0, 1, 0, 0, 0, 0x85, 0, 0, 0, 1, 0, 0, 0, 0x95, 0, 0, 0,
+    0, 0, 0, 0,
+];
 
 // The interface 10.0.1.1/24.
 fn interface() -> Interface {
@@ -41,6 +49,16 @@ fn config(alloc: Global) -> Result<Config, AllocError> {
     })
 }
 
+fn core(alloc: Global) -> Result<Core, NoFigure> {
+    let Ok(config) = config(alloc) else {
+        return Err(NoFigure::Memory);
+    };
+    match Core::new(alloc, &config) {
+        Ok(core) => Ok(core),
+        Err(_) => Err(NoFigure::Memory),
+    }
+}
+
 // A Hello of 2.2.2.2 that lists no router.
 const HELLO: &[u8] = &[
     2, 1, 0, 44, 2, 2, 2, 2, 0, 0, 0, 0, 0xf8, 0x9a, 0, 0, 0, 0, 0, 0, 0, 0, 0, 0, 255, 255, 255,
@@ -53,100 +71,89 @@ fn packet(alloc: Global) -> Result<Work, AllocError> {
     Ok(Work::Datagram(1, Sequence::from_vec(bytes)))
 }
 
-// Takes the turns, and returns how many weren't refused.
-fn labor<L: Site, R: Wait>(rt: &R, hub: &Hub<L, Book<L>>, port: &mut Port<L>, work: &Work) -> u64 {
-    let mut taken = 0u64;
-    for _turn in 0..TURNS {
-        if turn(rt, hub, port, &mut Open {}, Second::new(10), work).is_ok() {
-            taken = taken.wrapping_add(1);
-        }
-    }
-    taken
+// A port at which a packet is received, turn by turn.
+#[derive(Drop)]
+struct Receiving<'a, L: Site, B: Taker<L>, R: Wait> {
+    rt: &'a R,
+    hub: &'a Hub<L, B>,
+    port: Port<L>,
+    work: &'a Work,
 }
 
-fn measure<L: Site, R: Wait + Clock>(
+impl<L: Site, B: Taker<L>, R: Wait> Round for Receiving<'_, L, B, R> {
+    fn succeeds(&mut self) -> bool {
+        let now = Second::new(10);
+        let (rt, hub, work) = (self.rt, self.hub, self.work);
+        turn(rt, hub, &mut self.port, &mut Open {}, now, work).is_ok()
+    }
+}
+
+// Measures turns, attaches a program at `count`, and measures them again.
+fn print_both<R: Wait + Clock + Print + AllocGlobal, W: Round>(
     rt: &R,
-    alloc: Global,
-    hub: &Hub<L, Book<L>>,
+    turns: &mut W,
+    loader: &mut Loader<&R>,
+) -> PrintResult {
+    let mut printed = Ok(());
+    report(rt, &mut printed, "a Hello", &TURN, turns);
+    attach(rt.alloc(), &mut printed, loader, Hook::Count, &ADDING);
+    report(
+        rt,
+        &mut printed,
+        "the same, counted by a program",
+        &TURN,
+        turns,
+    );
+    printed
+}
+
+fn print_turns<L: Site, B: Taker<L>, R: Wait + Clock + Print + AllocGlobal>(
+    rt: &R,
+    hub: &Hub<L, B>,
     port: Option<Port<L>>,
-) -> Result<u64> {
+    work: &Work,
+    loader: &mut Loader<&R>,
+) -> PrintResult {
     let Some(port) = port else {
-        return Err(anyhow!("no port"));
+        return Err(NoFigure::Memory);
     };
-    let mut port = port;
-    let work = packet(alloc)?;
-    let start = Instant::now(rt)?;
-    let taken = labor(rt, hub, &mut port, &work);
-    let nanoseconds = nanoseconds_since(rt, start)?;
-    ensure!(taken == TURNS, "{taken} of {TURNS} turns were taken");
-    Ok(nanoseconds)
+    let mut turns = Receiving {
+        rt,
+        hub,
+        port,
+        work,
+    };
+    print_both(rt, &mut turns, loader)
 }
 
 // At a hub that starts with this router.
-fn measure_at<L: Site, R: Wait + Clock>(
+fn print_at<L: Site, R: Wait + Clock + Print + AllocGlobal>(
     rt: &R,
-    alloc: Global,
     setup: Setup,
     core: Core,
-) -> Result<u64>
+    work: &Work,
+    loader: &mut Loader<&R>,
+) -> PrintResult
     requires setup { IsSetUpFor L.name L.parts L.words L.history setup }
     requires origin { core ≡ L.origin }
 {
-    let (hub, mut ports, _rest) = open_hub::<L>(alloc, setup, core)?;
-    let measured = measure(rt, alloc, &hub, ports.pop());
+    let Ok((hub, mut ports, _rest)) = open_hub::<L>(rt.alloc(), setup, core) else {
+        return Err(NoFigure::Memory);
+    };
+    let printed = print_turns(rt, &hub, ports.pop(), work, loader);
     let (book, _shared) = hub.into_parts();
     let _taken = book.close();
-    measured
-}
-
-// With a program at `count`, if there is to be one.
-fn measure_beside<L: Site, R: Wait + Clock>(
-    rt: &R,
-    alloc: Global,
-    setup: Setup,
-    core: Core,
-    loader: &mut Loader<&R>,
-    counts: bool,
-) -> Result<u64>
-    requires setup { IsSetUpFor L.name L.parts L.words L.history setup }
-    requires origin { core ≡ L.origin }
-{
-    if counts {
-        let adds = "hook count\nrank 0\nr1 = 5\nr2 = 1\ncall 1\nexit\n";
-        loader.attach(program(alloc, adds)?)?;
-    }
-    measure_at::<L, R>(rt, alloc, setup, core)
-}
-
-// One measurement, in nanoseconds.
-#[tactic(auto, using(crate::proofs::Fresh::all_ask))]
-fn measure_once<R: Wait + Clock>(rt: &R, alloc: Global, counts: bool) -> Result<u64> {
-    let (mut loader, setup) = Setup::new(alloc, rt, 2)?;
-    let core = Core::new(alloc, &config(alloc)?)?;
-    measure_beside::<Brand, R>(rt, alloc, setup, core, &mut loader, counts)
-}
-
-fn print_turns<R: Wait + Clock + Print + AllocGlobal>(
-    rt: &R,
-    what: &str,
-    counts: bool,
-) -> Result<()> {
-    let mut measured = [0; MEASUREMENTS];
-    for turn in 0..MEASUREMENTS {
-        measured[turn] = measure_once(rt, rt.alloc(), counts)?;
-    }
-    let MeasuredTimes { least, median } = MeasuredTimes::of(measured);
-    let (least, median) = (least / TURNS, median / TURNS);
-    println!(rt; "{what}: least {least}, median {median} ns a turn")?;
-    Ok(())
+    printed
 }
 
 /// Prints how long a turn takes for a Hello, by one worker: without a program, and with one at
 /// `count` that adds to a counter.
-///
-/// # Errors
-/// If the clock or the output fails, an allocation is refused, or a turn is refused.
-pub fn print<R: Wait + Clock + Print + AllocGlobal>(rt: &R) -> Result<()> {
-    print_turns(rt, "a Hello", false)?;
-    print_turns(rt, "the same, counted by a program", true)
+#[tactic(auto, using(crate::proofs::Fresh::all_ask))]
+pub fn print<R: Wait + Clock + Print + AllocGlobal>(rt: &R) -> PrintResult {
+    let Ok(work) = packet(rt.alloc()) else {
+        return Err(NoFigure::Memory);
+    };
+    let (mut loader, setup) = Setup::new(rt.alloc(), rt, 2)?;
+    let core = core(rt.alloc())?;
+    print_at::<Brand, R>(rt, setup, core, &work, &mut loader)
 }

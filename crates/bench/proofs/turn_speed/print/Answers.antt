@@ -1,10 +1,10 @@
 use Rattle.std.proofs.Common.{refl}
 use Rattle.hooks.specs.Known.{history_of}
 use Rattle.bench.proofs.Fresh.{all_ask}
-use Rattle.bench.proofs.turn_speed.measure_once.Goals as goal
+use Rattle.bench.proofs.turn_speed.print.Goals as goal
 
-pub measure_beside-requires-clause-setup : goal.measure_beside-requires-clause-setup
-measure_beside-requires-clause-setup g c =
+pub print_at-requires-clause-setup : goal.print_at-requires-clause-setup
+print_at-requires-clause-setup g c =
     let loader = c.in_ok-loader in (
       refl,
       refl,
