@@ -2,7 +2,7 @@
 ghost use Rattle.std.specs.Prelude.{◌≤◌, length};
 ghost use Rattle.std.specs.FinMap as finite;
 
-use crate::telling::push_hex;
+use crate::telling::{push_hex, push_numbers};
 use address_texts::{read_address, read_within};
 use candidates::candidates;
 use console::table_text;
@@ -62,7 +62,7 @@ pub fn root_of(alloc: Global, words: &[&str]) -> Result<Option<Root>, AllocError
 
 // `refused N`, and the number of the refusal.
 fn push_refusal(text: &mut String, number: u8) -> Result<(), AllocError> {
-    writeln!(text, "refused {number}")
+    push_numbers(text, "refused {}\n", &[u64::from(number)])
 }
 
 // `lsa HEX` as it is written again, or its refusal.

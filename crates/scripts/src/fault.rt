@@ -1,7 +1,4 @@
 //! Why a script isn't played to its end.
-use flood::ConfigError;
-use hooks::HookError;
-use maps::MapsError;
 use std::alloc::{AllocError, AllocFailed};
 use std::io::{self, ErrorKind};
 use thiserror::Error;
@@ -40,27 +37,6 @@ impl From<AllocError> for ScriptError {
 
 impl<T: Drop> From<AllocFailed<T>> for ScriptError {
     fn from(_error: AllocFailed<T>) -> ScriptError {
-        ScriptError::Memory
-    }
-}
-
-impl From<ConfigError> for ScriptError {
-    fn from(error: ConfigError) -> ScriptError {
-        match error {
-            ConfigError::Interface => ScriptError::Line(1),
-            ConfigError::Memory => ScriptError::Memory,
-        }
-    }
-}
-
-impl From<MapsError> for ScriptError {
-    fn from(_error: MapsError) -> ScriptError {
-        ScriptError::Memory
-    }
-}
-
-impl From<HookError> for ScriptError {
-    fn from(_error: HookError) -> ScriptError {
         ScriptError::Memory
     }
 }

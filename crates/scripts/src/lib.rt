@@ -11,7 +11,6 @@ mod area;
 mod beginning;
 mod fault;
 mod line;
-mod operator;
 mod stage;
 mod telling;
 

@@ -3,34 +3,45 @@ use crate::area::{ScriptArea, bytes_of, root_of};
 use crate::beginning::{first_of, router_of};
 use crate::fault::ScriptError;
 use crate::line::{Happening, ScriptLine, Shown, line_of};
-use crate::operator::Operator;
 use crate::telling::{
-    push_announced, push_answer, push_candidates, push_database, push_lsa, push_neighbors,
-    push_offered, push_owed, push_table,
+    push_announced, push_answer, push_candidates, push_count, push_database, push_lsa,
+    push_neighbors, push_numbers, push_offered, push_owed, push_table,
 };
 use flood::{Config, ConfigError, Core, Event};
+use hooks::{Asker, programs};
 use std::alloc::{AllocError, Global};
-use std::fmt::Write;
 use std::io::{self, BufRead};
 use std::mem::replace;
 use std::sync::Wait;
-use words::{External, Second, Sequence};
+use words::{External, Route, Second, Sequence};
 
 // The router, who answers its questions, how many walks it had made when that was last looked at,
 // and what was printed so far.
-struct Stage<R: Wait + Drop> {
+struct Stage {
     alloc: Global,
     core: Core,
-    operator: Operator<R>,
+    asker: Asker,
     walks: u64,
     text: String,
 }
 
 fn packet(alloc: Global, interface: u16, digits: &str) -> Result<Option<Event>, AllocError> {
-    let Some(bytes) = bytes_of(alloc, digits)? else {
-        return Ok(None);
-    };
-    Ok(Some(Event::Packet(interface, Sequence::from_vec(bytes))))
+    match bytes_of(alloc, digits)? {
+        Some(bytes) => Ok(Some(Event::Packet(interface, Sequence::from_vec(bytes)))),
+        None => Ok(None),
+    }
+}
+
+// The destination is announced as it is configured.
+fn announcement(
+    asker: &mut Asker,
+    moment: Second,
+    external: &External,
+) -> Result<Option<Event>, AllocError> {
+    match asker.configured(external, moment) {
+        Some((tag, price)) => Ok(Some(Event::Redistribute(tag, price))),
+        None => Err(AllocError),
+    }
 }
 
 // An Install with no answers.
@@ -38,33 +49,41 @@ fn nothing_installed(alloc: Global) -> Event {
     Event::Install(Sequence::from_vec(Vec::new(alloc)))
 }
 
-impl<R: Wait + Drop + Copy> Stage<R> {
-    fn new(alloc: Global, rt: R, config: &Config) -> Result<Stage<R>, ScriptError> {
-        let operator = Operator::new(alloc, rt)?;
-        let core = Core::new(alloc, config)?;
-        Ok(Stage {
-            alloc,
-            core,
-            operator,
-            walks: 0,
-            text: String::new(alloc),
-        })
+// An Install in which each of the candidates is let in.
+fn all_let_in(
+    alloc: Global,
+    asker: &mut Asker,
+    moment: Second,
+    candidates: &[Route],
+) -> Result<Option<Event>, AllocError> {
+    match asker.all_let_in(alloc, candidates, moment)? {
+        Some(answers) => Ok(Some(Event::Install(Sequence::from_vec(answers)))),
+        None => Err(AllocError),
     }
 }
 
-impl<R: Wait + Drop> Stage<R> {
-    fn announcement(&mut self, moment: Second, external: &External) -> Result<Event, AllocError> {
-        self.operator.announces(moment, external).ok_or(AllocError)
+impl Stage {
+    // One whose router's questions are asked by this asker.
+    fn new(alloc: Global, asker: Option<Asker>, config: &Config) -> Result<Stage, ScriptError> {
+        let Some(asker) = asker else {
+            return Err(ScriptError::Memory);
+        };
+        match Core::new(alloc, config) {
+            Ok(core) => Ok(Stage {
+                alloc,
+                core,
+                asker,
+                walks: 0,
+                text: String::new(alloc),
+            }),
+            Err(ConfigError::Interface) => Err(ScriptError::Line(1)),
+            Err(ConfigError::Memory) => Err(ScriptError::Memory),
+        }
     }
 
-    // An Install in which each candidate is let in.
-    fn all_let_in(&mut self, moment: Second) -> Result<Event, AllocError> {
-        let routes = self.core.candidates()?;
-        let mut answers = Vec::new(self.alloc);
-        for route in routes.iter() {
-            answers.push(self.operator.lets_in(moment, route).ok_or(AllocError)?)?;
-        }
-        Ok(Event::Install(Sequence::from_vec(answers)))
+    fn install_all(&mut self, moment: Second) -> Result<Option<Event>, AllocError> {
+        let candidates = self.core.candidates()?;
+        all_let_in(self.alloc, &mut self.asker, moment, &candidates)
     }
 
     // The event, a packet's with these hex digits; `None` if they are none.
@@ -77,10 +96,10 @@ impl<R: Wait + Drop> Stage<R> {
         match happening {
             Happening::Tick => Ok(Some(Event::Tick)),
             Happening::Packet(interface) => packet(self.alloc, interface, digits),
-            Happening::Announce(external) => Ok(Some(self.announcement(moment, &external)?)),
+            Happening::Announce(external) => announcement(&mut self.asker, moment, &external),
             Happening::Withdraw(prefix) => Ok(Some(Event::Withdraw(prefix))),
             Happening::Down(interface) => Ok(Some(Event::LinkDown(interface))),
-            Happening::InstallAll => Ok(Some(self.all_let_in(moment)?)),
+            Happening::InstallAll => self.install_all(moment),
             Happening::InstallNothing => Ok(Some(nothing_installed(self.alloc))),
         }
     }
@@ -107,8 +126,12 @@ impl<R: Wait + Drop> Stage<R> {
     }
 
     fn show_stale(&mut self) -> Result<(), AllocError> {
-        let told = if self.core.stale()? { "yes" } else { "no" };
-        writeln!(self.text, "stale {told}")
+        let told = if self.core.stale()? {
+            "stale yes\n"
+        } else {
+            "stale no\n"
+        };
+        self.text.push_str(told)
     }
 
     fn show_walks(&mut self) -> Result<(), AllocError> {
@@ -117,7 +140,7 @@ impl<R: Wait + Drop> Stage<R> {
         let in_events = before.wrapping_sub(self.walks);
         self.walks = self.core.walks();
         let now = self.walks.wrapping_sub(before);
-        writeln!(self.text, "walks {in_events} and {now}")
+        push_numbers(&mut self.text, "walks {} and {}\n", &[in_events, now])
     }
 
     fn show(&mut self, shown: Shown) -> Result<(), AllocError> {
@@ -130,7 +153,7 @@ impl<R: Wait + Drop> Stage<R> {
             Shown::Stale => self.show_stale(),
             Shown::Walks => self.show_walks(),
             Shown::Database => push_database(&mut self.text, self.alloc, &self.core),
-            Shown::Lsas => writeln!(self.text, "lsas {}", self.core.database().len()),
+            Shown::Lsas => push_count(&mut self.text, &self.core),
             Shown::Lsa(key) => push_lsa(&mut self.text, self.alloc, &self.core, &key),
             Shown::Announced(prefix) => push_announced(&mut self.text, &self.core, prefix),
         }
@@ -228,7 +251,7 @@ impl<R: Wait + Drop> Stage<R> {
         let Stage {
             alloc: _,
             core,
-            operator: _,
+            asker: _,
             walks: _,
             text,
         } = self;
@@ -263,17 +286,33 @@ fn play_area(alloc: Global, words: &[&str], lines: &[&str]) -> Result<String, Sc
     Ok(area.told())
 }
 
-fn play_router<R: Wait + Drop + Copy>(
+// Plays the lines of the router that is configured so, whose questions are asked by this asker.
+fn play_asking(
+    alloc: Global,
+    asker: Option<Asker>,
+    config: &Config,
+    lines: &[&str],
+) -> Result<String, ScriptError> {
+    let mut stage = Stage::new(alloc, asker, config)?;
+    let played = stage.play_lines(lines);
+    let text = stage.close();
+    match played {
+        Ok(()) => Ok(text),
+        Err(error) => Err(error),
+    }
+}
+
+fn play_router<R: Wait + Drop>(
     alloc: Global,
     rt: R,
     config: &Config,
     lines: &[&str],
 ) -> Result<String, ScriptError> {
-    let mut stage = Stage::new(alloc, rt, config)?;
-    let played = stage.play_lines(lines);
-    let text = stage.close();
-    played?;
-    Ok(text)
+    // without the loader an asker answers nothing
+    match programs(alloc, rt, 1) {
+        Ok((_loader, mut askers)) => play_asking(alloc, askers.pop(), config, lines),
+        Err(_) => Err(ScriptError::Memory),
+    }
 }
 
 // Plays the lines behind the first, which says whose they are.
@@ -295,16 +334,40 @@ fn play_behind<R: Wait + Drop + Copy>(
     }
 }
 
-// The router that the first line begins.
-fn first_stage<R: Wait + Drop + Copy>(
-    alloc: Global,
-    rt: R,
-    line: &str,
-) -> Result<Stage<R>, ScriptError> {
+// The router that the first line begins, whose questions are asked by this asker.
+fn first_stage(alloc: Global, asker: Option<Asker>, line: &str) -> Result<Stage, ScriptError> {
     let words: Vec<&str> = line.split(' ').collect(alloc)?;
     match first_of(alloc, &words)? {
-        Some(config) => Stage::new(alloc, rt, &config),
+        Some(config) => Stage::new(alloc, asker, &config),
         None => Err(ScriptError::Line(1)),
+    }
+}
+
+// Plays the lines behind the first.
+fn answer_asking<I: BufRead + Drop, O: io::Write>(
+    alloc: Global,
+    asker: Option<Asker>,
+    first: &str,
+    input: I,
+    output: &mut O,
+) -> Result<(), ScriptError> {
+    let mut stage = first_stage(alloc, asker, first)?;
+    let answered = stage.answer_lines(input, output);
+    let _told = stage.close();
+    answered
+}
+
+fn answer_behind<R: Wait + Drop, I: BufRead + Drop, O: io::Write>(
+    alloc: Global,
+    rt: R,
+    first: &str,
+    input: I,
+    output: &mut O,
+) -> Result<(), ScriptError> {
+    // without the loader an asker answers nothing
+    match programs(alloc, rt, 1) {
+        Ok((_loader, mut askers)) => answer_asking(alloc, askers.pop(), first, input, output),
+        Err(_) => Err(ScriptError::Memory),
     }
 }
 
@@ -352,8 +415,5 @@ pub fn answer<R: Wait + Drop + Copy, I: BufRead + Drop, O: io::Write>(
     let mut first = String::new(alloc);
     input.read_line(&mut first)?;
     let line = first.strip_suffix('\n').unwrap_or(first.as_str());
-    let mut stage = first_stage(alloc, rt, line)?;
-    let answered = stage.answer_lines(input, output);
-    let _told = stage.close();
-    answered
+    answer_behind(alloc, rt, line, input, output)
 }

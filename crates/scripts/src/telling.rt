@@ -13,10 +13,24 @@ pub fn push_hex(text: &mut String, bytes: &[u8]) -> Result<(), AllocError> {
     text.push_str("\n")
 }
 
+/// Adds a line with numbers in the places of its `{}`.
+pub fn push_numbers(text: &mut String, line: &str, numbers: &[u64]) -> Result<(), AllocError> {
+    let mut rest = line;
+    for number in numbers {
+        let Some((before, behind)) = rest.split_once("{}") else {
+            break;
+        };
+        write!(text, "{before}{number}")?;
+        rest = behind;
+    }
+    text.push_str(rest)
+}
+
 // `MOMENT sends I HEX` for each packet.
 fn push_outs(text: &mut String, moment: Second, outs: &[Out]) -> Result<(), AllocError> {
     for out in outs {
-        write!(text, "{} sends {} ", moment.count(), out.interface)?;
+        let numbers = [moment.count(), u64::from(out.interface)];
+        push_numbers(text, "{} sends {} ", &numbers)?;
         push_hex(text, out.bytes.as_slice())?;
     }
     Ok(())
@@ -49,7 +63,8 @@ pub fn push_owed(text: &mut String, core: &Core) -> Result<(), AllocError> {
     for interface in 1..=core.interface_count() {
         let number = (interface % 64) as u16;
         if core.neighbor(number).is_some() {
-            writeln!(text, "owed {number} {}", core.owes(number))?;
+            let numbers = [u64::from(number), core.owes(number) as u64];
+            push_numbers(text, "owed {} {}\n", &numbers)?;
         }
     }
     Ok(())
@@ -72,16 +87,19 @@ fn candidates_anew(core: &Core) -> Result<Vec<Route>, AllocError> {
 pub fn push_candidates(text: &mut String, core: &Core) -> Result<(), AllocError> {
     let kept = core.candidates()?;
     let anew = candidates_anew(core)?;
-    let is_same = kept.as_slice() == anew.as_slice();
-    let told = if is_same { "" } else { ", others anew" };
-    writeln!(text, "candidates {}{told}", kept.len())
+    let line = if kept.as_slice() == anew.as_slice() {
+        "candidates {}\n"
+    } else {
+        "candidates {}, others anew\n"
+    };
+    push_numbers(text, line, &[kept.len() as u64])
 }
 
 /// Adds `offered N M`: how many candidates and how many rows there are.
 pub fn push_offered(text: &mut String, core: &Core) -> Result<(), AllocError> {
     let offered = core.offered()?;
-    let (candidates, rows) = (offered.candidates.len(), offered.rows.len());
-    writeln!(text, "offered {candidates} {rows}")
+    let numbers = [offered.candidates.len() as u64, offered.rows.len() as u64];
+    push_numbers(text, "offered {} {}\n", &numbers)
 }
 
 /// Adds the LSA's bytes, with its age at the moment of the last event, or `none`.
@@ -97,6 +115,11 @@ pub fn push_lsa(
     let bytes = copy.text(alloc, copy.age(core.moment()))?;
     text.push_str("lsa ")?;
     push_hex(text, bytes.as_slice())
+}
+
+/// Adds `lsas N`: how many LSAs the database has.
+pub fn push_count(text: &mut String, core: &Core) -> Result<(), AllocError> {
+    push_numbers(text, "lsas {}\n", &[core.database().len() as u64])
 }
 
 /// Adds a line for each LSA of the database, as `push_lsa` does, and `end`.
