@@ -1,11 +1,8 @@
 //! Destinations, as an operator has them announced while no program is attached.
-ghost use Rattle.maps.specs.Words.{IsOf};
-
 use crate::addresses::of_destination;
 use crate::fault::NetworkError;
 use flood::Event;
-use hooks::{Asker, programs};
-use maps::{Seat, Shared};
+use hooks::{Asker, HookError, programs};
 use std::alloc::Global;
 use std::sync::Wait;
 use words::{External, ExternalType, Prefix, Second};
@@ -24,30 +21,13 @@ fn destination(prefix: Prefix) -> External {
     }
 }
 
-// The destination is to be announced as it is configured.
-fn answered(
-    asker: &mut Asker,
-    shared: &Shared,
-    seat: &mut Seat,
-    external: &External,
-) -> Option<Event>
-    requires { IsOf shared.now seat.old }
-    ensures { IsOf shared.now seat.new }
-{
-    let tag = asker.tag(external, Second::new(0), &[], shared, seat);
-    let price = asker.price(external, Second::new(0), &[], shared, seat);
-    match (tag, price) {
-        (Some(tag), Some(price)) => Some(Event::Redistribute(tag, price)),
-        _ => None,
-    }
-}
-
-fn announcement(asker: &mut Asker, shared: &Shared, seat: &mut Seat, number: u32) -> Option<Event>
-    requires { IsOf shared.now seat.old }
-    ensures { IsOf shared.now seat.new }
-{
-    match prefix(number) {
-        Some(prefix) => answered(asker, shared, seat, &destination(prefix)),
+// The destination of this number is to be announced as it is configured.
+fn announcement(asker: &mut Asker, number: u32) -> Option<Event> {
+    let Some(prefix) = prefix(number) else {
+        return None;
+    };
+    match asker.configured(&destination(prefix), Second::new(0)) {
+        Some((tag, price)) => Some(Event::Redistribute(tag, price)),
         None => None,
     }
 }
@@ -62,53 +42,24 @@ fn add(events: &mut Vec<Event>, event: Option<Event>) -> Result<(), NetworkError
 fn add_announcements(
     events: &mut Vec<Event>,
     asker: &mut Asker,
-    shared: &Shared,
-    seat: &mut Seat,
     count: u32,
-) -> Result<(), NetworkError>
-    requires { IsOf shared.now seat.old }
-{
+) -> Result<(), NetworkError> {
     for number in 0..count {
-        add(events, announcement(asker, shared, seat, number))?;
+        add(events, announcement(asker, number))?;
     }
     Ok(())
 }
 
-fn announced(
-    alloc: Global,
-    asker: &mut Asker,
-    shared: &Shared,
-    seat: &mut Seat,
-    count: u32,
-) -> Result<Vec<Event>, NetworkError>
-    requires { IsOf shared.now seat.old }
-{
+fn announced(alloc: Global, asker: &mut Asker, count: u32) -> Result<Vec<Event>, NetworkError> {
     let mut events = Vec::new(alloc);
-    match add_announcements(&mut events, asker, shared, seat, count) {
+    match add_announcements(&mut events, asker, count) {
         Ok(()) => Ok(events),
         Err(fault) => Err(fault),
     }
 }
 
-// The announcements of `count` destinations while no program is attached.
-fn unprogrammed<R: Wait + Drop>(
-    alloc: Global,
-    rt: R,
-    shared: &Shared,
-    seat: &mut Seat,
-    count: u32,
-) -> Result<Vec<Event>, NetworkError>
-    requires { IsOf shared.now seat.old }
-{
-    // without the loader an asker answers nothing
-    let (_loader, mut askers) = programs(alloc, rt, 1)?;
-    match askers.first_mut() {
-        Some(asker) => announced(alloc, asker, shared, seat, count),
-        None => Err(NetworkError::Destination),
-    }
-}
-
-/// The announcements of `count` destinations, in the order of their numbers.
+/// The announcements of `count` destinations while no program is attached, in the order of their
+/// numbers.
 ///
 /// # Errors
 /// `Memory` if an allocation is refused.
@@ -117,9 +68,13 @@ pub fn announcements<R: Wait + Drop + Copy>(
     rt: R,
     count: u32,
 ) -> Result<Vec<Event>, NetworkError> {
-    let (shared, mut seats) = Shared::new(alloc, 1)?;
-    match seats.pop() {
-        Some(mut seat) => unprogrammed(alloc, rt, &shared, &mut seat, count),
-        None => Err(NetworkError::Destination),
+    // without the loader an asker answers nothing
+    match programs(alloc, rt, 1) {
+        Ok((_loader, mut askers)) => match askers.first_mut() {
+            Some(asker) => announced(alloc, asker, count),
+            None => Err(NetworkError::Destination),
+        },
+        Err(HookError::Memory) => Err(NetworkError::Memory),
+        Err(_) => Err(NetworkError::Destination),
     }
 }

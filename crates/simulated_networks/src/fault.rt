@@ -2,8 +2,6 @@
 ghost use Rattle.std.specs.Prelude.{◌≡◌};
 
 use flood::ConfigError;
-use hooks::HookError;
-use maps::MapsError;
 use std::alloc::{AllocError, AllocFailed};
 use thiserror::Error;
 
@@ -46,24 +44,6 @@ impl From<ConfigError> for NetworkError {
         match error {
             ConfigError::Interface => NetworkError::Configuration,
             ConfigError::Memory => NetworkError::Memory,
-        }
-    }
-}
-
-impl From<MapsError> for NetworkError {
-    fn from(error: MapsError) -> NetworkError {
-        match error {
-            MapsError::Memory => NetworkError::Memory,
-            MapsError::Seats => NetworkError::Destination,
-        }
-    }
-}
-
-impl From<HookError> for NetworkError {
-    fn from(error: HookError) -> NetworkError {
-        match error {
-            HookError::Memory => NetworkError::Memory,
-            HookError::Count | HookError::Places => NetworkError::Destination,
         }
     }
 }
