@@ -8,6 +8,7 @@ use clap::error::ErrorKind;
 use clap::{Arg, ArgAction, Command, Error};
 use std::alloc::{AllocError, Global};
 use std::io::{self, ErrorKind as IoKind};
+use std::mem::forget;
 
 const ABOUT: &str = "Plays networks of many routers in memory, second by second";
 
@@ -114,50 +115,81 @@ The same words print the same on any machine.
 
 Statuses: 0 done, 1 not at rest or found, 2 usage, 3 stream, 4 memory.";
 
-// A word of a command: its name, what its value is called (of a flag, nothing) and its help.
-type Word = (&'static str, &'static str, &'static str);
+/// How a word of a command is given.
+#[derive(Clone, Copy)]
+enum Given {
+    /// It has to be there, at its place.
+    AtItsPlace,
+    /// Behind its name with two hyphens, if it is there.
+    ByName,
+    /// As its name with two hyphens alone, if it is there.
+    Flag,
+}
+
+// A word of a command: how it is given, its name, what its value is called and its help.
+type Word = (Given, &'static str, &'static str, &'static str);
 
 const TOPOLOGY: Word = (
+    Given::ByName,
     "topology",
     "SHAPE",
     "grid, row, ring, fat-tree or random (grid)",
 );
 
-const ROUTERS: Word = ("routers", "N", "How many routers there are (9)");
+const ROUTERS: Word = (
+    Given::ByName,
+    "routers",
+    "N",
+    "How many routers there are (9)",
+);
 
 const EXTERNALS: Word = (
+    Given::ByName,
     "externals",
     "N",
     "How many external destinations there are (0)",
 );
 
 const SPREAD: Word = (
+    Given::ByName,
     "spread",
     "N",
     "Links cost 10 and less than N more, by chance (1)",
 );
 
-const HELLO: Word = ("hello", "N", "HelloInterval (10)");
+const HELLO: Word = (Given::ByName, "hello", "N", "HelloInterval (10)");
 
-const DEAD: Word = ("dead", "N", "RouterDeadInterval (40)");
+const DEAD: Word = (Given::ByName, "dead", "N", "RouterDeadInterval (40)");
 
-const RETRANSMIT: Word = ("retransmit", "N", "RxmtInterval (5)");
+const RETRANSMIT: Word = (Given::ByName, "retransmit", "N", "RxmtInterval (5)");
 
-const LOSS: Word = ("loss", "N", "How many of 10,000 packets are lost (0)");
+const LOSS: Word = (
+    Given::ByName,
+    "loss",
+    "N",
+    "How many of 10,000 packets are lost (0)",
+);
 
 const LATE: Word = (
+    Given::ByName,
     "late",
     "N",
     "How many of 10,000 packets come 1 to 3 seconds later (0)",
 );
 
-const TWICE: Word = ("twice", "N", "How many of 10,000 packets come twice (0)");
+const TWICE: Word = (
+    Given::ByName,
+    "twice",
+    "N",
+    "How many of 10,000 packets come twice (0)",
+);
 
-const SEED: Word = ("seed", "N", "The first seed (1)");
+const SEED: Word = (Given::ByName, "seed", "N", "The first seed (1)");
 
-const SEEDS: Word = ("seeds", "N", "How many seeds are played (1)");
+const SEEDS: Word = (Given::ByName, "seeds", "N", "How many seeds are played (1)");
 
 const CALM: Word = (
+    Given::ByName,
     "calm",
     "N",
     "How many seconds at the end are calm: nothing is lost, late or repeated (60)",
@@ -171,91 +203,126 @@ struct Form {
     words: &'static [Word],
 }
 
-static RUN: Form = Form {
-    name: "run",
-    about: RUN_ABOUT,
-    more: RUN_MORE,
-    words: &[
-        TOPOLOGY,
-        ROUTERS,
-        EXTERNALS,
-        SPREAD,
-        (
-            "announcers",
-            "N",
-            "How many routers announce them (one for each 1,000)",
-        ),
-        ("scenario", "NAME", SCENARIO),
-        HELLO,
-        DEAD,
-        RETRANSMIT,
-        LOSS,
-        LATE,
-        TWICE,
-        SEED,
-        SEEDS,
-        (
-            "seconds",
-            "N",
-            "How many seconds the start may take, and the change (300)",
-        ),
-        (
-            "stay",
-            "N",
-            "For how many seconds all has to stay calm until a part is over (12)",
-        ),
-        CALM,
-        ("watch", "", WATCH),
-        ("json", "", "Print an object of JSON for each seed"),
-    ],
-};
-
-static SEARCH: Form = Form {
-    name: "search",
-    about: SEARCH_ABOUT,
-    more: SEARCH_MORE,
-    words: &[
-        TOPOLOGY,
-        ROUTERS,
-        EXTERNALS,
-        SPREAD,
-        HELLO,
-        DEAD,
-        RETRANSMIT,
-        LOSS,
-        LATE,
-        TWICE,
-        SEED,
-        SEEDS,
-        ("steps", "N", "How many acts a history has (500)"),
-        CALM,
-        ("restarts", "", "Routers begin anew, too"),
-        (
-            "loops",
-            "",
-            "Search for neighbors that hand packets to each other",
-        ),
-    ],
-};
+static FORMS: [Form; 3] = [
+    Form {
+        name: "run",
+        about: RUN_ABOUT,
+        more: RUN_MORE,
+        words: &[
+            TOPOLOGY,
+            ROUTERS,
+            EXTERNALS,
+            SPREAD,
+            (
+                Given::ByName,
+                "announcers",
+                "N",
+                "How many routers announce them (one for each 1,000)",
+            ),
+            (Given::ByName, "scenario", "NAME", SCENARIO),
+            HELLO,
+            DEAD,
+            RETRANSMIT,
+            LOSS,
+            LATE,
+            TWICE,
+            SEED,
+            SEEDS,
+            (
+                Given::ByName,
+                "seconds",
+                "N",
+                "How many seconds the start may take, and the change (300)",
+            ),
+            (
+                Given::ByName,
+                "stay",
+                "N",
+                "For how many seconds all has to stay calm until a part is over (12)",
+            ),
+            CALM,
+            (Given::Flag, "watch", "", WATCH),
+            (
+                Given::Flag,
+                "json",
+                "",
+                "Print an object of JSON for each seed",
+            ),
+        ],
+    },
+    Form {
+        name: "search",
+        about: SEARCH_ABOUT,
+        more: SEARCH_MORE,
+        words: &[
+            TOPOLOGY,
+            ROUTERS,
+            EXTERNALS,
+            SPREAD,
+            HELLO,
+            DEAD,
+            RETRANSMIT,
+            LOSS,
+            LATE,
+            TWICE,
+            SEED,
+            SEEDS,
+            (
+                Given::ByName,
+                "steps",
+                "N",
+                "How many acts a history has (500)",
+            ),
+            CALM,
+            (Given::Flag, "restarts", "", "Routers begin anew, too"),
+            (
+                Given::Flag,
+                "loops",
+                "",
+                "Search for neighbors that hand packets to each other",
+            ),
+        ],
+    },
+    Form {
+        name: "play",
+        about: PLAY_ABOUT,
+        more: PLAY_MORE,
+        words: &[(
+            Given::AtItsPlace,
+            "SCRIPT",
+            "SCRIPT",
+            "The file of the script; - for the standard input, line by line",
+        )],
+    },
+];
 
 fn argument<'a>(alloc: Global, word: &Word) -> Arg<'a> {
-    let (name, value, help) = *word;
-    let argument = Arg::new(alloc, name).long(name).help(help);
-    if value.is_empty() {
-        argument.action(ArgAction::SetTrue)
-    } else {
-        argument.value_name(value)
+    let (given, name, value, help) = *word;
+    let argument = Arg::new(alloc, name).help(help);
+    match given {
+        Given::AtItsPlace => argument.required(true),
+        Given::ByName => argument.long(name).value_name(value),
+        Given::Flag => argument.long(name).action(ArgAction::SetTrue),
     }
 }
 
-fn command<'a>(alloc: Global, form: &Form) -> Result<Command<'a>, AllocError> {
-    let mut command = Command::new(alloc, form.name)
-        .about(form.about)
-        .after_help(form.more);
-    for word in form.words {
+fn with_words<'a>(
+    alloc: Global,
+    command: Command<'a>,
+    words: &[Word],
+) -> Result<Command<'a>, AllocError> {
+    let mut command = command;
+    for word in words {
         command = command.arg(argument(alloc, word))?;
     }
     Ok(command)
+}
+
+fn command<'a>(alloc: Global, form: &Form) -> Result<Command<'a>, AllocError> {
+    let command = Command::new(alloc, form.name)
+        .about(form.about)
+        .after_help(form.more);
+    with_words(alloc, command, form.words)
 }
 
 fn with_command<'a>(
@@ -263,8 +330,14 @@ fn with_command<'a>(
     whole: Command<'a>,
     form: &Form,
 ) -> Result<Command<'a>, AllocError> {
-    let command = command(alloc, form)?;
-    whole.subcommand(command)
+    match command(alloc, form) {
+        Ok(command) => whole.subcommand(command),
+        Err(error) => {
+            // (the program ends, and lets no part of it go)
+            forget(whole);
+            Err(error)
+        }
+    }
 }
 
 fn without_commands<'a>(alloc: Global) -> Command<'a> {
@@ -275,31 +348,26 @@ fn without_commands<'a>(alloc: Global) -> Command<'a> {
         .arg_required_else_help(true)
 }
 
-// The command that plays a script.
-fn playing<'a>(alloc: Global) -> Result<Command<'a>, AllocError> {
-    let script = Arg::new(alloc, "SCRIPT")
-        .help("The file of the script; - for the standard input, line by line")
-        .required(true);
-    Command::new(alloc, "play")
-        .about(PLAY_ABOUT)
-        .after_help(PLAY_MORE)
-        .arg(script)
-}
-
 /// The whole command line.
 ///
 /// # Errors
 /// `AllocError` if an allocation is refused.
 pub fn whole<'a>(alloc: Global) -> Result<Command<'a>, AllocError> {
-    let with_run = with_command(alloc, without_commands(alloc), &RUN)?;
-    let with_search = with_command(alloc, with_run, &SEARCH)?;
-    with_search.subcommand(playing(alloc)?)
+    let mut whole = without_commands(alloc);
+    for form in &FORMS {
+        whole = with_command(alloc, whole, form)?;
+    }
+    Ok(whole)
 }
 
 fn error(alloc: Global, kind: ErrorKind, text: &str) -> Result<Error, AllocError>
     ensures { IfOk result (λ error. kind_of error ≡ kind) }
 {
-    whole(alloc)?.error(kind, text)
+    let mut line = whole(alloc)?;
+    let told = line.error(kind, text);
+    // (the program ends, and lets no part of it go)
+    forget(line);
+    told
 }
 
 // An error about the words, or that memory was refused.

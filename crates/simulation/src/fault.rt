@@ -6,7 +6,6 @@ ghost use Rattle.simulation.specs.declared.fault.SimulationError.TheVariants.{Ou
 use clap::error::ErrorKind;
 use simulated_networks::NetworkError;
 use std::io;
-use thiserror::Error;
 
 /// All is at rest at the end, or nothing was found.
 pub const DONE: u8 = 0;
@@ -19,20 +18,16 @@ pub const OUTSIDE: u8 = 3;
 /// Memory was refused.
 pub const MEMORY: u8 = 4;
 
-/// Why the program didn't do what it was asked. The text is the line that is printed.
-#[derive(Debug, Drop, Error)]
+/// Why the program didn't do what it was asked.
+#[derive(Drop)]
 pub enum SimulationError {
     /// The words of the command line are wrong, or ask for help: the text says which.
-    #[error("{0}")]
     Usage(clap::Error),
     /// The times of the interfaces aren't allowed.
-    #[error("the times of the interfaces are outside of their ranges")]
     Times,
     /// The output can't be written.
-    #[error("cannot write the output")]
     Output,
     /// An allocation was refused.
-    #[error("out of memory")]
     Memory,
 }
 
@@ -67,6 +62,16 @@ impl From<clap::Error> for SimulationError {
 }
 
 impl SimulationError {
+    /// The line that is printed, if it isn't about the words.
+    pub fn text(&self) -> &'static str {
+        match self {
+            SimulationError::Usage(_) => "",
+            SimulationError::Times => "the times of the interfaces are outside of their ranges\n",
+            SimulationError::Output => "cannot write the output\n",
+            SimulationError::Memory => "out of memory\n",
+        }
+    }
+
     /// The status that the program ends with.
     pub fn status(&self) -> u8
         ensures value { result ≡ status_of self.now }

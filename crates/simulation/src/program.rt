@@ -18,7 +18,7 @@ fn tell<O: Write, E: Write>(fault: &SimulationError, output: &mut O, errors: &mu
 {
     let written = match fault {
         SimulationError::Usage(error) => write!(errors, "{error}"),
-        _ => writeln!(output, "{fault}"),
+        other => output.write_all(other.text().as_bytes()),
     };
     match written {
         Ok(()) => fault.status(),
