@@ -1,6 +1,6 @@
 //! Loops among the sites, and how a number is carried around one.
 
-use crate::loops::{Circle, SiteEdges, is_marked, is_straight};
+use crate::loops::{Circle, SiteEdges, is_marked};
 use crate::weights::Bounds;
 use inference::memory::{Memory, element_or};
 use inference::{Edge, Sites};
@@ -33,32 +33,11 @@ pub struct Carried {
     is_lost: bool,
 }
 
-/// The register at the site.
-pub fn register_at(registers: &[Option<u8>], node: usize) -> Option<u8> {
-    element_or(registers, node, None)
-}
-
 /// The fact of the register that holds the number at the edge's target.
 fn fact_at(registers: &[Option<u8>], edge: &Edge) -> Option<Fact> {
-    match register_at(registers, edge.to) {
+    match element_or(registers, edge.to, None) {
         Some(register) => edge.fact(register),
         None => None,
-    }
-}
-
-impl Carried {
-    /// Records how the number changes on the edge with this place in the loop, which starts at this
-    /// site.
-    fn note(&mut self, place: usize, from: usize, fact: Option<Fact>) {
-        match fact {
-            Some(fact) => {
-                put(&mut self.stays, place, fact.down <= fact.up);
-                self.has_fall |= fact.up < fact.down;
-                self.has_rise |= fact.down < fact.up;
-                self.is_lost |= register_at(&self.registers, from) != Some(fact.origin);
-            }
-            None => self.is_lost = true,
-        }
     }
 }
 
@@ -71,7 +50,7 @@ impl<'a> Graph<'a> {
     /// The greatest value of the register at the site.
     pub fn high(&self, node: usize, register: u8) -> Option<u64> {
         match self.bounds.get(node) {
-            Some(bounds) => bounds.high(register),
+            Some(bounds) => element_or(&bounds.highs, usize::from(register), None),
             None => None,
         }
     }
@@ -79,23 +58,6 @@ impl<'a> Graph<'a> {
     /// The loop whose first site is this one, by all edges. Without sites if there is none.
     pub fn circle(&self, head: usize) -> Circle {
         self.ways.circle(self.memory, self.edges, head)
-    }
-
-    /// These edges, indexed for the search for loops.
-    pub fn ways(&self, numbers: Vec<usize>) -> SiteEdges {
-        SiteEdges::new(self.memory, self.edges, numbers, self.nodes())
-    }
-
-    /// Whether there is no loop among these edges.
-    pub fn is_straight(&self, kept: &[usize]) -> bool {
-        is_straight(self.memory, self.edges, kept, self.nodes())
-    }
-
-    /// Marks the sites of the loop.
-    fn mark(&self, circle: &Circle, done: &mut Vec<bool>) {
-        for site in &circle.sites {
-            put(done, *site, true)
-        }
     }
 
     /// Whether the site is the target of a backward jump and isn't done.
@@ -106,14 +68,16 @@ impl<'a> Graph<'a> {
     /// The loop whose first site is this one, by these edges. Marks its sites as done.
     pub fn next_circle(&self, ways: &SiteEdges, head: usize, done: &mut Vec<bool>) -> Circle {
         let circle = ways.circle(self.memory, self.edges, head);
-        self.mark(&circle, done);
+        for site in &circle.sites {
+            put(done, *site, true)
+        }
         circle
     }
 
     /// Follows the number back along the edge, from the register at its end. Returns whether that
     /// is new.
     fn trace_by(&self, edge: &Edge, registers: &mut Vec<Option<u8>>) -> bool {
-        if register_at(registers, edge.from).is_some() {
+        if element_or(registers, edge.from, None).is_some() {
             return false;
         }
         match fact_at(registers, edge) {
@@ -158,8 +122,16 @@ impl<'a> Graph<'a> {
     fn follow(&self, circle: &Circle, carried: &mut Carried) {
         for place in 0..circle.within.len() {
             if let Some(edge) = self.edges.get(circle.within[place]) {
-                let fact = fact_at(&carried.registers, edge);
-                carried.note(place, edge.from, fact)
+                match fact_at(&carried.registers, edge) {
+                    Some(fact) => {
+                        put(&mut carried.stays, place, fact.down <= fact.up);
+                        carried.has_fall |= fact.up < fact.down;
+                        carried.has_rise |= fact.down < fact.up;
+                        let from = element_or(&carried.registers, edge.from, None);
+                        carried.is_lost |= from != Some(fact.origin);
+                    }
+                    None => carried.is_lost = true,
+                }
             }
         }
         carried.has_fall &= !carried.is_lost;

@@ -117,11 +117,11 @@ impl SiteEdges {
             sites: Vec::new(memory.alloc),
             within: Vec::new(memory.alloc),
         };
-        for number in kept {
-            if let Some(edge) = edges.get(number) {
+        for number in &kept {
+            if let Some(edge) = edges.get(*number) {
                 let is_from = is_marked(&forward, edge.from) & is_marked(&back, edge.from);
                 if is_from & is_marked(&forward, edge.to) & is_marked(&back, edge.to) {
-                    circle.add(memory, edge.from, number)
+                    circle.add(memory, edge.from, *number)
                 }
             }
         }
@@ -154,19 +154,14 @@ impl Circle {
     }
 }
 
-/// The start and the end of the edge, swapped for the backward direction.
-fn ends(edge: &Edge, is_forward: bool) -> (usize, usize) {
-    if is_forward {
-        (edge.from, edge.to)
-    } else {
-        (edge.to, edge.from)
-    }
-}
-
 /// Marks the end of the edge, if it starts at a marked site or at the head. Returns whether that is
 /// new.
 fn spread_by(edge: &Edge, head: usize, is_forward: bool, marks: &mut Vec<bool>) -> bool {
-    let (here, there) = ends(edge, is_forward);
+    let (here, there) = if is_forward {
+        (edge.from, edge.to)
+    } else {
+        (edge.to, edge.from)
+    };
     let is_new = ((here == head) | is_marked(marks, here)) & !is_marked(marks, there);
     if is_new {
         put(marks, there, true);
@@ -224,35 +219,33 @@ fn entries_of(memory: &Memory, edges: &[Edge], kept: &[usize], nodes: usize) -> 
     entries
 }
 
-/// Removes each edge whose start no remaining edge leads to. Returns whether there was one.
-fn take_out(edges: &[Edge], kept: &[usize], entries: &mut Vec<u32>, gone: &mut Vec<bool>) -> bool {
-    let mut has_changed = false;
+/// Removes each edge whose start no remaining edge leads to. Returns how many there were.
+fn take_out(edges: &[Edge], kept: &[usize], entries: &mut Vec<u32>, gone: &mut Vec<bool>) -> usize {
+    let mut count = 0usize;
     for place in 0..kept.len() {
         if let Some(edge) = edges.get(kept[place]) {
             if !is_marked(gone, place) && element_or(entries, edge.from, 0) == 0 {
                 let fewer = element_or(entries, edge.to, 0).saturating_sub(1);
                 put(entries, edge.to, fewer);
                 put(gone, place, true);
-                has_changed = true;
+                count = count.saturating_add(1);
             }
         }
     }
-    has_changed
+    count
 }
 
 /// Whether there is no loop among these edges, so that all can be removed one after the other.
 pub fn is_straight(memory: &Memory, edges: &[Edge], kept: &[usize], nodes: usize) -> bool {
     let mut entries = entries_of(memory, edges, kept, nodes);
     let mut gone = memory.filled(false, kept.len());
+    let mut left = kept.len();
     for _ in 0..kept.len() {
-        if !take_out(edges, kept, &mut entries, &mut gone) {
+        let count = take_out(edges, kept, &mut entries, &mut gone);
+        if count == 0 {
             break;
         }
+        left = left.saturating_sub(count);
     }
-    for place in 0..gone.len() {
-        if !gone[place] {
-            return false;
-        }
-    }
-    true
+    left == 0
 }

@@ -64,16 +64,6 @@ impl RankPlan {
         element_or(&self.places, node, NO_RANK)
     }
 
-    /// The rank without its constant.
-    pub fn slope_at(&self, node: usize) -> Rank {
-        let RankCandidate { first, second, .. } = self.at(node);
-        Rank {
-            constant: 0,
-            first,
-            second,
-        }
-    }
-
     /// The rank.
     pub fn rank_at(&self, node: usize) -> Rank {
         let place = self.at(node);
@@ -102,14 +92,6 @@ impl RankPlan {
             WhichTerm::First => place.first = term,
             WhichTerm::Second => place.second = term,
         }
-        put(&mut self.places, node, place)
-    }
-
-    /// Removes both terms.
-    pub fn clear(&mut self, node: usize) {
-        let mut place = self.at(node);
-        place.first = None;
-        place.second = None;
         put(&mut self.places, node, place)
     }
 

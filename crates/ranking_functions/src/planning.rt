@@ -4,7 +4,7 @@ use crate::circles::Graph;
 use crate::loops::{Circle, SiteEdges, numbers_below};
 use crate::plan::{RankPlan, Ranking, Unranked};
 use crate::trouble::unranked_loop;
-use crate::weights::{Ending, bounds_of, settle};
+use crate::weights::bounds_of;
 use inference::Inference;
 use inference::memory::Memory;
 use object::Statement;
@@ -20,24 +20,10 @@ fn given_ranks(graph: &Graph<'_>, given: &[Statement]) -> RankPlan {
     plan
 }
 
-/// Whether the plan's terms are enough for the whole program; it then has the constants that they
-/// need.
-fn is_settled(graph: &Graph<'_>, plan: &mut RankPlan) -> bool {
-    let ending = settle(
-        graph.memory,
-        plan,
-        graph.bounds,
-        graph.edges,
-        graph.all,
-        graph.most,
-    );
-    matches!(ending, Ending::Settled)
-}
-
 /// Adopts the given ranks, if they are enough. Returns whether they are.
 fn by_given(graph: &Graph<'_>, given: &[Statement], plan: &mut RankPlan) -> bool {
     let mut ranks = given_ranks(graph, given);
-    if is_settled(graph, &mut ranks) {
+    if graph.settles(&mut ranks, graph.all) {
         *plan = ranks;
         true
     } else {
@@ -49,7 +35,7 @@ fn by_given(graph: &Graph<'_>, given: &[Statement], plan: &mut RankPlan) -> bool
 /// no ranks.
 fn by_loops(graph: &Graph<'_>, hints: &[Statement], are_hints: bool, ranking: &mut Ranking) {
     let failed = graph.rank_loops(&mut ranking.plan);
-    let is_ranked = is_settled(graph, &mut ranking.plan)
+    let is_ranked = graph.settles(&mut ranking.plan, graph.all)
         || are_hints && by_given(graph, hints, &mut ranking.plan);
     if !is_ranked {
         ranking.plan.flatten(&graph.all.sites);

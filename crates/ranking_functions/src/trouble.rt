@@ -44,15 +44,8 @@ fn too_long(graph: &Graph<'_>, circle: &Circle, head: usize) -> Option<Trouble> 
     if circle.sites.len() > MOST_SITES {
         return None;
     }
-    let without_budget = Graph {
-        memory: graph.memory,
-        sites: graph.sites,
-        edges: graph.edges,
-        ways: graph.ways,
-        all: graph.all,
-        bounds: graph.bounds,
-        most: u64::MAX,
-    };
+    let mut without_budget = *graph;
+    without_budget.most = u64::MAX;
     let mut plan = RankPlan::new(graph.memory, graph.nodes());
     match without_budget.best_register(&mut plan, circle, head) {
         Some(register) => Some(Trouble::TooHigh {
@@ -77,21 +70,16 @@ fn trouble_at(graph: &Graph<'_>, circle: &Circle, head: usize) -> Trouble {
     told
 }
 
-/// Why the loop has no rank.
-fn trouble_of(graph: &Graph<'_>, circle: &Circle, head: usize) -> Trouble {
-    match too_long(graph, circle, head) {
-        Some(trouble) => trouble,
-        None => trouble_at(graph, circle, head),
-    }
-}
-
 /// What is wrong with the loop through the site, if there is one.
 fn endless_at(graph: &Graph<'_>, head: usize) -> Option<Endless> {
     let circle = graph.circle(head);
     if circle.has(head) {
         Some(Endless {
             slot: graph.sites.slot(head),
-            trouble: trouble_of(graph, &circle, head),
+            trouble: match too_long(graph, &circle, head) {
+                Some(trouble) => trouble,
+                None => trouble_at(graph, &circle, head),
+            },
         })
     } else {
         None

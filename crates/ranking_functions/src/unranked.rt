@@ -24,17 +24,6 @@ impl<'a> Graph<'a> {
             && !self.rank_circle(plan, &circle, head)
     }
 
-    /// Marks the heads of such loops, from the last site on.
-    fn mark_unranked(&self, plan: &mut RankPlan, unranked: &mut Vec<bool>) {
-        let count = self.sites.len();
-        for passed in 0..count {
-            let head = count - 1 - passed;
-            if self.sites.is_head(head) && self.is_unranked(plan, unranked, head) {
-                put(unranked, head, true)
-            }
-        }
-    }
-
     /// The slots of the heads that are marked.
     fn slots_of(&self, marks: &[bool]) -> Vec<usize> {
         let mut slots = Vec::new(self.memory.alloc);
@@ -65,10 +54,17 @@ impl<'a> Graph<'a> {
         }
     }
 
-    /// The heads of loops that have no rank on their own, though those within them have.
+    /// The heads of loops that have no rank on their own, though those within them have, found from
+    /// the last site on.
     fn unranked(&self, plan: &mut RankPlan) -> Vec<bool> {
         let mut unranked = self.memory.filled(false, self.nodes());
-        self.mark_unranked(plan, &mut unranked);
+        let count = self.sites.len();
+        for passed in 0..count {
+            let head = count - 1 - passed;
+            if self.sites.is_head(head) && self.is_unranked(plan, &unranked, head) {
+                put(&mut unranked, head, true)
+            }
+        }
         unranked
     }
 

@@ -1,20 +1,21 @@
 //! The constants that ranks need: at the start of each edge as much as at its end, plus what the
 //! edge adds.
 
+use crate::circles::Graph;
 use crate::loops::Circle;
-use crate::plan::RankPlan;
+use crate::plan::{RankCandidate, RankPlan};
 use absdom::Domain;
 use inference::memory::{Memory, element_or};
 use inference::{Edge, Value};
 use kinds::{Kind, kind_of, put};
-use object::{RankTerm, StatedKind as Stated, Statement};
-use ranks::{LinearBound, bound_of};
+use object::{Rank, RankTerm, StatedKind as Stated, Statement};
+use ranks::bound_of;
 
 /// The least and the greatest value of each register at the start of a segment.
 #[derive(Clone, Copy)]
 pub struct Bounds {
-    lows: [u64; 10],
-    highs: [Option<u64>; 10],
+    pub lows: [u64; 10],
+    pub highs: [Option<u64>; 10],
 }
 
 const NO_BOUNDS: Bounds = Bounds {
@@ -55,13 +56,6 @@ pub fn bounds_of(memory: &Memory, stated: &[Option<Statement>]) -> Vec<Bounds> {
     all
 }
 
-impl Bounds {
-    /// The greatest value of the register.
-    pub fn high(&self, register: u8) -> Option<u64> {
-        element_or(&self.highs, usize::from(register), None)
-    }
-}
-
 fn add_term(coefficients: &mut [u64; 10], term: Option<RankTerm>) {
     if let Some(term) = term {
         let register = usize::from(term.register());
@@ -85,19 +79,6 @@ pub fn multiple(factor: u64, number: u64) -> u128 {
     u128::from(factor).saturating_mul(u128::from(number))
 }
 
-impl Gap {
-    /// Adds the multiples of a number with these bounds.
-    fn add(&mut self, left: u64, right: u64, low: u64, high: Option<u64>) {
-        if left <= right {
-            self.saved = self.saved.saturating_add(multiple(right - left, low));
-        } else if let Some(high) = high {
-            self.needed = self.needed.saturating_add(multiple(left - right, high));
-        } else {
-            self.is_bounded = false;
-        }
-    }
-}
-
 fn gap_of(lefts: [u64; 10], rights: [u64; 10], bounds: &Bounds) -> Gap {
     let mut gap = Gap {
         saved: 0,
@@ -105,12 +86,16 @@ fn gap_of(lefts: [u64; 10], rights: [u64; 10], bounds: &Bounds) -> Gap {
         is_bounded: true,
     };
     for register in 0..10usize {
-        gap.add(
-            lefts[register],
-            rights[register],
-            bounds.lows[register],
-            bounds.highs[register],
-        )
+        let left = lefts[register];
+        let right = rights[register];
+        if left <= right {
+            let saved = multiple(right - left, bounds.lows[register]);
+            gap.saved = gap.saved.saturating_add(saved);
+        } else if let Some(high) = bounds.highs[register] {
+            gap.needed = gap.needed.saturating_add(multiple(left - right, high));
+        } else {
+            gap.is_bounded = false;
+        }
     }
     gap
 }
@@ -124,8 +109,17 @@ struct Need {
     less: u128,
 }
 
-/// What the edge needs. `line` bounds the rank at its end without the constant there.
-fn need_by(plan: &RankPlan, bounds: &[Bounds], edge: &Edge, line: &LinearBound) -> Option<Need> {
+/// What the edge needs; `None` if no constant is enough.
+fn need_of(plan: &RankPlan, bounds: &[Bounds], edge: &Edge) -> Option<Need> {
+    let RankCandidate { first, second, .. } = plan.at(edge.to);
+    let slope = Rank {
+        constant: 0,
+        first,
+        second,
+    };
+    let Some(line) = bound_of(slope, &edge.state) else {
+        return None;
+    };
     let from = element_or(bounds, edge.from, NO_BOUNDS);
     let gap = gap_of(line.coefficients, coefficients_at(plan, edge.from), &from);
     if !gap.is_bounded {
@@ -144,14 +138,6 @@ fn need_by(plan: &RankPlan, bounds: &[Bounds], edge: &Edge, line: &LinearBound) 
     })
 }
 
-/// What the edge needs; `None` if no constant is enough.
-fn need_of(plan: &RankPlan, bounds: &[Bounds], edge: &Edge) -> Option<Need> {
-    match bound_of(plan.slope_at(edge.to), &edge.state) {
-        Some(line) => need_by(plan, bounds, edge, &line),
-        None => None,
-    }
-}
-
 /// What these edges need; `None` if no constants are enough.
 fn needs_of(
     memory: &Memory,
@@ -163,22 +149,13 @@ fn needs_of(
     let mut needs = Vec::new(memory.alloc);
     for number in kept {
         if let Some(edge) = edges.get(*number) {
-            let need = need_of(plan, bounds, edge)?;
+            let Some(need) = need_of(plan, bounds, edge) else {
+                return None;
+            };
             memory.push(&mut needs, need)
         }
     }
     Some(needs)
-}
-
-/// The outcome of raising the constants.
-#[derive(Clone, Copy)]
-pub enum Ending {
-    /// Each edge has what it needs.
-    Settled,
-    /// A constant exceeds the maximum.
-    TooHigh,
-    /// They keep rising.
-    Endless,
 }
 
 /// The outcome of one round over the edges.
@@ -217,30 +194,30 @@ fn raise_once(plan: &mut RankPlan, needs: &[Need], most: u64) -> Round {
     round
 }
 
-/// Raises the constants until each edge has what it needs, in at most `rounds` rounds.
-fn raise(plan: &mut RankPlan, needs: &[Need], rounds: usize, most: u64) -> Ending {
+/// Raises the constants until each edge has what it needs, in at most `rounds` rounds. Returns
+/// whether that succeeds: none exceeds the maximum, and they stop rising.
+fn raise(plan: &mut RankPlan, needs: &[Need], rounds: usize, most: u64) -> bool {
     for _ in 0..rounds {
         match raise_once(plan, needs, most) {
-            Round::Still => return Ending::Settled,
-            Round::TooHigh => return Ending::TooHigh,
+            Round::Still => return true,
+            Round::TooHigh => return false,
             Round::Raised => {}
         }
     }
-    Ending::Endless
+    false
 }
 
-/// Raises the constants from their starting values until each edge of the loop has what it needs.
-pub fn settle(
-    memory: &Memory,
-    plan: &mut RankPlan,
-    bounds: &[Bounds],
-    edges: &[Edge],
-    circle: &Circle,
-    most: u64,
-) -> Ending {
-    plan.flatten(&circle.sites);
-    match needs_of(memory, plan, bounds, edges, &circle.within) {
-        Some(needs) => raise(plan, &needs, circle.sites.len().saturating_add(1), most),
-        None => Ending::TooHigh,
+impl<'a> Graph<'a> {
+    /// Raises the constants from their starting values until each edge of the loop has what it
+    /// needs. Returns whether that succeeds.
+    pub fn settles(&self, plan: &mut RankPlan, circle: &Circle) -> bool {
+        plan.flatten(&circle.sites);
+        match needs_of(self.memory, plan, self.bounds, self.edges, &circle.within) {
+            Some(needs) => {
+                let rounds = circle.sites.len().saturating_add(1);
+                raise(plan, &needs, rounds, self.most)
+            }
+            None => false,
+        }
     }
 }
