@@ -36,11 +36,6 @@ abbrev pub with_words : App → List Word → App
 with_words app [] = app
 with_words app (word ∷ words) = with_words (with_rule app (rule_for word)) words
 
--- the command with these words too
-pub record ExtendsBy (before : Command) (words : List Word) (after : Command) : Type 0 where
-  pub app : app_of after ≡ with_words (app_of before) words
-  pub local : IsLocal before → IsLocal after
-
 -- the command of a form
 abbrev pub app_for : Form → App
 app_for form = with_words (new_app form.name.now) form.words.now
@@ -52,9 +47,6 @@ shape_for form = (app_for form).top
 pub record IsLeaf (form : Form) (c : Command) : Type 0 where
   pub app : app_of c ≡ app_for form
   pub local : IsLocal c
-
-abbrev pub IsCommand : Bor Form → Command → Type 0
-IsCommand form c = IsLeaf form.now c
 
 -- what has these commands too, in their order
 abbrev pub with_forms : App → List (Bor Form) → App

@@ -3,9 +3,7 @@
 ghost use Rattle.std.specs.Prelude.{◌≡◌, ◌⊎◌, IfOk};
 ghost use Rattle.clap.specs.Simple.{app_of};
 ghost use Rattle.clap.specs.Values.{kind_of};
-ghost use Rattle.hooktool_line.specs.Building.{ExtendsBy, IsArgument, IsCommand, IsLeaf, app_for};
-ghost use Rattle.hooktool_line.specs.Building.{with_forms, without_commands};
-ghost use Rattle.hooktool_line.specs.Words.{Each};
+ghost use Rattle.hooktool_line.specs.Building.{IsArgument, IsLeaf, with_forms, without_commands};
 ghost use Rattle.hooktool_line.specs.CommandLine as line;
 
 use clap::error::ErrorKind;
@@ -505,64 +503,35 @@ fn argument<'a>(alloc: Global, word: &Word) -> Arg<'a>
     }
 }
 
-// The command with these words, in their order.
-fn with_words<'a>(
-    alloc: Global,
-    command: Command<'a>,
-    words: &[Word],
-) -> Result<Command<'a>, AllocError>
-    ensures { IfOk result (ExtendsBy command.entry words.now) }
+// The command of this form.
+fn command_of<'a>(alloc: Global, form: &Form) -> Result<Command<'a>, AllocError>
+    ensures { IfOk result (IsLeaf form.now) }
 {
-    let mut command = command;
-    for word in words {
+    let mut command = Command::new(alloc, form.name)
+        .about(form.about)
+        .after_help(form.more);
+    for word in form.words {
         command = command.arg(argument(alloc, word))?;
     }
     Ok(command)
 }
 
-// The command of this form.
-fn command_of<'a>(alloc: Global, form: &Form) -> Result<Command<'a>, AllocError>
-    ensures { IfOk result (IsLeaf form.now) }
-{
-    let command = Command::new(alloc, form.name)
-        .about(form.about)
-        .after_help(form.more);
-    with_words(alloc, command, form.words)
-}
-
-// The commands of these forms, in their order.
-fn commands_of<'a>(alloc: Global, forms: &[&Form]) -> Result<Vec<Command<'a>>, AllocError>
-    ensures { IfOk result (λ commands. Each IsCommand forms.now commands.items) }
-{
-    let mut commands = Vec::new(alloc);
-    for form in forms {
-        match command_of(alloc, form) {
-            Ok(command) => commands.push(command)?,
-            Err(error) => return Err(error),
-        }
-    }
-    Ok(commands)
-}
-
-// The command line, without its commands.
-fn without_commands<'a>(alloc: Global) -> Command<'a>
-    ensures { app_of result ≡ without_commands }
-{
-    Command::new(alloc, "hooktool")
-        .about(ABOUT)
-        .after_help(WORKED)
-        .subcommand_required(true)
-        .arg_required_else_help(true)
-}
-
-// The command line with the commands of these forms.
+// The command line with the commands of these forms, in their order.
 fn line_of<'a>(alloc: Global, forms: &[&Form]) -> Result<Command<'a>, AllocError>
     ensures { IfOk result (λ c. app_of c ≡ with_forms without_commands forms.now) }
 {
-    match commands_of(alloc, forms) {
-        Ok(commands) => without_commands(alloc).subcommands(commands),
-        Err(error) => Err(error),
+    let mut line = Command::new(alloc, "hooktool")
+        .about(ABOUT)
+        .after_help(WORKED)
+        .subcommand_required(true)
+        .arg_required_else_help(true);
+    for form in forms {
+        match command_of(alloc, form) {
+            Ok(command) => line = line.subcommand(command)?,
+            Err(error) => return Err(error),
+        }
     }
+    Ok(line)
 }
 
 /// The whole command line.
