@@ -41,6 +41,12 @@ pub told_more : {E : Type 0} (P Q : CommandReport → Type 0) (r : Result Comman
 told_more {E} P Q (Ok report) more is = more report is
 told_more {E} P Q (Err e) more is = tt
 
+-- both that is known of each report
+pub told_both : {E : Type 0} (P Q : CommandReport → Type 0) (r : Result CommandReport E)
+    → IfOk r P → IfOk r Q → IfOk r (λ report. P report × Q report)
+told_both {E} P Q (Ok report) is also = (is, also)
+told_both {E} P Q (Err e) is also = tt
+
 -- a refusal, whatever else may be told
 pub refused_or : {E : Type 0} (A : CommandReport → Type 0) (r : Result CommandReport E)
     → IfOk r (λ report. report.is_refused ≡ true)

@@ -1,7 +1,7 @@
 //! `build`: an object for each function that clang compiled for a hook. `explain`: what the
 //! verifier knows of each.
 
-ghost use Rattle.std.specs.Prelude.{◌≡◌, ◌⊎◌, ◌++◌, ◌||◌, ◌<◌, ℕ, List, false, true, Some, IfErr};
+ghost use Rattle.std.specs.Prelude.{◌≡◌, ◌⊎◌, ◌++◌, ◌||◌, ◌<◌, false, true, Some, IfErr};
 ghost use Rattle.std.specs.Prelude.{IfNone, IfOk, IfSome, OnOk, length, string_bytes};
 ghost use Rattle.std.specs.List.{All};
 ghost use Rattle.isa.specs.Hooks.{hook_name};
@@ -15,7 +15,7 @@ ghost use Rattle.hooktool_commands.specs.Builds.{HasNoProgram, HasProgram, IsFor
 ghost use Rattle.hooktool_commands.specs.Builds.{built_text, is_file_name, is_program_section};
 ghost use Rattle.hooktool_commands.specs.Builds.{object_path};
 ghost use Rattle.hooktool_commands.specs.Explanations.{IsExplained};
-ghost use Rattle.hooktool_commands.specs.Faults.{IsBuildFault, IsUnplaced, IsUnread};
+ghost use Rattle.hooktool_commands.specs.Faults.{IsBuildFault, IsUnplaced};
 ghost use Rattle.hooktool_commands.specs.Linked.{is_changed};
 ghost use Rattle.hooktool_commands.specs.Orders.{IsBuiltCode, IsHandedOut, wanted_of};
 
@@ -138,25 +138,19 @@ fn function_told<'a>(
     refusal(text)
 }
 
-/// Adds why a function's bytes are no code, or no code whose turns can be counted.
-fn push_fault(text: &mut Text, fault: HooktoolFault<'_>) {
-    match fault {
-        HooktoolFault::Code { number, slot } => {
-            text.numbered(", slot ", slot, code_words(number));
-        }
-        HooktoolFault::Uncounted { reason } => text.line(": ", reason),
-        _ => text.push(": it is no code\n"),
-    }
-}
-
-/// Adds why nothing was accepted.
+/// Adds why nothing was accepted of a function: its bytes are no code, or no code whose turns can
+/// be counted, or what the verifier refuses.
 fn push_why(text: &mut Text, why: &Result<CommandReport, HooktoolFault<'_>>) {
     match why {
         Ok(told) => {
             text.push(": not accepted\n");
             text.push(told.text.as_str());
         }
-        Err(fault) => push_fault(text, *fault),
+        Err(HooktoolFault::Code { number, slot }) => {
+            text.numbered(", slot ", *slot, code_words(*number));
+        }
+        Err(HooktoolFault::Uncounted { reason }) => text.line(": ", reason),
+        Err(_) => text.push(": it is no code\n"),
     }
 }
 
@@ -302,8 +296,8 @@ fn hand_out<'a, R: WholeFiles + AllocGlobal>(
     ensures fault { IfErr result (IsBuildFault R.known purpose.entry) }
 {
     match purpose {
-        Purpose::Object { folder } => Ok(write_function(rt, folder, hook, name, found)?),
-        Purpose::Explanation => Ok(explain_function(rt.alloc(), names, found)?),
+        Purpose::Object { folder } => write_function(rt, folder, hook, name, found),
+        Purpose::Explanation => explain_function(rt.alloc(), names, found),
     }
 }
 
@@ -647,25 +641,5 @@ pub(crate) fn build_bytes<'a, R: WholeFiles + AllocGlobal>(
     match elf::read(bytes) {
         Ok(file) => build_file(rt, order, path, &file),
         Err(fault) => no_elf(rt.alloc(), path, fault),
-    }
-}
-
-/// Makes an object of each function of the ELF file at `path` that is in the section of a hook, in
-/// the folder, if the verifier accepts it. What is told of each is in the order of the file.
-///
-/// A fault where a file can't be read or written, or memory is refused.
-pub(crate) fn build<'a, R: WholeFiles + AllocGlobal>(
-    rt: &R,
-    path: &'a str,
-    order: Order<'a>,
-) -> Result<CommandReport, HooktoolFault<'a>>
-    ensures built { IfOk result (λ report. (bytes : List ℕ) × R.known.holds path.now bytes
-        × IsBuilt bytes (wanted_of R.known order.entry) report) }
-    ensures fault { IfErr result (λ fault. IsUnread R.known path.entry fault
-        ⊎ IsBuildFault R.known order.entry.purpose fault) }
-{
-    match files::read(rt, path) {
-        Ok(bytes) => build_bytes(rt, &order, path, bytes.as_slice()),
-        Err(fault) => Err(fault),
     }
 }

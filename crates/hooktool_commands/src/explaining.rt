@@ -42,31 +42,8 @@ pub(crate) fn lacks_memory(verdict: &Result<Accepted, VerifyError>) -> bool {
     }
 }
 
-/// What is told of an explanation whose verdict was reached: its three texts, one behind the other.
-fn report_of<'a>(
-    alloc: Global,
-    explanation: &Explanation,
-) -> Result<CommandReport, HooktoolFault<'a>>
-    ensures text { IfOk result (λ report. string_bytes report.text
-        ≡ string_bytes explanation.now.before ++ (string_bytes explanation.now.last
-        ++ string_bytes explanation.now.told)) }
-    ensures refused { IfOk result (λ report. report.is_refused
-        ≡ is_err explanation.now.verdict) }
-    ensures fault { IfErr result (λ fault. fault ≡ HooktoolFault.Memory) }
-{
-    let before = explanation.before.as_str();
-    let last = explanation.last.as_str();
-    let told = explanation.told.as_str();
-    match format!(in alloc; "{before}{last}{told}") {
-        Ok(text) => Ok(CommandReport {
-            text,
-            is_refused: explanation.verdict.is_err(),
-        }),
-        Err(error) => Err(HooktoolFault::from(error)),
-    }
-}
-
-/// What is told of an explanation. A fault where no verdict was reached for want of memory.
+/// What is told of an explanation: its three texts, one behind the other. A fault where no verdict
+/// was reached for want of memory.
 fn told_of<'a>(alloc: Global, explanation: &Explanation) -> Result<CommandReport, HooktoolFault<'a>>
     ensures text { IfOk result (λ report. string_bytes report.text
         ≡ string_bytes explanation.now.before ++ (string_bytes explanation.now.last
@@ -76,9 +53,17 @@ fn told_of<'a>(alloc: Global, explanation: &Explanation) -> Result<CommandReport
     ensures fault { IfErr result (λ fault. fault ≡ HooktoolFault.Memory) }
 {
     if lacks_memory(&explanation.verdict) {
-        Err(HooktoolFault::Memory)
-    } else {
-        report_of(alloc, explanation)
+        return Err(HooktoolFault::Memory);
+    }
+    let before = explanation.before.as_str();
+    let last = explanation.last.as_str();
+    let told = explanation.told.as_str();
+    match format!(in alloc; "{before}{last}{told}") {
+        Ok(text) => Ok(CommandReport {
+            text,
+            is_refused: explanation.verdict.is_err(),
+        }),
+        Err(error) => Err(HooktoolFault::from(error)),
     }
 }
 

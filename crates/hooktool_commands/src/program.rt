@@ -6,9 +6,10 @@ ghost use Rattle.hooktool_commands.specs.Endings.{Ends, EndsPlayed, EndsRequest,
 ghost use Rattle.hooktool_commands.specs.Endings.{IsFaultOf, IsMadeOf, IsTold, Prints, TellsWords};
 
 use crate::annotating::annotate;
-use crate::building::{Order, Purpose, build};
+use crate::building::{Order, Purpose, build_bytes};
 use crate::explaining::explain;
 use crate::fault::{DONE, HooktoolFault, OUTSIDE, REFUSED, USAGE};
+use crate::files;
 use crate::report::CommandReport;
 use crate::streams::Stream;
 use crate::testing::{Tested, test};
@@ -113,8 +114,9 @@ pub fn end_without_words<O: Stream, E: Stream>(
     tell_words(&error, output, errors)
 }
 
-// What is made of a file of clang's.
-fn built<'a, R: WholeFiles + AllocGlobal>(
+// An object of each function of the ELF file that is in the section of a hook, in the folder, if the
+// verifier accepts it. What is told of each is in the order of the file.
+fn build<'a, R: WholeFiles + AllocGlobal>(
     rt: &R,
     file: &'a str,
     folder: &'a str,
@@ -126,13 +128,15 @@ fn built<'a, R: WholeFiles + AllocGlobal>(
     ensures fault { IfErr result
         (IsFaultOf R.known (HooktoolRequest.Build file.entry folder.entry hook fuel)) }
 {
-    let purpose = Purpose::Object { folder };
     let order = Order {
-        purpose,
+        purpose: Purpose::Object { folder },
         hook,
         fuel,
     };
-    build(rt, file, order)
+    match files::read(rt, file) {
+        Ok(bytes) => build_bytes(rt, &order, file, bytes.as_slice()),
+        Err(fault) => Err(fault),
+    }
 }
 
 // Carries out a request, and answers the status.
@@ -155,7 +159,7 @@ fn carry_out<R: WholeFiles + AllocGlobal, O: Stream>(
             folder,
             hook,
             fuel,
-        } => end(built(rt, file, folder, hook, fuel), output),
+        } => end(build(rt, file, folder, hook, fuel), output),
         HooktoolRequest::Explain { object } => end(explain(rt, object), output),
         HooktoolRequest::Try { object, question } => {
             end(try_question(rt, object, &question), output)

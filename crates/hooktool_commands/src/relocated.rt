@@ -213,17 +213,6 @@ fn push_relocation(
     push_use(out, it.kind, target, target_section(file, relocation))
 }
 
-/// Adds how many more places of the section a linker would change.
-fn push_others(out: &mut Text, section: &[u8], others: usize) {
-    out.push("section ");
-    out.push(shown(section));
-    out.numbered(
-        ": and ",
-        others as u64,
-        " places more that are like these\n",
-    )
-}
-
 /// What is told of the places of a section that a linker would change: what code uses and calls
 /// there. Of more than sixteen the number of the others.
 pub(crate) fn relocation_report<'a>(
@@ -241,7 +230,10 @@ pub(crate) fn relocation_report<'a>(
         push_relocation(&mut text, file, section, functions, relocation)
     }
     if relocations.len() > MOST_TOLD {
-        push_others(&mut text, section.name, relocations.len() - MOST_TOLD)
+        text.push("section ");
+        text.push(shown(section.name));
+        let others = (relocations.len() - MOST_TOLD) as u64;
+        text.numbered(": and ", others, " places more that are like these\n")
     }
     refusal(text)
 }

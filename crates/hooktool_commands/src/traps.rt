@@ -47,17 +47,13 @@ fn push_register(out: &mut Text, register: u64, content: Content) {
     )
 }
 
-/// A line for each register that isn't empty.
-fn push_registers(out: &mut Text, registers: &[Content]) {
-    for (number, content) in registers.iter().enumerate() {
-        push_register(out, number as u64, *content)
-    }
-}
-
-/// The trap, the slot and the instruction at which it is, and the registers there.
+/// The trap's number, what it is, the slot and the instruction at which it is, and the registers
+/// there, but for those that are empty.
 pub(crate) fn push_trap(out: &mut Text, trap: Trap, ending: &RunEnding, code: &Code, lines: &str) {
     push_name(out, trap, ending.slot);
     out.push(line_at(lines, code, ending.slot).unwrap_or("no instruction begins there"));
     out.push("\n");
-    push_registers(out, &ending.registers)
+    for (register, content) in ending.registers.iter().enumerate() {
+        push_register(out, register as u64, *content)
+    }
 }
