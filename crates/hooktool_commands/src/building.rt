@@ -373,10 +373,13 @@ fn section_refusal<'a>(
         ": it has functions, and names no hook: write SEC(\"veto\"), or of count, tag and price, \
             before a program, static inline before another function",
     );
-    match (section, purpose) {
-        (b".text", Purpose::Object { .. }) => text.push("; or --hook\n"),
-        _ => text.push("\n"),
-    }
+    let is_text = section.len() == 5 && section.starts_with(b".text");
+    let may_be_asked = matches!(purpose, Purpose::Object { .. });
+    text.push(if is_text & may_be_asked {
+        "; or --hook\n"
+    } else {
+        "\n"
+    });
     refusal(text)
 }
 
@@ -463,10 +466,8 @@ fn build_others<'a, R: WholeFiles + AllocGlobal>(
         name: file.section_name(index),
         contents: file.contents(index),
     };
-    let mut told = relocation_report(rt.alloc(), file, section, functions, relocations)?;
     let built = build_unchanged(rt, order, hook, file, index, functions, relocations)?;
-    join(&mut told, &built)?;
-    Ok(told)
+    relocation_report(rt.alloc(), file, section, functions, relocations, &built)
 }
 
 /// Makes the objects of a section for this hook with these functions.

@@ -214,13 +214,14 @@ fn push_relocation(
 }
 
 /// What is told of the places of a section that a linker would change: what code uses and calls
-/// there. Of more than sixteen the number of the others.
+/// there. Of more than sixteen the number of the others. Behind it stands what was built.
 pub(crate) fn relocation_report<'a>(
     alloc: Global,
     file: &ObjectFile<'_>,
     section: Section<'_>,
     functions: &[LinkedSymbol],
     relocations: &[LinkedRelocation],
+    built: &CommandReport,
 ) -> Result<CommandReport, HooktoolFault<'a>>
     ensures refused { IfOk result (λ report. report.is_refused ≡ true) }
     ensures fault { IfErr result (λ fault. fault ≡ HooktoolFault.Memory) }
@@ -235,5 +236,6 @@ pub(crate) fn relocation_report<'a>(
         let others = (relocations.len() - MOST_TOLD) as u64;
         text.numbered(": and ", others, " places more that are like these\n")
     }
+    text.push(built.text.as_str());
     refusal(text)
 }
