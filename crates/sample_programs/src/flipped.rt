@@ -1,5 +1,5 @@
 //! The object of the sum of the numbers from 10 down to 1, with one bit of it flipped.
-use crate::trials::{Verdict, file_of, tried};
+use crate::trials::{ProgramOutcome, file_of, tried};
 use std::alloc::Global;
 use std::process::Abort;
 
@@ -27,9 +27,9 @@ fn tried_all(alloc: Global, bytes: &mut [u8]) -> (usize, usize) {
     for bit in 0..8 * BYTES {
         flip(bytes, bit);
         match tried(alloc, bytes, 100) {
-            Verdict::Refused => {}
-            Verdict::Right(_, _) => accepted = accepted.saturating_add(1),
-            Verdict::Wrong => wrong = wrong.saturating_add(1),
+            ProgramOutcome::Refused => {}
+            ProgramOutcome::Right(_, _) => accepted = accepted.saturating_add(1),
+            ProgramOutcome::Wrong => wrong = wrong.saturating_add(1),
         }
         flip(bytes, bit);
     }

@@ -1,6 +1,6 @@
 //! Accepted programs: `run` gives what `run_checked` gives, on a hundred inputs.
 //! trials/programs.rows has their bounds and answers.
-use crate::trials::{Verdict, tried_text};
+use crate::trials::{ProgramOutcome, tried_text};
 use std::alloc::Global;
 use std::process::Abort;
 
@@ -198,7 +198,7 @@ const SAFE: &[&str] = &[
 
 // Whether the program of the text is accepted, and both interpreters run it alike.
 fn runs_alike(alloc: Global, text: &str) -> bool {
-    matches!(tried_text(alloc, text, 100), Verdict::Right(_, _))
+    matches!(tried_text(alloc, text, 100), ProgramOutcome::Right(_, _))
 }
 
 // An allocation may be refused once.

@@ -2,7 +2,7 @@
 //! that they execute.
 ghost use Rattle.std.specs.Prelude.{◌≤◌};
 
-use crate::trials::{Verdict, tried_text};
+use crate::trials::{ProgramOutcome, tried_text};
 use interp::Run;
 use std::alloc::{AllocError, Global};
 use std::process::Abort;
@@ -22,7 +22,8 @@ fn ends(alloc: Global, n: u64) -> bool
     let (answer, used) = (n * (n + 1) / 2, 3 * n + 3);
     match text_of(alloc, n) {
         Ok(text) => match tried_text(alloc, &text, 1) {
-            Verdict::Right(bound, ended) => bound == 6 * n + 6 && ended == Run { answer, used },
+            ProgramOutcome::Right(bound, ended) => bound == 6 * n + 6
+                && ended == Run { answer, used },
             _ => false,
         },
         Err(_) => false,

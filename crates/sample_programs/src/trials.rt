@@ -141,9 +141,9 @@ fn agreed_of(
     agreed(alloc, code, accepted, &input)
 }
 
-/// How a program was tried.
+/// What the trial of a program came to.
 #[derive(Clone, Copy)]
-pub enum Verdict {
+pub enum ProgramOutcome {
     Refused,
     /// `run` and `run_checked` differ on an input, or its bound is too low.
     Wrong,
@@ -152,39 +152,39 @@ pub enum Verdict {
 }
 
 // How the program was tried on the inputs below this number.
-fn tried_on(alloc: Global, code: &Code, accepted: &Accepted, inputs: u8) -> Verdict {
+fn tried_on(alloc: Global, code: &Code, accepted: &Accepted, inputs: u8) -> ProgramOutcome {
     let Some(row) = row() else {
-        return Verdict::Wrong;
+        return ProgramOutcome::Wrong;
     };
     let rows = [row];
     let mut last = None;
     for number in 0..inputs {
         last = agreed_of(alloc, code, accepted, &rows, number);
         if last.is_none() {
-            return Verdict::Wrong;
+            return ProgramOutcome::Wrong;
         }
     }
     match last {
-        Some(ended) => Verdict::Right(accepted.bound(), ended),
-        None => Verdict::Wrong,
+        Some(ended) => ProgramOutcome::Right(accepted.bound(), ended),
+        None => ProgramOutcome::Wrong,
     }
 }
 
 /// How the program of an object file was tried on the inputs below this number.
-pub fn tried(alloc: Global, bytes: &[u8], inputs: u8) -> Verdict {
+pub fn tried(alloc: Global, bytes: &[u8], inputs: u8) -> ProgramOutcome {
     let Some(accepted) = accepted_in(alloc, bytes) else {
-        return Verdict::Refused;
+        return ProgramOutcome::Refused;
     };
     let Some(code) = code_in(alloc, bytes) else {
-        return Verdict::Refused;
+        return ProgramOutcome::Refused;
     };
     tried_on(alloc, &code, &accepted, inputs)
 }
 
 /// The same of a text.
-pub fn tried_text(alloc: Global, text: &str, inputs: u8) -> Verdict {
+pub fn tried_text(alloc: Global, text: &str, inputs: u8) -> ProgramOutcome {
     match file_of(alloc, text) {
         Some(bytes) => tried(alloc, &bytes, inputs),
-        None => Verdict::Refused,
+        None => ProgramOutcome::Refused,
     }
 }
