@@ -1,5 +1,5 @@
 //! The commands, the words that each may have, and their help.
-ghost use Rattle.std.specs.Prelude.{◌≡◌, ◌⊎◌, IfOk};
+ghost use Rattle.std.specs.Prelude.{◌≡◌, ◌⊎◌};
 ghost use Rattle.std.specs.IoError.{error_kind};
 ghost use Rattle.clap.specs.Values.{kind_of};
 
@@ -8,7 +8,6 @@ use clap::error::ErrorKind;
 use clap::{Arg, ArgAction, Command, Error};
 use std::alloc::{AllocError, Global};
 use std::io::{self, ErrorKind as IoKind};
-use std::mem::forget;
 
 const ABOUT: &str = "Plays networks of many routers in memory, second by second";
 
@@ -332,11 +331,7 @@ fn with_command<'a>(
 ) -> Result<Command<'a>, AllocError> {
     match command(alloc, form) {
         Ok(command) => whole.subcommand(command),
-        Err(error) => {
-            // (the program ends, and lets no part of it go)
-            forget(whole);
-            Err(error)
-        }
+        Err(error) => Err(error),
     }
 }
 
@@ -360,21 +355,15 @@ pub fn whole<'a>(alloc: Global) -> Result<Command<'a>, AllocError> {
     Ok(whole)
 }
 
-fn error(alloc: Global, kind: ErrorKind, text: &str) -> Result<Error, AllocError>
-    ensures { IfOk result (λ error. kind_of error ≡ kind) }
-{
-    let mut line = whole(alloc)?;
-    let told = line.error(kind, text);
-    // (the program ends, and lets no part of it go)
-    forget(line);
-    told
-}
-
 // An error about the words, or that memory was refused.
 fn error_of(alloc: Global, kind: ErrorKind, text: &str) -> Error
     ensures { (kind_of result ≡ ErrorKind.OutOfMemory) ⊎ (kind_of result ≡ kind) }
 {
-    match error(alloc, kind, text) {
+    let told = match whole(alloc) {
+        Ok(mut line) => line.error(kind, text),
+        Err(error) => Err(error),
+    };
+    match told {
         Ok(error) => error,
         Err(error) => Error::from(error),
     }
