@@ -24,6 +24,7 @@ class Shown(NamedTuple):
     neighbors: dict[int, tuple[str, int]]
     owed: dict[int, int]
     database: dict[Key, Instance]
+    rows: list[list[str]] = []
 
 
 class Router:
@@ -46,10 +47,10 @@ class Router:
         except OSError as error:
             raise Gone(f"a router takes no line: {error}") from error
 
-    def _lines(self) -> list[str]:
-        """Reads up to the second `end`."""
+    def _lines(self, ends: int) -> list[str]:
+        """Reads up to this `end`."""
         got = self.rest
-        while got.count(b"end\n") < 2:
+        while got.count(b"end\n") < ends:
             more = os.read(self.process.stdout.fileno(), 1 << 16)
             if not more:
                 raise Gone(f"a router ended: {got.decode(errors='replace')}")
@@ -61,11 +62,11 @@ class Router:
         """A router of this line takes the place of the one that is there."""
         return self.ask(line)
 
-    def ask(self, line: str) -> Shown:
-        """Plays a line, and reads what the router shows after it."""
-        self._write(f"{line}\n{SHOWN}")
-        shown = Shown([], {}, {}, {})
-        for words in (each.split(" ") for each in self._lines()):
+    def ask(self, line: str, asked: str = SHOWN, ends: int = 2) -> Shown:
+        """Plays a line, and reads what the router shows after it: what was asked, of so many lists that end with `end`."""
+        self._write(f"{line}\n{asked}")
+        shown = Shown([], {}, {}, {}, [])
+        for words in (each.split(" ") for each in self._lines(ends)):
             take(shown, words)
         return shown
 
@@ -81,5 +82,7 @@ def take(shown: Shown, words: list[str]) -> None:
         shown.owed[int(words[1])] = int(words[2])
     elif len(words) == 4 and words[1] == "sends":
         shown.outs.append((int(words[2]), bytes.fromhex(words[3])))
+    elif len(words) == 5 and words[3] == "via":
+        shown.rows.append(words)
     elif words[0] not in ("end", ""):
         raise Gone(f"a router says {' '.join(words)}")

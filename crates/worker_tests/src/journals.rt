@@ -1,4 +1,4 @@
-//! Journals that are full, or hold many bytes.
+//! Journals that are full, or hold many bytes; and the text of a refused configuration.
 ghost use Rattle.std.specs.Prelude.{◌≡◌, ◌<◌};
 
 use crate::samples::first;
@@ -8,7 +8,7 @@ use std::process::Abort;
 use std::sync::ledger::{Blank, Share};
 use std::test::Fail;
 use words::Second;
-use worker::{Book, BookError, Core, Event, Origin, Out, Taker};
+use worker::{Book, BookError, ConfigError, Core, Event, Origin, Out, Taker};
 
 // What a book is called for.
 #[derive(Clone, Copy, PartialEq, Eq)]
@@ -179,4 +179,14 @@ const HEAVY: &[Row] = &[
 #[test]
 fn a_heavy_journal_starts_anew(rt: HostRuntime) -> Result<(), Fail> {
     play_all(&rt, rt.alloc(), &Event::Tick, HEAVY)
+}
+
+#[test]
+fn refusals_have_texts(rt: HostRuntime) -> Result<(), Fail> {
+    let text = format!(in rt.alloc(); "{}", ConfigError::Interface)?;
+    assert!(rt;
+        text.as_str() == "the configuration is not in the profile",
+        "{text}"
+    );
+    Ok(())
 }
