@@ -1,16 +1,12 @@
 //! Tests of the router's book and of its workers, by their public calls. They stand above, since a
 //! crate is proved once more for its tests.
 //!
-//! A test is a list of steps, which a player carries out at a router with three ports; or the life
-//! of two routers on one link, in memory, each by the turns of its worker.
+//! A test is a list of scenes, each played at a router with three ports, by steps or otherwise; or
+//! the life of two routers on one link, in memory, each by the turns of its worker.
 #![tactic(auto)]
 
 #[cfg(test)]
-mod failing_links;
-#[cfg(test)]
 mod journals;
-#[cfg(test)]
-mod member;
 #[cfg(test)]
 mod operated;
 #[cfg(test)]
@@ -20,6 +16,8 @@ mod samples;
 #[cfg(test)]
 mod scenes;
 #[cfg(test)]
+mod serving;
+#[cfg(test)]
 mod side_by_side;
 #[cfg(test)]
 mod stage;
@@ -27,7 +25,5 @@ mod stage;
 mod steps;
 #[cfg(test)]
 mod tableless;
-#[cfg(test)]
-mod times;
 #[cfg(test)]
 mod watching;

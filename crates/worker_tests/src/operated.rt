@@ -1,15 +1,12 @@
 //! An operator who changes the programs while a turn passes its gate.
-ghost use Rattle.std.specs.Prelude.{◌≡◌};
-ghost use Rattle.hooks.specs.Known.{history_of};
-
 use crate::side_by_side::number_of;
-use hooks::Loader;
+use crate::stage::Stage;
 use links::{Script, Times};
 use operator::{Desk, Outlet, ReadsFiles};
-use std::alloc::{AllocError, Global};
+use std::alloc::Global;
 use std::marker::PhantomData;
+use std::sync::Wait;
 use std::sync::atomic::AtomicBool;
-use std::sync::{Mutex, Wait};
 use whole_files::ReadFault;
 use words::Second;
 use worker::{Gate, Hub, Port, Site, Taker, Work, turn};
@@ -34,16 +31,16 @@ impl ReadsFiles for NoFiles {
 struct Detaching<'a, L: Site, B: Taker<L>, R: Wait, Q: Wait + Drop> {
     rt: &'a R,
     hub: &'a Hub<L, B>,
-    desk: Mutex<Desk<L, Q, Script<'a>, Times>>,
-    port: Mutex<Port<L>>,
+    desk: Desk<L, Q, Script<'a>, Times>,
+    port: Port<L>,
 }
 
 impl<'a, L: Site, B: Taker<L>, R: Wait, Q: Wait + Drop> Gate for Detaching<'a, L, B, R, Q> {
     fn pass(&mut self, _port: u16) {
-        let mut desk = self.desk.lock(self.rt);
-        let mut port = self.port.lock(self.rt);
-        let desk = &mut *desk;
-        let _told = desk.obey_with(self.rt, &NoFiles {}, self.hub, &mut *port, "detach veto");
+        let port = &mut self.port;
+        let _told = self
+            .desk
+            .obey_with(self.rt, &NoFiles {}, self.hub, port, "detach veto");
     }
 }
 
@@ -53,34 +50,34 @@ pub fn operate<L: Site, B: Taker<L>, R: Wait, Q: Wait + Drop>(
     rt: &R,
     alloc: Global,
     hub: &Hub<L, B>,
-    console: Port<L>,
-    ticks: Port<L>,
-    loader: Loader<Q>,
-) -> Result<u8, AllocError>
-    requires { history_of loader ≡ L.history }
-{
-    let moments = Vec::from_slice(alloc, &[CLOCK_END])?;
-    let quit = AtomicBool::new(false);
-    let outlet = Outlet {
-        link: Script::new(Vec::new(alloc), &quit),
-        clock: Times::new(moments),
-        failed: false,
+    stage: Stage<L, Q>,
+) -> u8 {
+    let Stage { mut ports, loader } = stage;
+    let (Some(port), Some(ticks)) = (ports.pop(), ports.pop()) else {
+        return 9;
     };
+    let mut ticks = ticks;
+    let mut moments = Vec::new(alloc);
+    let _is_pushed = moments.push(CLOCK_END).is_ok();
+    let quit = AtomicBool::new(false);
     let desk = Desk {
         alloc,
         loader,
         interfaces: 2,
-        outlet,
+        outlet: Outlet {
+            link: Script::new(Vec::new(alloc), &quit),
+            clock: Times::new(moments),
+            failed: false,
+        },
         unrefreshed: false,
         of: PhantomData,
     };
     let mut gate = Detaching {
         rt,
         hub,
-        desk: Mutex::new(desk),
-        port: Mutex::new(console),
+        desk,
+        port,
     };
-    let mut port = ticks;
-    let turned = turn(rt, hub, &mut port, &mut gate, Second::new(5), &Work::Tick);
-    Ok(number_of(turned))
+    let turned = turn(rt, hub, &mut ticks, &mut gate, Second::new(5), &Work::Tick);
+    number_of(turned)
 }

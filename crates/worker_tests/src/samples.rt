@@ -1,8 +1,6 @@
-//! A router, a destination, packets and programs for tests. What is refused memory is made once
-//! more, since an allocation may be refused once, in a run of the tests with a refusal.
+//! Routers, a destination, packets and programs for tests.
 use events::{Config, Interface};
 use std::alloc::{AllocError, Global};
-use std::test::Fail;
 use words::{Address, External, ExternalType, Prefix, RouterId, Second, Sequence};
 use worker::{Core, Work};
 
@@ -23,18 +21,10 @@ pub const VETOING: &[u8] =
     b"BPFH\x01\x04\x00\x00\x00\x00\x00\x00\x02\x00\x00\x00\xb7\x00\x00\x00\x01\x00\x00\x00\x95\x00\
         \x00\x00\x00\x00\x00\x00";
 
-fn datagram(alloc: Global, zeros: usize) -> Result<Vec<u8>, AllocError> {
-    let mut bytes = Vec::from_slice(alloc, HELLO)?;
-    bytes.resize(HELLO.len().saturating_add(zeros), 0)?;
-    Ok(bytes)
-}
-
 /// The Hello at the interface of this number, with so many zeros behind it.
 pub fn hello(alloc: Global, number: u16, zeros: usize) -> Result<Work, AllocError> {
-    let bytes = match datagram(alloc, zeros) {
-        Err(_) => datagram(alloc, zeros)?,
-        Ok(bytes) => bytes,
-    };
+    let mut bytes = Vec::from_slice(alloc, HELLO)?;
+    bytes.resize(HELLO.len().saturating_add(zeros), 0)?;
     Ok(Work::Datagram(number, Sequence::from_vec(bytes)))
 }
 
@@ -51,35 +41,26 @@ pub fn interface(address: u32, cost: u16) -> Interface {
     }
 }
 
-fn begun(alloc: Global, id: u32, interfaces: &[Interface]) -> Option<Core> {
-    let interfaces = Vec::from_slice(alloc, interfaces).ok()?;
+/// The router of this ID with these interfaces, from moment 0 on; None for want of memory.
+pub fn router(alloc: Global, id: u32, interfaces: &[Interface]) -> Option<Core> {
     let config = Config {
         router: RouterId::new(id),
         start: Second::new(0),
-        interfaces: Sequence::from_vec(interfaces),
+        interfaces: Sequence::from_vec(Vec::from_slice(alloc, interfaces).ok()?),
     };
     Core::new(alloc, &config).ok()
 }
 
-/// The router of this ID with these interfaces, from moment 0 on.
-pub fn router(alloc: Global, id: u32, interfaces: &[Interface]) -> Result<Core, Fail> {
-    match begun(alloc, id, interfaces) {
-        Some(core) => Ok(core),
-        None => Ok(begun(alloc, id, interfaces).ok_or("no router")?),
-    }
-}
-
 /// 1.1.1.1 with the interfaces 10.0.1.1/24 and 10.0.2.1/24.
-pub fn first(alloc: Global) -> Result<Core, Fail> {
+pub fn first(alloc: Global) -> Option<Core> {
     let interfaces = [interface(0x0a00_0101, 10), interface(0x0a00_0201, 10)];
     router(alloc, 0x0101_0101, &interfaces)
 }
 
 /// 203.0.113.0/24 of this type, with the metric 20 and the tag 7.
-pub fn destination(kind: ExternalType) -> Result<External, Fail> {
-    let prefix = Prefix::new(Address::new(0xcb00_7100), 24).ok_or("a prefix")?;
-    Ok(External {
-        prefix,
+pub fn destination(kind: ExternalType) -> Option<External> {
+    Some(External {
+        prefix: Prefix::new(Address::new(0xcb00_7100), 24)?,
         metric: 20,
         kind,
         tag: 7,

@@ -1,24 +1,21 @@
 //! What is played at a router, and what its book holds in the end.
-ghost use Rattle.std.specs.Prelude.{◌≡◌, All, IfOk};
-ghost use Rattle.hooks.specs.Known.{IsNew, history_of};
+ghost use Rattle.std.specs.Prelude.{◌≡◌};
+ghost use Rattle.hooks.specs.Known.{history_of};
 ghost use Rattle.worker.specs.Opening.{IsSetUpFor};
 
-use crate::failing_links::serve;
 use crate::operated::operate;
-use crate::samples::{destination, first};
-use crate::side_by_side::{Holds, hold, tick};
-use crate::stage::{Stage, StageStep};
-use crate::times::{follow, try_again};
+use crate::samples::first;
+use crate::serving::{Heard, serve};
+use crate::side_by_side::{hold, tick, try_again};
+use crate::stage::{Deed, Stage, StageStep};
+use crate::tableless::announce;
 use crate::watching::watch;
-use hooks::{HookError, Loader};
+use hooks::Loader;
 use std::alloc::Global;
 use std::marker::Brand;
-use std::process::Abort;
 use std::sync::Wait;
-use std::test::Fail;
 use std::thread::Threads;
 use std::time::Clock;
-use words::{External, ExternalType};
 use worker::{Book, Core, Hub, Port, Setup, Site, Taker, open_hub};
 
 /// What is played at a router with the ports 0, 1 and 2.
@@ -26,145 +23,85 @@ use worker::{Book, Core, Hub, Port, Setup, Site, Taker, open_hub};
 pub enum Scene<'a> {
     /// One step after the other.
     Steps(&'a [StageStep]),
-    /// The worker at interface 1 runs over a link whose call of this number fails.
-    FailingLink(usize),
+    /// The worker at interface 1 runs over a link of which it hears this, by a clock that shows
+    /// these moments, one a round, and then the last one.
+    Serves(Heard, &'a [u64]),
     /// Port 1 makes a Tick's turn at each moment below this.
     Ticks(u64),
-    /// After a Tick at moment 6 a turn is tried by a clock that shows these moments, and then the
-    /// last one: where the interface of a number went down, or for a Tick.
-    Tries(Option<u16>, &'a [u64], u64),
-    /// The worker at interface 1 runs by a clock that shows these moments, one a round, and hears
-    /// nothing.
-    Clock(&'a [u64]),
-    /// A turn of port 1 at moment 5 is held at its gate, until port 2 has ticked at each moment
-    /// from 5 to below this.
-    Held(Holds, u64),
+    /// After a Tick at moment 6 a turn is tried that does this, by a clock that shows these moments,
+    /// and then the last one.
+    Tries(Deed, &'a [u64], u64),
+    /// A turn of port 1 at moment 5 that does this is held at its gate, until port 2 has ticked at
+    /// each moment from 5 to below this.
+    Held(Deed, u64),
     /// A datagram at interface 1 is counted before its turn passes the gate.
     Watched,
     /// An operator detaches a program while a Tick's turn passes the gate.
     Operated,
+    /// The destination is announced at a book that has no memory for its table or its candidates.
+    Tableless,
 }
 
-/// What is seen in the end.
-#[derive(Clone, Copy, Debug, PartialEq, Eq)]
-pub struct End {
-    /// The number of the turn's refusal or of a refusal among the turns, that of a refresh too, or
-    /// the worker's status.
-    pub status: u8,
-    /// How many datagrams were sent.
-    pub sent: usize,
-    /// How many events stand in the journal, and how many the book took.
-    pub journal: usize,
-    pub taken: u64,
-}
+/// What is seen in the end: the number of the turn's refusal or of a refusal among the turns, that
+/// of a refresh too, or the worker's status; how many datagrams were sent, or steps were as told;
+/// how many events stand in the journal, and how many the book took.
+pub type End = (u8, usize, usize, u64);
 
-// The end where memory for the hub was refused.
-const UNOPENED: End = End {
-    status: 6,
-    sent: 0,
-    journal: 0,
-    taken: 0,
-};
+// The end where memory for the router was refused.
+const UNOPENED: End = (6, 0, 0, 0);
 
-// The ports 0, 1 and 2.
-fn three<L: Site>(ports: Vec<Port<L>>) -> Option<(Port<L>, Port<L>, Port<L>)> {
-    let mut ports = ports;
-    Some((ports.pop()?, ports.pop()?, ports.pop()?))
-}
-
-// Plays it: the status, and how many datagrams were sent.
-fn act<
-    L: Site + Send + Sync,
-    B: Taker<L> + Send,
-    R: Threads + Wait + Clock + Abort + Sync,
-    Q: Wait + Drop,
->(
+// Plays at port 1 what needs no other: the status, and how many datagrams were sent.
+fn act<L: Site, B: Taker<L>, R: Wait>(
     rt: &R,
     alloc: Global,
     hub: &Hub<L, B>,
-    stage: &mut Stage<L, Q>,
+    port: &mut Port<L>,
     scene: Scene<'_>,
-) -> Result<(u8, usize), Fail> {
+) -> (u8, usize) {
     match scene {
-        Scene::Steps(steps) => {
-            stage.play(rt, alloc, hub, steps)?;
-            Ok((if stage.is_late { 6 } else { 0 }, 0))
+        Scene::Serves(heard, moments) => serve(rt, alloc, hub, port, heard, moments),
+        Scene::Ticks(until) => (tick(rt, hub, port, 0, until), 0),
+        Scene::Tries(deed, moments, next) => {
+            (try_again(rt, alloc, hub, port, deed, moments, next), 0)
         }
-        Scene::FailingLink(fails) => Ok(serve(rt, alloc, hub, &mut stage.first, fails)?),
-        Scene::Ticks(until) => Ok((tick(rt, hub, &mut stage.first, 0, until), 0)),
-        Scene::Tries(down, moments, next) => {
-            let port = &mut stage.first;
-            Ok((try_again(rt, alloc, hub, port, down, moments, next)?, 0))
-        }
-        Scene::Clock(moments) => Ok(follow(rt, alloc, hub, &mut stage.first, moments)?),
-        Scene::Held(held, until) => Ok((hold(rt, alloc, hub, stage, held, until)?, 0)),
-        Scene::Watched | Scene::Operated => Ok((0, 0)),
+        _ => (9, 0),
     }
 }
 
-// Opens the hub, plays the scene, and looks into the book.
-fn play_at<L: Site + Send + Sync, R: Threads + Wait + Clock + Abort + Sync, Q: Wait + Drop>(
+// Plays what needs no loader: the status, and how many datagrams were sent.
+fn act_at<L: Site + Send + Sync, B: Taker<L> + Send, R: Threads + Wait + Clock + Sync>(
     rt: &R,
     alloc: Global,
-    setup: Setup,
-    loader: Loader<Q>,
-    core: Core,
-    destination: External,
+    hub: &Hub<L, B>,
+    ports: &mut [Port<L>],
     scene: Scene<'_>,
-) -> Result<End, Fail>
-    requires setup { IsSetUpFor L.name L.parts L.words L.history setup }
-    requires origin { core ≡ L.origin }
-    requires history { history_of loader ≡ L.history }
-{
-    let Ok((hub, ports, rest)) = open_hub::<L>(alloc, setup, core) else {
-        return Ok(UNOPENED);
+) -> (u8, usize) {
+    let Some((second, others)) = ports.split_first_mut() else {
+        return (9, 0);
     };
-    let played = play_on(rt, alloc, &hub, ports, loader, destination, scene);
-    drop(rest);
-    let (journal, taken) = closed(hub);
-    let (status, sent) = played?;
-    Ok(End {
-        status,
-        sent,
-        journal,
-        taken,
-    })
+    let Some(first) = others.first_mut() else {
+        return (9, 0);
+    };
+    match scene {
+        Scene::Held(deed, until) => (hold(rt, alloc, hub, first, second, deed, until), 0),
+        _ => act(rt, alloc, hub, first, scene),
+    }
 }
 
-// Plays the scene at these ports: the status, and how many datagrams were sent.
+// Plays the scene: the status, and how many datagrams were sent, or steps were as told.
 fn play_on<
     L: Site + Send + Sync,
     B: Taker<L> + Send,
-    R: Threads + Wait + Clock + Abort + Sync,
+    R: Threads + Wait + Clock + Sync,
     Q: Wait + Drop,
->(
-    rt: &R,
-    alloc: Global,
-    hub: &Hub<L, B>,
-    ports: Vec<Port<L>>,
-    loader: Loader<Q>,
-    destination: External,
-    scene: Scene<'_>,
-) -> Result<(u8, usize), Fail>
-    requires { history_of loader ≡ L.history }
-{
-    let (console, first, second) = three(ports).ok_or("three ports")?;
-    if let Scene::Watched = scene {
-        return Ok((watch(rt, alloc, hub, first, second, loader)?, 0));
+>(rt: &R, alloc: Global, hub: &Hub<L, B>, stage: Stage<L, Q>, scene: Scene<'_>) -> (u8, usize) {
+    let mut stage = stage;
+    match scene {
+        Scene::Steps(steps) => (0, stage.play(rt, alloc, hub, steps)),
+        Scene::Watched => (watch(rt, alloc, hub, &mut stage), 0),
+        Scene::Operated => (operate(rt, alloc, hub, stage), 0),
+        _ => act_at(rt, alloc, hub, &mut stage.ports, scene),
     }
-    if let Scene::Operated = scene {
-        return Ok((operate(rt, alloc, hub, console, first, loader)?, 0));
-    }
-    let mut stage = Stage {
-        console,
-        first,
-        second,
-        loader,
-        destination,
-        in_vain: 0,
-        is_late: false,
-    };
-    act(rt, alloc, hub, &mut stage, scene)
 }
 
 // How many events stand in the journal, and how many the book took. It is let go.
@@ -174,55 +111,89 @@ fn closed<L: Site>(hub: Hub<L, Book<L>>) -> (usize, u64) {
     (journal, book.close())
 }
 
-/// What workers start with. An allocation may be refused once.
-pub fn set_up<R: Wait + Drop + Copy>(alloc: Global, rt: R) -> Result<(Loader<R>, Setup), HookError>
-    ensures { IfOk result (λ r. All (IsNew (history_of r.0)) r.1.askers.items) }
+// Plays the scene at this hub, and looks into the book.
+fn ended<L: Site + Send + Sync, R: Threads + Wait + Clock + Sync, Q: Wait + Drop>(
+    rt: &R,
+    alloc: Global,
+    hub: Hub<L, Book<L>>,
+    stage: Stage<L, Q>,
+    scene: Scene<'_>,
+) -> End {
+    let mut stage = stage;
+    if let Scene::Tableless = scene {
+        return (announce(rt, alloc, hub, &mut stage), 0, 0, 0);
+    }
+    let (status, count) = play_on(rt, alloc, &hub, stage, scene);
+    let (journal, taken) = closed(hub);
+    (status, count, journal, taken)
+}
+
+// Opens the hub, and plays the scene.
+fn play_at<L: Site + Send + Sync, R: Threads + Wait + Clock + Sync, Q: Wait + Drop>(
+    rt: &R,
+    alloc: Global,
+    setup: Setup,
+    loader: Loader<Q>,
+    core: Core,
+    scene: Scene<'_>,
+) -> End
+    requires setup { IsSetUpFor L.name L.parts L.words L.history setup }
+    requires origin { core ≡ L.origin }
+    requires history { history_of loader ≡ L.history }
 {
-    match Setup::new(alloc, rt, 3) {
-        Err(HookError::Memory | HookError::Places) => Setup::new(alloc, rt, 3),
-        made => made,
+    match open_hub::<L>(alloc, setup, core) {
+        Ok((hub, ports, _rest)) => ended(rt, alloc, hub, Stage { ports, loader }, scene),
+        Err(_) => UNOPENED,
     }
 }
 
-/// Plays the scene at a new router.
+// Plays the scene at this router, which is new.
 #[tactic(auto, using(crate::proofs::Fresh::all_ask))]
-pub fn play<R: Threads + Wait + Clock + Abort + Sync>(
+fn play_with<R: Threads + Wait + Clock + Sync>(
     rt: &R,
     alloc: Global,
+    core: Core,
     scene: Scene<'_>,
-) -> Result<End, Fail> {
-    let destination = destination(ExternalType::Type2)?;
-    let (loader, setup) = set_up(alloc, rt)?;
-    let core = first(alloc)?;
-    play_at::<Brand, R, &R>(rt, alloc, setup, loader, core, destination, scene)
+) -> End {
+    match Setup::new(alloc, rt, 3) {
+        Ok((loader, setup)) => play_at::<Brand, R, &R>(rt, alloc, setup, loader, core, scene),
+        Err(_) => {
+            core.close();
+            UNOPENED
+        }
+    }
 }
 
-/// Plays the scene four times, each from its start: it ends so each time but one at most, in which
-/// an allocation may have been refused, as a run of the tests with a refusal makes it. A scene of
-/// two threads is spared only where a turn was refused memory; a long one is played twice at most.
-pub fn ends<R: Threads + Wait + Clock + Abort + Sync>(
+fn play<R: Threads + Wait + Clock + Sync>(rt: &R, alloc: Global, scene: Scene<'_>) -> End {
+    match first(alloc) {
+        Some(core) => play_with(rt, alloc, core, scene),
+        None => UNOPENED,
+    }
+}
+
+/// Plays the scene four times, each from its start: the end that is wanted, or the first other one.
+/// One at most may differ, in which an allocation may have been refused, as a run of the tests with
+/// a refusal makes it. A scene of two threads is spared only where a turn was refused memory; a
+/// long one is played twice at most.
+pub fn end_of<R: Threads + Wait + Clock + Sync>(
     rt: &R,
     alloc: Global,
-    name: &str,
     scene: Scene<'_>,
     wanted: End,
-) -> Result<(), Fail> {
+) -> End {
     let is_long = matches!(scene, Scene::Ticks(_));
+    let is_held = matches!(scene, Scene::Held(_, _));
     let mut is_refused = false;
-    for _time in 0..if is_long { 2 } else { 4u32 } {
-        let end = play(rt, alloc, scene)?;
-        let may_differ = match scene {
-            Scene::Held(_, _) => end.status == 6,
-            _ => true,
-        };
-        if end != wanted && may_differ && !is_refused {
+    for _time in 0..4u32 {
+        let end = play(rt, alloc, scene);
+        if end != wanted {
+            if is_refused || is_held && end.0 != 6 {
+                return end;
+            }
             is_refused = true;
-        } else {
-            assert!(rt; end == wanted, "{name}: {end:?}");
-        }
-        if is_long && !is_refused {
-            break;
+        } else if is_long {
+            return end;
         }
     }
-    Ok(())
+    wanted
 }

@@ -1,51 +1,13 @@
-//! Turns of one port while another is held at its gate.
-use crate::samples::hello;
-use crate::scenes::{End, Scene, ends};
-use crate::stage::Stage;
-use std::alloc::{AllocError, Global};
+//! Turns of one port, alone, by a clock, or while another port is held at its gate.
+use crate::stage::{Deed, work_of};
+use links::{Seconds, Times};
+use std::alloc::Global;
 use std::sync::Wait;
 use std::sync::atomic::{AtomicBool, Ordering};
-use std::test::Fail;
 use std::thread::{Threads, join, sleep};
 use std::time::{Clock, Duration};
 use words::Second;
-use worker::{Gate, Hub, Open, Port, Site, Taker, TurnError, Turned, Work, turn};
-
-/// What is held at the gate: a Hello, or a refresh.
-#[derive(Clone, Copy)]
-pub enum Holds {
-    Hello,
-    Refresh,
-}
-
-// Waits for the flag. Tells whether it was raised within 10,000 tries of a millisecond.
-fn waited<R: Clock>(rt: &R, flag: &AtomicBool) -> bool {
-    for _attempt in 0..10_000u32 {
-        if flag.load(Ordering::SeqCst) {
-            return true;
-        }
-        sleep(rt, Duration::from_millis(1));
-    }
-    false
-}
-
-// Says that a turn came, and holds it until it is released, or gives up.
-#[derive(Drop)]
-struct Held<'a, R: Clock> {
-    rt: &'a R,
-    came: &'a AtomicBool,
-    released: &'a AtomicBool,
-    gave_up: &'a AtomicBool,
-}
-
-impl<'a, R: Clock> Gate for Held<'a, R> {
-    fn pass(&mut self, _port: u16) {
-        self.came.store(true, Ordering::SeqCst);
-        if !waited(self.rt, self.released) {
-            self.gave_up.store(true, Ordering::SeqCst);
-        }
-    }
-}
+use worker::{Gate, Hub, Open, Port, Site, Taker, TurnError, Turned, Work, tried, turn};
 
 /// The number of a turn's refusal, or 0.
 pub fn number_of(turned: Result<Turned, TurnError>) -> u8 {
@@ -65,25 +27,130 @@ pub fn tick<L: Site, B: Taker<L>, R: Wait>(
 ) -> u8 {
     let mut refused = 0;
     for moment in from..until {
-        let turned = turn(
-            rt,
-            hub,
-            port,
-            &mut Open {},
-            Second::new(moment),
-            &Work::Tick,
-        );
+        let now = Second::new(moment);
+        let turned = turn(rt, hub, port, &mut Open {}, now, &Work::Tick);
         refused = number_of(turned).max(refused);
     }
     refused
 }
 
-// What a turn of port 1 is for that is held.
-fn work_of(alloc: Global, held: Holds) -> Result<Work, AllocError> {
-    match held {
-        Holds::Hello => hello(alloc, 1, 0),
-        Holds::Refresh => Ok(Work::Refresh),
+// What a turn is answered, tried by a clock from its first moment on; 9 where the clock then shows
+// another moment than the next.
+fn tried_by<L: Site, B: Taker<L>, R: Wait>(
+    rt: &R,
+    hub: &Hub<L, B>,
+    port: &mut Port<L>,
+    clock: Times,
+    work: &Work,
+    next: u64,
+) -> u8 {
+    let mut clock = clock;
+    let mut moment = clock.second();
+    let turned = tried(rt, hub, port, &mut Open {}, &mut clock, &mut moment, work);
+    let number = number_of(turned);
+    if clock.second().count() == next {
+        number
+    } else {
+        9
     }
+}
+
+/// After a Tick at moment 6, what a turn that does this is answered; 9 where the clock then shows
+/// another moment than the next. The clock shows the moments, at the first of which it is tried the
+/// first time.
+pub fn try_again<L: Site, B: Taker<L>, R: Wait>(
+    rt: &R,
+    alloc: Global,
+    hub: &Hub<L, B>,
+    port: &mut Port<L>,
+    deed: Deed,
+    moments: &[u64],
+    next: u64,
+) -> u8 {
+    let ticked = tick(rt, hub, port, 6, 7);
+    let moments = Vec::from_slice(alloc, moments).unwrap_or(Vec::new(alloc));
+    match work_of(alloc, deed) {
+        Some(work) => tried_by(rt, hub, port, Times::new(moments), &work, next).max(ticked),
+        None => 6,
+    }
+}
+
+// Waits for the flag. Tells whether it was raised within 10,000 tries of a millisecond.
+fn waited<R: Clock>(rt: &R, flag: &AtomicBool) -> bool {
+    for _attempt in 0..10_000u32 {
+        if flag.load(Ordering::SeqCst) {
+            return true;
+        }
+        sleep(rt, Duration::from_millis(1));
+    }
+    false
+}
+
+// That a turn came to its gate, that it is released, and that it gave up.
+#[derive(Drop)]
+struct Flags {
+    came: AtomicBool,
+    released: AtomicBool,
+    gave_up: AtomicBool,
+}
+
+// Says that a turn came, and holds it until it is released, or gives up.
+#[derive(Drop)]
+struct Held<'a, R: Clock> {
+    rt: &'a R,
+    flags: &'a Flags,
+}
+
+impl<'a, R: Clock> Gate for Held<'a, R> {
+    fn pass(&mut self, _port: u16) {
+        self.flags.came.store(true, Ordering::SeqCst);
+        if !waited(self.rt, &self.flags.released) {
+            self.flags.gave_up.store(true, Ordering::SeqCst);
+        }
+    }
+}
+
+// What both are answered, as `hold` says it.
+fn judged(answer: u8, refused: u8, flags: &Flags) -> u8 {
+    if flags.gave_up.load(Ordering::SeqCst) {
+        return if refused == 9 { 6 } else { 9 };
+    }
+    let is_refused_memory = answer == 6 && !flags.came.load(Ordering::SeqCst);
+    if refused > 0 && !is_refused_memory {
+        refused
+    } else {
+        answer
+    }
+}
+
+// Holds a turn of the first port that does this work, as `hold` says it.
+fn hold_at<L: Site + Send + Sync, B: Taker<L> + Send, R: Threads + Wait + Clock + Sync>(
+    rt: &R,
+    hub: &Hub<L, B>,
+    first: &mut Port<L>,
+    second: &mut Port<L>,
+    work: &Work,
+    until: u64,
+) -> u8 {
+    let flags = Flags {
+        came: AtomicBool::new(false),
+        released: AtomicBool::new(false),
+        gave_up: AtomicBool::new(false),
+    };
+    let mut gate = Held { rt, flags: &flags };
+    let (answer, refused) = join(
+        rt,
+        || -> u8 { number_of(turn(rt, hub, first, &mut gate, Second::new(5), work)) },
+        || -> u8 {
+            if !waited(rt, &flags.came) {
+                return 9;
+            }
+            let refused = tick(rt, hub, second, 5, until);
+            flags.released.store(true, Ordering::SeqCst);
+            refused
+        },
+    );
+    judged(answer, refused, &flags)
 }
 
 /// Holds a turn of port 1 at moment 5 until port 2 has ticked at each moment from 5 to below this,
@@ -91,61 +158,17 @@ fn work_of(alloc: Global, held: Holds) -> Result<Work, AllocError> {
 /// refused; 9 where one of both waited in vain. Where the turn is refused memory before it comes to
 /// its gate, it says that; and where both waited in vain, since no thread was to be had and one ran
 /// after the other, 6 too.
-pub fn hold<
-    L: Site + Send + Sync,
-    B: Taker<L> + Send,
-    R: Threads + Wait + Clock + Sync,
-    Q: Wait + Drop,
->(
+pub fn hold<L: Site + Send + Sync, B: Taker<L> + Send, R: Threads + Wait + Clock + Sync>(
     rt: &R,
     alloc: Global,
     hub: &Hub<L, B>,
-    stage: &mut Stage<L, Q>,
-    held: Holds,
+    first: &mut Port<L>,
+    second: &mut Port<L>,
+    deed: Deed,
     until: u64,
-) -> Result<u8, Fail> {
-    let work = work_of(alloc, held)?;
-    let (came, released) = (AtomicBool::new(false), AtomicBool::new(false));
-    let gave_up = AtomicBool::new(false);
-    let mut gate = Held {
-        rt,
-        came: &came,
-        released: &released,
-        gave_up: &gave_up,
-    };
-    let (first, second) = (&mut stage.first, &mut stage.second);
-    let (answer, refused) = join(
-        rt,
-        || -> u8 { number_of(turn(rt, hub, first, &mut gate, Second::new(5), &work)) },
-        || -> u8 {
-            if !waited(rt, &came) {
-                return 9;
-            }
-            let refused = tick(rt, hub, second, 5, until);
-            released.store(true, Ordering::SeqCst);
-            refused
-        },
-    );
-    if gave_up.load(Ordering::SeqCst) {
-        return Ok(if refused == 9 { 6 } else { 9 });
+) -> u8 {
+    match work_of(alloc, deed) {
+        Some(work) => hold_at(rt, hub, first, second, &work, until),
+        None => 6,
     }
-    let is_refused_memory = answer == 6 && !came.load(Ordering::SeqCst);
-    Ok(if refused > 0 && !is_refused_memory {
-        refused
-    } else {
-        answer
-    })
-}
-
-// The first Tick is followed by a refresh. The journal of a router with one LSA starts anew after
-// each 1,026 events.
-#[test]
-fn no_turn_is_refused_for_its_journal(rt: HostRuntime) -> Result<(), Fail> {
-    let wanted = End {
-        status: 0,
-        sent: 0,
-        journal: 900,
-        taken: 65_538,
-    };
-    ends(&rt, rt.alloc(), "many Ticks", Scene::Ticks(65_537), wanted)
 }

@@ -1,13 +1,13 @@
 //! What is played at a router, row by row: turns one after the other with what is seen after each,
 //! turns by a clock, turns beside others.
 use crate::samples::{COUNTING, VETOING};
-use crate::scenes::{End, Scene, ends};
-use crate::side_by_side::Holds;
+use crate::scenes::{End, Scene, end_of};
+use crate::serving::Heard;
 use crate::stage::{Deed, Seen, StageStep};
 use events::CoreError;
 use isa::Hook;
 use packet::PacketFault;
-use std::test::Fail;
+use words::ExternalType;
 use worker::{BookError, TurnError};
 
 // What is seen at the router after the first Tick: its two own routes are in the table.
@@ -67,7 +67,7 @@ const FIRST_IS_DOWN: Seen = Seen {
 const BROUGHT: &[StageStep] = &[
     (5, Deed::Hear(1, 0), ONE_HEARD),
     (5, Deed::Hear(2, 0), HEARD),
-    (6, Deed::Add, ANNOUNCED),
+    (6, Deed::Add(ExternalType::Type2), ANNOUNCED),
     (7, Deed::Withdraw, HEARD),
     (7, Deed::Withdraw, HEARD),
     (8, Deed::Down(1), FIRST_IS_DOWN),
@@ -129,7 +129,7 @@ const COUNTED: &[StageStep] = &[
 ];
 
 // A name, what is played, its status, and how many events are taken, all of which stand in the
-// journal. Nothing is sent.
+// journal. Nothing is sent, and all steps are as told.
 type Row = (&'static str, Scene<'static>, u8, usize);
 
 const SCENES: &[Row] = &[
@@ -162,31 +162,31 @@ const SCENES: &[Row] = &[
     // Before it come a Tick and the refresh that follows it.
     (
         "a turn is tried three times again",
-        Scene::Tries(None, &[5, 6, 6, 6, 6], 6),
+        Scene::Tries(Deed::Tick, &[5, 6, 6, 6, 6], 6),
         0,
         3,
     ),
     (
         "a turn is tried three times again",
-        Scene::Tries(None, &[5, 6, 7, 8, 9], 7),
+        Scene::Tries(Deed::Tick, &[5, 6, 7, 8, 9], 7),
         0,
         3,
     ),
     (
         "a turn is tried three times again",
-        Scene::Tries(None, &[5, 5, 5, 6, 6], 6),
+        Scene::Tries(Deed::Tick, &[5, 5, 5, 6, 6], 6),
         0,
         3,
     ),
     (
         "a turn is tried three times again",
-        Scene::Tries(None, &[5, 5, 5, 5, 6], 6),
+        Scene::Tries(Deed::Tick, &[5, 5, 5, 5, 6], 6),
         4,
         2,
     ),
     (
         "a turn is tried three times again",
-        Scene::Tries(None, &[5, 5, 5, 5], 5),
+        Scene::Tries(Deed::Tick, &[5, 5, 5, 5], 5),
         4,
         2,
     ),
@@ -194,66 +194,67 @@ const SCENES: &[Row] = &[
     // 3, once the clock isn't behind the router's.
     (
         "a turn is tried again only for its moment",
-        Scene::Tries(None, &[6, 7, 8, 9, 10], 7),
+        Scene::Tries(Deed::Tick, &[6, 7, 8, 9, 10], 7),
         0,
         3,
     ),
     (
         "a turn is tried again only for its moment",
-        Scene::Tries(Some(3), &[6, 7, 8, 9, 10], 7),
+        Scene::Tries(Deed::Down(3), &[6, 7, 8, 9, 10], 7),
         2,
         2,
     ),
     (
         "a turn is tried again only for its moment",
-        Scene::Tries(Some(3), &[5, 6, 7, 8, 9], 7),
+        Scene::Tries(Deed::Down(3), &[5, 6, 7, 8, 9], 7),
         2,
         2,
     ),
     // a Tick at each moment that differs from the last one's, and the refresh that follows the
-    // first
+    // first; two sends of Hellos in the first round, and each round a receive, after the last of
+    // which the script has no more
     (
         "a worker ticks where the second has changed",
-        Scene::Clock(&[5]),
+        Scene::Serves(Heard::Nothing(2), &[5]),
         0,
         2,
     ),
     (
         "a worker ticks where the second has changed",
-        Scene::Clock(&[5, 5, 5]),
+        Scene::Serves(Heard::Nothing(4), &[5, 5, 5]),
         0,
         2,
     ),
     (
         "a worker ticks where the second has changed",
-        Scene::Clock(&[5, 5, 6, 7, 7]),
+        Scene::Serves(Heard::Nothing(6), &[5, 5, 6, 7, 7]),
         0,
         4,
     ),
     (
         "a worker ticks where the second has changed",
-        Scene::Clock(&[5, 6, 7, 8]),
+        Scene::Serves(Heard::Nothing(5), &[5, 6, 7, 8]),
         0,
         5,
     ),
     // the first Tick is followed by a refresh, and the Hello comes third
     (
         "a worker is answered while another is held",
-        Scene::Held(Holds::Hello, 6),
+        Scene::Held(Deed::Hear(1, 0), 6),
         0,
         3,
     ),
     // 996 Ticks, and the refresh that follows the first: the Hello's moment has passed
     (
         "a turn whose moment has passed is refused",
-        Scene::Held(Holds::Hello, 1_001),
+        Scene::Held(Deed::Hear(1, 0), 1_001),
         4,
         997,
     ),
     // the same Ticks, and then the refresh that was held, at the last Tick's moment
     (
         "a refresh whose moment has passed is taken",
-        Scene::Held(Holds::Refresh, 1_001),
+        Scene::Held(Deed::Refresh, 1_001),
         0,
         998,
     ),
@@ -268,19 +269,55 @@ const SCENES: &[Row] = &[
         0,
         1,
     ),
+    // no table is asked for where no program stands at `tag` and `price`; the book isn't looked at
+    (
+        "an announcement without programs asks for no table",
+        Scene::Tableless,
+        0,
+        0,
+    ),
 ];
 
+// The end of the scene of a row.
+fn end_at(scene: Scene<'_>, status: u8, events: usize) -> End {
+    match scene {
+        Scene::Steps(steps) => (status, steps.len(), events, events as u64),
+        _ => (status, 0, events, events as u64),
+    }
+}
+
 #[test]
-fn scenes_end_as_told(rt: HostRuntime) -> Result<(), Fail> {
+fn scenes_end_as_told(rt: HostRuntime) {
     for row in SCENES {
         let (name, scene, status, events) = *row;
-        let wanted = End {
-            status,
-            sent: 0,
-            journal: events,
-            taken: events as u64,
-        };
-        ends(&rt, rt.alloc(), name, scene, wanted)?;
+        let wanted = end_at(scene, status, events);
+        let end = end_of(&rt, rt.alloc(), scene, wanted);
+        assert!(rt; end == wanted, "{name}: {end:?}");
     }
-    Ok(())
+}
+
+// A name, what is played, and how it ends: links that fail at each call, and many Ticks.
+fn long_row(number: usize) -> (&'static str, Scene<'static>, End) {
+    if number > 40 {
+        // the first Tick is followed by a refresh; the journal of a router with one LSA starts anew
+        // after each 1,026 events
+        let name = "no turn is refused for its journal";
+        return (name, Scene::Ticks(65_537), (0, 0, 900, 65_538));
+    }
+    // The first round has a Tick, the refresh that follows it, and two Hellos that are sent; then
+    // each call receives a Hello. A fault while sending leaves the two events, and sends no later
+    // packet.
+    let (events, status) = (number.max(2), if number < 40 { 3 } else { 0 });
+    let end = (status, number.min(2), events, events as u64);
+    let scene = Scene::Serves(Heard::Hellos(number), &[]);
+    ("a link that fails", scene, end)
+}
+
+#[test]
+fn a_worker_ends_at_a_fault_and_keeps_the_events_before(rt: HostRuntime) {
+    for number in 0..42usize {
+        let (name, scene, wanted) = long_row(number);
+        let end = end_of(&rt, rt.alloc(), scene, wanted);
+        assert!(rt; end == wanted, "{name}, {number}: {end:?}");
+    }
 }

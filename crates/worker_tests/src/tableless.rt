@@ -1,27 +1,21 @@
 //! A destination is announced at a router that has no memory for its table or its candidates.
-ghost use Rattle.std.specs.Prelude.{◌≡◌, ⊤};
-ghost use Rattle.events.specs.Routers.{shown_at};
-ghost use Rattle.hooks.specs.Known.{history_of};
-ghost use Rattle.worker.specs.Opening.{IsSetUpFor};
+ghost use Rattle.std.specs.Prelude.{◌≡◌, ⊤, None};
 
-use crate::samples::{destination, first};
-use crate::scenes::set_up;
 use crate::side_by_side::number_of;
-use hooks::{Asker, HookAnswer, Loader, Notice, PriceAnswer, TagAnswer, VetoAnswer};
+use crate::stage::{Deed, Stage, work_of};
+use hooks::{Asker, HookAnswer, Notice, PriceAnswer, TagAnswer, VetoAnswer};
 use maps::{Seat, Shared};
 use std::alloc::{AllocError, Global};
-use std::marker::Brand;
 use std::sync::Wait;
-use std::sync::atomic::{AtomicU64, Ordering};
+use std::sync::atomic::AtomicU64;
 use std::sync::ledger::Share;
-use std::test::Fail;
 use words::{External, ExternalType, Prefix, Route, RouterId, Second, Sequence, TableRow};
 use worker::{
-    Book, BookError, Core, Event, Hub, NeighborState, Offered, Open, Port, Setup, Site, Taken,
-    Taker, Work, open_hub, turn,
+    Book, BookError, Event, Hub, NeighborState, Offered, Open, Port, Site, Taken, Taker, Work, turn,
 };
 
-// A book that is refused memory for its table and its candidates.
+// A book that is refused memory for its table and its candidates. Only what an announcement needs
+// is asked of it, and of no program at `count` and `veto` there is a reading.
 #[derive(Drop)]
 struct Tableless<L: Site> {
     book: Book<L>,
@@ -46,7 +40,7 @@ impl<L: Site> Taker<L> for Tableless<L> {
 
     ghost own = { λ it. ⊤ };
 
-    ghost neighbor_at = { λ it interface. shown_at it.book.current interface };
+    ghost neighbor_at = { λ it interface. None };
 
     ghost moment_of = { λ it. it.book.current.moment };
 
@@ -67,23 +61,23 @@ impl<L: Site> Taker<L> for Tableless<L> {
         Err(AllocError)
     }
 
-    fn wants(&mut self, mine: &mut Share<L>, prefix: Prefix) -> bool {
-        self.book.wants(mine, prefix)
+    fn wants(&mut self, _mine: &mut Share<L>, _prefix: Prefix) -> bool {
+        false
     }
 
-    fn neighbor(&self, interface: u16) -> Option<(RouterId, NeighborState)> {
-        self.book.neighbor(interface)
+    fn neighbor(&self, _interface: u16) -> Option<(RouterId, NeighborState)> {
+        None
     }
 
     fn count(
-        asker: &mut Asker,
-        interface: u16,
-        moment: Second,
-        packet: &[u8],
-        shared: &Shared,
-        seat: &mut Seat,
+        _asker: &mut Asker,
+        _interface: u16,
+        _moment: Second,
+        _packet: &[u8],
+        _shared: &Shared,
+        _seat: &mut Seat,
     ) -> Option<HookAnswer> {
-        asker.count(interface, moment, packet, shared, seat)
+        None
     }
 
     fn tag(
@@ -109,105 +103,68 @@ impl<L: Site> Taker<L> for Tableless<L> {
     }
 
     fn veto(
-        asker: &mut Asker,
-        route: &Route,
-        moment: Second,
-        rows: &[TableRow],
-        shared: &Shared,
-        seat: &mut Seat,
+        _asker: &mut Asker,
+        _route: &Route,
+        _moment: Second,
+        _rows: &[TableRow],
+        _shared: &Shared,
+        _seat: &mut Seat,
     ) -> Option<VetoAnswer> {
-        asker.veto(route, moment, rows, shared, seat)
+        None
     }
 
     fn all_let_in(
-        asker: &mut Asker,
-        alloc: Global,
-        routes: &[Route],
-        moment: Second,
+        _asker: &mut Asker,
+        _alloc: Global,
+        _routes: &[Route],
+        _moment: Second,
     ) -> Result<Option<Vec<VetoAnswer>>, AllocError> {
-        asker.all_let_in(alloc, routes, moment)
+        Err(AllocError)
     }
 
-    fn copied(bytes: &Sequence<u8>) -> Result<Sequence<u8>, AllocError> {
-        bytes.copy()
+    fn copied(_bytes: &Sequence<u8>) -> Result<Sequence<u8>, AllocError> {
+        Err(AllocError)
     }
 
-    fn room(alloc: Global, answers: usize) -> Result<Vec<VetoAnswer>, AllocError> {
-        Vec::with_capacity(alloc, answers)
+    fn room(_alloc: Global, _answers: usize) -> Result<Vec<VetoAnswer>, AllocError> {
+        Err(AllocError)
     }
 
-    fn tell(changes: &AtomicU64, _notice: &Notice) {
-        let _before = changes.fetch_add(1, Ordering::SeqCst);
-    }
+    fn tell(_changes: &AtomicU64, _notice: &Notice) {}
 
-    fn changes(changes: &AtomicU64, _mine: &Share<L>) -> u64 {
-        changes.load(Ordering::SeqCst)
+    fn changes(_changes: &AtomicU64, _mine: &Share<L>) -> u64 {
+        0
     }
 }
 
-// The number of the refusal where the destination is announced at a port, or 0; 9 without a port.
-fn announce<L: Site, R: Wait>(
+// The number of the refusal where the last of these ports does this work, or 0.
+fn answer<L: Site, B: Taker<L>, R: Wait>(
     rt: &R,
-    hub: Hub<L, Book<L>>,
-    port: Option<Port<L>>,
-    external: External,
+    hub: &Hub<L, B>,
+    ports: &mut [Port<L>],
+    work: Option<&Work>,
 ) -> u8 {
+    match (ports.last_mut(), work) {
+        (Some(port), Some(work)) => {
+            number_of(turn(rt, hub, port, &mut Open {}, Second::new(5), work))
+        }
+        _ => 6,
+    }
+}
+
+/// The number of the refusal where the destination is announced at the last of these ports, or 0.
+/// No table is asked for where no program stands at `tag` and `price`.
+pub fn announce<L: Site, R: Wait, Q: Wait + Drop>(
+    rt: &R,
+    alloc: Global,
+    hub: Hub<L, Book<L>>,
+    stage: &mut Stage<L, Q>,
+) -> u8 {
+    let work = work_of(alloc, Deed::Add(ExternalType::Type2));
     let (book, shared) = hub.into_parts();
     let hub = Hub::new(Tableless { book }, shared);
-    let answer = match port {
-        None => 9,
-        Some(mut port) => number_of(turn(
-            rt,
-            &hub,
-            &mut port,
-            &mut Open {},
-            Second::new(5),
-            &Work::Add(external),
-        )),
-    };
+    let answer = answer(rt, &hub, &mut stage.ports, work.as_ref());
     let (tableless, _shared) = hub.into_parts();
     let _taken = tableless.book.close();
     answer
-}
-
-// The same at a router with this setup, at whose hooks no program stands.
-fn announce_at<L: Site, R: Wait, Q: Wait + Drop>(
-    rt: &R,
-    alloc: Global,
-    setup: Setup,
-    loader: Loader<Q>,
-    core: Core,
-    external: External,
-) -> u8
-    requires setup { IsSetUpFor L.name L.parts L.words L.history setup }
-    requires origin { core ≡ L.origin }
-    requires history { history_of loader ≡ L.history }
-{
-    let Ok((hub, mut ports, rest)) = open_hub::<L>(alloc, setup, core) else {
-        return 6;
-    };
-    let answer = announce(rt, hub, ports.pop(), external);
-    drop(rest);
-    drop(loader);
-    answer
-}
-
-#[tactic(auto, using(crate::proofs::Fresh::all_ask))]
-fn announced<R: Wait>(rt: &R, alloc: Global) -> Result<u8, Fail> {
-    let external = destination(ExternalType::Type2)?;
-    let (loader, setup) = set_up(alloc, rt)?;
-    let core = first(alloc)?;
-    Ok(announce_at::<Brand, R, &R>(rt, alloc, setup, loader, core, external))
-}
-
-// No table is asked for where no program stands at `tag` and `price`. An allocation may be refused
-// once.
-#[test]
-fn an_announcement_without_programs_asks_for_no_table(rt: HostRuntime) -> Result<(), Fail> {
-    let answer = match announced(&rt, rt.alloc())? {
-        0 => 0,
-        _ => announced(&rt, rt.alloc())?,
-    };
-    assert!(rt; answer == 0, "{answer}");
-    Ok(())
 }

@@ -1,68 +1,81 @@
 //! What a gate sees of the turn that passes it.
-ghost use Rattle.std.specs.Prelude.{◌≡◌};
-ghost use Rattle.hooks.specs.Known.{history_of};
-
 use crate::samples::{COUNTING, hello};
 use crate::side_by_side::number_of;
-use hooks::Loader;
-use object_verdicts::verify_object;
+use crate::stage::{Deed, Stage};
 use std::alloc::Global;
-use std::sync::atomic::{AtomicU64, Ordering};
-use std::sync::{Mutex, Wait};
-use std::test::Fail;
+use std::sync::Wait;
 use words::Second;
-use worker::{Gate, Hub, Port, Site, Taker, turn};
+use worker::{Gate, Hub, Port, Site, Taker, Work, turn};
 
 // Notes one more than what stands in counter 5 whenever a turn passes: each time it multiplies what
 // it noted before by 10, and adds that.
-#[derive(Drop)]
-struct Noting<'a, L: Site, B: Taker<L>, R: Wait> {
-    rt: &'a R,
+struct Noting<'a, L: Site, B: Taker<L>> {
     hub: &'a Hub<L, B>,
-    port: Mutex<Port<L>>,
-    noted: AtomicU64,
+    port: &'a mut Port<L>,
+    noted: u64,
 }
 
-impl<'a, L: Site, B: Taker<L>, R: Wait> Gate for Noting<'a, L, B, R> {
+impl<'a, L: Site, B: Taker<L>> Gate for Noting<'a, L, B> {
     fn pass(&mut self, _port: u16) {
-        let mut port = self.port.lock(self.rt);
-        let counted = self.hub.counter(&mut *port, 5);
-        let before = self.noted.load(Ordering::SeqCst);
-        let noted = before
+        let counted = self.hub.counter(self.port, 5);
+        self.noted = self
+            .noted
             .wrapping_mul(10)
             .wrapping_add(counted)
             .wrapping_add(1);
-        self.noted.store(noted, Ordering::SeqCst);
+    }
+}
+
+// What a turn of the one port is answered, which the other sees pass: 9 where it didn't pass the
+// gate just once, after the datagram was counted.
+fn noted<L: Site, B: Taker<L>, R: Wait>(
+    rt: &R,
+    hub: &Hub<L, B>,
+    hears: &mut Port<L>,
+    looks: &mut Port<L>,
+    work: &Work,
+) -> u8 {
+    let mut gate = Noting {
+        hub,
+        port: looks,
+        noted: 0,
+    };
+    let answer = number_of(turn(rt, hub, hears, &mut gate, Second::new(5), work));
+    let Noting {
+        hub: _,
+        port: _port,
+        noted,
+    } = gate;
+    if noted == 4 { answer } else { 9 }
+}
+
+// The same of port 1, which port 0 sees pass.
+fn watched<L: Site, B: Taker<L>, R: Wait>(
+    rt: &R,
+    hub: &Hub<L, B>,
+    ports: &mut [Port<L>],
+    work: &Work,
+) -> u8 {
+    let Some((looks, others)) = ports.split_last_mut() else {
+        return 9;
+    };
+    match others.last_mut() {
+        Some(hears) => noted(rt, hub, hears, looks, work),
+        None => 9,
     }
 }
 
 /// Port 1 hears a datagram, which a program counts by 3 at counter 5. What the turn is answered: 9
-/// where it didn't pass the gate just once, after the datagram was counted. Port 2 looks.
+/// where it didn't pass the gate just once, after the datagram was counted. Port 0 looks.
 pub fn watch<L: Site, B: Taker<L>, R: Wait, Q: Wait + Drop>(
     rt: &R,
     alloc: Global,
     hub: &Hub<L, B>,
-    hears: Port<L>,
-    looks: Port<L>,
-    loader: Loader<Q>,
-) -> Result<u8, Fail>
-    requires { history_of loader ≡ L.history }
-{
-    let (mut port, mut loader) = (hears, loader);
-    let program = match verify_object(alloc, COUNTING) {
-        Err(_) => verify_object(alloc, COUNTING)?,
-        Ok(program) => program,
-    };
-    loader.attach(program)?;
-    port.learn(loader.notice());
-    let mut gate = Noting {
-        rt,
-        hub,
-        port: Mutex::new(looks),
-        noted: AtomicU64::new(0),
-    };
-    let work = hello(alloc, 1, 0)?;
-    let answer = number_of(turn(rt, hub, &mut port, &mut gate, Second::new(5), &work));
-    let noted = gate.noted.load(Ordering::SeqCst);
-    Ok(if noted == 4 { answer } else { 9 })
+    stage: &mut Stage<L, Q>,
+) -> u8 {
+    let _is_attached = stage.change(alloc, Deed::Attach(COUNTING));
+    match hello(alloc, 1, 0) {
+        Ok(work) => watched(rt, hub, &mut stage.ports, &work),
+        Err(_) => 6,
+    }
 }

@@ -1,5 +1,5 @@
 use Rattle.hooks.specs.Known.{history_of}
-use Rattle.worker_tests.proofs.scenes.play.Given as goal
+use Rattle.worker_tests.proofs.scenes.play_with.Given as goal
 
 -- the ledger is that of the setup
 abbrev pub ghosts-play_at-L-Ledger : goal.ghosts-play_at-L-Ledger

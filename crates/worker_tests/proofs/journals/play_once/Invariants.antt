@@ -1,4 +1,4 @@
-use Rattle.worker_tests.proofs.journals.play_all.Given as goal
+use Rattle.worker_tests.proofs.journals.play_once.Given as goal
 
 -- the ledger is the new one
 abbrev pub ghosts-play-L-Ledger : goal.ghosts-play-L-Ledger
