@@ -46,10 +46,10 @@ impl<'a, L: Site, B: Taker<L>, R: Wait, Q: Wait + Drop> Gate for Detaching<'a, L
 
 /// Port 1 makes a Tick's turn; as it passes, an operator detaches what stands at `veto`, by a clock
 /// at which no refresh is taken. The number of the Tick's refusal, or 0.
-pub fn operate<L: Site, B: Taker<L>, R: Wait, Q: Wait + Drop>(
-    rt: &R,
+pub fn operate<'a, L: Site, B: Taker<L>, R: Wait, Q: Wait + Drop>(
+    rt: &'a R,
     alloc: Global,
-    hub: &Hub<L, B>,
+    hub: &'a Hub<L, B>,
     stage: Stage<L, Q>,
 ) -> u8 {
     let Stage { mut ports, loader } = stage;
