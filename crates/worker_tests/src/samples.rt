@@ -28,12 +28,12 @@ pub fn hello(alloc: Global, number: u16, zeros: usize) -> Result<Work, AllocErro
     Ok(Work::Datagram(number, Sequence::from_vec(bytes)))
 }
 
-/// The interface of this address on a network of 24 bits.
-pub fn interface(address: u32, cost: u16) -> Interface {
+// The interface of this address on a network of 24 bits.
+fn interface(address: u32) -> Interface {
     Interface {
         address: Address::new(address),
         length: 24,
-        cost,
+        cost: 10,
         hello_interval: 10,
         dead_interval: 40,
         retransmit_interval: 5,
@@ -53,7 +53,7 @@ pub fn router(alloc: Global, id: u32, interfaces: &[Interface]) -> Option<Core> 
 
 /// 1.1.1.1 with the interfaces 10.0.1.1/24 and 10.0.2.1/24.
 pub fn first(alloc: Global) -> Option<Core> {
-    let interfaces = [interface(0x0a00_0101, 10), interface(0x0a00_0201, 10)];
+    let interfaces = [interface(0x0a00_0101), interface(0x0a00_0201)];
     router(alloc, 0x0101_0101, &interfaces)
 }
 
