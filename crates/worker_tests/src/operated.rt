@@ -28,14 +28,15 @@ impl ReadsFiles for NoFiles {
 
 // As a turn passes, an operator at port 0 detaches what stands at `veto`.
 #[derive(Drop)]
-struct Detaching<'a, L: Site, B: Taker<L>, R: Wait, Q: Wait + Drop> {
-    rt: &'a R,
-    hub: &'a Hub<L, B>,
-    desk: Desk<L, Q, Script<'a>, Times>,
+struct Detaching<'r, 'h, 's, L: Site, B: Taker<L>, R: Wait, Q: Wait + Drop> {
+    rt: &'r R,
+    hub: &'h Hub<L, B>,
+    desk: Desk<L, Q, Script<'s>, Times>,
     port: Port<L>,
 }
 
-impl<'a, L: Site, B: Taker<L>, R: Wait, Q: Wait + Drop> Gate for Detaching<'a, L, B, R, Q> {
+impl<'r, 'h, 's, L: Site, B: Taker<L>, R: Wait, Q: Wait + Drop> Gate
+    for Detaching<'r, 'h, 's, L, B, R, Q> {
     fn pass(&mut self, _port: u16) {
         let port = &mut self.port;
         let _told = self
@@ -46,10 +47,10 @@ impl<'a, L: Site, B: Taker<L>, R: Wait, Q: Wait + Drop> Gate for Detaching<'a, L
 
 /// Port 1 makes a Tick's turn; as it passes, an operator detaches what stands at `veto`, by a clock
 /// at which no refresh is taken. The number of the Tick's refusal, or 0.
-pub fn operate<'a, L: Site, B: Taker<L>, R: Wait, Q: Wait + Drop>(
-    rt: &'a R,
+pub fn operate<L: Site, B: Taker<L>, R: Wait, Q: Wait + Drop>(
+    rt: &R,
     alloc: Global,
-    hub: &'a Hub<L, B>,
+    hub: &Hub<L, B>,
     stage: Stage<L, Q>,
 ) -> u8 {
     let Stage { mut ports, loader } = stage;
