@@ -39,9 +39,9 @@ enum Seen {
 
 type Row = (Call, Seen);
 
-const W64: Width = Width::Bits64;
+const BITS64: Width = Width::Bits64;
 
-const W32: Width = Width::Bits32;
+const BITS32: Width = Width::Bits32;
 
 // From -8 to 7.
 const AROUND_ZERO: Numbers = Numbers::Signed(0xffff_ffff_ffff_fff8, 7);
@@ -58,21 +58,31 @@ const ZERO: Numbers = Numbers::Only(0);
 const INTERVALS: &[Row] = &[
     // the least precision of arithmetic
     (
-        Call::Alu(Operation::Add, W64, Numbers::Stated(1, 10, 0, 0), LESS_ONE),
+        Call::Alu(
+            Operation::Add,
+            BITS64,
+            Numbers::Stated(1, 10, 0, 0),
+            LESS_ONE,
+        ),
         Seen::Range(0, 9),
     ),
     (
-        Call::Alu(Operation::Add, W64, Numbers::Stated(0, 10, 0, 0), LESS_ONE),
+        Call::Alu(
+            Operation::Add,
+            BITS64,
+            Numbers::Stated(0, 10, 0, 0),
+            LESS_ONE,
+        ),
         Seen::Range(0, u64::MAX),
     ),
     (
-        Call::Alu(Operation::And, W64, Numbers::Every, Numbers::Only(255)),
+        Call::Alu(Operation::And, BITS64, Numbers::Every, Numbers::Only(255)),
         Seen::Range(0, 255),
     ),
     (
         Call::Alu(
             Operation::ShiftLeft,
-            W64,
+            BITS64,
             Numbers::Stated(0, 255, 0, 0),
             Numbers::Only(3),
         ),
@@ -80,38 +90,48 @@ const INTERVALS: &[Row] = &[
     ),
     // 0 to 10 isn't 0, 0 to 5 is 9, and 0 to 100 is below 0
     (
-        Call::Left(Test::NotEqual, W64, Numbers::Stated(0, 10, 0, 0), ZERO),
+        Call::Left(Test::NotEqual, BITS64, Numbers::Stated(0, 10, 0, 0), ZERO),
         Seen::Compared(Numbers::Stated(1, 10, 0, 0), true, true),
     ),
     (
-        Call::Right(Test::NotEqual, W64, Numbers::Stated(0, 10, 0, 0), ZERO),
+        Call::Right(Test::NotEqual, BITS64, Numbers::Stated(0, 10, 0, 0), ZERO),
         Seen::Compared(ZERO, true, true),
     ),
     (
         Call::Left(
             Test::Equal,
-            W64,
+            BITS64,
             Numbers::Stated(0, 5, 0, 0),
             Numbers::Only(9),
         ),
         Seen::Nothing,
     ),
     (
-        Call::Left(Test::SignedLess, W64, Numbers::Stated(0, 100, 0, 0), ZERO),
+        Call::Left(
+            Test::SignedLess,
+            BITS64,
+            Numbers::Stated(0, 100, 0, 0),
+            ZERO,
+        ),
         Seen::Nothing,
     ),
     // other operations
     (
-        Call::Alu(Operation::Add, W32, LESS_ONE, Numbers::Stated(1, 1, 0, 0)),
+        Call::Alu(
+            Operation::Add,
+            BITS32,
+            LESS_ONE,
+            Numbers::Stated(1, 1, 0, 0),
+        ),
         Seen::Range(0, 0),
     ),
     (
-        Call::Unary(UnaryOperation::Negate(W32), Numbers::Stated(1, 3, 0, 0)),
+        Call::Unary(UnaryOperation::Negate(BITS32), Numbers::Stated(1, 3, 0, 0)),
         Seen::Range(4_294_967_293, 4_294_967_295),
     ),
     (
         Call::Unary(
-            UnaryOperation::Extend(Extension::Byte(W64)),
+            UnaryOperation::Extend(Extension::Byte(BITS64)),
             Numbers::Only(0x80),
         ),
         Seen::Range(0xffff_ffff_ffff_ff80, 0xffff_ffff_ffff_ff80),
@@ -138,64 +158,64 @@ const INTERVALS: &[Row] = &[
     // the negative ones
     (Call::Is(AT_MOST_63), Seen::Range(0, u64::MAX)),
     (
-        Call::Left(Test::SignedGreaterOrEqual, W64, AT_MOST_63, ZERO),
+        Call::Left(Test::SignedGreaterOrEqual, BITS64, AT_MOST_63, ZERO),
         Seen::Range(0, 63),
     ),
     (
-        Call::Left(Test::SignedGreater, W64, AT_MOST_63, ZERO),
+        Call::Left(Test::SignedGreater, BITS64, AT_MOST_63, ZERO),
         Seen::Range(1, 63),
     ),
     (
-        Call::Left(Test::SignedLess, W64, AT_MOST_63, ZERO),
+        Call::Left(Test::SignedLess, BITS64, AT_MOST_63, ZERO),
         Seen::Range(1 << 63, u64::MAX),
     ),
     // of -8 to 7 those above 7, those equal to 8, and those at most 100 as unsigned numbers
     (
-        Call::Left(Test::SignedGreater, W64, AROUND_ZERO, Numbers::Only(7)),
+        Call::Left(Test::SignedGreater, BITS64, AROUND_ZERO, Numbers::Only(7)),
         Seen::Nothing,
     ),
     (
-        Call::Left(Test::Equal, W64, AROUND_ZERO, EIGHT),
+        Call::Left(Test::Equal, BITS64, AROUND_ZERO, EIGHT),
         Seen::Nothing,
     ),
     (
-        Call::Left(Test::LessOrEqual, W64, AROUND_ZERO, Numbers::Only(100)),
+        Call::Left(Test::LessOrEqual, BITS64, AROUND_ZERO, Numbers::Only(100)),
         Seen::Range(0, 7),
     ),
     // a signed test of halves leaves whole numbers
     (
-        Call::Left(Test::SignedLess, W32, AROUND_ZERO, ZERO),
+        Call::Left(Test::SignedLess, BITS32, AROUND_ZERO, ZERO),
         Seen::Compared(AROUND_ZERO, true, true),
     ),
     (
-        Call::Right(Test::SignedLess, W32, AROUND_ZERO, ZERO),
+        Call::Right(Test::SignedLess, BITS32, AROUND_ZERO, ZERO),
         Seen::Compared(ZERO, true, true),
     ),
     // signed bounds are kept by moves, sums and differences: of -8 to 7 8 added, -8 subtracted, the
     // bits of 8 flipped, 8 added in the lower halves; and moved
     (
-        Call::Alu(Operation::Add, W64, AROUND_ZERO, EIGHT),
+        Call::Alu(Operation::Add, BITS64, AROUND_ZERO, EIGHT),
         Seen::Range(0, 15),
     ),
     (
         Call::Alu(
             Operation::Subtract,
-            W64,
+            BITS64,
             AROUND_ZERO,
             Numbers::Only(0xffff_ffff_ffff_fff8),
         ),
         Seen::Range(0, 15),
     ),
     (
-        Call::Alu(Operation::Xor, W64, AROUND_ZERO, EIGHT),
+        Call::Alu(Operation::Xor, BITS64, AROUND_ZERO, EIGHT),
         Seen::Range(0, u64::MAX),
     ),
     (
-        Call::Alu(Operation::Add, W32, AROUND_ZERO, EIGHT),
+        Call::Alu(Operation::Add, BITS32, AROUND_ZERO, EIGHT),
         Seen::Range(0, 4_294_967_295),
     ),
     (
-        Call::Alu(Operation::Move, W64, EIGHT, AROUND_ZERO),
+        Call::Alu(Operation::Move, BITS64, EIGHT, AROUND_ZERO),
         Seen::Compared(AROUND_ZERO, true, true),
     ),
     (
@@ -230,33 +250,33 @@ const HALF: Numbers = Numbers::Stated(0, u64::MAX, 0xffff_ffff, 1);
 const KNOWN_BITS: &[Row] = &[
     // bit operations know their bits
     (
-        Call::Alu(Operation::And, W64, Numbers::Every, Numbers::Only(255)),
+        Call::Alu(Operation::And, BITS64, Numbers::Every, Numbers::Only(255)),
         Seen::Compared(BYTE, true, true),
     ),
     (
-        Call::Alu(Operation::ShiftLeft, W64, BYTE, Numbers::Only(3)),
+        Call::Alu(Operation::ShiftLeft, BITS64, BYTE, Numbers::Only(3)),
         Seen::Compared(EIGHTH, true, true),
     ),
     (
-        Call::Alu(Operation::Xor, W64, LOW_BYTE, Numbers::Only(0xff)),
+        Call::Alu(Operation::Xor, BITS64, LOW_BYTE, Numbers::Only(0xff)),
         Seen::Compared(Numbers::Stated(0, u64::MAX, 0xff, 0xf0), true, true),
     ),
     (
-        Call::Alu(Operation::Or, W64, LOW_BYTE, Numbers::Only(0xf00)),
+        Call::Alu(Operation::Or, BITS64, LOW_BYTE, Numbers::Only(0xf00)),
         Seen::Compared(Numbers::Stated(0, u64::MAX, 0xfff, 0xf0f), true, true),
     ),
     (
-        Call::Alu(Operation::ShiftRight, W64, EIGHTH, Numbers::Only(3)),
+        Call::Alu(Operation::ShiftRight, BITS64, EIGHTH, Numbers::Only(3)),
         Seen::Compared(BYTE, true, true),
     ),
     (Call::Is(EIGHTH), Seen::Multiple(3)),
     // sums and differences know their low bits
     (
-        Call::Alu(Operation::Add, W64, LOW_BITS, Numbers::Only(1)),
+        Call::Alu(Operation::Add, BITS64, LOW_BITS, Numbers::Only(1)),
         Seen::Compared(Numbers::Stated(0, u64::MAX, 0xff, 0x10), true, true),
     ),
     (
-        Call::Alu(Operation::Subtract, W32, LOW_BITS, Numbers::Only(16)),
+        Call::Alu(Operation::Subtract, BITS32, LOW_BITS, Numbers::Only(16)),
         Seen::Compared(
             Numbers::Stated(0, u64::MAX, 0xffff_ffff_0000_00ff, 0xff),
             true,
@@ -267,7 +287,7 @@ const KNOWN_BITS: &[Row] = &[
     (
         Call::Alu(
             Operation::Modulo,
-            W32,
+            BITS32,
             Numbers::Only(0xffff_ffff_0000_0005),
             ZERO,
         ),
@@ -276,7 +296,7 @@ const KNOWN_BITS: &[Row] = &[
     (
         Call::Alu(
             Operation::SignedDivide,
-            W64,
+            BITS64,
             Numbers::Only(1 << 63),
             LESS_ONE,
         ),
@@ -286,7 +306,7 @@ const KNOWN_BITS: &[Row] = &[
     (
         Call::Alu(
             Operation::SignedModulo,
-            W64,
+            BITS64,
             Numbers::Only(0xffff_ffff_ffff_fff3),
             Numbers::Only(3),
         ),
@@ -295,31 +315,36 @@ const KNOWN_BITS: &[Row] = &[
     (
         Call::Alu(
             Operation::Multiply,
-            W32,
+            BITS32,
             Numbers::Only(1 << 31),
             Numbers::Only(2),
         ),
         Seen::Compared(ZERO, true, true),
     ),
     (
-        Call::Alu(Operation::Divide, W64, Numbers::Only(7), Numbers::Only(2)),
+        Call::Alu(
+            Operation::Divide,
+            BITS64,
+            Numbers::Only(7),
+            Numbers::Only(2),
+        ),
         Seen::Compared(Numbers::Only(3), true, true),
     ),
     (
         Call::Alu(
             Operation::ArithmeticShiftRight,
-            W32,
+            BITS32,
             Numbers::Only(0x8000_0000),
             Numbers::Only(31),
         ),
         Seen::Compared(Numbers::Only(0xffff_ffff), true, true),
     ),
     (
-        Call::Alu(Operation::Move, W32, Numbers::Only(1), LESS_ONE),
+        Call::Alu(Operation::Move, BITS32, Numbers::Only(1), LESS_ONE),
         Seen::Compared(Numbers::Only(0xffff_ffff), true, true),
     ),
     (
-        Call::Alu(Operation::Add, W64, LESS_ONE, Numbers::Only(1)),
+        Call::Alu(Operation::Add, BITS64, LESS_ONE, Numbers::Only(1)),
         Seen::Compared(ZERO, true, true),
     ),
     // swaps and negations
@@ -331,23 +356,23 @@ const KNOWN_BITS: &[Row] = &[
         Seen::Compared(Numbers::Only(0x8877_6655), true, true),
     ),
     (
-        Call::Unary(UnaryOperation::Negate(W32), HALF),
+        Call::Unary(UnaryOperation::Negate(BITS32), HALF),
         Seen::Compared(Numbers::Only(0xffff_ffff), true, true),
     ),
     (
-        Call::Unary(UnaryOperation::Negate(W64), HALF),
+        Call::Unary(UnaryOperation::Negate(BITS64), HALF),
         Seen::Compared(Numbers::Every, true, true),
     ),
     // 5 is 9; an odd number is one with a given upper byte; a number's lower half is that of 2^32;
     // 9 is less than 5
     (
-        Call::Left(Test::Equal, W64, Numbers::Only(5), Numbers::Only(9)),
+        Call::Left(Test::Equal, BITS64, Numbers::Only(5), Numbers::Only(9)),
         Seen::Nothing,
     ),
     (
         Call::Left(
             Test::Equal,
-            W64,
+            BITS64,
             Numbers::Stated(0, u64::MAX, 1, 1),
             Numbers::Stated(0, u64::MAX, 0xff00, 0x1200),
         ),
@@ -356,26 +381,26 @@ const KNOWN_BITS: &[Row] = &[
     (
         Call::Right(
             Test::Equal,
-            W64,
+            BITS64,
             Numbers::Stated(0, u64::MAX, 1, 1),
             Numbers::Stated(0, u64::MAX, 0xff00, 0x1200),
         ),
         Seen::Compared(Numbers::Stated(0, u64::MAX, 0xff01, 0x1201), true, true),
     ),
     (
-        Call::Left(Test::Equal, W32, Numbers::Every, Numbers::Only(1 << 32)),
+        Call::Left(Test::Equal, BITS32, Numbers::Every, Numbers::Only(1 << 32)),
         Seen::Compared(Numbers::Stated(0, u64::MAX, 0xffff_ffff, 0), true, true),
     ),
     (
-        Call::Right(Test::Equal, W32, Numbers::Every, Numbers::Only(1 << 32)),
+        Call::Right(Test::Equal, BITS32, Numbers::Every, Numbers::Only(1 << 32)),
         Seen::Compared(Numbers::Only(1 << 32), true, true),
     ),
     (
-        Call::Left(Test::Less, W64, Numbers::Only(9), Numbers::Only(5)),
+        Call::Left(Test::Less, BITS64, Numbers::Only(9), Numbers::Only(5)),
         Seen::Compared(Numbers::Only(9), true, true),
     ),
     (
-        Call::Right(Test::Less, W64, Numbers::Only(9), Numbers::Only(5)),
+        Call::Right(Test::Less, BITS64, Numbers::Only(9), Numbers::Only(5)),
         Seen::Compared(Numbers::Only(5), true, true),
     ),
     // ranges, and places: 7 within odd numbers, and vice versa; even numbers within all
@@ -417,28 +442,31 @@ const PAIRS: &[Row] = &[
         Seen::Range(256, 300),
     ),
     (
-        Call::Alu(Operation::And, W64, Numbers::Every, Numbers::Only(0xf8)),
+        Call::Alu(Operation::And, BITS64, Numbers::Every, Numbers::Only(0xf8)),
         Seen::Range(0, 0xf8),
     ),
     (
-        Call::Alu(Operation::And, W64, Numbers::Every, Numbers::Only(0xf8)),
+        Call::Alu(Operation::And, BITS64, Numbers::Every, Numbers::Only(0xf8)),
         Seen::Compared(EIGHTS, true, true),
     ),
     (
-        Call::Alu(Operation::Or, W64, EIGHTS, Numbers::Only(1)),
+        Call::Alu(Operation::Or, BITS64, EIGHTS, Numbers::Only(1)),
         Seen::Range(1, 0xf9),
     ),
     (Call::Is(NONE), Seen::Range(1, 2)),
     // those that are at least 0xf8 and those above it; and of no number those other than 0
     (
-        Call::Left(Test::GreaterOrEqual, W64, EIGHTS, Numbers::Only(0xf8)),
+        Call::Left(Test::GreaterOrEqual, BITS64, EIGHTS, Numbers::Only(0xf8)),
         Seen::Compared(Numbers::Only(0xf8), true, true),
     ),
     (
-        Call::Left(Test::Greater, W64, EIGHTS, Numbers::Only(0xf8)),
+        Call::Left(Test::Greater, BITS64, EIGHTS, Numbers::Only(0xf8)),
         Seen::Nothing,
     ),
-    (Call::Left(Test::NotEqual, W64, NONE, ZERO), Seen::Nothing),
+    (
+        Call::Left(Test::NotEqual, BITS64, NONE, ZERO),
+        Seen::Nothing,
+    ),
 ];
 
 const PAIRS_OF_INTERVALS: &[Row] = &[
@@ -447,14 +475,14 @@ const PAIRS_OF_INTERVALS: &[Row] = &[
     (
         Call::Alu(
             Operation::Add,
-            W64,
+            BITS64,
             Numbers::Stated(1, 2, 0, 0),
             Numbers::Only(1),
         ),
         Seen::Range(2, 3),
     ),
     (
-        Call::Unary(UnaryOperation::Negate(W64), Numbers::Only(1)),
+        Call::Unary(UnaryOperation::Negate(BITS64), Numbers::Only(1)),
         Seen::Range(u64::MAX, u64::MAX),
     ),
     (
@@ -468,7 +496,7 @@ const PAIRS_OF_INTERVALS: &[Row] = &[
     (
         Call::Left(
             Test::Equal,
-            W64,
+            BITS64,
             Numbers::Stated(2, 3, 0, 0),
             Numbers::Only(1),
         ),
@@ -507,7 +535,7 @@ fn tested<D: Domain>(is_left: bool, test: Test, width: Width, left: D, right: D)
 
 // What the test leaves of the numbers; all of them if it leaves none.
 fn left_by<D: Domain>(test: Test, value: D, number: u64) -> D {
-    match D::assume(test, W64, value, D::constant(number)) {
+    match D::assume(test, BITS64, value, D::constant(number)) {
         Some((left, _)) => left,
         None => D::top(),
     }
