@@ -9,3 +9,16 @@ pub mod SaidIsHeld
 pub mod NeighborHistories
 pub mod NeighborsAgree
 pub mod WorkedNeighbors
+pub mod Accepted
+pub mod Requests
+pub mod TakenIn
+pub mod Stays
+pub mod WorkedRequests
+pub mod Moves
+pub mod Numbers
+pub mod Answers
+pub mod Together
+pub mod Held
+pub mod Described
+pub mod WorkedAnswers
+pub mod WorkedHistory

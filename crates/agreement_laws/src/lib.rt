@@ -10,8 +10,13 @@ ghost use Rattle.agreement_laws.specs.Ranks.{RanksFollowTheComparison};
 ghost use Rattle.agreement_laws.specs.SaidIsHeld.{WhatIsSaidIsHeld};
 ghost use Rattle.agreement_laws.specs.WorkedCopies.{WorkedCopies};
 ghost use Rattle.agreement_laws.specs.WorkedExchanges.{WorkedExchanges};
+ghost use Rattle.agreement_laws.specs.WorkedHistory.{AHistoryMeetsThePremises};
 ghost use Rattle.agreement_laws.specs.WorkedNeighbors.{WorkedNeighbors};
 ghost use Rattle.agreement_laws.specs.WorkedRanks.{WorkedRanks};
+
+pub mod answers;
+pub mod descriptions;
+pub mod requests;
 
 /// How new an instance is, whatever its age below MaxAge, is an order that the comparison of
 /// instances refines: a newer instance has no lower rank, and the same instance has the same rank
@@ -96,4 +101,13 @@ pub fn worked_exchanges()
 /// continues.
 pub fn worked_neighbors()
     ensures { WorkedNeighbors }
+{}
+
+/// A history of two routers with seven events: a Hello of each, and the database exchange, after
+/// which the slave is Full with the master, holds its own router-LSA and doesn't have it on the
+/// retransmission list. So the premises of `neighbors_agree_on_what_was_renewed` can be met at
+/// once. The master doesn't have the LSA, which was described to it and is requested now: so the
+/// law needs that exception (RFC 2328, sections 10.3, 10.5, 10.6 and 10.8).
+pub fn a_history_meets_the_premises()
+    ensures { AHistoryMeetsThePremises }
 {}

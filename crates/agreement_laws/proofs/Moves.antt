@@ -1,0 +1,370 @@
+-- What an event makes of an exchange: it stays as it is, unless the neighbor's Description comes
+-- in, or the conversation is over.
+use Rattle.std.proofs.Common.{◌≡◌, ℕ, Bool, true, false, cond, ◌⊎◌, inl, inr, List, [], ◌∷◌, map}
+use Rattle.std.proofs.Common.{Option, None, Some, refl, sym, ap, subst, ◌∙◌}
+use Rattle.std.specs.Prelude.{◌==◌}
+use Rattle.std.specs.FinMap as finite
+use Rattle.std.specs.List.{fold}
+use Rattle.std.proofs.lemmas.Bool.{eqb-true}
+use Rattle.words.specs.declared.key.Key.{Key}
+use Rattle.lsdb.specs.Copies.{DatabaseCopy, age_out, has_just_aged_out, install_flooded}
+use Rattle.lsdb.specs.Copies.{install_originated, lsa_now}
+use Rattle.lsdb.specs.Headers.{Lsa, lsa_aged, lsa_key}
+use Rattle.lsdb.specs.Keys.{ByKey}
+use Rattle.packet.specs.declared.model.Hello.{Hello}
+use Rattle.adjacency.specs.Adjacencies as adjacencies
+use Rattle.adjacency.specs.Contents.{Step, no_sends}
+use Rattle.adjacency.specs.Neighbors.{Neighbor}
+use Rattle.adjacency.specs.Requests.{request_next}
+use Rattle.adjacency.specs.Retransmissions.{after_acknowledgment, remove_retransmission}
+use Rattle.adjacency.proofs.Kept.{chosen}
+use Rattle.received.specs.Cases.{Case}
+use Rattle.received.specs.Flooding.{flood, flood_to, is_sender}
+use Rattle.received.specs.Holds.{Holds}
+use Rattle.received.specs.Links.{Link, acknowledge_later, change_link, link_at, neighbor_at}
+use Rattle.received.specs.Links.{neighbor_on}
+use Rattle.received.specs.Outcomes.{Outcome, Stepping, each_neighbor, on_database, on_links}
+use Rattle.received.specs.Outcomes.{one_neighbor, only_at, step_on, stepped_links}
+use Rattle.received.specs.Updates.{after_case, copy_of, send_copy}
+use Rattle.events.specs.Commands.{taken_down}
+use Rattle.events.specs.Endings.{link_loading_done, loading_done_on, stays, with_age}
+use Rattle.events.specs.EventState.{flood_from_nobody}
+use Rattle.events.specs.Hellos.{accepts, names}
+use Rattle.events.specs.Originations.{new_instance}
+use Rattle.events.specs.Packets.{after_hello, hear, heard_on, with_neighbor}
+use Rattle.events.specs.Ticks.{again, run_out, settled_exchange, with_hello_sent}
+use Rattle.events.specs.Ticks.{without_acknowledgments}
+use Rattle.flood_laws.proofs.Leaving.{each_kept_at, numbered_kept, stepped_kept}
+use Rattle.agreement_laws.specs.Exchanged.{Conversation}
+use Rattle.packet.specs.declared.model.PacketBody.TheVariants as body
+use Rattle.packet.specs.declared.model.Description.{Description}
+use Rattle.packet.specs.declared.model.Packet.{Packet}
+use Rattle.adjacency.specs.Descriptions.{after_description}
+use Rattle.adjacency.specs.Neighbors.{is_exchange_or_later}
+use Rattle.events.specs.declared.model.Out.{Out}
+use Rattle.events.specs.Endings.{start_event}
+use Rattle.events.specs.EventState.{EventState}
+use Rattle.events.specs.Events.{Happens}
+use Rattle.events.specs.Packets.{describe_to, is_from, is_hello}
+use Rattle.events.specs.Routers.{Occurrence, Router}
+use Rattle.events.proofs.Walk.{outcome}
+use Rattle.flood_laws.specs.InOrder.{IsInOrder}
+use Rattle.flood_laws.proofs.Acknowledged.{in_order, order_begun, order_brings, order_kept}
+use Rattle.flood_laws.proofs.EventWalk.{IsHeard, IsKeptToo, event_kept_too}
+use Rattle.agreement_laws.specs.Exchanged.{conversation_with}
+use Rattle.agreement_laws.specs.Moves.{BecameOfExchange, BringsDescription}
+use Rattle.agreement_laws.specs.Moves.{OnlyDescriptionsMoveAnExchange}
+use Rattle.agreement_laws.proofs.ExchangeSteps.{IsSame, Standing}
+use Rattle.agreement_laws.proofs.ExchangeSteps as steps
+
+some_same : {X : Type 0} {x y : X} → Some x ≡ Some y → x ≡ y
+some_same e = cc
+
+module _ (old : Router) (moment : ℕ) (event : Occurrence) (number : ℕ) (n : Neighbor)
+    (was : neighbor_at number old.area.links ≡ Some n) where
+  abbrev start : EventState
+  start = start_event moment old
+
+  abbrev Described : Type 0
+  Described = BringsDescription event number n.router
+
+  abbrev StandsThere : Option Neighbor → Type 0
+  StandsThere None = Unit {0}
+  StandsThere (Some m) = Standing n m
+
+  abbrev Stands : Outcome → Type 0
+  Stands o = Described ⊎ StandsThere (neighbor_at number o.area.links)
+
+  -- ---- links
+
+  on_all : (f : List Link → List Link) (o : Outcome)
+      → (StandsThere (neighbor_at number o.area.links)
+      → StandsThere (neighbor_at number (f o.area.links))) → Stands o → Stands (on_links f o)
+  on_all f o so (inl told) = inl told
+  on_all f o so (inr k) = inr (so k)
+
+  each_link : (g : Link → Link) (o : Outcome)
+      → ((link : Link) → StandsThere link.neighbor → StandsThere (g link).neighbor) → Stands o
+      → Stands (on_links (map g) o)
+  each_link g o keeps h = on_all (map g) o
+      (λ k. each_kept_at StandsThere StandsThere (λ k. k) g number keeps o.area.links k) h
+
+  change_at : (place : ℕ) (change : Link → Link) (o : Outcome)
+      → ((link : Link) → StandsThere link.neighbor → StandsThere (change link).neighbor) → Stands o
+      → Stands (on_links (change_link place change) o)
+  change_at place change o keeps h =
+      on_all (change_link place change) o
+      (λ k. numbered_kept StandsThere StandsThere (λ k. k)
+      (λ (e : ℕ × Link). cond (e.0 == place) (change e.1) e.1) number
+      (λ link at. chosen (λ (l : Link). StandsThere l.neighbor) (number == place) (change link) link
+      (λ e. keeps link at) (λ e. at)) o.area.links k) h
+
+  stepped : (f : Neighbor → Step) → ((m : Neighbor) → Standing n m → Standing n (f m).neighbor)
+      → (o : Option Neighbor) → StandsThere o → StandsThere (step_on f o)
+  stepped f keeps None k = k
+  stepped f keeps (Some m) k = keeps m k
+
+  each_step : (f : Stepping) (o : Outcome)
+      → ((link : Link) (m : Neighbor) → Standing n m → Standing n (f number link m).neighbor)
+      → Stands o → Stands (each_neighbor moment f o)
+  each_step f o keeps h =
+      on_all (stepped_links f) o (λ k. stepped_kept StandsThere StandsThere (λ k. k) f number
+      (λ link at. stepped (f number link) (keeps link) link.neighbor at) o.area.links k) h
+
+  one_step : (place : ℕ) (f : Neighbor → Step) (o : Outcome)
+      → ((m : Neighbor) → Standing n m → Standing n (f m).neighbor) → Stands o
+      → Stands (one_neighbor moment place f o)
+  one_step place f o keeps h =
+      each_step (only_at place f) o
+      (λ link m at. chosen (λ (s : Step). Standing n s.neighbor) (number == place) (f m) (record {
+        neighbor = m;
+        sends = [];
+      }) (λ e. keeps m at) (λ e. at)) h
+
+  floods : (sender : Option ℕ) (lsa : Lsa) (o : Outcome) → Stands o
+      → Stands (flood moment sender lsa o)
+  floods sender lsa o h = each_step (flood_to moment sender lsa) o
+      (λ link m at. steps.flooded n moment (is_sender sender number) lsa m at) h
+
+  -- ---- ages: they leave it as it was
+
+  abbrev SameThere : Option Neighbor → Type 0
+  SameThere None = ⊥
+  SameThere (Some m) = IsSame n m
+
+  aged_one : (lsa : Lsa) (link : Link) (o : Option Neighbor) → SameThere o
+      → SameThere (step_on (flood_to moment None lsa number link) o)
+  aged_one lsa link None k = k
+  aged_one lsa link (Some m) k = steps.same_flooded n moment (is_sender None number) lsa m k
+
+  ages : (es : List (Key × DatabaseCopy)) (o : Outcome)
+      → SameThere (neighbor_at number o.area.links)
+      → SameThere (neighbor_at number (fold (with_age old.moment moment) o es).area.links)
+  ages [] o h = h
+  ages (e ∷ es) o h =
+      ages es (with_age old.moment moment o e)
+      (chosen (λ (p : Outcome). SameThere (neighbor_at number p.area.links))
+      (has_just_aged_out old.moment moment e.1)
+      (flood_from_nobody moment (lsa_now moment e.1) o) o
+      (λ just. stepped_kept SameThere SameThere (λ k. k) (flood_to moment None (lsa_now moment e.1))
+      number (λ link at. aged_one (lsa_now moment e.1) link link.neighbor at) o.area.links h)
+      (λ young. h))
+
+  same_begun : SameThere (neighbor_at number start.router.area.links)
+  same_begun =
+      ages (finite.entries old.area.database) (record {
+        area = old.area;
+        sends = [];
+      }) (subst SameThere (sym was) (refl, refl, refl, refl, refl))
+
+  so_there : (o : Option Neighbor) → SameThere o → StandsThere o
+  so_there None k = absurd k
+  so_there (Some m) k = inr k
+
+  begun : Stands (outcome start)
+  begun = inr (so_there (neighbor_at number start.router.area.links) same_begun)
+
+  -- ---- received LSAs
+
+  copy_sent : (place : ℕ) (c : Option DatabaseCopy) (o : Outcome) → Stands o
+      → Stands (send_copy moment place c o)
+  copy_sent place None o h = h
+  copy_sent place (Some c) o h = h
+
+  mismatches : (place : ℕ) (o : Outcome) → Stands o
+      → Stands (one_neighbor moment place (adjacencies.mismatch_step moment) o)
+  mismatches place o h = one_step place (adjacencies.mismatch_step moment) o
+      (steps.mismatched n moment) h
+
+  cases : (case : Case) (place : ℕ) (lsa : Lsa) (o : Outcome) → Stands o
+      → Stands (after_case case moment place lsa o)
+  cases Case.Unreadable place lsa o h = h
+  cases Case.NothingToFlush place lsa o h = h
+  cases Case.TooSoon place lsa o h = h
+  cases Case.Newer place lsa o h =
+      change_at place (acknowledge_later lsa.header)
+      (flood moment (Some place) lsa (on_database (install_flooded moment lsa) o))
+      (λ link at. at)
+      (floods (Some place) lsa (on_database (install_flooded moment lsa) o) h)
+  cases Case.BadRequest place lsa o h = mismatches place o h
+  cases Case.ImpliedAcknowledgment place lsa o h =
+      one_step place (λ m. no_sends (remove_retransmission (lsa_key lsa) m)) o (λ m at. at) h
+  cases Case.Duplicate place lsa o h = h
+  cases Case.SequenceWraps place lsa o h = h
+  cases Case.SentJustNow place lsa o h = h
+  cases Case.Older place lsa o h = copy_sent place (copy_of lsa o.area) o h
+
+  -- ---- other packets
+
+  hellos : (own place from : ℕ) (hello : Hello) (o : Outcome) → Stands o
+      → Stands (after_hello own moment place from hello o)
+  hellos own place from hello o h = by_link (link_at place o.area.links) refl
+    where
+      by_link : (link : Option Link) → link_at place o.area.links ≡ link
+          → Stands (heard_on own moment place from hello link o)
+      by_link None is = h
+      by_link (Some link) is =
+          let s : Step = adjacencies.after_hello moment from (names own hello) link.neighbor in
+          chosen Stands (accepts own from hello link) (hear moment place s o) o
+          (λ e. on_all (change_link place (with_neighbor s.neighbor)) o
+          (λ k. numbered_kept (λ (m : Option Neighbor). StandsThere m
+          × ((number == place) ≡ true → StandsThere link.neighbor)) StandsThere (λ k. k.0)
+          (λ (f : ℕ × Link). cond (f.0 == place) (with_neighbor s.neighbor f.1) f.1) number
+          (λ l at. chosen (λ (m : Link). StandsThere m.neighbor) (number == place)
+          (with_neighbor s.neighbor l) l
+          (λ here. steps.helloed n moment from (names own hello) link.neighbor
+          (heard_of link.neighbor (at.1 here))) (λ away. at.0))
+          o.area.links (k, λ here. at_place k here)) h) (λ e. h)
+        where
+          heard_of : (m : Option Neighbor) → StandsThere m → Holds (Standing n) m
+          heard_of None k = tt
+          heard_of (Some m) k = k
+
+          at_place : StandsThere (neighbor_at number o.area.links) → (number == place) ≡ true
+              → StandsThere link.neighbor
+          at_place k e =
+              subst (λ (l : Option Link). StandsThere (neighbor_on l)) is
+              (subst (λ i. StandsThere (neighbor_at i o.area.links)) (eqb-true number place e)
+              k)
+
+  -- the neighbor's Description, or another one's
+  descriptions : (place : ℕ) (packet : Packet) (d : Description) → IsHeard start event place packet
+      → packet.body ≡ body.Description d
+      → Stands (describe_to start.router.id moment place d (outcome start))
+  descriptions place packet d heard says = result
+    where
+      f : Neighbor → Step
+      f = after_description start.router.id moment start.router.area.database d
+
+      Goes : Option Neighbor → Type 0
+      Goes o = Described ⊎ StandsThere o
+
+      its_text : (m : Neighbor) → neighbor_at number start.router.area.links ≡ Some m
+          → (number == place) ≡ true → m.router ≡ n.router → Described
+      its_text m at here same = record {
+        bytes = heard.bytes;
+        packet = packet;
+        is = heard.is ∙ ap (λ i. Occurrence.Packet i heard.bytes)
+            (sym (eqb-true number place here));
+        text = heard.text;
+        from = sym (eqb-true m.router packet.router its_router) ∙ same;
+        d = d;
+        says = says;
+      }
+        where
+          its_router : (m.router == packet.router) ≡ true
+          its_router =
+              ap (is_from packet.router) (sym
+              (ap (λ i. neighbor_at i start.router.area.links)
+              (sym (eqb-true number place here)) ∙ at)) ∙ heard.from (ap is_hello says)
+
+      one : (link : Link) (o : Option Neighbor) → SameThere o
+          → neighbor_at number start.router.area.links ≡ o
+          → Goes (step_on (only_at place f number link) o)
+      one link None k at = absurd k
+      one link (Some m) k at = by_place (number == place) refl
+        where
+          by_place : (b : Bool) → (number == place) ≡ b → Goes (Some (cond b (f m) (record {
+            neighbor = m;
+            sends = [];
+          })).neighbor)
+          by_place true here = inl (its_text m at here (ap (λ (c : Conversation). c.router) k.0))
+          by_place false away = inr (inr k)
+
+      result : Stands (describe_to start.router.id moment place d (outcome start))
+      result =
+          stepped_kept (λ (o : Option Neighbor). SameThere o
+          × (neighbor_at number start.router.area.links ≡ o)) Goes (λ k. absurd k.0)
+          (only_at place f) number
+          (λ link at. one link link.neighbor at.0 at.1) start.router.area.links (same_begun, refl)
+
+  -- ---- every part
+
+  inactive_one : (dead : ℕ) (o : Option Neighbor) → StandsThere o
+      → StandsThere (settled_exchange moment dead
+      (adjacencies.after_inactivity_timer moment dead o))
+  inactive_one dead None h = tt
+  inactive_one dead (Some m) h =
+      chosen (λ (o : Option Neighbor). StandsThere (settled_exchange moment dead o))
+      (adjacencies.has_passed m.last_heard dead moment) None (Some m) (λ e. tt)
+      (λ e. steps.old_description n moment dead m h)
+
+  loaded_one : (o : Option Neighbor) → StandsThere o → StandsThere (loading_done_on o)
+  loaded_one None h = tt
+  loaded_one (Some m) h = steps.filled n m h
+
+  abbrev Lately : Outcome → ByKey ℕ → Type 0
+  Lately o t = Stands o
+
+  each_part : IsKeptToo (in_order old.id) Lately Lately start moment event
+  each_part = record {
+    flushes = λ k c o t at young area h. floods None (lsa_aged 3600 c.lsa)
+        (on_database (age_out moment k) o) h;
+    originates = λ k says p of_key goes may wants so h.
+        floods None (new_instance k (finite.get p.router.area.database k) says)
+        (on_database (install_originated moment
+        (new_instance k (finite.get p.router.area.database k) says)) (outcome p)) h;
+    case = λ place packet heard case lsa o t among other is area h. cases case place lsa o h;
+    hello = λ place packet hello heard is so h. hellos start.router.id place packet.router hello
+        (outcome start) h;
+    description = λ place packet d heard is so h. descriptions place packet d heard is;
+    acknowledgment = λ place packet headers heard is so h. one_step place
+        (λ m. no_sends (after_acknowledgment moment headers m)) (outcome start)
+        (steps.acknowledged n moment headers) h;
+    requested = λ place keys o t area h. h;
+    mismatch = λ place o t area h. mismatches place o h;
+    forgets = λ r o area h. h;
+    inactive = λ o t area h. each_link (run_out moment) o
+        (λ link at. inactive_one link.interface.dead_interval link.neighbor at) h;
+    again = λ o t area h. each_step (again moment o) o
+        (λ link m at. steps.again n moment link.interface.retransmit_interval o.area.database m at)
+        h;
+    acknowledges = λ o t area h. each_link without_acknowledgments o (λ link at. at) h;
+    hellos = λ o t area h. each_link (with_hello_sent moment) o (λ link at. at) h;
+    link_down = λ place o t area h. change_at place taken_down o (λ link at. tt) h;
+    loaded = λ o t area h. each_link link_loading_done o (λ link at. loaded_one link.neighbor at) h;
+    requests = λ o t area h. each_step (λ place link m. request_next moment m) o
+        (λ link m at. steps.asked n moment m at) h;
+    removes = λ o t area h. h;
+    stays = λ o t area h. h;
+  }
+
+  -- ---- in the law's words
+
+  in_law : (new : Router) (o : Option Neighbor) → neighbor_at number new.area.links ≡ o
+      → StandsThere o → BecameOfExchange event number n new
+  in_law new None at k = BecameOfExchange.Over
+      (λ c. let no : None ≡ Some c.neighbor = sym at ∙ c.there in absurd cc)
+  in_law new (Some m) at (inl over) =
+      BecameOfExchange.Over (λ c.
+      let same : m ≡ c.neighbor = some_same (sym at ∙ c.there) in
+      over (ap (λ (x : Neighbor). is_exchange_or_later x.state) same ∙ c.exchanging)
+      (ap (λ (x : Neighbor). conversation_with x) same ∙ c.is))
+  in_law new (Some m) at (inr k) = BecameOfExchange.Stands m at k.0 (record {
+    is_master = k.1;
+    sequence = k.2;
+    received = k.3;
+    summary = k.4;
+  })
+
+  said : (new : Router) → Stands (outcome (record {
+    router = new;
+    sends = [];
+  })) → BecameOfExchange event number n new
+  said new (inl told) = BecameOfExchange.Moved told
+  said new (inr k) = in_law new (neighbor_at number new.area.links) refl k
+
+  became : (outs : List Out) (new : Router) → Happens old moment event outs new → IsInOrder old
+      → BecameOfExchange event number n new
+  became outs new happens order =
+      said new
+      (subst (λ (r : Router). Stands (outcome (record {
+        router = r;
+        sends = [];
+      }))) (sym happens.router)
+      (event_kept_too (in_order old.id) (order_kept old.id) Lately Lately old moment event each_part
+      happens.after (order_brings old event) happens.own (order_begun old moment order) begun))
+
+pub moves : OnlyDescriptionsMoveAnExchange
+moves old moment event outs new happens order number n there =
+    became old moment event number n there outs new happens order

@@ -1,0 +1,396 @@
+-- How an accepted Description moves the DD sequence numbers.
+use Rattle.std.proofs.Common.{◌≡◌, ℕ, ◌+◌, ◌%◌, ◌^◌, Bool, true, false, cond, not, ◌&&◌, ◌||◌, ◌⊎◌}
+use Rattle.std.proofs.Common.{inl, inr, List, [], Option, None, Some, refl, sym, ap, subst, ◌∙◌}
+use Rattle.std.specs.Prelude.{◌==◌, nat_lt}
+use Rattle.std.specs.FinMap as finite
+use Rattle.std.proofs.lemmas.Bool.{eq-eqb, eqb-true}
+use Rattle.words.specs.declared.key.Key.{Key}
+use Rattle.lsa.specs.declared.body.LsaBody.{LsaBody}
+use Rattle.lsdb.specs.Copies.{Database, DatabaseCopy, age_out, install_originated, is_aged_out}
+use Rattle.lsdb.specs.Headers.{Lsa, lsa_aged}
+use Rattle.packet.specs.declared.model.PacketBody.{PacketBody}
+use Rattle.packet.specs.declared.model.PacketBody.TheVariants as body
+use Rattle.packet.specs.declared.model.Description.{Description}
+use Rattle.packet.specs.declared.model.Packet.{Packet}
+use Rattle.packet.specs.Text.{PacketText}
+use Rattle.packet.proofs.Whole.{one_packet}
+use Rattle.adjacency.specs.declared.state.NeighborState.{NeighborState}
+use Rattle.adjacency.specs.declared.state.NeighborState.TheVariants.{Exchange}
+use Rattle.adjacency.specs.Adjacencies.{mismatch_step, two_way_received, two_way_received_in}
+use Rattle.adjacency.specs.Contents.{Step, no_sends}
+use Rattle.adjacency.specs.Descriptions.{Verdict, accept, act, after_description, announced_more}
+use Rattle.adjacency.specs.Descriptions.{as_received, changes_options, describe, exchange_done}
+use Rattle.adjacency.specs.Descriptions.{exchanging, expected_sequence, in_state, is_duplicate}
+use Rattle.adjacency.specs.Descriptions.{knows_types, master_goes_on, same_flag, slave_replies}
+use Rattle.adjacency.specs.Descriptions.{verdict, verdict_in, with_requests}
+use Rattle.adjacency.specs.Neighbors.{Neighbor}
+use Rattle.adjacency.specs.Requests.{request_next}
+use Rattle.adjacency.proofs.Kept.{chosen}
+use Rattle.received.specs.Flooding.{flood_to, is_sender}
+use Rattle.received.specs.Links.{Link, any_exchange_or_loading, neighbor_at}
+use Rattle.received.specs.Outcomes.{Outcome, Stepping, on_database, only_at, step_on, stepped_links}
+use Rattle.events.specs.declared.model.Out.{Out}
+use Rattle.events.specs.Endings.{describe_router, describe_router_later, end_event, is_current}
+use Rattle.events.specs.Endings.{link_loading_done, links_differ, loading_done, loading_done_on}
+use Rattle.events.specs.Endings.{request_all, start_event, stays}
+use Rattle.events.specs.EventState.{EventState, flood_from_nobody, on_area, on_router}
+use Rattle.events.specs.Events.{Happens, OwnPart}
+use Rattle.events.specs.Hellos.{is_foreign}
+use Rattle.events.specs.Originations.{flush, flush_copy, has_max_sequence, has_room, may_originate}
+use Rattle.events.specs.Originations.{new_instance, originate, originate_body, originate_or_wait}
+use Rattle.events.specs.Originations.{router_key, wait, wanted_body}
+use Rattle.events.specs.Packets.{after_packet, describe_to, from_neighbor, is_from, is_hello}
+use Rattle.events.specs.Packets.{is_in_exchange}
+use Rattle.events.specs.Routers.{Occurrence, Router}
+use Rattle.events.proofs.Walk.{MayGrow, OfEvent, outcome}
+use Rattle.flood_laws.specs.InOrder.{IsInOrder}
+use Rattle.flood_laws.proofs.Acknowledged.{in_order, order_begun, order_kept}
+use Rattle.flood_laws.proofs.Leaving.{each_kept_at, stepped_kept}
+use Rattle.flood_laws.proofs.Retransmitted.{IsItsOwn}
+use Rattle.agreement_laws.specs.Exchanged.{conversation_with}
+use Rattle.agreement_laws.specs.Accepted.{AcceptsDescription, accepts_description, is_accepting}
+use Rattle.agreement_laws.specs.Numbers.{AcceptedDescriptionsMoveNumbers, HasMoved, NumbersMove}
+use Rattle.agreement_laws.proofs.ExchangeSteps.{IsSame, same_asked, same_filled, same_flooded}
+
+-- ---- the step
+
+accepting : (a b c e f g : Bool) → is_accepting
+    (cond a Verdict.Discarded (cond b Verdict.Repeated
+    (cond c Verdict.Mismatch (cond e Verdict.Mismatch
+    (cond f Verdict.Mismatch (cond (not g) Verdict.Mismatch Verdict.Accepted)))))) ≡ true
+    → (g ≡ true) × (cond a Verdict.Discarded
+    (cond b Verdict.Repeated (cond c Verdict.Mismatch
+    (cond e Verdict.Mismatch (cond f Verdict.Mismatch
+    (cond (not g) Verdict.Mismatch Verdict.Accepted)))))
+    ≡ Verdict.Accepted)
+accepting true b c e f g is = absurd cc
+accepting false true c e f g is = absurd cc
+accepting false false true e f g is = absurd cc
+accepting false false false true f g is = absurd cc
+accepting false false false false true g is = absurd cc
+accepting false false false false false true is = (refl, refl)
+accepting false false false false false false is = absurd cc
+
+three : (a b c : Bool) → (not a && b && c) ≡ true → (a ≡ false) × (b ≡ true) × (c ≡ true)
+three false true true e = (refl, refl, refl)
+three false true false e = absurd cc
+three false false c e = absurd cc
+three true b c e = absurd cc
+
+module _ (own moment : ℕ) (db : Database) (d : Description) (n : Neighbor) (is : n.state ≡ Exchange)
+    (accepts : accepts_description own moment n d ≡ true) where
+  abbrev Moves : Step → Type 0
+  Moves s = NumbersMove n d s.neighbor × (conversation_with s.neighbor ≡ conversation_with n)
+
+  passes : (nat_lt 8192 d.mtu ≡ false) × (knows_types d ≡ true)
+      × (is_accepting (verdict own (two_way_received moment n).neighbor d) ≡ true)
+  passes = three (nat_lt 8192 d.mtu) (knows_types d)
+      (is_accepting (verdict own (two_way_received moment n).neighbor d)) accepts
+
+  tests : ((d.sequence == expected_sequence n) ≡ true) × (exchanging n d ≡ Verdict.Accepted)
+  tests =
+      accepting (is_duplicate n.received d && n.is_master) (is_duplicate n.received d)
+      (same_flag d.master n.is_master) d.init (changes_options n.received d)
+      (d.sequence == expected_sequence n)
+      (sym ((λ i. is_accepting (verdict own (two_way_received_in (is i) moment n).neighbor d))
+      ∙ (λ i. is_accepting (verdict_in (is i) own n d))) ∙ passes.2)
+
+  expected : d.sequence ≡ expected_sequence n
+  expected = eqb-true d.sequence (expected_sequence n) tests.0
+
+  master : n.is_master ≡ true → (w : Neighbor) → w.is_master ≡ n.is_master → w.sequence ≡ n.sequence
+      → w.received ≡ Some (as_received d) → conversation_with w ≡ conversation_with n
+      → Moves (master_goes_on moment d w)
+  master e w role number received same =
+      let more : Step = describe moment (record w { sequence = (w.sequence + 1) % 2 ^ 32 }) in
+      chosen Moves (announced_more w.described || d.more) more (no_sends (exchange_done moment w))
+      (λ c. (
+        record {
+          expected = expected;
+          same_role = role;
+          received = received;
+          slave = λ f. let no : true ≡ false = sym e ∙ f in absurd cc;
+          master = λ t. inl (ap (λ (k : ℕ). (k + 1) % 2 ^ 32) number);
+        },
+        same,
+      ))
+      (λ c. (
+        record {
+          expected = expected;
+          same_role = role;
+          received = received;
+          slave = λ f. let no : true
+              ≡ false = sym e ∙ f in absurd cc;
+          master = λ t. inr number;
+        },
+        same,
+      ))
+
+  slave : n.is_master ≡ false → (w : Neighbor) → w.is_master ≡ n.is_master → w.received
+      ≡ Some (as_received d) → conversation_with w ≡ conversation_with n
+      → Moves (slave_replies moment d w)
+  slave e w role received same =
+      let replied : Step = describe moment (record w { sequence = d.sequence }) in
+      let moved : NumbersMove n d replied.neighbor =
+      record {
+        expected = expected;
+        same_role = role;
+        received = received;
+        slave = λ f. refl;
+        master = λ t. let no : true ≡ false = sym t ∙ e in absurd cc;
+      } in
+      chosen Moves (announced_more replied.neighbor.described || d.more) replied (record replied {
+        neighbor = exchange_done moment replied.neighbor;
+      }) (λ c. (moved, same))
+      (λ c. (
+        record {
+          expected = expected;
+          same_role = role;
+          received = received;
+          slave = λ f. refl;
+          master = λ t. let no : true ≡ false = sym t ∙ e in absurd cc;
+        },
+        same,
+      ))
+
+  is_accepted : Moves (accept moment db d n)
+  is_accepted =
+      let w : Neighbor = with_requests moment db d.headers (record n {
+        received = Some (as_received d);
+      }) in
+      chosen Moves (knows_types d) (cond w.is_master (master_goes_on moment d w)
+      (slave_replies moment d w)) (mismatch_step moment n)
+      (λ c. chosen Moves w.is_master (master_goes_on moment d w) (slave_replies moment d w)
+      (λ e. master e w refl refl refl refl) (λ e. slave e w refl refl refl))
+      (λ c. let no : true ≡ false = sym passes.1 ∙ c in absurd cc)
+
+  pub step_moves : Moves (after_description own moment db d n)
+  step_moves =
+      chosen Moves (nat_lt 8192 d.mtu) (no_sends n) (in_state n.state own moment db d n)
+      (λ big. let no : true ≡ false = sym big ∙ passes.0 in absurd cc)
+      (λ fits. subst (λ (s : NeighborState). Moves (in_state s own moment db d n)) (sym is)
+      (subst (λ (s : NeighborState). Moves (act (verdict_in s own n d) moment db d n)) (sym is)
+      (subst (λ (v : Verdict). Moves (act v moment db d n)) (sym tests.1) is_accepted)))
+
+-- ---- the end of an event leaves it
+
+module _ (own moment number : ℕ) (x : Neighbor) where
+  abbrev pub SameThere : Option Neighbor → Type 0
+  SameThere None = ⊥
+  SameThere (Some m) = IsSame x m
+
+  abbrev StaysSame : Outcome → Type 0
+  StaysSame o = SameThere (neighbor_at number o.area.links)
+
+  stepped : (f : Neighbor → Step) → ((m : Neighbor) → IsSame x m → IsSame x (f m).neighbor)
+      → (o : Option Neighbor) → SameThere o → SameThere (step_on f o)
+  stepped f keeps None k = k
+  stepped f keeps (Some m) k = keeps m k
+
+  each_step : (f : Stepping) (links : List Link)
+      → ((link : Link) (m : Neighbor) → IsSame x m → IsSame x (f number link m).neighbor)
+      → SameThere (neighbor_at number links)
+      → SameThere (neighbor_at number (stepped_links f links))
+  each_step f links keeps h = stepped_kept SameThere SameThere (λ k. k) f number
+      (λ link at. stepped (f number link) (keeps link) link.neighbor at) links h
+
+  floods : (lsa : Lsa) (o : Outcome) → StaysSame o → StaysSame (flood_from_nobody moment lsa o)
+  floods lsa o h = each_step (flood_to moment None lsa) o.area.links
+      (λ link m at. same_flooded x moment (is_sender None number) lsa m at) h
+
+  pub record Going (p : EventState) : Type 0 where
+    pub so : OfEvent (in_order own) p
+    pub same : StaysSame (outcome p)
+
+  flushed : (k : Key) (c : Option DatabaseCopy) (o : Outcome) → finite.get o.area.database k ≡ c
+      → IsItsOwn o.area → StaysSame o → IsItsOwn (flush_copy moment k c o).area
+      × StaysSame (flush_copy moment k c o)
+  flushed k None o at its h = (its, h)
+  flushed k (Some c) o at its h =
+      chosen (λ (q : Outcome). IsItsOwn q.area × StaysSame q) (is_aged_out moment c) o
+      (flood_from_nobody moment (lsa_aged 3600 c.lsa) (on_database (age_out moment k) o))
+      (λ aged. (its, h))
+      (λ young_one. (
+        (order_kept own).flushes moment k c o at young_one its,
+        floods (lsa_aged 3600 c.lsa) (on_database (age_out moment k) o) h,
+      ))
+
+  flush_goes : (k : Key) (p : EventState) → Going p → Going (flush moment k p)
+  flush_goes k p h =
+      let q = flushed k (finite.get p.router.area.database k) (outcome p) refl h.so.area h.same in
+      record { so = record { area = q.0; announced = h.so.announced }; same = q.1 }
+
+  waits : (k : Key) (p : EventState) → Going p → Going (on_router (wait k) p)
+  waits k p h = record {
+    so = record { area = h.so.area; announced = h.so.announced };
+    same = h.same;
+  }
+
+  body_goes : (may_now : Bool) (k : Key) (says : Option LsaBody) (p : EventState)
+      → k.advertising_router ≡ own → wanted_body p.router k ≡ says → Going p
+      → Going (originate_body may_now moment k says p)
+  body_goes may_now k None p its wants h = h
+  body_goes may_now k (Some says) p its wants h =
+      chosen Going (has_max_sequence (finite.get p.router.area.database k)) (flush moment k p)
+      (cond (may_now && may_originate moment k p.router) (originate moment k says p)
+      (on_router (wait k) p)) (λ is. flush_goes k p h)
+      (λ is. chosen Going (may_now && may_originate moment k p.router) (originate moment k says p)
+      (on_router (wait k) p)
+      (λ may. record {
+        so = record {
+          area = (order_kept own).originates moment k says p its is wants (MayGrow.Anyway tt)
+              h.so;
+          announced = h.so.announced;
+        };
+        same = floods (new_instance k (finite.get p.router.area.database k) says)
+            (on_database (install_originated moment
+            (new_instance k (finite.get p.router.area.database k) says)) (outcome p)) h.same;
+      }) (λ may. waits k p h))
+
+  loaded_one : (o : Option Neighbor) → SameThere o → SameThere (loading_done_on o)
+  loaded_one None k = k
+  loaded_one (Some m) k = same_filled x m k
+
+  loads : (p : EventState) → Going p → Going (loading_done p)
+  loads p h = record {
+    so = record {
+      area = (order_kept own).loaded (outcome p) h.so.area;
+      announced = h.so.announced;
+    };
+    same = each_kept_at SameThere SameThere (λ k. k) link_loading_done number
+        (λ link at. loaded_one link.neighbor at) p.router.area.links h.same;
+  }
+
+  describes : (before : List Link) (p : EventState) → Going p
+      → Going (describe_router before moment p)
+  describes before p h =
+      chosen Going (links_differ before p.router.area.links && not (is_current moment p.router))
+      (originate_or_wait moment (router_key p.router.id) p) p
+      (λ is. body_goes (has_room (router_key p.router.id) p.router) (router_key p.router.id)
+      (wanted_body p.router (router_key p.router.id)) p
+      ((order_kept own).own_router p.router h.so.announced) refl h) (λ is. h)
+
+  describes_later : (before : List Link) (p : EventState) → Going p
+      → Going (describe_router_later before p)
+  describes_later before p h =
+      chosen Going (links_differ before p.router.area.links)
+      (on_router (wait (router_key p.router.id)) p) p (λ is. waits (router_key p.router.id) p h)
+      (λ is. h)
+
+  pub ended : (old : Router) (after : EventState) → Going after
+      → StaysSame (outcome (end_event old moment after))
+  ended old after h =
+      let said : EventState = describe_router old.area.links moment (loading_done after) in
+      let refilled : EventState = describe_router_later said.router.area.links (loading_done said)
+      in
+      let q : Going refilled = describes_later said.router.area.links (loading_done said)
+      (loads said (describes old.area.links (loading_done after) (loads after h))) in
+      let o : Outcome = request_all moment (outcome refilled) in
+      let asks : StaysSame o = each_step (λ place link m. request_next moment m)
+      refilled.router.area.links (λ link m at. same_asked x moment m at) q.same in
+      chosen StaysSame (any_exchange_or_loading o.area.links) o
+      (on_database (λ db. finite.retain_keys db (stays moment o.area)) o) (λ is. asks)
+      (λ is. asks)
+
+-- ---- the event
+
+module _ (old : Router) (moment : ℕ) (event : Occurrence) (order : IsInOrder old) (number : ℕ)
+    (n : Neighbor) (d : Description) (a : AcceptsDescription old moment event number n d)
+    (is : n.state ≡ Exchange) where
+  abbrev begins : EventState
+  begins = start_event moment old
+
+  abbrev takes : Neighbor → Step
+  takes = after_description old.id moment begins.router.area.database d
+
+  abbrev x : Neighbor
+  x = (takes n).neighbor
+
+  -- the packet is heard
+  is_taken : (after : EventState) → OwnPart moment event begins after → after
+      ≡ on_area (describe_to old.id moment number d) begins
+  is_taken after own = by_packet (subst (λ (e : Occurrence). OwnPart moment e begins after) a.is
+      own)
+    where
+      of_body : (says : PacketBody) → says ≡ body.Description d → (o : Option Neighbor) → o ≡ Some n
+          → cond (is_foreign old.id a.packet.router && (is_hello says || is_from a.packet.router o))
+          (from_neighbor moment number a.packet.router (is_in_exchange o) says begins) begins
+          ≡ on_area (describe_to old.id moment number d) begins
+      of_body says its o at =
+          (λ i. cond (is_foreign old.id a.packet.router &&
+          (is_hello (its i) || is_from a.packet.router (at i)))
+          (from_neighbor moment number a.packet.router (is_in_exchange (at i)) (its i)
+          begins) begins)
+          ∙ (λ i. cond (a.other i && (false || eq-eqb n.router a.packet.router a.from i))
+          (on_area (describe_to old.id moment number d) begins) begins)
+
+      by_packet : (packet : Packet) × PacketText a.bytes packet
+          × (after ≡ after_packet moment number packet begins) → after
+          ≡ on_area (describe_to old.id moment number d) begins
+      by_packet k =
+          k.2 ∙ ap (λ (p : Packet). after_packet moment number p begins)
+          (one_packet a.bytes k.0 a.packet k.1 a.text)
+          ∙ of_body a.packet.body a.says (neighbor_at number begins.router.area.links) a.there
+
+  one_taken : (link : Link) (o : Option Neighbor) → o ≡ Some n
+      → SameThere old.id moment number x (step_on (only_at number takes number link) o)
+  one_taken link o at =
+      subst (λ (m : Option Neighbor). SameThere old.id moment number x
+      (step_on (only_at number takes number link) m)) (sym at)
+      (subst (λ b. IsSame x (cond b (takes n) (record {
+        neighbor = n;
+        sends = [];
+      })).neighbor) (sym (eq-eqb number number refl))
+      (refl, refl, refl, refl, refl))
+
+  goes : Going old.id moment number x (on_area (describe_to old.id moment number d) begins)
+  goes =
+      let so : OfEvent (in_order old.id) begins = order_begun old moment order in
+      record {
+        so = record {
+          area = (order_kept old.id).description old.id moment number d (outcome begins) so.area;
+          announced = so.announced;
+        };
+        same = stepped_kept (λ (o : Option Neighbor). o ≡ Some n) (SameThere old.id moment number x)
+            (λ e. absurd cc) (only_at number takes) number
+            (λ link at. one_taken link link.neighbor at) begins.router.area.links a.there;
+      }
+
+  in_law : (new : Router) (o : Option Neighbor) → neighbor_at number new.area.links ≡ o
+      → SameThere old.id moment number x o → HasMoved number n d new
+  in_law new None at k = absurd k
+  in_law new (Some m) at k = by_step
+      (step_moves old.id moment begins.router.area.database d n is a.accepted)
+    where
+      by_step : NumbersMove n d x × (conversation_with x ≡ conversation_with n)
+          → HasMoved number n d new
+      by_step s = record {
+        neighbor = m;
+        there = at;
+        same = k.0 ∙ s.1;
+        moved = record {
+          expected = s.0.expected;
+          same_role = k.1 ∙ s.0.same_role;
+          received = k.3 ∙ s.0.received;
+          slave = λ e. k.2 ∙ s.0.slave e;
+          master = λ e. either (s.0.master e);
+        };
+      }
+        where
+          either : (x.sequence ≡ (n.sequence + 1) % 2 ^ 32) ⊎ (x.sequence ≡ n.sequence)
+              → (m.sequence ≡ (n.sequence + 1) % 2 ^ 32) ⊎ (m.sequence ≡ n.sequence)
+          either (inl e) = inl (k.2 ∙ e)
+          either (inr e) = inr (k.2 ∙ e)
+
+  moved : (outs : List Out) (new : Router) → Happens old moment event outs new
+      → HasMoved number n d new
+  moved outs new happens =
+      in_law new (neighbor_at number new.area.links) refl
+      (subst (λ (r : Router). SameThere old.id moment number x (neighbor_at number r.area.links))
+      (sym happens.router)
+      (ended old.id moment number x old happens.after
+      (subst (Going old.id moment number x) (sym (is_taken happens.after happens.own)) goes)))
+
+pub numbers_move : AcceptedDescriptionsMoveNumbers
+numbers_move old moment event outs new happens order number n d a is =
+    moved old moment event order number n d a is outs new happens

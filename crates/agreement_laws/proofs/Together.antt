@@ -1,0 +1,156 @@
+-- An exchange of Descriptions ends only together.
+use Rattle.std.proofs.Common.{◌≡◌, ℕ, Bool, true, false, not, ◌⊎◌, inl, inr, List, refl}
+use Rattle.std.proofs.Common.{sym, ap, subst, ◌∙◌, arith}
+use Rattle.std.specs.Prelude.{nat_lt}
+use Rattle.std.proofs.lemmas.Bool.{ltb-true}
+use Rattle.packet.specs.declared.model.Description.{Description}
+use Rattle.adjacency.specs.declared.state.NeighborState.{NeighborState}
+use Rattle.adjacency.specs.declared.state.NeighborState.TheVariants.{Init, ExStart, Exchange}
+use Rattle.adjacency.specs.declared.state.NeighborState.TheVariants.{Loading}
+use Rattle.adjacency.specs.declared.state.NeighborState.TheVariants.{Full}
+use Rattle.adjacency.specs.Neighbors.{Neighbor, is_exchange_or_later}
+use Rattle.agreement_laws.specs.Exchanged.{conversation_with}
+use Rattle.agreement_laws.specs.HeldWasTold.{is_exchange_done}
+use Rattle.agreement_laws.specs.NeighborHistories.{Ends, IsHistory, Pair, Side}
+use Rattle.agreement_laws.specs.NeighborHistories.{other_side, party}
+use Rattle.agreement_laws.specs.Answers.{DescriptionsAreAnswered, HasRole, IsAccepted, IsAnswered}
+use Rattle.agreement_laws.specs.Answers.{IsOf, IsOpening}
+use Rattle.agreement_laws.specs.Together.{IsDone, NoneIsMistaken, NumbersServeOnce}
+use Rattle.agreement_laws.specs.Together.{TheExchangeEndsTogether, WasAccepted}
+
+exchange_then : (s : NeighborState) → is_exchange_done s ≡ true → is_exchange_or_later s ≡ true
+exchange_then Init e = absurd cc
+exchange_then ExStart e = absurd cc
+exchange_then Exchange e = absurd cc
+exchange_then Loading e = refl
+exchange_then Full e = refl
+
+back : (side : Side) → other_side (other_side side) ≡ side
+back Side.Left = refl
+back Side.Right = refl
+
+not_both : (a b : ℕ) → nat_lt a b ≡ true → nat_lt b a ≡ true → ⊥
+not_both a b e f = let lt = ltb-true a b e in let gt = ltb-true b a f in omega (arith, lt, gt)
+
+not_twice : (a b : Bool) → a ≡ not b → not a ≡ b
+not_twice true true e = absurd cc
+not_twice true false e = refl
+not_twice false true e = refl
+not_twice false false e = absurd cc
+
+module _ (laws : DescriptionsAreAnswered) (ends : Ends) (side : Side) (now : Pair)
+    (earlier : List Pair) (h : IsHistory ends now earlier) (mine : IsDone ends side now)
+    (its : IsDone ends (other_side side) now)
+    (current : NoneIsMistaken ends side (conversation_with mine.neighbor)
+    (conversation_with its.neighbor) now earlier h)
+    (its_current : NoneIsMistaken ends (other_side side) (conversation_with its.neighbor)
+    (conversation_with mine.neighbor) now earlier h) (d : Description)
+    (sent : IsOf ends side (conversation_with mine.neighbor) d now earlier h) where
+  abbrev n : Neighbor
+  n = mine.neighbor
+
+  abbrev m : Neighbor
+  m = its.neighbor
+
+  abbrev own : ℕ
+  own = (party side now).router.id
+
+  abbrev other : ℕ
+  other = (party (other_side side) now).router.id
+
+  abbrev Result : Type 0
+  Result =
+      IsOpening d
+      ⊎ WasAccepted ends side (conversation_with n) (conversation_with m) d now earlier h
+
+  my_role : HasRole n.is_master own other
+  my_role =
+      subst (HasRole n.is_master own) mine.other
+      (laws.roles ends side now earlier h n mine.there (exchange_then n.state mine.done))
+
+  its_role : HasRole m.is_master other own
+  its_role =
+      subst (HasRole m.is_master other)
+      (its.other ∙ ap (λ (s : Side). (party s now).router.id) (back side))
+      (laws.roles ends (other_side side) now earlier h m its.there (exchange_then m.state its.done))
+
+  -- one of the two leads
+  roles_differ : (a b : Bool) → HasRole a own other → HasRole b other own → b ≡ not a
+  roles_differ true true e f = absurd (not_both other own e f)
+  roles_differ true false e f = refl
+  roles_differ false true e f = refl
+  roles_differ false false e f = absurd (not_both own other e f)
+
+  -- the other one's answer to an answer
+  taken_by : (e : Description) → e.sequence ≡ d.sequence → e.master ≡ not d.master
+      → IsAnswered ends (other_side side) (conversation_with m) e now earlier h → Result
+  taken_by e number role a =
+      inr (record {
+        taken = a.answer;
+        accepted = a.accepted;
+        sent = subst (λ (s : Side). IsOf ends s (conversation_with n) a.answer now earlier h)
+            (back side) (its_current a.answer a.accepted);
+        number = a.number ∙ number;
+        role = a.role ∙ not_twice e.master d.master role;
+      })
+
+  -- this router leads
+  as_master : n.is_master ≡ true → m.is_master ≡ false → Result
+  as_master leads follows =
+      by_answer (laws.master ends side now earlier h n mine.there mine.done leads d sent)
+    where
+      by_answer : (d.master ≡ true)
+          × IsAnswered ends side (conversation_with n) d now earlier h → Result
+      by_answer (first, a) =
+          by_other (laws.slave ends (other_side side) now earlier h m its.there
+          (exchange_then m.state its.done) follows a.answer (current a.answer a.accepted))
+        where
+          by_other : IsOpening a.answer
+              ⊎ IsAnswered ends (other_side side) (conversation_with m) a.answer now earlier h
+              → Result
+          by_other (inl o) =
+              let no : true ≡ false = sym o.master ∙ a.role ∙ ap not first in absurd cc
+          by_other (inr b) = taken_by a.answer a.number a.role b
+
+  -- the other one does
+  as_slave : n.is_master ≡ false → m.is_master ≡ true → Result
+  as_slave follows leads =
+      by_answer (laws.slave ends side now earlier h n mine.there
+      (exchange_then n.state mine.done) follows d sent)
+    where
+      by_answer : IsOpening d ⊎ IsAnswered ends side (conversation_with n) d now earlier h → Result
+      by_answer (inl o) = inl o
+      by_answer (inr a) =
+          taken_by a.answer a.number a.role
+          (laws.master ends (other_side side) now earlier h m its.there its.done leads a.answer
+          (current a.answer a.accepted)).1
+
+  pub result : Result
+  result = by_role n.is_master refl
+    where
+      by_role : (b : Bool) → n.is_master ≡ b → Result
+      by_role true is =
+          as_master is (roles_differ n.is_master m.is_master my_role its_role ∙ ap not is)
+      by_role false is =
+          as_slave is (roles_differ n.is_master m.is_master my_role its_role ∙ ap not is)
+
+  -- the very Description
+  pub the_same : NumbersServeOnce ends side (conversation_with n) now earlier h
+      → IsOpening d ⊎ IsAccepted ends (other_side side) (conversation_with m) d now earlier h
+  the_same once = by_result result
+    where
+      by_result : Result
+          → IsOpening d ⊎ IsAccepted ends (other_side side) (conversation_with m) d now earlier h
+      by_result (inl o) = inl o
+      by_result (inr w) =
+          inr (subst (λ (e : Description).
+          IsAccepted ends (other_side side) (conversation_with m) e now earlier h)
+          (once w.taken d w.sent sent w.number w.role) w.accepted)
+
+pub together : DescriptionsAreAnswered → TheExchangeEndsTogether
+together laws = record {
+  accepted = λ ends side now earlier h mine its current its_current d sent.
+      result laws ends side now earlier h mine its current its_current d sent;
+  same = λ ends side now earlier h mine its current its_current once d sent.
+      the_same laws ends side now earlier h mine its current its_current d sent once;
+}

@@ -1,0 +1,99 @@
+-- What is requested (RFC 2328, section 10.6): each header of a Description that is accepted, unless
+-- an instance that is as new is held. And what becomes of a request in an event (sections 10.9, 13
+-- and 13.3): it leaves the request list only where one that is as new is held, where a Description
+-- is accepted that has a header of its key, or with the conversation.
+use Rattle.std.specs.Prelude.{◌≡◌, ℕ, true, List, Some}
+use Rattle.std.specs.FinMap as finite
+use Rattle.std.specs.List.{Contains}
+use Rattle.words.specs.Numbers.{InterfaceNumber, Moment, RouterNumber}
+use Rattle.words.specs.declared.key.Key.{Key}
+use Rattle.lsdb.specs.Headers.{Header, key_of}
+use Rattle.lsdb.specs.Instances.{ListEntry, instance_of, listed_now}
+use Rattle.lsdb.specs.declared.order.Instance.{Instance}
+use Rattle.packet.specs.declared.model.PacketBody.TheVariants as body
+use Rattle.packet.specs.declared.model.Description.{Description}
+use Rattle.packet.specs.declared.model.Packet.{Packet}
+use Rattle.packet.specs.Text.{PacketText}
+use Rattle.adjacency.specs.Adjacencies.{two_way_received}
+use Rattle.adjacency.specs.Neighbors.{Neighbor}
+use Rattle.received.specs.Links.{neighbor_at}
+use Rattle.events.specs.declared.model.Out.{Out}
+use Rattle.events.specs.Endings.{start_event}
+use Rattle.events.specs.Events.{Happens}
+use Rattle.events.specs.Routers.{Occurrence, Router}
+use Rattle.flood_laws.specs.InOrder.{IsInOrder}
+use Rattle.agreement_laws.specs.CopiesClimb.{BecameOf}
+use Rattle.agreement_laws.specs.Exchanged.{Conversation, Converses, conversation_with}
+use Rattle.agreement_laws.specs.Accepted.{AcceptsDescription, IsLastOfItsKey}
+use Rattle.agreement_laws.specs.Accepted.{accepts_description}
+
+-- after the event at the moment, in which the old router became the new one
+pub data IsRequestedOrHeld (old : Router) (moment : Moment) (event : Occurrence)
+    (number : InterfaceNumber) (with_it : Conversation) (key : Key) (entry : ListEntry)
+    (instance : Instance) (new : Router) : Type 0 where
+  -- the entry stands on the neighbor's request list, in this conversation
+  Requested : (n : Neighbor) → neighbor_at number new.area.links ≡ Some n
+      → conversation_with n ≡ with_it → finite.get n.requests key ≡ Some entry
+      → IsRequestedOrHeld old moment event number with_it key entry instance new
+  -- one as new as the instance is held; or it was, and left in this event, at MaxAge
+  Held : BecameOf old moment event instance key new
+      → IsRequestedOrHeld old moment event number with_it key entry instance new
+
+-- ---- in an event
+
+-- the router accepts a Description that has a header of the key, from this router
+pub record AcceptsKey (old : Router) (moment : Moment) (event : Occurrence)
+    (number : InterfaceNumber) (router : RouterNumber) (key : Key) : Type 0 where
+  pub bytes : List ℕ
+  pub packet : Packet
+  pub is : event ≡ Occurrence.Packet number bytes
+  pub text : PacketText bytes packet
+  pub from : packet.router ≡ router
+  pub d : Description
+  pub says : packet.body ≡ body.Description d
+  -- the neighbor as it is once copies have come to MaxAge
+  pub neighbor : Neighbor
+  pub its : neighbor.router ≡ router
+  pub there : neighbor_at number (start_event moment old).router.area.links ≡ Some neighbor
+  pub accepted : accepts_description old.id moment neighbor d ≡ true
+  pub header : Header
+  pub among : Contains d.headers header
+  pub of_key : key_of header ≡ key
+
+-- what becomes of an entry on the request list of this neighbor, which is at the interface before
+-- the event
+pub data BecameOfRequest (old : Router) (moment : Moment) (event : Occurrence)
+    (number : InterfaceNumber) (n : Neighbor) (key : Key) (entry : ListEntry) (new : Router)
+    : Type 0 where
+  -- it is still requested, or met
+  Stays : IsRequestedOrHeld old moment event number (conversation_with n) key entry
+      (listed_now moment entry) new
+      → BecameOfRequest old moment event number n key entry new
+  -- another Description with a header of the key is accepted, and so that one may have taken its
+  -- place
+  Again : AcceptsKey old moment event number n.router key
+      → BecameOfRequest old moment event number n key entry new
+  -- the conversation is over
+  Over : (Converses number (conversation_with n) new → ⊥)
+      → BecameOfRequest old moment event number n key entry new
+
+-- of routers in order, as they are in every run: so it is of each request in each event
+abbrev pub RequestsAreMet : Type 0
+RequestsAreMet =
+    (old : Router) (moment : Moment) (event : Occurrence) (outs : List Out) (new : Router)
+    → Happens old moment event outs new → IsInOrder old
+    → (number : InterfaceNumber) (n : Neighbor) → neighbor_at number old.area.links ≡ Some n
+    → (key : Key) (entry : ListEntry) → finite.get n.requests key ≡ Some entry
+    → BecameOfRequest old moment event number n key entry new
+
+-- of routers in order, as they are in every run: so it is of each Description that is accepted
+abbrev pub WhatIsAcceptedIsRequested : Type 0
+WhatIsAcceptedIsRequested =
+    (old : Router) (moment : Moment) (event : Occurrence) (outs : List Out) (new : Router)
+    → Happens old moment event outs new → IsInOrder old
+    → (number : InterfaceNumber) (n : Neighbor) (d : Description)
+    → AcceptsDescription old moment event number n d
+    → (h : Header) → IsLastOfItsKey d.headers h
+    → IsRequestedOrHeld old moment event number
+    (conversation_with (two_way_received moment n).neighbor)
+    (key_of h) (record { header = h; at = moment }) (instance_of h) new

@@ -1,0 +1,74 @@
+-- What is requested stays so until an LSA of its key comes (RFC 2328, sections 10.6, 10.9, 13 and
+-- 13.3): where no copy is held and the key isn't the router's own, what is accepted is requested,
+-- and a request leaves its list in no event that brings no LSA of the key.
+use Rattle.std.specs.Prelude.{◌≡◌, ℕ, List, None, Some}
+use Rattle.std.specs.FinMap as finite
+use Rattle.std.specs.List.{Contains}
+use Rattle.words.specs.Numbers.{InterfaceNumber, Moment}
+use Rattle.words.specs.declared.key.Key.{Key}
+use Rattle.lsdb.specs.Headers.{Header, Lsa, key_of, lsa_key}
+use Rattle.lsdb.specs.Instances.{ListEntry}
+use Rattle.packet.specs.declared.model.Description.{Description}
+use Rattle.packet.specs.declared.model.Packet.{Packet}
+use Rattle.packet.specs.Text.{PacketText}
+use Rattle.adjacency.specs.Adjacencies.{two_way_received}
+use Rattle.adjacency.specs.Neighbors.{Neighbor}
+use Rattle.received.specs.Links.{neighbor_at}
+use Rattle.events.specs.declared.model.Out.{Out}
+use Rattle.events.specs.Events.{Happens}
+use Rattle.events.specs.Routers.{Occurrence, Router}
+use Rattle.flood_laws.specs.InOrder.{IsInOrder}
+use Rattle.flood_laws.specs.NewInstances.{lsas_brought}
+use Rattle.agreement_laws.specs.Exchanged.{Conversation, Converses, conversation_with}
+use Rattle.agreement_laws.specs.Accepted.{AcceptsDescription, IsLastOfItsKey}
+use Rattle.agreement_laws.specs.Requests.{AcceptsKey}
+
+-- no copy is held, and the router originates none
+pub record IsForeignAndAbsent (r : Router) (key : Key) : Type 0 where
+  pub absent : finite.get r.area.database key ≡ None
+  pub others : key.advertising_router ≡ r.id → ⊥
+
+-- the event's packet brings no LSA of the key
+abbrev pub BringsNone : Occurrence → Key → Type 0
+BringsNone event key =
+    (number : InterfaceNumber) (bytes : List ℕ) (packet : Packet)
+    → event ≡ Occurrence.Packet number bytes → PacketText bytes packet
+    → (lsa : Lsa) → Contains (lsas_brought packet.body) lsa → lsa_key lsa ≡ key → ⊥
+
+-- the entry stands on the request list of the neighbor at the interface, in this conversation
+pub record IsRequested (number : InterfaceNumber) (with_it : Conversation) (key : Key)
+    (entry : ListEntry) (r : Router) : Type 0 where
+  pub neighbor : Neighbor
+  pub there : neighbor_at number r.area.links ≡ Some neighbor
+  pub is : conversation_with neighbor ≡ with_it
+  pub asked : finite.get neighbor.requests key ≡ Some entry
+
+-- what becomes of such a request
+pub data StaysRequested (old : Router) (moment : Moment) (event : Occurrence)
+    (number : InterfaceNumber) (n : Neighbor) (key : Key) (entry : ListEntry) (new : Router)
+    : Type 0 where
+  Stays : IsRequested number (conversation_with n) key entry new
+      → StaysRequested old moment event number n key entry new
+  -- another Description with a header of the key is accepted
+  Again : AcceptsKey old moment event number n.router key
+      → StaysRequested old moment event number n key entry new
+  -- the conversation is over
+  Over : (Converses number (conversation_with n) new → ⊥)
+      → StaysRequested old moment event number n key entry new
+
+-- of routers in order, as they are in every run: so it is of each event
+pub record RequestsStay : Type 0 where
+  pub stays : (old : Router) (moment : Moment) (event : Occurrence) (outs : List Out)
+      (new : Router) → Happens old moment event outs new → IsInOrder old
+      → (number : InterfaceNumber) (n : Neighbor) → neighbor_at number old.area.links ≡ Some n
+      → (key : Key) (entry : ListEntry) → finite.get n.requests key ≡ Some entry
+      → IsForeignAndAbsent old key → BringsNone event key
+      → StaysRequested old moment event number n key entry new
+  -- what is accepted
+  pub accepted : (old : Router) (moment : Moment) (event : Occurrence) (outs : List Out)
+      (new : Router) → Happens old moment event outs new → IsInOrder old
+      → (number : InterfaceNumber) (n : Neighbor) (d : Description)
+      → AcceptsDescription old moment event number n d
+      → (h : Header) → IsLastOfItsKey d.headers h → IsForeignAndAbsent old (key_of h)
+      → IsRequested number (conversation_with (two_way_received moment n).neighbor) (key_of h)
+      (record { header = h; at = moment }) new

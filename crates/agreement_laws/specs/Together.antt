@@ -1,0 +1,71 @@
+-- An exchange of Descriptions ends only together (RFC 2328, sections 10.6 and 10.8): once both
+-- neighbors are done with it, each has accepted what the other described; unless a Description of
+-- another conversation was taken for one of this, which has the same DD sequence number.
+use Rattle.std.specs.Prelude.{◌≡◌, ◌⊎◌, true, List, Some}
+use Rattle.packet.specs.declared.model.Description.{Description}
+use Rattle.adjacency.specs.Neighbors.{Neighbor}
+use Rattle.received.specs.Links.{neighbor_at}
+use Rattle.agreement_laws.specs.Exchanged.{Conversation, conversation_with}
+use Rattle.agreement_laws.specs.HeldWasTold.{is_exchange_done}
+use Rattle.agreement_laws.specs.NeighborHistories.{Ends, IsHistory, Pair, Side, interface_of}
+use Rattle.agreement_laws.specs.NeighborHistories.{other_side, party}
+use Rattle.agreement_laws.specs.Answers.{IsAccepted, IsOf, IsOpening}
+
+-- no Description of another conversation was taken for one of this: each that the router of this
+-- side accepted in its conversation is of the other one's
+abbrev pub NoneIsMistaken : (ends : Ends) → Side → (mine its : Conversation) → (now : Pair)
+    (earlier : List Pair) → IsHistory ends now earlier → Type 0
+NoneIsMistaken ends side mine its now earlier h =
+    (d : Description) → IsAccepted ends side mine d now earlier h
+    → IsOf ends (other_side side) its d now earlier h
+
+-- the router of this side is done with the exchange with the other one
+pub record IsDone (ends : Ends) (side : Side) (now : Pair) : Type 0 where
+  pub neighbor : Neighbor
+  pub there : neighbor_at (interface_of side ends) (party side now).router.area.links
+      ≡ Some neighbor
+  pub done : is_exchange_done neighbor.state ≡ true
+  pub other : neighbor.router ≡ (party (other_side side) now).router.id
+
+-- the other one accepted a Description with this one's number, which the router of this side sent
+pub record WasAccepted (ends : Ends) (side : Side) (mine its : Conversation) (d : Description)
+    (now : Pair) (earlier : List Pair) (h : IsHistory ends now earlier) : Type 0 where
+  pub taken : Description
+  pub accepted : IsAccepted ends (other_side side) its taken now earlier h
+  pub sent : IsOf ends side mine taken now earlier h
+  pub number : taken.sequence ≡ d.sequence
+  pub role : taken.master ≡ d.master
+
+-- no two unlike Descriptions that the router of this side sent in its conversation have one number
+-- and role; it would take 2^32 of them
+abbrev pub NumbersServeOnce : (ends : Ends) → Side → Conversation → (now : Pair)
+    (earlier : List Pair) → IsHistory ends now earlier → Type 0
+NumbersServeOnce ends side mine now earlier h =
+    (a b : Description) → IsOf ends side mine a now earlier h → IsOf ends side mine b now earlier h
+    → a.sequence ≡ b.sequence → a.master ≡ b.master → a ≡ b
+
+-- in every history of two neighbors
+pub record TheExchangeEndsTogether : Type 0 where
+  pub accepted : (ends : Ends) (side : Side) (now : Pair) (earlier : List Pair)
+      (h : IsHistory ends now earlier)
+      → (mine : IsDone ends side now) (its : IsDone ends (other_side side) now)
+      → NoneIsMistaken ends side (conversation_with mine.neighbor)
+      (conversation_with its.neighbor) now earlier h
+      → NoneIsMistaken ends (other_side side) (conversation_with its.neighbor)
+      (conversation_with mine.neighbor) now earlier h
+      → (d : Description) → IsOf ends side (conversation_with mine.neighbor) d now earlier h
+      → IsOpening d
+      ⊎ WasAccepted ends side (conversation_with mine.neighbor) (conversation_with its.neighbor) d
+      now earlier h
+  -- so the very Description, where numbers serve once
+  pub same : (ends : Ends) (side : Side) (now : Pair) (earlier : List Pair)
+      (h : IsHistory ends now earlier)
+      → (mine : IsDone ends side now) (its : IsDone ends (other_side side) now)
+      → NoneIsMistaken ends side (conversation_with mine.neighbor)
+      (conversation_with its.neighbor) now earlier h
+      → NoneIsMistaken ends (other_side side) (conversation_with its.neighbor)
+      (conversation_with mine.neighbor) now earlier h
+      → NumbersServeOnce ends side (conversation_with mine.neighbor) now earlier h
+      → (d : Description) → IsOf ends side (conversation_with mine.neighbor) d now earlier h
+      → IsOpening d
+      ⊎ IsAccepted ends (other_side side) (conversation_with its.neighbor) d now earlier h

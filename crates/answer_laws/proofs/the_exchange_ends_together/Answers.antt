@@ -1,5 +1,0 @@
-use Rattle.answer_laws.proofs.Together.{together}
-use Rattle.answer_laws.proofs.the_exchange_ends_together.Goals as goal
-
-pub returns : goal.returns
-returns c = together c.descriptions_are_answered.ensures

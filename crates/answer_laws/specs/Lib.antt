@@ -1,5 +1,0 @@
-pub mod Answers
-pub mod Together
-pub mod Held
-pub mod Described
-pub mod WorkedAnswers

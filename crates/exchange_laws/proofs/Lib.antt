@@ -1,8 +1,0 @@
-mod Absent
-mod Holding
-mod Asking
-mod Describing
-mod Parts
-mod Events
-mod Runs
-mod WorkedRequests

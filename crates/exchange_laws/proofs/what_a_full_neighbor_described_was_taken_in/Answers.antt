@@ -1,5 +1,0 @@
-use Rattle.exchange_laws.proofs.Runs.{full_took_in}
-use Rattle.exchange_laws.proofs.what_a_full_neighbor_described_was_taken_in.Goals as goal
-
-pub returns : goal.returns
-returns c = full_took_in c.ranks_follow_the_comparison.ensures

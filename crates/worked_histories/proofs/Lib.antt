@@ -1,7 +1,0 @@
-mod Start
-mod Packets
-mod Ticks
-mod Turns
-mod Left
-mod Right
-mod History
