@@ -5,3 +5,5 @@ pub mod Parts
 pub mod Ended
 pub mod Runs
 pub mod Worked
+pub mod InOrder
+pub mod RunningRouter

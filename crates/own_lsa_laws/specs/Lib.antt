@@ -1,2 +1,4 @@
 pub mod OwnCopies
 pub mod Worked
+pub mod Deeds
+pub mod RunningRouter

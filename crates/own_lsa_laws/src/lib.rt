@@ -5,6 +5,8 @@
 ghost use Rattle.own_lsa_laws.specs.OwnCopies.{NobodySpeaksForThisRouter};
 ghost use Rattle.own_lsa_laws.specs.Worked.{WorkedOwnCopies};
 
+pub mod workers;
+
 /// No other router speaks for this one for longer than MinLSInterval, five seconds, in any run from
 /// the start in which the clock doesn't go back, whatever is received (RFC 2328, section 13.4).
 /// After every event, each copy in the database that is below MaxAge and has this router as

@@ -12,7 +12,7 @@ use Rattle.book.specs.Event.TheVariants as event
 use Rattle.worker.specs.Replay.{Leads}
 use Rattle.worker.specs.Turns.{IsOfferedBySome, Sends, TakesFor, took_from}
 use Rattle.worker.specs.Work.TheVariants.{Tick}
-use Rattle.worker_laws.specs.OwnLsas.{IsTicked, NobodySpeaksForTheRunningRouter}
+use Rattle.own_lsa_laws.specs.RunningRouter.{IsTicked, NobodySpeaksForTheRunningRouter}
 
 from_start : RoutersRefuseClocksThatGoBack → (c : Config) (steps : List Step)
     → ClockRunsOn (initial c).moment steps → ClockRunsOn c.start steps

@@ -4,9 +4,9 @@ use Rattle.std.proofs.Common.{None, refl, sym, subst, ap, ◌∙◌}
 use Rattle.std.proofs.lemmas.List.{append-nil, append_assoc, map-append}
 use Rattle.worker.specs.Work.TheVariants.{Datagram, Tick}
 use Rattle.worker.specs.Lives.{IsHeard, Listens, Lives, Reads, Senses, Standing, Ticks}
-use Rattle.worker_laws.specs.Deeds.{Deed, DoesEach, EachMayFollow, IsLookingAfter}
-use Rattle.worker_laws.specs.Deeds.{LivesAreDeedsInOrder, MayFollow, given, given_by, heard}
-use Rattle.worker_laws.specs.Deeds.{heard_by, last_tick, tick_after}
+use Rattle.own_lsa_laws.specs.Deeds.{Deed, DoesEach, EachMayFollow, IsLookingAfter}
+use Rattle.own_lsa_laws.specs.Deeds.{LivesAreDeedsInOrder, MayFollow, given, given_by, heard}
+use Rattle.own_lsa_laws.specs.Deeds.{heard_by, last_tick, tick_after}
 
 -- ---- one list after another
 

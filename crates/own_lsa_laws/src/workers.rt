@@ -1,14 +1,12 @@
 //! What a worker's rounds come to, and what the router that workers serve says of itself, as laws,
 //! each carried by a function that does nothing.
-#![tactic(auto)]
-
 ghost use Rattle.std.specs.Prelude.{ℕ};
 ghost use Rattle.worker.specs.Lives.{senses_of};
-ghost use Rattle.worker_laws.specs.Deeds.{LivesAreDeedsInOrder};
-ghost use Rattle.worker_laws.specs.OwnLsas.{NobodySpeaksForTheRunningRouter};
+ghost use Rattle.own_lsa_laws.specs.Deeds.{LivesAreDeedsInOrder};
+ghost use Rattle.own_lsa_laws.specs.RunningRouter.{NobodySpeaksForTheRunningRouter};
 
+use crate::nobody_speaks_for_this_router;
 use links::{Seconds, Transport};
-use own_lsa_laws::nobody_speaks_for_this_router;
 use router_runs::routers_refuse_clocks_that_go_back;
 use worker::{Flag, Site, Taker};
 

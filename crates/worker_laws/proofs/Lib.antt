@@ -1,2 +1,0 @@
-pub mod InOrder
-pub mod OwnLsas
