@@ -32,7 +32,7 @@ use Rattle.route_laws.proofs.Alone.{route_of}
 use Rattle.routes.proofs.Prefixes.{one_prefix}
 use Rattle.routes.proofs.Determined.{one_way}
 use Rattle.route_laws.proofs.Entries.{all_pass, is_said, sayings}
-use Rattle.route_laws.proofs.Forwarding.{one_forward}
+use Rattle.route_laws.proofs.OneWay.{one_forward}
 use Rattle.route_laws.proofs.Labels.{AreChecked, not_both}
 use Rattle.route_laws.proofs.Made.{says}
 use Rattle.route_laws.proofs.Parts.{apart, in_front, nobody, one_below, one_of}

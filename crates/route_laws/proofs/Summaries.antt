@@ -40,7 +40,7 @@ use Rattle.route_laws.specs.WorkedSummaries.{summaries_links, summaries_root, su
 use Rattle.route_laws.proofs.Alone.{IsAlone, all_candidates, alone, each_within}
 use Rattle.routes.proofs.Prefixes.{one_prefix}
 use Rattle.route_laws.proofs.Entries.{all_pass, is_said, sayings}
-use Rattle.route_laws.proofs.Forwarding.{boundary}
+use Rattle.route_laws.proofs.OneWay.{boundary}
 use Rattle.route_laws.proofs.Labels.{AreChecked, at_node, checked, way_by}
 use Rattle.route_laws.proofs.Made.{from_root, only_one, says}
 use Rattle.route_laws.proofs.Parts.{apart, in_front, nobody, one_of}

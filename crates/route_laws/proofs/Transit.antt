@@ -33,11 +33,11 @@ use Rattle.route_laws.proofs.Alone.{no_worse_itself, route_of}
 use Rattle.routes.proofs.Prefixes.{one_prefix}
 use Rattle.routes.proofs.Determined.{one_way}
 use Rattle.route_laws.proofs.Entries.{all_pass, links_of, is_said, sayings}
-use Rattle.route_laws.proofs.Forwarding.{one_forward}
+use Rattle.route_laws.proofs.OneWay.{one_forward}
 use Rattle.route_laws.proofs.Labels.{AreLabels, subset, way_by}
 use Rattle.route_laws.proofs.Made.{back, from_root, linked, one_or_two, only_one, says}
-use Rattle.route_laws.proofs.Networks.{AreRising, IsNetworkKnown, IsStubKnown, at, each_offer}
-use Rattle.route_laws.proofs.Networks.{rising, unreached}
+use Rattle.route_laws.proofs.NetworkLabels.{AreRising, IsNetworkKnown, IsStubKnown, at, each_offer}
+use Rattle.route_laws.proofs.NetworkLabels.{rising, unreached}
 use Rattle.route_laws.proofs.Parts.{apart, in_front, nobody, one_of}
 use Rattle.routes.specs.Said.{Said, said_at}
 use Rattle.routes.specs.Routes.{IsBefore, IsForwarded, IsNoLater, IsNoWorse, IsRouteAmong}

@@ -29,7 +29,7 @@ use Rattle.route_laws.proofs.Entries.{is_said, sayings}
 use Rattle.route_laws.proofs.Labels.{AreLabels, either_true, is_point, not_both, way_by}
 use Rattle.routes.proofs.Lists.{first_is}
 use Rattle.route_laws.proofs.Made.{back, from_root, linked, only_one, says}
-use Rattle.route_laws.proofs.Networks.{AreRising, IsStubKnown, at, each_offer, pass, rising}
+use Rattle.route_laws.proofs.NetworkLabels.{AreRising, IsStubKnown, at, each_offer, pass, rising}
 use Rattle.route_laws.proofs.Parts.{in_front, nobody, one_of}
 use Rattle.routes.specs.Said.{Said, said_at}
 use Rattle.routes.specs.Routes.{IsBefore}

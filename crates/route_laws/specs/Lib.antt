@@ -6,3 +6,10 @@ pub mod WorkedUncounted
 pub mod WorkedOffers
 pub mod WorkedSummaries
 pub mod WorkedCopies
+pub mod Forwarding
+pub mod Outward
+pub mod WorkedForwarding
+pub mod Premises
+pub mod Topologies
+pub mod Networks
+pub mod WorkedTopologies

@@ -12,7 +12,10 @@ ghost use Rattle.route_laws.specs.WorkedSummaries.{WorkedSummaries};
 ghost use Rattle.route_laws.specs.WorkedTransit.{WorkedTransit};
 ghost use Rattle.route_laws.specs.WorkedUncounted.{WorkedUncounted};
 
+pub mod forwarding;
 pub mod kept;
+pub mod networks;
+pub mod premises;
 
 /// A forwarding address has one distance and one set of next hops (RFC 2328, section 16.4).
 pub fn forwarding_is_determined()

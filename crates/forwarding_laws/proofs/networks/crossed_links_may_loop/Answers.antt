@@ -1,5 +1,0 @@
-use Rattle.forwarding_laws.proofs.ThreeRouters.{crossed_links}
-use Rattle.forwarding_laws.proofs.networks.crossed_links_may_loop.Goals as goal
-
-pub returns : goal.returns
-returns c = crossed_links

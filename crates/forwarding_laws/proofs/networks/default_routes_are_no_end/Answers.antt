@@ -1,5 +1,0 @@
-use Rattle.forwarding_laws.proofs.Defaults.{default_routes_are_no_end}
-use Rattle.forwarding_laws.proofs.networks.default_routes_are_no_end.Goals as goal
-
-pub returns : goal.returns
-returns c = default_routes_are_no_end

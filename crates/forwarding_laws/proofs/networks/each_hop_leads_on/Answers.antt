@@ -1,8 +1,0 @@
-use Rattle.forwarding_laws.proofs.Hop.{each_hop}
-use Rattle.forwarding_laws.proofs.networks.each_hop_leads_on.Goals as goal
-
-pub returns : goal.returns
-returns c = each_hop c.own_router_lsas_meet_the_premises.ensures
-    c.every_offer_has_a_candidate.ensures c.candidates_are_cheapest_walks.ensures
-    c.each_hop_is_nearer.ensures c.each_hop_leads_to_an_originator.ensures
-    c.routes_end_at_the_network.ensures

@@ -1,5 +1,0 @@
-use Rattle.forwarding_laws.proofs.ZeroCosts.{zero_costs}
-use Rattle.forwarding_laws.proofs.networks.zero_costs_may_lose_packets.Goals as goal
-
-pub returns : goal.returns
-returns c = zero_costs c.forwarding_is_determined.ensures

@@ -1,5 +1,0 @@
-use Rattle.forwarding_laws.proofs.Own.{premises}
-use Rattle.forwarding_laws.proofs.premises.own_router_lsas_meet_the_premises.Goals as goal
-
-pub returns : goal.returns
-returns c = premises

@@ -1,0 +1,143 @@
+-- A list of all candidates has a route to each network that a walk reaches.
+use Rattle.std.proofs.Common.{◌≡◌, ℕ, ◌+◌, ◌<◌, ◌⊎◌, inl, inr, List, [], ◌∷◌, length, arith, refl}
+use Rattle.std.proofs.Common.{◌∙◌, ap}
+use Rattle.std.specs.List.{Contains}
+use Rattle.std.proofs.lemmas.Bool.{cases_eq}
+use Rattle.std.proofs.lemmas.Option.{slice_get_within}
+use Rattle.words.specs.Prefixes.{Network}
+use Rattle.words.specs.declared.route.Route.{Route}
+use Rattle.lsa.specs.declared.body.LinkKind.{LinkKind}
+use Rattle.candidates.specs.Laws.{CandidatesAreCheapestWalks, EveryOfferHasACandidate, IsReached}
+use Rattle.routes.proofs.Lists.{first_is, later_is, of_cons, of_empty}
+use Rattle.routes.specs.Candidates.{AreCandidates, Offers}
+use Rattle.routes.specs.Candidates.Offers.{Within}
+use Rattle.routes.specs.Links.{Counts, Leads, LeadsTo}
+use Rattle.routes.specs.Offers.{intra}
+use Rattle.routes.specs.Paths.{IsWay, Way}
+use Rattle.routes.specs.Said.{Said}
+use Rattle.routes.specs.declared.node.Node.{Node}
+use Rattle.routes.specs.declared.node.Node.TheVariants.{ANetwork, ARouter}
+use Rattle.routes.specs.declared.offer.Offer.{Offer}
+use Rattle.routes.specs.declared.root.Root.{Root}
+use Rattle.route_laws.specs.Forwarding.{EachHopIsNearer}
+use Rattle.route_laws.proofs.Least as least
+use Rattle.route_laws.proofs.Nearer.{IsNearer, each_hop, reached_next}
+
+-- ---- a list has a route for the prefix, or has none
+
+same_network : (a b : Network) → (a ≡ b) ⊎ (a ≡ b → ⊥)
+same_network a b =
+    elim (cases_eq a.address b.address) [
+      | inr other ↦ inr (λ e. other (ap (λ (n : Network). n.address) e))
+      | inl address ↦
+          elim (cases_eq a.length b.length) [
+            | inr other ↦ inr (λ e. other (ap (λ (n : Network). n.length) e))
+            | inl long ↦ inl (λ i. record { address = address i; length = long i })
+          ]
+    ]
+
+abbrev pub HasRoute : List Route → Network → Type 0
+HasRoute routes prefix = (r : Route) × Contains routes r × (r.prefix ≡ prefix)
+
+pub has_route : (routes : List Route) (prefix : Network) → HasRoute routes prefix
+    ⊎ (HasRoute routes prefix → ⊥)
+has_route [] prefix = inr (λ h. of_empty h.0 h.1)
+has_route (r ∷ routes) prefix =
+    elim (same_network r.prefix prefix) [
+      | inl e ↦ inl (r, first_is r routes, e)
+      | inr other ↦
+          elim (has_route routes prefix) [
+            | inl h ↦ inl (h.0, later_is r routes h.0 h.1, h.2)
+            | inr none ↦ inr (λ h. elim (of_cons r routes h.0 h.1) [
+              | inl here ↦ other (ap (λ (x : Route). x.prefix) here ∙ h.2)
+              | inr later ↦ none (h.0, later, h.2)
+            ])
+          ]
+    ]
+
+-- ---- what a walk reaches is offered
+
+module _ (said : Said) (root : Root) where
+  leaves_within : (kind : LinkKind) (id price exit : ℕ)
+      → Counts said root root.router kind id price exit → exit < length root.addresses + 1
+  leaves_within kind id price exit c =
+      let by = c.by_interface refl in
+      let within : by.0 < length root.addresses =
+      slice_get_within root.addresses by.0 c.link.link_data by.2 in
+      omega (arith, within, by.1)
+
+  pub exit_within : (target : Node) (price exit : ℕ)
+      → LeadsTo said root (ARouter root.router) target price exit → exit < length root.addresses + 1
+  exit_within (ARouter b) price exit l = leaves_within _ b price exit l.0
+  exit_within (ANetwork id by) price exit l = leaves_within _ id price exit l.0
+
+  pub is_root : (node : Node) → (node ≡ ARouter root.router) ⊎ (node ≡ ARouter root.router → ⊥)
+  is_root (ANetwork id by) = inr (λ e. cc)
+  is_root (ARouter router) =
+      elim (cases_eq router root.router) [
+        | inl e ↦ inl (ap (λ n. ARouter n) e)
+        | inr other ↦ inr (λ e. let same : router ≡ root.router = cc in other same)
+      ]
+
+  offered : (prefix : Network) (cost i : ℕ) (x : IsReached said root prefix cost i) (w : Way)
+      → IsWay (Leads said root) (ARouter root.router) x.node w → (o : Offer) × Offers said root o
+      × (o.prefix ≡ prefix)
+  offered prefix cost i x w is =
+      elim (is_root x.node) [
+        | inl e ↦ (
+          intra prefix (w.distance + x.more) 1,
+          Within (record {
+            node = x.node;
+            prefix = prefix;
+            more = x.more;
+            attached = x.attached;
+            way = w;
+            reached = is;
+            hops = 1;
+            by_root = λ _. refl;
+            by_others = λ other. absurd (other e);
+            is = refl;
+          }),
+          refl,
+        )
+        | inr other ↦ (
+          intra prefix (w.distance + x.more) w.hops,
+          Within (record {
+            node = x.node;
+            prefix = prefix;
+            more = x.more;
+            attached = x.attached;
+            way = w;
+            reached = is;
+            hops = w.hops;
+            by_root = λ e. absurd (other e);
+            by_others = λ _. refl;
+            is = refl;
+          }),
+          refl,
+        )
+      ]
+
+  pub has_one : EveryOfferHasACandidate → (routes : List Route) → AreCandidates said root routes
+      → (prefix : Network) (cost i : ℕ) → IsReached said root prefix cost i → (r : Route)
+      × Contains routes r × (r.prefix ≡ prefix)
+  has_one every routes are prefix cost i x =
+      elim (has_route routes prefix) [
+        | inl h ↦ h
+        | inr none ↦ absurd (
+            least.way (Leads said root) (ARouter root.router) x.node (length root.addresses + 1)
+            (λ s l. exit_within s.target s.price s.exit l) x.walk x.is_walk (λ w.
+            let o = offered prefix cost i x w.0 w.1 in
+            let r = every said root routes o.0 are o.1 in
+            none (r.0, r.1, r.2 ∙ o.2)))
+      ]
+
+pub each_is_nearer : CandidatesAreCheapestWalks → EveryOfferHasACandidate → EachHopIsNearer
+each_is_nearer laws every = record {
+  nearer = λ said root next route is within hands own. each_hop laws said root next route is within
+      hands own;
+  has_one = λ said root next route is within hands own routes are.
+      let n : IsNearer said next route.prefix route.cost =
+      reached_next laws said root next route is within hands own in
+      has_one said next every routes are route.prefix n.less n.by n.reached;
+}

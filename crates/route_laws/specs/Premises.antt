@@ -1,0 +1,78 @@
+-- The router-LSA that a router originates satisfies the premises of the laws of forwarding (RFC
+-- 2328, section 12.4.1).
+use Rattle.std.specs.Prelude.{◌≡◌, ℕ, ◌<◌, IsTrue, List, Some, map, nat_le}
+use Rattle.std.specs.List.{list_all}
+use Rattle.words.specs.Interfaces.{has_interface}
+use Rattle.words.specs.Numbers.{InterfaceNumber, RouterNumber}
+use Rattle.words.specs.declared.route.Route.{Route}
+use Rattle.lsa.specs.declared.body.RouterLink.{RouterLink}
+use Rattle.lsa.specs.declared.body.LinkKind.TheVariants.{PointToPoint}
+use Rattle.adjacency.specs.Neighbors.{Neighbor, is_full}
+use Rattle.area_routes.specs.Offers.{root_by}
+use Rattle.events.specs.Originations.{router_body, router_key}
+use Rattle.events.specs.Routers.{are_distinct}
+use Rattle.received.specs.Links.{Link, neighbor_at}
+use Rattle.routes.specs.Candidates.{IsCandidate}
+use Rattle.routes.specs.Links.{HasLink, LeadsTo, Says}
+use Rattle.routes.specs.Said.{Said}
+use Rattle.routes.specs.declared.node.Node.{Node}
+use Rattle.routes.specs.declared.node.Node.TheVariants.{ARouter}
+use Rattle.route_laws.specs.Forwarding.{IsOtherEnd, NamesItsInterfaces}
+
+-- the database has the router-LSA for these interfaces and neighbors
+abbrev pub IsCurrent : Said → RouterNumber → List Link → Type 0
+IsCurrent said router links = Says said (router_key router) (router_body links)
+
+-- no two interfaces have the same address, as in each valid configuration
+abbrev pub HaveOwnAddresses : List Link → Type 0
+HaveOwnAddresses links = IsTrue (are_distinct (map (λ (link : Link). link.interface) links))
+
+-- each interface has a cost of at least 1, as in each valid configuration
+abbrev pub HaveCosts : List Link → Type 0
+HaveCosts links = IsTrue (list_all (λ (link : Link). nat_le 1 link.interface.cost) links)
+
+-- the target is the Full neighbor on the interface
+pub record LeadsAlong (links : List Link) (interface : InterfaceNumber) (target : Node) : Type 0
+  where
+    pub neighbor : Neighbor
+    pub is_on : neighbor_at interface links ≡ Some neighbor
+    pub full : IsTrue (is_full neighbor.state)
+    pub is_target : target ≡ ARouter neighbor.router
+
+-- the interface has a Full neighbor, to which a link by it leads that counts
+pub record IsNextHop (said : Said) (router : RouterNumber) (links : List Link)
+    (interface : InterfaceNumber) : Type 0 where
+  pub neighbor : Neighbor
+  pub is_on : neighbor_at interface links ≡ Some neighbor
+  pub full : IsTrue (is_full neighbor.state)
+  pub price : ℕ
+  pub leads : LeadsTo said (root_by router links) (ARouter router) (ARouter neighbor.router) price
+      interface
+
+pub record OwnRouterLsasMeetThePremises : Type 0 where
+  -- it names the router's interfaces
+  pub own : (said : Said) (router : RouterNumber) (links : List Link)
+      → IsCurrent said router links → NamesItsInterfaces said (root_by router links)
+  -- its point-to-point links have a metric, so that they count
+  pub not_free : (said : Said) (router : RouterNumber) (links : List Link)
+      → IsCurrent said router links → HaveCosts links → (link : RouterLink)
+      → HasLink said router link → link.kind ≡ PointToPoint → 0 < link.metric
+  -- each of its links that counts leads to the Full neighbor on the interface that it uses
+  pub leads : (said : Said) (router : RouterNumber) (links : List Link)
+      → IsCurrent said router links → HaveOwnAddresses links
+      → (target : Node) (price interface : ℕ)
+      → LeadsTo said (root_by router links) (ARouter router) target price interface
+      → LeadsAlong links interface target
+  -- so the neighbor on an interface is the router at its other end
+  pub other_end : (said : Said) (router : RouterNumber) (links : List Link)
+      → IsCurrent said router links → HaveOwnAddresses links
+      → (interface : InterfaceNumber) (neighbor : Neighbor)
+      → neighbor_at interface links ≡ Some neighbor
+      → IsOtherEnd said (root_by router links) interface neighbor.router
+  -- and each next hop of each candidate, except 0, is an interface with a Full neighbor, to which a
+  -- link by it leads that counts
+  pub next_hops : (said : Said) (router : RouterNumber) (links : List Link)
+      → IsCurrent said router links → HaveOwnAddresses links
+      → (route : Route) → IsCandidate said (root_by router links) route
+      → (interface : InterfaceNumber) → 0 < interface
+      → IsTrue (has_interface route.hops interface) → IsNextHop said router links interface
