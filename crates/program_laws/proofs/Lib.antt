@@ -9,3 +9,8 @@ pub mod OneDestination
 pub mod Unheard
 pub mod Vetoes
 pub mod Announcements
+pub mod Codes
+pub mod Frames
+pub mod Turning
+pub mod Simulation
+pub mod Inside

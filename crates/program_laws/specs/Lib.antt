@@ -8,3 +8,5 @@ pub mod Tables
 pub mod Vetoes
 pub mod Unheard
 pub mod Announcements
+pub mod CountedRuns
+pub mod CountedExample

@@ -10,6 +10,7 @@ ghost use Rattle.program_laws.specs.Runs.{LaterSlotsAreAsStated, LoadsAreOfTheCo
 ghost use Rattle.program_laws.specs.Runs.{LoadsAreOfTheirMap, StartsAsStated, StoresAreOfTheStack};
 ghost use Rattle.program_laws.specs.Seats.{AdditionsAreRefusedLast, SeatsGrow, SeatsStayLawful};
 
+pub mod counted;
 pub mod routers;
 
 use absdom::Domain;

@@ -24,9 +24,9 @@ use Rattle.machine.specs.State.{Setting, setting_of, held}
 use Rattle.machine.specs.Steps.{Does, Step, Exits, IsAt, Branches}
 use Rattle.machine.specs.Runs.{Leads}
 use Rattle.annotations.specs.CountedCode.{detour_at, detour, distance_between, with_number}
-use Rattle.counted_laws.specs.CountedRuns.{accesses}
-use Rattle.counted_laws.proofs.Codes.{Whole, all, detour_is, distance_leads}
-use Rattle.counted_laws.proofs.Frames.{later}
+use Rattle.program_laws.specs.CountedRuns.{accesses}
+use Rattle.program_laws.proofs.Codes.{Whole, all, detour_is, distance_leads}
+use Rattle.program_laws.proofs.Frames.{later}
 
 -- a step is one of the instruction that the machine is at
 pub step_by : (setting : Setting) (s next : State) (label : Label) (i : Instruction)

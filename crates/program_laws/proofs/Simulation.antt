@@ -29,15 +29,15 @@ use Rattle.machine.specs.Runs.{Leads}
 use Rattle.annotations.specs.CountedCode.{IsUnnamed, names, is_operand, place_of, detour_at}
 use Rattle.annotations.specs.CountedCode.{distance_between, distance_of, with_distance_if_given}
 use Rattle.annotations.specs.CountedCode.{with_number}
-use Rattle.counted_laws.specs.CountedRuns.{accesses, turns_of, turns_between, Leaves, IsRun}
-use Rattle.counted_laws.specs.CountedRuns.{IsRunWith}
+use Rattle.program_laws.specs.CountedRuns.{accesses, turns_of, turns_between, Leaves, IsRun}
+use Rattle.program_laws.specs.CountedRuns.{IsRunWith}
 use Rattle.std.specs.Prelude.{FitsSigned}
 use Rattle.std.specs.Int.{w32}
-use Rattle.counted_laws.proofs.Codes.{fits_at, detour_is, Whole, all, later_is, distance_leads}
-use Rattle.counted_laws.proofs.Codes.{place_within}
-use Rattle.counted_laws.proofs.Frames.{later, follows, held_other, operand_other, differ, neither}
-use Rattle.counted_laws.proofs.Frames.{ahead}
-use Rattle.counted_laws.proofs.Turning.{step_by, exit_only, counting, counted_turn, filling_of}
+use Rattle.program_laws.proofs.Codes.{fits_at, detour_is, Whole, all, later_is, distance_leads}
+use Rattle.program_laws.proofs.Codes.{place_within}
+use Rattle.program_laws.proofs.Frames.{later, follows, held_other, operand_other, differ, neither}
+use Rattle.program_laws.proofs.Frames.{ahead}
+use Rattle.program_laws.proofs.Turning.{step_by, exit_only, counting, counted_turn, filling_of}
 
 -- ---- accesses
 

@@ -18,10 +18,10 @@ use Rattle.machine.specs.Runs.{Ends}
 use Rattle.machine.specs.State.{Setting, setting_of, start}
 use Rattle.machine.specs.Steps.{Does}
 use Rattle.annotations.specs.CountedCode.{IsCounted, LeadsInside, StaysInside}
-use Rattle.counted_laws.specs.CountedRuns.{CodeThatStaysInsideIsNeverLeft, CountedRunsAreRuns}
-use Rattle.counted_laws.specs.CountedRuns.{IsRun, IsRunInside, LeadsInTurns, Leaves}
-use Rattle.counted_laws.proofs.Codes.{Whole, whole_code}
-use Rattle.counted_laws.proofs.Codes.Whole.{End, Short, Wide}
+use Rattle.program_laws.specs.CountedRuns.{CodeThatStaysInsideIsNeverLeft, CountedRunsAreRuns}
+use Rattle.program_laws.specs.CountedRuns.{IsRun, IsRunInside, LeadsInTurns, Leaves}
+use Rattle.program_laws.proofs.Codes.{Whole, whole_code}
+use Rattle.program_laws.proofs.Codes.Whole.{End, Short, Wide}
 
 -- an instruction begins at the first slot
 begins_first : (code : List Slot) → Whole code → 1 ≤ length code → Begins code 0

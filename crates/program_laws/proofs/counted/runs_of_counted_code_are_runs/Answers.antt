@@ -3,9 +3,9 @@ use Rattle.isa.specs.declared.code.Slot.{Slot}
 use Rattle.machine.specs.State.{setting_of, start}
 use Rattle.machine.specs.Runs.{Leads}
 use Rattle.machine.specs.Steps.{Exits}
-use Rattle.counted_laws.proofs.Codes.{Whole, whole_code, long_as}
-use Rattle.counted_laws.proofs.Simulation.{from_start}
-use Rattle.counted_laws.proofs.runs_of_counted_code_are_runs.Goals as goal
+use Rattle.program_laws.proofs.Codes.{Whole, whole_code, long_as}
+use Rattle.program_laws.proofs.Simulation.{from_start}
+use Rattle.program_laws.proofs.counted.runs_of_counted_code_are_runs.Goals as goal
 
 pub returns : goal.returns
 returns c answer turns heads code counted is_code is_counted counts hook input n labels word ends =

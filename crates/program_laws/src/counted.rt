@@ -1,10 +1,8 @@
 //! Runs of code that counts turns, compared with runs of the given code: laws about their
 //! definitions, each the contract of a function with an empty body.
-#![tactic(auto)]
-
-ghost use Rattle.counted_laws.specs.CountedRuns.{CodeThatStaysInsideIsNeverLeft};
-ghost use Rattle.counted_laws.specs.CountedRuns.{CountedRunsAreRuns};
-ghost use Rattle.counted_laws.specs.Example.{IsCountedSo};
+ghost use Rattle.program_laws.specs.CountedRuns.{CodeThatStaysInsideIsNeverLeft};
+ghost use Rattle.program_laws.specs.CountedRuns.{CountedRunsAreRuns};
+ghost use Rattle.program_laws.specs.CountedExample.{IsCountedSo};
 
 use machine::laws::{a_step_leads_behind_or_to_the_target, the_least_fault_counts};
 

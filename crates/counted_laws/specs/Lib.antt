@@ -1,2 +1,0 @@
-pub mod CountedRuns
-pub mod Example
