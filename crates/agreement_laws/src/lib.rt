@@ -1,5 +1,6 @@
-//! Laws about when the databases of neighbors agree, each the contract of a function with an empty
-//! body: how new instances are, and that what a router holds was said to its neighbors.
+//! Laws about when the databases of neighbors agree, each the contract of a function that does
+//! nothing: how new instances are, and that what a router holds was said to its neighbors. On the
+//! exchange of Descriptions: what is requested, what moves it, and how it goes on between two.
 #![tactic(auto)]
 
 ghost use Rattle.agreement_laws.specs.CopiesClimb.{CopiesClimb};

@@ -1,5 +1,5 @@
 -- The LSAs in the name of the running router: what holds of every run in which the clock doesn't go
--- back (own_lsa_laws), of the router that turns are taken at.
+-- back (OwnCopies), of the router that turns are taken at.
 use Rattle.std.specs.Prelude.{ℕ, ◌+◌, ◌≤◌, Bool, List, Option}
 use Rattle.words.specs.Constants.{min_ls_interval}
 use Rattle.words.specs.Numbers.{Moment}

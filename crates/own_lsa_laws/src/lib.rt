@@ -1,5 +1,6 @@
 //! Laws about the LSAs in the database with this router as Advertising Router, whoever originated
-//! them, each the contract of a function with an empty body (RFC 2328, sections 12.4 and 13.4).
+//! them, each the contract of a function with an empty body (RFC 2328, sections 12.4 and 13.4): in
+//! every run, and in the router that workers serve.
 #![tactic(auto)]
 
 ghost use Rattle.own_lsa_laws.specs.OwnCopies.{NobodySpeaksForThisRouter};

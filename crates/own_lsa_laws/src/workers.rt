@@ -1,5 +1,5 @@
-//! What a worker's rounds come to, and what the router that workers serve says of itself, as laws,
-//! each carried by a function that does nothing.
+//! What a worker's rounds come to, and that nobody speaks for the router that workers serve, as
+//! laws, each carried by a function that does nothing.
 ghost use Rattle.std.specs.Prelude.{ℕ};
 ghost use Rattle.worker.specs.Lives.{senses_of};
 ghost use Rattle.own_lsa_laws.specs.Deeds.{LivesAreDeedsInOrder};

@@ -1,5 +1,5 @@
 //! Laws about the definitions of programs, each the contract of a function with an empty body: the
-//! accesses of a seat, the refusals, and the runs of an accepted program.
+//! accesses of a seat, the refusals, the runs of an accepted program and of code that counts turns.
 #![tactic(auto)]
 
 ghost use Rattle.isa.specs.declared.hook.Hook.{Hook};

@@ -1,5 +1,6 @@
 //! Laws about the candidates and the routing table, and worked databases with their candidates,
-//! each the contract of a function with an empty body (RFC 2328, sections 16.1 and 16.4).
+//! each the contract of a function with an empty body (RFC 2328, sections 16.1 and 16.4). Laws of
+//! forwarding by them, among routers of any make and among running ones.
 #![tactic(auto)]
 
 ghost use Rattle.route_laws.specs.Laws.{AnswersToAllAreNotStale, BoundaryWaysAreDetermined};
