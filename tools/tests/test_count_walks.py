@@ -47,6 +47,41 @@ trait Takes {
 }
 """
 
+LAWS = """
+/// Two sums are equal.
+pub fn sums_are_equal()
+    ensures { SumsAreEqual }
+{
+    crate::laws::numbers_are_equal();
+}
+
+pub fn sums_stay<D: Domain>(_sum: &D)
+    ensures { SumsStay D.means }
+{
+    sums_are_equal();
+}
+
+pub fn none<D: Domain>() -> D
+    ensures { D.means result ≡ none }
+{
+    D::none()
+}
+
+impl Link {
+    pub fn go_down(&mut self)
+        ensures { self.new ≡ none }
+    {
+        self.place.go_down();
+    }
+
+    pub fn stop(&mut self)
+        ensures { self.new ≡ none }
+    {
+        stop(self);
+    }
+}
+"""
+
 
 def read(text: str) -> list:
     with tempfile.TemporaryDirectory() as room:
@@ -64,6 +99,10 @@ class TestCountWalks(unittest.TestCase):
         found = [(it.owner, it.name, it.is_of_trait, TOOL["only_hands_on"](it)) for it in read(CODE)]
         self.assertEqual(found, [("Link", "ack", False, True), ("Link", "asks", False, True), ("Link", "take", False, False),
                                  ("Link", "take", True, True)])
+
+    def test_a_law_that_rests_on_another_hands_nothing_on(self) -> None:
+        found = [(it.name, TOOL["only_hands_on"](it)) for it in read(LAWS)]
+        self.assertEqual(found, [("sums_are_equal", False), ("sums_stay", False), ("none", True), ("go_down", True), ("stop", True)])
 
     def test_a_walk_that_holds(self) -> None:
         self.assertEqual(self.told("links Link asks\nlinks Link asks"), (True, "a walk: 2 functions in 1 crate\n    links: Link::asks, Link::asks\n"))
