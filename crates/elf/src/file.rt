@@ -10,11 +10,13 @@ ghost use Rattle.elf.specs.Lists.{functions_of, relocations_of, HasBytes, symbol
 
 use crate::checks::check;
 use crate::fault::ElfFault;
+use crate::functions::{push_functions, symbol_count};
 use crate::lists::{LinkedRelocation, LinkedSymbol};
-use crate::number::string_at;
-use crate::section::Section;
+use crate::number::{half, string_at, xword};
+use crate::relocations::push_relocations_from;
+use crate::section::{Section, section_header};
 use crate::symbol::{Symbol, symbol_at};
-use crate::{functions, relocations, tables};
+use crate::tables::{self, contents};
 use std::alloc::{AllocError, Global};
 use std::marker::Model;
 
@@ -53,7 +55,7 @@ impl<'a> ObjectFile<'a> {
     pub fn section_count(&self) -> usize
         ensures { result ≡ section_count self.now }
     {
-        tables::section_count(self.bytes)
+        usize::from(half(self.bytes, 60))
     }
 
     /// The section header at an index.
@@ -61,7 +63,7 @@ impl<'a> ObjectFile<'a> {
         requires { index < section_count self.now }
         ensures { result ≡ section_at self.now index }
     {
-        tables::section_at(self.bytes, index)
+        section_header(self.bytes, xword(self.bytes, 40) as usize + 64 * index)
     }
 
     /// The section's name.
@@ -78,7 +80,7 @@ impl<'a> ObjectFile<'a> {
         requires { index < section_count self.now }
         ensures { result.now ≡ contents_of self.now index }
     {
-        tables::contents_of(self.bytes, index)
+        contents(self.bytes, self.section(index))
     }
 
     /// A symbol of the symbol table that is section `table`, if there is one.
@@ -88,7 +90,7 @@ impl<'a> ObjectFile<'a> {
         if table >= tables::section_count(self.bytes) {
             return None;
         }
-        if index >= functions::symbol_count(self.bytes, table) {
+        if index >= symbol_count(self.bytes, table) {
             return None;
         }
         Some(symbol_at(tables::contents_of(self.bytes, table), index))
@@ -103,7 +105,7 @@ impl<'a> ObjectFile<'a> {
         if table >= tables::section_count(self.bytes) {
             return None;
         }
-        if index >= functions::symbol_count(self.bytes, table) {
+        if index >= symbol_count(self.bytes, table) {
             return None;
         }
         let symbol = symbol_at(tables::contents_of(self.bytes, table), index);
@@ -133,7 +135,18 @@ impl<'a> ObjectFile<'a> {
     pub fn functions(&self, alloc: Global, section: usize) -> Result<Vec<LinkedSymbol>, AllocError>
         ensures { IfOk result (λ functions. functions.items ≡ functions_of self.now section) }
     {
-        functions::functions_of(alloc, self.bytes, section)
+        let mut out = Vec::new(alloc);
+        for i in 0..tables::section_count(self.bytes) {
+            let count = symbol_count(self.bytes, i);
+            push_functions(
+                &mut out,
+                tables::contents_of(self.bytes, i),
+                i,
+                section,
+                count,
+            )?;
+        }
+        Ok(out)
     }
 
     /// The places of the section that a linker would change, in the order of the file: all of them.
@@ -145,6 +158,10 @@ impl<'a> ObjectFile<'a> {
         ensures { IfOk result (λ relocations.
             relocations.items ≡ relocations_of self.now section) }
     {
-        relocations::relocations_of(alloc, self.bytes, section)
+        let mut out = Vec::new(alloc);
+        for i in 0..tables::section_count(self.bytes) {
+            push_relocations_from(&mut out, self.bytes, section, i)?;
+        }
+        Ok(out)
     }
 }

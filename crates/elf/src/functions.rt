@@ -1,13 +1,13 @@
 //! The functions of a section.
-ghost use Rattle.std.specs.Prelude.{◌≡◌, ◌*◌, ◌/◌, ◌<◌, ◌≤◌, ◌++◌, length, IfOk, OnOk};
+ghost use Rattle.std.specs.Prelude.{◌≡◌, ◌*◌, ◌/◌, ◌<◌, ◌≤◌, ◌++◌, length, OnOk};
 ghost use Rattle.elf.specs.Files.{HasSections, section_count, section_at, contents_of};
-ghost use Rattle.elf.specs.Lists.{symbol_count, is_function_of, functions_among, functions_of};
+ghost use Rattle.elf.specs.Lists.{symbol_count, is_function_of, functions_among};
 
 use crate::lists::LinkedSymbol;
 use crate::section::SectionKind;
 use crate::symbol::{Symbol, SymbolKind, symbol_at};
-use crate::tables::{contents_of, section_at, section_count};
-use std::alloc::{AllocError, Global};
+use crate::tables::{contents_of, section_at};
+use std::alloc::AllocError;
 
 /// How many symbols the section has.
 pub(crate) fn symbol_count(bytes: &[u8], section: usize) -> usize
@@ -31,7 +31,7 @@ fn is_function_of(symbol: Symbol, section: usize) -> bool
 }
 
 /// Adds the functions of a section among the first symbols of a table.
-fn push_functions(
+pub(crate) fn push_functions(
     out: &mut Vec<LinkedSymbol>,
     table: &[u8],
     index: usize,
@@ -53,20 +53,4 @@ fn push_functions(
         }
     }
     Ok(())
-}
-
-pub(crate) fn functions_of(
-    alloc: Global,
-    bytes: &[u8],
-    section: usize,
-) -> Result<Vec<LinkedSymbol>, AllocError>
-    requires { HasSections bytes.now }
-    ensures { IfOk result (λ functions. functions.items ≡ functions_of bytes.now section) }
-{
-    let mut out = Vec::new(alloc);
-    for i in 0..section_count(bytes) {
-        let count = symbol_count(bytes, i);
-        push_functions(&mut out, contents_of(bytes, i), i, section, count)?;
-    }
-    Ok(out)
 }

@@ -1,13 +1,13 @@
 //! The relocations of a section.
-ghost use Rattle.std.specs.Prelude.{◌≡◌, ◌/◌, ◌<◌, ◌++◌, length, IfOk, OnOk};
+ghost use Rattle.std.specs.Prelude.{◌≡◌, ◌/◌, ◌<◌, ◌++◌, length, OnOk};
 ghost use Rattle.elf.specs.Files.{HasSections, section_count, section_at, contents_of};
-ghost use Rattle.elf.specs.Lists.{changes, relocations_among, relocations_from, relocations_of};
+ghost use Rattle.elf.specs.Lists.{changes, relocations_among, relocations_from};
 
 use crate::lists::LinkedRelocation;
 use crate::relocation::relocation_at;
 use crate::section::{Section, SectionKind};
-use crate::tables::{contents_of, section_at, section_count};
-use std::alloc::{AllocError, Global};
+use crate::tables::{contents_of, section_at};
+use std::alloc::AllocError;
 
 /// Whether these are relocations of the section.
 fn changes(header: Section, section: usize) -> bool
@@ -38,7 +38,7 @@ fn push_relocations(
 }
 
 /// Adds the relocations that section `from` has for this section.
-fn push_relocations_from(
+pub(crate) fn push_relocations_from(
     out: &mut Vec<LinkedRelocation>,
     bytes: &[u8],
     section: usize,
@@ -54,19 +54,4 @@ fn push_relocations_from(
         push_relocations(out, contents_of(bytes, from), header.link as usize)?;
     }
     Ok(())
-}
-
-pub(crate) fn relocations_of(
-    alloc: Global,
-    bytes: &[u8],
-    section: usize,
-) -> Result<Vec<LinkedRelocation>, AllocError>
-    requires { HasSections bytes.now }
-    ensures { IfOk result (λ relocations. relocations.items ≡ relocations_of bytes.now section) }
-{
-    let mut out = Vec::new(alloc);
-    for i in 0..section_count(bytes) {
-        push_relocations_from(&mut out, bytes, section, i)?;
-    }
-    Ok(out)
 }

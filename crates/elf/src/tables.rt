@@ -34,7 +34,7 @@ pub(crate) fn is_in_file(bytes: &[u8], section: Section) -> bool
 }
 
 #[tactic(auto, unfolding(crate::specs::Entries::contents))]
-fn contents(bytes: &[u8], section: Section) -> &[u8]
+pub(crate) fn contents(bytes: &[u8], section: Section) -> &[u8]
     requires { InFile bytes.now section }
     ensures { result.now ≡ contents bytes.now section }
 {
