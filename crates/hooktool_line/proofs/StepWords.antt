@@ -1,20 +1,23 @@
 -- The lines of a test, word by word.
 use Rattle.std.proofs.Common.{◌≡◌, ◌∙◌, ◌+◌, ◌<◌, ◌≤◌, ◌^◌, ℕ, List, [], ◌∷◌, ◌++◌, Option, Some}
-use Rattle.std.proofs.Common.{None, ap, arith, get_or, inl, inr, length, refl, subst, sym}
+use Rattle.std.proofs.Common.{None, Ok, Err, ap, arith, get_or, inl, inr, length, refl, subst, sym}
 use Rattle.std.proofs.Common.{take, true}
 use Rattle.std.proofs.lemmas.Fmt.{decimal_injective}
 use Rattle.std.proofs.lemmas.List.{length-map, length-take-le, take_all, take_more}
 use Rattle.std.specs.Borrow.{Bor}
 use Rattle.std.specs.Global.{Vec}
+use Rattle.std.specs.Prelude.{IfOk, Result}
 use Rattle.clap.specs.Faults.{fault_of, is_simple_and_free}
-use Rattle.clap.specs.Simple.{App, HasMatchesOf}
-use Rattle.clap.specs.Walk.{Row, Text, first_of}
+use Rattle.clap.specs.Matches.{found_of}
+use Rattle.clap.specs.Simple.{App, HasMatchesOf, matches_of}
+use Rattle.clap.specs.Walk.{Row, Text, first_of, rows_of}
 use Rattle.clap.specs.declared.parser.matches.ArgMatches.{ArgMatches}
 use Rattle.hooktool_line.specs.CommandLine.{ask}
-use Rattle.hooktool_line.specs.Questions.{HasNumber}
-use Rattle.hooktool_line.specs.Steps.{AddsLine, AreLines, IsLine, IsTakenAs, is_blank}
+use Rattle.hooktool_line.specs.Questions.{HasNumber, HasQuestion}
+use Rattle.hooktool_line.specs.Steps.{AddsLine, AreLines, IsLine, is_blank}
 use Rattle.hooktool_line.specs.Steps.{views, words_of}
 use Rattle.hooktool_line.specs.Words.{IsNumber, OrElse}
+use Rattle.hooktool_line.specs.declared.requests.Question.{Question}
 use Rattle.hooktool_line.specs.declared.steps.TestLine.{TestLine}
 
 -- ---- what the line ask takes
@@ -22,11 +25,17 @@ use Rattle.hooktool_line.specs.declared.steps.TestLine.{TestLine}
 pub free : (a : App) → a ≡ ask → is_simple_and_free a ≡ true
 free a own = subst (λ (x : App). is_simple_and_free x ≡ true) (sym own) refl
 
-pub taken : (a : App) (words : List Text) (m : ArgMatches) → a ≡ ask → fault_of a words ≡ []
-    → HasMatchesOf a words m → IsTakenAs ask words m
-taken a words m own none has =
-    let asked : HasMatchesOf ask words m = subst (λ (x : App). HasMatchesOf x words m) own has in
-    (subst (λ (x : App). fault_of x words ≡ []) own none, (asked refl).0)
+pub asked : {E : Type 0} (a : App) (words : List Text) (m : ArgMatches) (r : Result Question E)
+    → a ≡ ask → fault_of a words ≡ [] → HasMatchesOf a words m
+    → IfOk r (HasQuestion (rows_of (found_of m)))
+    → IfOk r (λ question. (fault_of ask words ≡ []) × HasQuestion (matches_of ask words) question)
+asked {E} a words m (Ok question) own none has is =
+    let own_has : HasMatchesOf ask words m =
+    subst (λ (x : App). HasMatchesOf x words m) own has in (
+      subst (λ (x : App). fault_of x words ≡ []) own none,
+      subst (λ (rows : List Row). HasQuestion rows question) (own_has refl).0 is,
+    )
+asked {E} a words m (Err e) own none has is = tt
 
 -- ---- a number is the only one of its word
 

@@ -5,10 +5,8 @@ use Rattle.std.specs.Prelude.{Some, map, slice_get}
 use Rattle.std.specs.Borrow.{Bor}
 use Rattle.std.specs.Global.{Vec}
 use Rattle.clap.specs.Faults.{fault_of}
-use Rattle.clap.specs.Matches.{found_of}
 use Rattle.clap.specs.Simple.{App, matches_of}
-use Rattle.clap.specs.Walk.{Text, rows_of}
-use Rattle.clap.specs.declared.parser.matches.ArgMatches.{ArgMatches}
+use Rattle.clap.specs.Walk.{Text}
 use Rattle.hooktool_line.specs.CommandLine.{ask}
 use Rattle.hooktool_line.specs.Questions.{HasQuestion}
 use Rattle.hooktool_line.specs.declared.requests.Question.{Question}
@@ -26,11 +24,6 @@ views words = map (λ (w : Bor Text). w.now) words
 -- the words of each line
 abbrev pub words_of : List (Vec (Bor Text)) → List (List Text)
 words_of lines = map (λ (line : Vec (Bor Text)). views line.items) lines
-
--- What a line of an app takes of the words.
-abbrev pub IsTakenAs : App → List Text → ArgMatches → Type 0
-IsTakenAs app words matches =
-    (fault_of app words ≡ []) × (rows_of (found_of matches) ≡ matches_of app words)
 
 -- The words are what try prints of the answer.
 abbrev pub SaysAnswer : List Text → ExpectedAnswer → Type 0

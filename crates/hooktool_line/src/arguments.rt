@@ -482,7 +482,8 @@ const TEST: Form = Form {
     words: &TEST_WORDS,
 };
 
-const ASK: Form = Form {
+/// The line of a test that asks a question.
+pub(crate) const ASK: Form = Form {
     name: "ask",
     about: "Asks a question in a test",
     more: "",
@@ -503,8 +504,8 @@ fn argument<'a>(alloc: Global, word: &Word) -> Arg<'a>
     }
 }
 
-// The command of this form.
-fn command_of<'a>(alloc: Global, form: &Form) -> Result<Command<'a>, AllocError>
+/// The command of this form.
+pub(crate) fn command_of<'a>(alloc: Global, form: &Form) -> Result<Command<'a>, AllocError>
     ensures { IfOk result (IsLeaf form.now) }
 {
     let mut command = Command::new(alloc, form.name)
@@ -540,13 +541,6 @@ pub(crate) fn whole<'a>(alloc: Global) -> Result<Command<'a>, AllocError>
 {
     let forms = [&ANNOTATE, &BUILD, &EXPLAIN, &TRY, &TEST];
     line_of(alloc, &forms)
-}
-
-/// The line of a test that asks a question.
-pub(crate) fn asking<'a>(alloc: Global) -> Result<Command<'a>, AllocError>
-    ensures { IfOk result (λ c. app_of c ≡ line.ask) }
-{
-    command_of(alloc, &ASK)
 }
 
 /// An error of this kind about the words of a command line, or want of memory.

@@ -7,11 +7,11 @@ ghost use Rattle.clap.specs.Simple.{matches_of};
 ghost use Rattle.clap.specs.Walk.{rows_of};
 ghost use Rattle.hooktool_line.specs.CommandLine.{ask};
 ghost use Rattle.hooktool_line.specs.Questions.{HasQuestion};
-ghost use Rattle.hooktool_line.specs.Steps.{AddsLine, AreLines, BeginsWith, IsTakenAs, Says};
+ghost use Rattle.hooktool_line.specs.Steps.{AddsLine, AreLines, BeginsWith, Says};
 ghost use Rattle.hooktool_line.specs.Steps.{IsWrong, SaysAnswer, is_blank, is_mark};
 ghost use Rattle.hooktool_line.specs.Steps.{views, words_of};
 
-use crate::arguments::asking;
+use crate::arguments::{ASK, command_of};
 use crate::requests::{Question, question_of};
 use crate::values::NotRead;
 use address_texts::read_within;
@@ -142,19 +142,6 @@ fn told_by<'a>(words: &[&'a str]) -> Option<Step<'a>>
     }
 }
 
-/// The words as the line `ask` takes them.
-fn options_of<'a>(alloc: Global, words: &'a [&'a str]) -> Result<ArgMatches<'a>, LineError>
-    ensures { IfOk result (IsTakenAs ask (views words.entry.now)) }
-{
-    match asking(alloc) {
-        Ok(command) => match command.try_get_matches_from(words) {
-            Ok(matches) => Ok(matches),
-            Err(error) => Err(LineError::Options(error)),
-        },
-        Err(_) => Err(LineError::Memory),
-    }
-}
-
 /// The question that the options ask.
 fn question_in<'a>(alloc: Global, matches: &ArgMatches<'a>) -> Result<Question<'a>, LineError>
     ensures { IfOk result (HasQuestion (rows_of (found_of matches.now))) }
@@ -166,14 +153,17 @@ fn question_in<'a>(alloc: Global, matches: &ArgMatches<'a>) -> Result<Question<'
     }
 }
 
-/// The question of a line that begins with `ask`.
+/// The question of a line that begins with `ask`, whose words are options.
 fn asked_by<'a>(alloc: Global, words: &'a [&'a str]) -> Result<Question<'a>, LineError>
     ensures { IfOk result (λ question. (fault_of ask (views words.entry.now) ≡ [])
         × HasQuestion (matches_of ask (views words.entry.now)) question) }
 {
-    match options_of(alloc, words) {
-        Ok(matches) => question_in(alloc, &matches),
-        Err(error) => Err(error),
+    match command_of(alloc, &ASK) {
+        Ok(command) => match command.try_get_matches_from(words) {
+            Ok(matches) => question_in(alloc, &matches),
+            Err(error) => Err(LineError::Options(error)),
+        },
+        Err(_) => Err(LineError::Memory),
     }
 }
 
