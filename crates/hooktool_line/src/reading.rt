@@ -3,12 +3,12 @@
 ghost use Rattle.std.specs.Prelude.{◌≡◌, ◌⊎◌, map, MatchResult};
 ghost use Rattle.std.specs.IoError.{error_kind};
 ghost use Rattle.clap.specs.Values.{kind_of};
-ghost use Rattle.hooktool_line.specs.Requests.{Asks, IsRefusal, IsTaken};
+ghost use Rattle.hooktool_line.specs.Requests.{Asks, IsRefusal};
 
 use crate::arguments;
 use crate::requests::{self, HooktoolRequest};
+use clap::Error;
 use clap::error::ErrorKind;
-use clap::{ArgMatches, Error};
 use std::alloc::{AllocError, Global};
 use std::io::{self, ErrorKind as IoKind};
 
@@ -25,17 +25,6 @@ pub fn unread(alloc: Global, error: &io::Error) -> Error
     }
 }
 
-// What the command line takes of the words.
-fn matches_of<'a>(alloc: Global, words: &'a [&'a str]) -> Result<ArgMatches<'a>, Error>
-    ensures { MatchResult result (IsTaken (map (λ w. w.now) words.entry.now))
-        (IsRefusal (map (λ w. w.now) words.entry.now)) }
-{
-    match arguments::whole(alloc) {
-        Ok(line) => line.try_get_matches_from(words),
-        Err(error) => Err(Error::from(error)),
-    }
-}
-
 /// Reads the words of a command line, of which the first is the program's name.
 ///
 /// `Ok` is just what the words ask for. `Err` has the text for the user: a mistake in the words,
@@ -45,8 +34,11 @@ pub fn parse<'a>(alloc: Global, words: &'a [&'a str]) -> Result<HooktoolRequest<
     ensures { MatchResult result (Asks (map (λ w. w.now) words.entry.now))
         (IsRefusal (map (λ w. w.now) words.entry.now)) }
 {
-    match matches_of(alloc, words) {
-        Ok(matches) => requests::request_of(alloc, &matches),
-        Err(error) => Err(error),
+    match arguments::whole(alloc) {
+        Ok(line) => match line.try_get_matches_from(words) {
+            Ok(matches) => requests::request_of(alloc, &matches),
+            Err(error) => Err(error),
+        },
+        Err(error) => Err(Error::from(error)),
     }
 }
