@@ -18,10 +18,6 @@ pub record HasRead {A : Type 0} (Is : Text → A → Type 0) (words : List (Bor 
   pub back : (whole : List A) → Each Is (texts words) whole
       → (rest : List A) × Each Is (texts (drop index words)) rest
 
-pub read_none : {A : Type 0} (Is : Text → A → Type 0) (words : List (Bor Text))
-    → HasRead Is words 0 []
-read_none {A} Is words = record { ahead = λ rest are. are; back = λ whole are. (whole, are) }
-
 first_of_all : {A : Type 0} (Is : Text → A → Type 0) (word : Text) (words : List Text)
     (whole : List A) → Each Is (word ∷ words) whole
     → (one : A) × (rest : List A) × Is word one × Each Is words rest

@@ -1,5 +1,5 @@
 -- Which requests a command makes of its words.
-use Rattle.std.proofs.Common.{◌≡◌, ◌≢◌, ◌∙◌, ap, ap₂, sym, subst, arith, ℕ, List, Option, Some}
+use Rattle.std.proofs.Common.{◌≡◌, ◌∙◌, ap, ap₂, sym, subst, arith, ℕ, List, Option, Some}
 use Rattle.std.proofs.Common.{None, Ok, Err, codes, slice_index, inl, inr, refl}
 use Rattle.std.specs.Borrow.{Bor}
 use Rattle.std.specs.Prelude.{Box, IfOk, IfErr, Result, option_map, ◌⊎◌}
@@ -132,19 +132,6 @@ pub no_question : (rows : List Row) (lack : NotRead) → ReadsOrLacks (HasQuesti
 no_question rows (not_read.Meaningless why) none =
     no_try rows (λ object question a has. none question has)
 no_question rows not_read.OutOfMemory none = tt
-
--- a command of another name makes nothing
-pub no_other : (rows : List Row) (name : Text) → name ≢ codes "annotate" → name ≢ codes "build"
-    → name ≢ codes "explain" → name ≢ codes "try" → name ≢ codes "test" → MadeBy name rows None
-no_other rows name annotate build explain try test (requests.Annotate hook code object fuel) named
-    has = annotate (sym named)
-no_other rows name annotate build explain try test (requests.Build file folder hook fuel) named has
-    = build (sym named)
-no_other rows name annotate build explain try test (requests.Explain object) named has =
-    explain (sym named)
-no_other rows name annotate build explain try test (requests.Try object question) named has =
-    try (sym named)
-no_other rows name annotate build explain try test (requests.Test file) named has = test (sym named)
 
 -- what the command makes that was named
 pub named_makes : (name : Text) (rows : List Row) (request : HooktoolRequest)

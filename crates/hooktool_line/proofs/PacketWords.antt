@@ -21,12 +21,6 @@ Strips w r = MatchOption r (FindsCharPrefix 64 w None)
     (λ x. (n : ℕ) × FindsCharPrefix 64 w (Some n) × (x.now ≡ drop n w)
     × (length x.now + n ≡ length w))
 
-pub of_file : (w : List ℕ) (r : Option (Bor (List ℕ))) (path : Bor (List ℕ)) → Strips w r
-    → r ≡ Some path → w ≡ 64 ∷ path.now
-of_file w r path strips some =
-    subst (λ (q : Option (Bor (List ℕ))). MatchOption q ((rest : List ℕ) → w ≢ 64 ∷ rest)
-    (λ x. w ≡ 64 ∷ x.now)) some (strip_prefix_char 64 w r strips (lit< tt))
-
 pub of_no_file : (w : List ℕ) (r : Option (Bor (List ℕ))) → Strips w r → r ≡ None → (rest : List ℕ)
     → w ≢ 64 ∷ rest
 of_no_file w r strips none =
