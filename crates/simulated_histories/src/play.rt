@@ -142,7 +142,7 @@ impl<'a> Play<'a> {
     fn passes(&mut self) {
         self.moment = self.moment.saturating_add(1);
         let tick = Event::Tick;
-        for place in 0..self.routers.count() {
+        for place in 0..self.mail.stage.topology.ends.len() {
             self.takes(place, &tick);
         }
     }
@@ -181,11 +181,6 @@ impl<'a> Play<'a> {
         self.takes(place, &Event::LinkDown(interface));
     }
 
-    fn restarts(&mut self, place: usize) {
-        self.routers
-            .restart(self.mail.stage.topology, place, self.moment);
-    }
-
     // Does what is done at a single router.
     fn does_at_one(&mut self, act: HistoryStep) {
         match act {
@@ -193,7 +188,10 @@ impl<'a> Play<'a> {
             HistoryStep::Announce(place, number) => self.announces(place as usize, number),
             HistoryStep::Withdraw(place, number) => self.withdraws(place as usize, number),
             HistoryStep::LinkDown(place, number) => self.goes_down(place as usize, number),
-            HistoryStep::Restart(place) => self.restarts(place as usize),
+            HistoryStep::Restart(place) => {
+                let topology = self.mail.stage.topology;
+                self.routers.restart(topology, place as usize, self.moment);
+            }
             _ => (),
         }
     }

@@ -73,7 +73,7 @@ impl<'a> Run<'a> {
 
     fn does(&mut self, deed: ScenarioStep) {
         match deed {
-            ScenarioStep::LinkUp(link) => self.network.link_up(link),
+            ScenarioStep::LinkUp(link) => self.network.wires.set_up(link, true),
             ScenarioStep::LinkDown(link, notice) => self.network.link_down(link, notice),
             ScenarioStep::Announce(place, number) => self.announces(place, number),
             ScenarioStep::Withdraw(place, prefix) => {
@@ -178,8 +178,9 @@ impl<'a> Run<'a> {
 
     fn tells(&self, outcome: &mut Outcome) {
         let routers = &self.network.routers;
-        outcome.routers = routers.count();
-        outcome.links = self.network.wires.topology.links.len();
+        let topology = self.network.wires.topology;
+        outcome.routers = topology.ends.len();
+        outcome.links = topology.links.len();
         if let Some(core) = routers.get(0) {
             outcome.lsas = core.database().len();
         }

@@ -105,20 +105,16 @@ impl Search {
         let mut acts = Vec::new(alloc);
         acts.push(HistoryStep::Calm(15))?;
         for _ in 0..self.steps {
-            let act = self.next_act(&mut random);
+            let act = chosen(
+                &mut random,
+                self.routers,
+                self.externals,
+                &self.faults,
+                self.restarts,
+            );
             acts.push(act)?;
         }
         Ok(acts)
-    }
-
-    fn next_act(&self, random: &mut Random) -> HistoryStep {
-        chosen(
-            random,
-            self.routers,
-            self.externals,
-            &self.faults,
-            self.restarts,
-        )
     }
 
     // Whether the play ends with what is sought.

@@ -81,7 +81,7 @@ impl<'a> Network<'a> {
     /// Time goes on by a second, with a Tick at each router, the first of them by chance.
     pub fn passes(&mut self) {
         self.wires.wake();
-        let count = self.routers.count();
+        let count = self.wires.topology.ends.len();
         let first = self.wires.random.place(count);
         let tick = Event::Tick;
         for step in 0..count {
@@ -89,33 +89,28 @@ impl<'a> Network<'a> {
         }
     }
 
-    // All that is under way comes over those links that are up.
-    fn round(&mut self) {
+    // All that is under way comes over those links that are up. Returns whether something was.
+    fn round(&mut self) -> bool {
         let all = self.wires.take();
         for coming in &all {
             if self.wires.is_up(coming.link) {
                 self.happens(coming.place, &coming.event);
             }
         }
+        !all.is_empty()
     }
 
     /// All that is under way comes, and what is sent then, until nothing is.
     pub fn delivers(&mut self) {
         for _round in 0..MOST_ROUNDS {
-            if self.wires.is_quiet() {
+            if !self.round() {
                 return;
             }
-            self.round();
         }
     }
 
     fn goes_down(&mut self, place: usize, interface: u8) {
         self.happens(place, &Event::LinkDown(u16::from(interface)));
-    }
-
-    /// The link goes up.
-    pub fn link_up(&mut self, number: usize) {
-        self.wires.set_up(number, true);
     }
 
     /// The link goes down; with notice, the routers at both ends are told.
@@ -138,12 +133,19 @@ impl<'a> Network<'a> {
 
     /// How many links are up and not Full.
     pub fn not_full(&self) -> usize {
-        self.readings.not_full(&self.wires)
+        let links = self.wires.topology.links.as_slice();
+        let mut count = 0_usize;
+        for number in 0..links.len() {
+            if self.wires.is_up(number) && !self.readings.are_full(&links[number]) {
+                count = count.wrapping_add(1);
+            }
+        }
+        count
     }
 
     /// How many links between Full neighbors join databases that differ.
     pub fn differ(&mut self) -> usize {
-        for place in 0..self.routers.count() {
+        for place in 0..self.wires.topology.ends.len() {
             if self.readings.print(place) == 0 {
                 self.readings.set_print(place, self.routers.print(place));
             }
@@ -164,7 +166,7 @@ impl<'a> Network<'a> {
         let links = self.wires.topology.links.len();
         let prefixes = links.wrapping_add(owners.len());
         self.readings.set_prefixes(prefixes);
-        for place in 0..self.routers.count() {
+        for place in 0..self.wires.topology.ends.len() {
             if self.readings.has_changed(place) {
                 self.take_table(place, links, prefixes);
             }

@@ -86,26 +86,14 @@ impl Readings {
         place < self.list.len() && interface < 64 && self.list[place].full.contains(interface)
     }
 
-    // Whether both ends see each other as Full.
-    fn are_full(&self, link: &LinkEnds) -> bool {
+    /// Whether both ends see each other as Full.
+    pub fn are_full(&self, link: &LinkEnds) -> bool {
         self.sees(link.one, link.one_interface) && self.sees(link.other, link.other_interface)
     }
 
     // Whether the databases of both ends differ, and they see each other as Full.
     fn differ_over(&self, link: &LinkEnds) -> bool {
         self.print(link.one) != self.print(link.other) && self.are_full(link)
-    }
-
-    /// How many links are up and not Full.
-    pub fn not_full(&self, wires: &Wires<'_>) -> usize {
-        let links = wires.topology.links.as_slice();
-        let mut count = 0_usize;
-        for number in 0..links.len() {
-            if wires.is_up(number) && !self.are_full(&links[number]) {
-                count = count.wrapping_add(1);
-            }
-        }
-        count
     }
 
     /// How many links between Full neighbors join databases that differ.

@@ -53,11 +53,6 @@ impl Routers {
         }
     }
 
-    /// How many there are.
-    pub fn count(&self) -> usize {
-        self.cores.len()
-    }
-
     /// The router at a place.
     pub fn get(&self, place: usize) -> Option<&Core> {
         if place < self.cores.len() {

@@ -164,9 +164,4 @@ impl<'a> Wires<'a> {
         self.counts.count_under_way(self.next.len());
         replace(&mut self.next, Vec::new(self.alloc))
     }
-
-    /// Whether nothing comes with the next round.
-    pub fn is_quiet(&self) -> bool {
-        self.next.is_empty()
-    }
 }
