@@ -112,7 +112,7 @@ pub fn scenario_in(matches: &ArgMatches<'_>) -> Result<Scenario, Wrong>
 /// Reads the words of a command, and keeps what is wrong with the first wrong one.
 #[derive(Drop)]
 pub struct Reader<'m, 'a> {
-    matches: &'m ArgMatches<'a>,
+    pub matches: &'m ArgMatches<'a>,
     wrong: Option<Wrong>,
 }
 
@@ -158,11 +158,6 @@ impl<'m, 'a> Reader<'m, 'a> {
     pub fn scenario(&mut self) -> Scenario {
         let read = scenario_in(self.matches);
         self.kept(read, Scenario::Start)
-    }
-
-    /// Whether the flag of this name is there.
-    pub fn flag(&self, name: &str) -> bool {
-        self.matches.get_flag(name)
     }
 
     /// The times of the interfaces.

@@ -83,16 +83,16 @@ fn run(words: &mut Reader<'_, '_>) -> SimulationRequest {
         times: words.times(),
         faults: words.faults(),
         scenario: words.scenario(),
-        watches: words.flag("watch"),
+        watches: words.matches.get_flag("watch"),
     };
-    let json = words.flag("json");
+    let json = words.matches.get_flag("json");
     SimulationRequest::Run { plan, seeds, json }
 }
 
 fn search(words: &mut Reader<'_, '_>) -> SimulationRequest {
     let shape = shape_in(words);
     let (seed, seeds) = seeds_in(words);
-    let sought = match words.flag("loops") {
+    let sought = match words.matches.get_flag("loops") {
         true => Sought::Loops,
         false => Sought::Databases,
     };
@@ -102,7 +102,7 @@ fn search(words: &mut Reader<'_, '_>) -> SimulationRequest {
         externals: shape.externals,
         times: words.times(),
         faults: words.faults(),
-        restarts: words.flag("restarts"),
+        restarts: words.matches.get_flag("restarts"),
         steps: words.small("steps", 500, 0, 1_000_000),
         calm: words.small("calm", 60, 0, 1_000_000),
     };
