@@ -1,10 +1,10 @@
 //! The lines of the console's answers.
-ghost use Rattle.std.specs.Prelude.{◌≡◌, ◌≤◌, ◌∷◌, ◌++◌, IfOk, OnOk, decimal, if◌then◌else◌};
+ghost use Rattle.std.specs.Prelude.{◌≡◌, ◌∷◌, ◌++◌, IfOk, OnOk, decimal, if◌then◌else◌};
 ghost use Rattle.std.specs.Prelude.{string_bytes};
 ghost use Rattle.console.specs.Answers.{counter_line, counter_lines, counters_text, hops_text};
-ghost use Rattle.console.specs.Answers.{interfaces_below, kind_name, neighbor_line, neighbor_lines};
-ghost use Rattle.console.specs.Answers.{neighbors_text, numbers_text, route_line, route_lines};
-ghost use Rattle.console.specs.Answers.{route_text, state_name, table_text};
+ghost use Rattle.console.specs.Answers.{kind_name, neighbor_line, neighbor_lines, neighbors_text};
+ghost use Rattle.console.specs.Answers.{route_line, route_lines, route_text, state_name};
+ghost use Rattle.console.specs.Answers.{table_text};
 
 use adjacency::NeighborState;
 use std::alloc::{AllocError, Global};
@@ -34,27 +34,18 @@ fn push_number(text: &mut String, is_first: bool, number: u8) -> Result<(), Allo
     }
 }
 
-/// Appends the interfaces of a set that are below `end`, in ascending order, separated by commas.
-fn push_hops_below(text: &mut String, end: u8, hops: Hops) -> Result<(), AllocError>
-    requires { end ≤ 64 }
-    ensures { OnOk result (string_bytes text.new
-        ≡ string_bytes text.old ++ numbers_text (interfaces_below end hops)) }
+/// Appends the interfaces of a set in ascending order, separated by commas.
+fn push_hops(text: &mut String, hops: Hops) -> Result<(), AllocError>
+    ensures { OnOk result (string_bytes text.new ≡ string_bytes text.old ++ hops_text hops) }
 {
     let mut is_first = true;
-    for interface in 0..end {
+    for interface in 0..64 {
         if hops.contains(interface) {
             push_number(text, is_first, interface)?;
             is_first = false;
         }
     }
     Ok(())
-}
-
-/// Appends the interfaces of a set in ascending order, separated by commas.
-fn push_hops(text: &mut String, hops: Hops) -> Result<(), AllocError>
-    ensures { OnOk result (string_bytes text.new ≡ string_bytes text.old ++ hops_text hops) }
-{
-    push_hops_below(text, 64, hops)
 }
 
 /// Appends the part of a route's line before its interfaces.

@@ -1,7 +1,7 @@
 use Rattle.std.proofs.Common.{◌≡◌, ◌++◌, string_bytes}
 use Rattle.console.specs.Answers.{interfaces_below, numbers_text}
 use Rattle.console.proofs.Numbers.{is_empty}
-use Rattle.console.proofs.answers.push_hops_below.Given as goal
+use Rattle.console.proofs.answers.push_hops.Given as goal
 
 -- the text so far, and whether it is empty
 abbrev pub invariant-loop-interface : goal.invariant-loop-interface
