@@ -1,19 +1,18 @@
 -- Why there is no object: shortfalls that are no verdicts say nothing of the code.
-use Rattle.std.proofs.Common.{◌≡◌, ◌<◌, ◌≤◌, ◌⊎◌, ℕ, List, Option, Result, Err, IfErr, inl, inr}
+use Rattle.std.proofs.Common.{◌≡◌, ◌<◌, ◌≤◌, ◌⊎◌, ℕ, List, Result, Err, IfErr, inl, inr}
 use Rattle.std.proofs.Common.{subst, sym}
 use Rattle.isa.specs.declared.code.Slot.{Slot}
 use Rattle.isa.specs.declared.hook.Hook.{Hook}
 use Rattle.annotations.specs.declared.shortfall.Shortfall.{Shortfall}
-use Rattle.annotations.specs.declared.fuel.Fuel.{Fuel}
 use Rattle.annotations.specs.declared.shortfall.Shortfall.TheVariants as shortfalls
 use Rattle.object_verdicts.specs.Verdicts.{Refuses}
 use Rattle.object_verdicts.specs.declared.error.VerifyError.{VerifyError}
 use Rattle.verifier.specs.Programs.{Program}
-use Rattle.annotations.specs.Annotated.{IsProgram, fuel_of}
+use Rattle.annotations.specs.Annotated.{IsProgram}
 use Rattle.annotations.specs.CountedCode.{IsUncounted, IsUnnamed, NamesAll}
 use Rattle.annotations.specs.declared.count_error.CountError.{CountError}
 use Rattle.annotations.specs.declared.count_error.CountError.TheVariants as errors
-use Rattle.annotations.specs.Verdict.{IsCountFault, IsShortfall, IsTurnsShortfall, IsUnjudged}
+use Rattle.annotations.specs.Verdict.{IsShortfall, IsUnjudged}
 
 pub unjudged : (hook : Hook) (text : List ℕ) (s : Shortfall) → IsProgram text → IsUnjudged s
     → IsShortfall hook text s
@@ -24,16 +23,6 @@ unjudged hook text (shortfalls.Uncounted error) is h = absurd h
 unjudged hook text (shortfalls.Refused r endless) is h = absurd h
 unjudged hook text shortfalls.Statements is h = is
 unjudged hook text shortfalls.Memory is h = tt
-
-pub count_fault : (hook : Hook) (answer turns : ℕ) (text : List ℕ) (s : Shortfall)
-    → IsCountFault answer turns text s → IsTurnsShortfall hook (fuel_of turns answer) text s
-count_fault hook answer turns text (shortfalls.Code error) h = absurd h
-count_fault hook answer turns text (shortfalls.Object error) h = absurd h
-count_fault hook answer turns text (shortfalls.OtherHook other) h = absurd h
-count_fault hook answer turns text (shortfalls.Uncounted error) h = h
-count_fault hook answer turns text (shortfalls.Refused r endless) h = absurd h
-count_fault hook answer turns text shortfalls.Statements h = absurd h
-count_fault hook answer turns text shortfalls.Memory h = tt
 
 -- a register that isn't named
 pub not_all : (code : List Slot) (register : ℕ) → 6 ≤ register → register ≤ 9

@@ -1,21 +1,21 @@
 //! The same for code with loops that have no rank: their turns are counted.
-ghost use Rattle.std.specs.Prelude.{◌≡◌, ◌⊎◌, [], IfOk, IfErr};
+ghost use Rattle.std.specs.Prelude.{◌≡◌, ◌⊎◌, []};
 ghost use Rattle.isa.specs.Spelling.{Spells};
-ghost use Rattle.annotations.specs.Annotated.{CountsLoops, IsRejected, fuel_of, no_fuel};
+ghost use Rattle.annotations.specs.Annotated.{IsRejected, fuel_of, no_fuel};
 ghost use Rattle.annotations.specs.CountedCode.{StaysInside};
-ghost use Rattle.annotations.specs.Verdict.{IsCountFault, IsCountedOutcome, IsFoundOutcome};
-ghost use Rattle.annotations.specs.Verdict.{IsLoopFor, IsOutcome, IsTurnsOutcome};
+ghost use Rattle.annotations.specs.Verdict.{IsCountedOutcome, IsFoundOutcome, IsLoopFor};
+ghost use Rattle.annotations.specs.Verdict.{IsTurnsOutcome};
 
-use crate::attempt::{Task, annotate, kinds_of};
+use crate::attempt::{Task, annotate};
 use crate::count_error::CountError;
 use crate::counted_code::counted;
 use crate::inside::stays_inside;
 use crate::shortfall::Shortfall;
 use crate::verdict::{Annotated, AnnotatedObject, EndlessLoop, Rejected};
 use inference::most_turns;
-use isa::{Code, decode, encode};
+use isa::{Code, encode};
 use object::Statement;
-use ranking_functions::Unranked;
+use ranking_functions::{Unranked, kinds_of};
 use std::alloc::{AllocError, Global};
 use verifier::BUDGET;
 
@@ -33,41 +33,14 @@ struct Heads {
     lacks_memory: bool,
 }
 
-fn no_heads(alloc: Global) -> Heads
-    ensures { result.slots.items ≡ [] }
-{
-    Heads {
-        slots: Vec::new(alloc),
-        lacks_memory: false,
-    }
-}
-
-/// The most turns that are looked for: with which the code may stay within its budget, and that are
-/// followed in less than a second.
-fn most_for(code: &Code) -> u32 {
-    match code.len() {
-        0 => 0,
-        slots => (BUDGET / slots as u64).min(MOST_FOLLOWED) as u32,
-    }
-}
-
-/// The statement one slot later.
-fn moved(statement: &Statement) -> Option<Statement> {
-    let slot = statement.slot().checked_add(1)?;
-    Statement::new(
-        slot,
-        statement.rank(),
-        kinds_of(statement),
-        *statement.stack(),
-    )
-}
-
 /// The statements one slot later, as counted code has them.
 fn all_moved(alloc: Global, given: &[Statement]) -> Result<Vec<Statement>, AllocError> {
     let mut later = Vec::new(alloc);
     for statement in given {
-        if let Some(statement) = moved(statement) {
-            if later.push(statement).is_err() {
+        let slot = statement.slot().saturating_add(1);
+        let kinds = kinds_of(statement);
+        if let Some(moved) = Statement::new(slot, statement.rank(), kinds, *statement.stack()) {
+            if later.push(moved).is_err() {
                 return Err(AllocError);
             }
         }
@@ -75,26 +48,19 @@ fn all_moved(alloc: Global, given: &[Statement]) -> Result<Vec<Statement>, Alloc
     Ok(later)
 }
 
-/// Adds those of these heads that aren't counted yet, or only the first one. Whether there are any.
-fn add_heads(heads: &mut Heads, slots: &[usize], is_one: bool) -> bool {
+/// Adds the loops that lack a rank and aren't counted yet: all of them, or only the first one if
+/// each has one on its own. Whether there are any.
+fn adds_unranked(heads: &mut Heads, unranked: &Unranked) -> bool {
     let before = heads.slots.len();
-    for slot in slots {
+    for slot in &unranked.slots {
         // Counted code has each slot one later.
         let head = slot.saturating_sub(usize::from(before > 0));
-        let is_next = !is_one | (heads.slots.len() == before);
+        let is_next = !unranked.are_together | (heads.slots.len() == before);
         if is_next & !heads.slots.contains(&head) {
             heads.lacks_memory |= heads.slots.push(head).is_err();
         }
     }
     heads.lacks_memory | (heads.slots.len() > before)
-}
-
-/// Adds the loops that lack a rank. Whether there are any more.
-fn adds_unranked(heads: &mut Heads, unranked: &Unranked) -> bool {
-    match unranked {
-        Unranked::Alone(slots) => add_heads(heads, slots, false),
-        Unranked::Together(slots) => add_heads(heads, slots, true),
-    }
 }
 
 /// Adds the loops that lack a rank, if that is what is wrong. Returns whether there are any more.
@@ -109,46 +75,38 @@ fn adds_more(
     }
 }
 
-/// The text of the code that counts the turns of the loops at these heads.
-fn counted_text(
+/// Tries the code that counts the turns of the loops at these heads, with the statements that were
+/// given for the code without.
+fn try_counted(
     task: &Task<'_>,
     code: &Code,
     heads: &[usize],
     turns: u32,
-) -> Result<Vec<u8>, Shortfall>
+    unranked: &mut Unranked,
+) -> Result<Annotated, Shortfall>
     requires code { Spells task.now.bytes.now code.now }
     requires inside { StaysInside code.now }
-    ensures counts { IfOk result (λ written. CountsLoops task.now.answer turns task.now.bytes.now
-        written.items) }
-    ensures fault { IfErr result (IsCountFault task.now.answer turns task.now.bytes.now) }
+    ensures { IsTurnsOutcome task.now.hook (fuel_of turns task.now.answer) task.now.bytes.now
+        result }
 {
     let counted = match counted(task.alloc, code, heads, turns, task.answer) {
         Ok(counted) => counted,
         Err(error) => return Err(Shortfall::Uncounted(error)),
     };
-    match encode(task.alloc, &counted) {
-        Ok(written) => Ok(written),
-        Err(_) => Err(Shortfall::Memory),
-    }
-}
-
-/// Tries the code that counts turns, with the statements that were given for the code without.
-fn try_text(task: &Task<'_>, bytes: &[u8], unranked: &mut Unranked) -> Result<Annotated, Shortfall>
-    ensures { IsOutcome task.now.hook bytes.now result }
-{
-    match all_moved(task.alloc, task.given) {
-        Ok(given) => {
-            let later = Task {
-                alloc: task.alloc,
-                hook: task.hook,
-                bytes,
-                given: &given,
-                answer: task.answer,
-            };
-            annotate(&later, unranked)
-        }
-        Err(_) => Err(Shortfall::Memory),
-    }
+    let Ok(written) = encode(task.alloc, &counted) else {
+        return Err(Shortfall::Memory);
+    };
+    let Ok(given) = all_moved(task.alloc, task.given) else {
+        return Err(Shortfall::Memory);
+    };
+    let later = Task {
+        alloc: task.alloc,
+        hook: task.hook,
+        bytes: &written,
+        given: &given,
+        answer: task.answer,
+    };
+    annotate(&later, &counted, unranked)
 }
 
 /// Tries the code that counts the turns of the loops at these heads, if there are any.
@@ -167,12 +125,9 @@ fn try_heads(
     if heads.lacks_memory {
         Err(Shortfall::Memory)
     } else if heads.slots.is_empty() {
-        annotate(task, unranked)
+        annotate(task, code, unranked)
     } else {
-        match counted_text(task, code, &heads.slots, turns) {
-            Ok(written) => try_text(task, &written, unranked),
-            Err(error) => Err(error),
-        }
+        try_counted(task, code, &heads.slots, turns, unranked)
     }
 }
 
@@ -205,19 +160,19 @@ fn annotate_loops(
 /// Loops that have a rank stay as they are.
 pub fn annotate_counted(
     task: &Task<'_>,
+    code: &Code,
     turns: u32,
     unranked: &mut Unranked,
 ) -> Result<Annotated, Shortfall>
+    requires { Spells task.now.bytes.now code.now }
     ensures { IsTurnsOutcome task.now.hook (fuel_of turns task.now.answer) task.now.bytes.now
         result }
 {
-    match decode(task.alloc, task.bytes) {
-        Ok(code) => {
-            let mut heads = no_heads(task.alloc);
-            annotate_loops(task, &code, &mut heads, turns, unranked)
-        }
-        Err(error) => Err(Shortfall::Code(error)),
-    }
+    let mut heads = Heads {
+        slots: Vec::new(task.alloc),
+        lacks_memory: false,
+    };
+    annotate_loops(task, code, &mut heads, turns, unranked)
 }
 
 /// Has the loops at these heads counted by as many turns as they take at most. `None` if that isn't
@@ -232,7 +187,9 @@ fn try_bounded(
     requires inside { StaysInside code.now }
     ensures { IsCountedOutcome task.now.hook task.now.answer task.now.bytes.now result }
 {
-    let turns = match most_turns(task.alloc, code, task.hook, &heads.slots, most_for(code)) {
+    // With more turns the code would exceed its budget, or take more than a second to follow.
+    let most = (BUDGET / code.len() as u64).min(MOST_FOLLOWED) as u32;
+    let turns = match most_turns(task.alloc, code, task.hook, &heads.slots, most) {
         Ok(Some(turns)) => turns,
         Ok(None) => return Ok(None),
         Err(_) => return Err(Shortfall::Memory),
@@ -250,17 +207,23 @@ fn try_bounded(
     }
 }
 
-/// The same for the loops that lack a rank, and again for those that lack one then.
+/// The same for the loops that lack a rank, and again for those that lack one then. None are
+/// counted of code that leads to where it has no instruction.
 fn count_bounded(
     task: &Task<'_>,
     code: &Code,
     unranked: &mut Unranked,
 ) -> Result<Option<AnnotatedObject>, Shortfall>
-    requires code { Spells task.now.bytes.now code.now }
-    requires inside { StaysInside code.now }
+    requires { Spells task.now.bytes.now code.now }
     ensures { IsCountedOutcome task.now.hook task.now.answer task.now.bytes.now result }
 {
-    let mut heads = no_heads(task.alloc);
+    if !stays_inside(code) {
+        return Ok(None);
+    }
+    let mut heads = Heads {
+        slots: Vec::new(task.alloc),
+        lacks_memory: false,
+    };
     for _ in 0..MOST_ROUNDS {
         if !adds_unranked(&mut heads, unranked) {
             return Ok(None);
@@ -273,34 +236,22 @@ fn count_bounded(
     Ok(None)
 }
 
-/// The same for code that is refused for a loop without a rank.
-fn count_refused(
-    task: &Task<'_>,
-    unranked: &mut Unranked,
-) -> Result<Option<AnnotatedObject>, Shortfall>
-    ensures { IsCountedOutcome task.now.hook task.now.answer task.now.bytes.now result }
-{
-    match decode(task.alloc, task.bytes) {
-        Ok(code) if stays_inside(&code) => count_bounded(task, &code, unranked),
-        Ok(_) => Ok(None),
-        Err(_) => Err(Shortfall::Memory),
-    }
-}
-
 /// Has the loops counted of code that the verifier refuses for this one, if it is found how many
 /// turns they take at most. Else the refusal is told.
 fn count_endless(
     task: &Task<'_>,
+    code: &Code,
     rejected: Rejected,
     endless: EndlessLoop,
     unranked: &mut Unranked,
 ) -> Result<AnnotatedObject, Shortfall>
+    requires code { Spells task.now.bytes.now code.now }
     requires rejected { IsRejected task.now.hook task.now.bytes.now rejected.object
         rejected.bytes.items rejected.refusal }
     requires endless { IsLoopFor rejected.refusal.rule endless }
     ensures { IsFoundOutcome task.now.hook (no_fuel task.now.answer) task.now.bytes.now result }
 {
-    match count_refused(task, unranked) {
+    match count_bounded(task, code, unranked) {
         Ok(Some(found)) => Ok(found),
         Ok(None) => Err(Shortfall::Refused(rejected, Some(endless))),
         Err(Shortfall::Uncounted(CountError::NoRegister)) => {
@@ -319,17 +270,19 @@ fn count_endless(
 /// what it says of the given code.
 pub fn annotate_bounded(
     task: &Task<'_>,
+    code: &Code,
     unranked: &mut Unranked,
 ) -> Result<AnnotatedObject, Shortfall>
+    requires { Spells task.now.bytes.now code.now }
     ensures { IsFoundOutcome task.now.hook (no_fuel task.now.answer) task.now.bytes.now result }
 {
-    match annotate(task, unranked) {
+    match annotate(task, code, unranked) {
         Ok(annotated) => Ok(AnnotatedObject {
             annotated,
             turns: None,
         }),
         Err(Shortfall::Refused(rejected, endless)) => match endless {
-            Some(endless) => count_endless(task, rejected, endless, unranked),
+            Some(endless) => count_endless(task, code, rejected, endless, unranked),
             None => Err(Shortfall::Refused(rejected, None)),
         },
         Err(fault) => Err(fault),

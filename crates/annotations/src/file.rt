@@ -9,7 +9,7 @@ use crate::counting::{annotate_bounded, annotate_counted};
 use crate::fuel::Fuel;
 use crate::shortfall::Shortfall;
 use crate::verdict::AnnotatedObject;
-use isa::Hook;
+use isa::{Hook, decode};
 use object::read;
 use ranking_functions::Unranked;
 use std::alloc::Global;
@@ -28,16 +28,24 @@ fn annotate_code(task: &Task<'_>, turns: Option<u32>) -> Result<AnnotatedObject,
         (record { turns = turns; answer = task.now.answer }) task.now.bytes.now result }
     ensures found { IfOk result (λ found. IsSome turns → found.turns ≡ None) }
 {
-    let mut unranked = Unranked::Alone(Vec::new(task.alloc));
+    let code = match decode(task.alloc, task.bytes) {
+        Ok(code) => code,
+        Err(error) => return Err(Shortfall::Code(error)),
+    };
+    let mut unranked = Unranked {
+        slots: Vec::new(task.alloc),
+        are_together: false,
+        endless: None,
+    };
     match turns {
-        Some(turns) => match annotate_counted(task, turns, &mut unranked) {
+        Some(turns) => match annotate_counted(task, &code, turns, &mut unranked) {
             Ok(annotated) => Ok(AnnotatedObject {
                 annotated,
                 turns: None,
             }),
             Err(fault) => Err(fault),
         },
-        None => annotate_bounded(task, &mut unranked),
+        None => annotate_bounded(task, &code, &mut unranked),
     }
 }
 

@@ -1,12 +1,13 @@
 //! Statements without the known bits that the verifier does without.
 ghost use Rattle.std.specs.Prelude.{IfErr};
 ghost use Rattle.annotations.specs.Annotated.{IsAnnotated, IsProgram};
-ghost use Rattle.annotations.specs.Verdict.{IsShortfall};
+ghost use Rattle.annotations.specs.Verdict.{IsOutcome, IsShortfall};
 
-use crate::attempt::{Task, kinds_of};
+use crate::attempt::Task;
 use crate::shortfall::Shortfall;
 use crate::verdict::{Annotated, judged};
 use object::{StatedKind, StatedNumber, Statement};
+use ranking_functions::kinds_of;
 use std::alloc::{AllocError, Global};
 
 /// So many statements are trimmed one by one at most.
@@ -55,30 +56,6 @@ fn trimmed_within(
     Ok(all)
 }
 
-/// Gives the object these statements, unless the verifier refuses it so.
-fn try_with(
-    task: &Task<'_>,
-    annotated: &mut Annotated,
-    statements: Vec<Statement>,
-) -> Result<(), Shortfall>
-    requires program { IsProgram task.now.bytes.now }
-    requires annotated { IsAnnotated task.now.hook task.now.bytes.now annotated.old.object
-        annotated.old.bytes.items annotated.old.accepted }
-    ensures annotated { IsAnnotated task.now.hook task.now.bytes.now annotated.new.object
-        annotated.new.bytes.items annotated.new.accepted }
-    ensures fault { IfErr result (IsShortfall task.now.hook task.now.bytes.now) }
-{
-    let entry_rank = annotated.object.entry_rank();
-    match judged(task, entry_rank, statements, None) {
-        Ok(trimmed) => {
-            *annotated = trimmed;
-            Ok(())
-        }
-        Err(Shortfall::Refused(..)) => Ok(()),
-        Err(fault) => Err(fault),
-    }
-}
-
 /// Leaves out the known bits of these statements, if they have some and the verifier accepts the
 /// object so.
 fn trim_within(
@@ -94,37 +71,42 @@ fn trim_within(
         annotated.new.bytes.items annotated.new.accepted }
     ensures fault { IfErr result (IsShortfall task.now.hook task.now.bytes.now) }
 {
-    match trimmed_within(task.alloc, annotated.object.statements(), from, to) {
-        Ok(statements) => {
-            if statements.as_slice() == annotated.object.statements() {
-                Ok(())
-            } else {
-                try_with(task, annotated, statements)
-            }
+    let Ok(statements) = trimmed_within(task.alloc, annotated.object.statements(), from, to) else {
+        return Err(Shortfall::Memory);
+    };
+    if statements.as_slice() == annotated.object.statements() {
+        return Ok(());
+    }
+    let entry_rank = annotated.object.entry_rank();
+    match judged(task, entry_rank, statements, None) {
+        Ok(trimmed) => {
+            *annotated = trimmed;
+            Ok(())
         }
-        Err(_) => Err(Shortfall::Memory),
+        Err(Shortfall::Refused(..)) => Ok(()),
+        Err(fault) => Err(fault),
     }
 }
 
-/// Leaves out the known bits that the verifier does without: of all statements, and if they are
-/// few, also of one after the other.
-pub fn trim(task: &Task<'_>, annotated: &mut Annotated) -> Result<(), Shortfall>
+/// The same without the known bits that the verifier does without: of all statements, and if they
+/// are few, also of one after the other.
+pub fn trim(task: &Task<'_>, mut annotated: Annotated) -> Result<Annotated, Shortfall>
     requires program { IsProgram task.now.bytes.now }
-    requires annotated { IsAnnotated task.now.hook task.now.bytes.now annotated.old.object
-        annotated.old.bytes.items annotated.old.accepted }
-    ensures annotated { IsAnnotated task.now.hook task.now.bytes.now annotated.new.object
-        annotated.new.bytes.items annotated.new.accepted }
-    ensures fault { IfErr result (IsShortfall task.now.hook task.now.bytes.now) }
+    requires annotated { IsAnnotated task.now.hook task.now.bytes.now annotated.object
+        annotated.bytes.items annotated.accepted }
+    ensures { IsOutcome task.now.hook task.now.bytes.now result }
 {
     let count = annotated.object.statements().len();
-    if let Err(fault) = trim_within(task, annotated, 0, count) {
-        return Err(fault);
-    }
-    let tries = if count <= MOST_TRIES { count } else { 0 };
+    let tries = if count <= MOST_TRIES { count + 1 } else { 1 };
     for place in 0..tries {
-        if let Err(fault) = trim_within(task, annotated, place, place + 1) {
+        let (from, to) = if place == 0 {
+            (0, count)
+        } else {
+            (place - 1, place)
+        };
+        if let Err(fault) = trim_within(task, &mut annotated, from, to) {
             return Err(fault);
         }
     }
-    Ok(())
+    Ok(annotated)
 }

@@ -1,10 +1,10 @@
 //! What breaks a rule at an edge to a statement.
 ghost use Rattle.std.specs.Prelude.{◌<◌};
 
-use crate::phrases::{Value, followed_at, is_byte, known_at, push_rank, push_register};
+use crate::phrases::{Value, is_byte, known_at, push_rank, push_register};
 use crate::text::Text;
 use inference::copy_of;
-use inference::memory::Memory;
+use inference::memory::{Memory, element_or};
 use isa::{Hook, Instruction};
 use kinds::{AbstractState, Fact, SegmentStart, kind_within};
 use object::{Rank, RankTerm};
@@ -16,33 +16,23 @@ use transfer::branch::{refined, tested};
 use transfer::straight::straight;
 use verifier::Rule;
 
-/// What is known of the register, and what is stated there, unless the former is within the latter.
-fn push_register_outside(
-    out: &mut Text,
-    target: &SegmentStart<'_, Value>,
-    state: &AbstractState<Value>,
-    register: usize,
-) {
-    let known = known_at(&state.kinds, register);
-    let stated = known_at(&target.kinds, register);
-    if !kind_within(known, stated) {
-        push_register(out, "  r{}: ", register, known, "\n");
-        push_register(
-            out,
-            "  allowed: r{} ",
-            register,
-            stated,
-            ", as is stated there\n",
-        )
+/// What is known of each register that isn't within the statement, and what is stated there, and a
+/// line for the first such byte of the stack.
+fn push_outside(out: &mut Text, target: &SegmentStart<'_, Value>, state: &AbstractState<Value>) {
+    for register in 0..10usize {
+        let known = known_at(&state.kinds, register);
+        let stated = known_at(&target.kinds, register);
+        if !kind_within(known, stated) {
+            push_register(out, "  r{}: ", register, known, "\n");
+            push_register(
+                out,
+                "  allowed: r{} ",
+                register,
+                stated,
+                ", as is stated there\n",
+            )
+        }
     }
-}
-
-/// A line for the first byte of the stack that isn't within the statement.
-fn push_byte_outside(
-    out: &mut Text,
-    target: &SegmentStart<'_, Value>,
-    state: &AbstractState<Value>,
-) {
     let stated = target.statement.stack();
     for place in 0..512usize {
         if stated.contains(place) & !is_byte(&state.entries, place) {
@@ -53,15 +43,6 @@ fn push_byte_outside(
             );
         }
     }
-}
-
-/// A line for each register that isn't within the statement, and for the first such byte of the
-/// stack.
-fn push_outside(out: &mut Text, target: &SegmentStart<'_, Value>, state: &AbstractState<Value>) {
-    for register in 0..10usize {
-        push_register_outside(out, target, state, register);
-    }
-    push_byte_outside(out, target, state)
 }
 
 /// A line for the register of a rank's term, and how it relates to the statement above.
@@ -75,7 +56,7 @@ fn push_term(out: &mut Text, state: &AbstractState<Value>, term: Option<RankTerm
             known_at(&state.kinds, register),
             "",
         );
-        match followed_at(&state.facts, register) {
+        match element_or(&state.facts, register, None) {
             Some(Fact { origin, up, down }) => out.fill(
                 "; r{} of the statement above + {} - {}\n",
                 &[origin as u128, up, down],
@@ -107,14 +88,6 @@ fn push_ranks(
     push_rank(out, allowed, segment.statement.rank(), behind)
 }
 
-/// What is stated at a slot.
-pub(crate) fn target_at<'t, 'a>(
-    targets: &'t [Option<SegmentStart<'a, Value>>],
-    slot: usize,
-) -> Option<&'t SegmentStart<'a, Value>> {
-    stated_at(targets, slot)
-}
-
 /// The edges from a slot.
 #[derive(Clone, Copy)]
 pub(crate) struct Ways<'a> {
@@ -127,27 +100,22 @@ pub(crate) struct Ways<'a> {
 }
 
 impl Ways<'_> {
-    /// A line for the edge to the slot.
-    fn push_way(&self, out: &mut Text, to: usize) {
-        match self.slot {
-            Some(slot) => out.fill(
-                "  on the way from slot {} to slot {}\n",
-                &[slot as u128, to as u128],
-            ),
-            None => out.numbered("  on the way from the entry to slot ", to as u64, "\n"),
-        }
-    }
-
     /// What is wrong on the edge to the slot. Returns whether the slot is stated and something is
     /// wrong.
     pub fn push_to(&self, out: &mut Text, to: usize, state: &AbstractState<Value>) -> bool {
-        if let Some(target) = target_at(self.targets, to) {
+        if let Some(target) = stated_at(self.targets, to) {
             let is_back = match self.slot {
                 Some(slot) => to <= slot,
                 None => false,
             };
             if let Err(rule) = enter(target, is_back, self.segment, state) {
-                self.push_way(out, to);
+                match self.slot {
+                    Some(slot) => out.fill(
+                        "  on the way from slot {} to slot {}\n",
+                        &[slot as u128, to as u128],
+                    ),
+                    None => out.numbered("  on the way from the entry to slot ", to as u64, "\n"),
+                }
                 match rule {
                     Rule::NotWithin => push_outside(out, target, state),
                     _ => push_ranks(out, target, is_back, self.segment, state),

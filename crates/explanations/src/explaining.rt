@@ -7,8 +7,7 @@ use crate::edges::Ways;
 use crate::lines::instruction_lines;
 use crate::page::Page;
 use crate::phrases::Value;
-use crate::replay::entry_statement;
-use crate::rules::{rule_hint, rule_name};
+use crate::rules::{HINTS, NAMES, row_of};
 use crate::text::Text;
 use crate::walk::{Here, Program, push_pass};
 use inference::entry_state;
@@ -16,7 +15,7 @@ use inference::liveness::live_registers;
 use inference::memory::Memory;
 use isa::{Code, DecodeError, decode};
 use kinds::SegmentStart;
-use object::{Object, ObjectError};
+use object::{Object, ObjectError, Rank, StackBytes, StatedKind as Stated, Statement};
 use object_verdicts::{VerifyError, verify_object};
 use segments::target::targets_of;
 use std::alloc::{AllocError, Global};
@@ -43,17 +42,6 @@ pub enum ExplainError {
     Memory,
 }
 
-/// How the bound is computed, if it is too great.
-fn push_budget(out: &mut Text, object: &Object) {
-    let rank = object.entry_rank();
-    let slots = object.slots() as u64;
-    let bound = (rank as u64).saturating_add(1).saturating_mul(slots);
-    out.fill(
-        "  ({} + 1) * {} is {}\n  allowed: up to 1000000\n",
-        &[rank as u128, slots as u128, bound as u128],
-    )
-}
-
 /// The line for a program that is accepted with this bound.
 fn accepted(alloc: Global, bound: u64) -> Result<String, AllocError>
     ensures { IfOk result (λ text. string_bytes text ≡ accepted_line bound) }
@@ -61,14 +49,22 @@ fn accepted(alloc: Global, bound: u64) -> Result<String, AllocError>
     format!(in alloc; "accepted bound {bound}\n")
 }
 
-/// The rest of a refusal's text: the rule by its name, the reasons, and a hint.
+/// The rest of a refusal's text: the rule by its name, the reasons, and a hint. If the bound is too
+/// great, the reasons are how it is computed.
 fn push_refusal(out: &mut Text, object: &Object, rule: Rule, reasons: &str) {
-    out.line(" ", rule_name(rule));
-    match rule {
-        Rule::Budget => push_budget(out, object),
-        _ => out.push(reasons),
+    out.line(" ", row_of(&NAMES, rule));
+    if matches!(rule, Rule::Budget) {
+        let rank = object.entry_rank();
+        let slots = object.slots() as u64;
+        let bound = (rank as u64).saturating_add(1).saturating_mul(slots);
+        out.fill(
+            "  ({} + 1) * {} is {}\n  allowed: up to 1000000\n",
+            &[rank as u128, slots as u128, bound as u128],
+        )
+    } else {
+        out.push(reasons)
     }
-    out.line("  hint: ", rule_hint(rule))
+    out.line("  hint: ", row_of(&HINTS, rule))
 }
 
 /// The refusal in words: the slot and the rule, and then `more`.
@@ -111,7 +107,7 @@ fn refusal_in(verdict: &Result<Accepted, VerifyError>) -> Option<Refusal> {
     }
 }
 
-/// What the verifier knows at each slot, up to the one that it refuses.
+/// What the verifier knows at each slot of a program, up to the one that it refuses.
 fn push_program(page: &mut Page<'_>, program: &Program<'_>) {
     let first = entry_state(program.memory, 512);
     let ways = Ways {
@@ -128,52 +124,30 @@ fn push_program(page: &mut Page<'_>, program: &Program<'_>) {
 }
 
 /// The same for an object's program, with this statement at the entry.
-fn push_entered<'a>(
-    page: &mut Page<'_>,
-    memory: &'a Memory,
-    object: &'a Object,
-    code: &'a Code,
-    entry: SegmentStart<'a, Value>,
-    refusal: Option<Refusal>,
-) {
-    if object.slots() == code.len() {
-        let hook = object.hook();
-        let targets = targets_of::<Value>(memory.alloc, code.len(), object.statements());
-        let program = Program {
-            memory,
-            code,
-            hook,
-            live: memory.list(live_registers(memory.alloc, code, hook)),
-            targets: memory.list(targets),
-            entry,
-            refusal,
-        };
-        push_program(page, &program)
-    }
-}
-
-/// The same for an object's program.
-fn push_object(
+fn push_entered(
     page: &mut Page<'_>,
     memory: &Memory,
     object: &Object,
     code: &Code,
+    entry: &Statement,
     refusal: Option<Refusal>,
 ) {
-    if let Some(statement) = entry_statement(object.entry_rank()) {
-        let entry = SegmentStart {
-            statement: &statement,
-            kinds: entry_state(memory, 0).kinds,
+    if object.slots() == code.len() {
+        let targets = targets_of::<Value>(memory.alloc, code.len(), object.statements());
+        let program = Program {
+            memory,
+            code,
+            hook: object.hook(),
+            live: live_registers(memory, code, object.hook()),
+            targets: memory.list(targets),
+            entry: SegmentStart {
+                statement: entry,
+                kinds: entry_state(memory, 0).kinds,
+            },
+            refusal,
         };
-        push_entered(page, memory, object, code, entry, refusal)
+        push_program(page, &program)
     }
-}
-
-/// The hook, and the rank at the entry.
-fn push_head(out: &mut Text, object: &Object) {
-    out.push("hook ");
-    out.push(object.hook().name());
-    out.numbered(", rank ", object.entry_rank() as u64, " at the entry\n");
 }
 
 /// The whole explanation of the object and its verdict, except how the verdict begins.
@@ -185,9 +159,20 @@ fn push_all(
     verdict: &Result<Accepted, VerifyError>,
 ) {
     let memory = Memory::new(alloc);
-    push_head(&mut page.here, object);
-    push_object(page, &memory, object, code, refusal_in(verdict));
-    page.reasons.is_cut |= memory.is_refused();
+    let rank = object.entry_rank();
+    page.here.push("hook ");
+    page.here.push(object.hook().name());
+    page.here
+        .numbered(", rank ", rank as u64, " at the entry\n");
+    let constant = Rank {
+        constant: rank,
+        first: None,
+        second: None,
+    };
+    if let Some(entry) = Statement::new(0, constant, [Stated::Empty; 10], StackBytes::new()) {
+        push_entered(page, &memory, object, code, &entry, refusal_in(verdict))
+    }
+    page.reasons.is_cut |= memory.is_refused.get();
     if let Err(VerifyError::Refused(refusal)) = verdict {
         let reasons = page.reasons.words.as_str();
         push_refusal(&mut page.told, object, refusal.rule, reasons)

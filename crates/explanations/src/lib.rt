@@ -7,12 +7,10 @@ mod lines;
 mod page;
 mod phrases;
 mod reasons;
-mod replay;
 mod rules;
 mod text;
 mod walk;
 
 pub use explaining::{ExplainError, Explanation, explain};
 pub use lines::{instruction_lines, line_at};
-pub use rules::{rule_hint, rule_name};
 pub use text::Text;

@@ -27,9 +27,11 @@ impl<'a> Page<'a> {
         }
     }
 
-    /// Begins the text of the next slot, with the next instruction's line.
+    /// Begins the text of the next slot, with the next instruction's line. That of the current one
+    /// is one of the slots before from then on.
     pub fn turn(&mut self, slot: usize) {
-        self.before.take(&mut self.here);
+        self.before.push(self.here.words.as_str());
+        self.here.words.clear();
         let line = self.lines.next().unwrap_or("");
         self.here.numbered("slot ", slot as u64, ": ");
         self.here.line("", line);

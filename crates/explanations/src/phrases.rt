@@ -7,21 +7,6 @@ use inference::memory::element_or;
 use kinds::{Fact, Kind, PointerPlace, StackEntry};
 use object::{Rank, RankTerm};
 
-/// A mask of the bits of the numbers from 0 to `high`: its highest set bit, and all below.
-fn span(high: u64) -> u64 {
-    u64::MAX.checked_shr(high.leading_zeros()).unwrap_or(0)
-}
-
-/// A lower and an upper bound of the value's numbers.
-pub(crate) fn range_of(value: Value) -> (u64, u64) {
-    value.range()
-}
-
-/// The known bits, and which of them are set.
-fn push_known_bits(out: &mut Text, known: u64, set: u64) {
-    out.is_cut |= write!(out.words, ", of the bits {known:x} (hex) {set:x} are set").is_err();
-}
-
 /// What is known of the bits beyond what the range says.
 fn push_bits(out: &mut Text, value: Value, high: u64) {
     let multiple = value.multiple();
@@ -29,14 +14,17 @@ fn push_bits(out: &mut Text, value: Value, high: u64) {
     if unit > 1 {
         out.numbered(", multiple of ", unit, "");
     }
-    let known = value.second.mask & span(high) & !unit.wrapping_sub(1);
+    // The bits of the numbers from 0 to `high`: its highest set bit, and all below.
+    let span = u64::MAX.checked_shr(high.leading_zeros()).unwrap_or(0);
+    let known = value.second.mask & span & !unit.wrapping_sub(1);
     if known != 0 {
-        push_known_bits(out, known, value.second.value & known);
+        let set = value.second.value & known;
+        out.is_cut |= write!(out.words, ", of the bits {known:x} (hex) {set:x} are set").is_err();
     }
 }
 
 pub(crate) fn push_numbers(out: &mut Text, value: Value) {
-    let (low, high) = range_of(value);
+    let (low, high) = value.range();
     if low == high {
         out.number(low as u128)
     } else {
@@ -46,7 +34,7 @@ pub(crate) fn push_numbers(out: &mut Text, value: Value) {
 }
 
 fn push_number(out: &mut Text, value: Value) {
-    let (low, high) = range_of(value);
+    let (low, high) = value.range();
     if (low == 0) & (high == u64::MAX) {
         out.push("any number");
         push_bits(out, value, high)
@@ -71,11 +59,6 @@ pub(crate) fn push_place(out: &mut Text, place: PointerPlace<Value>) {
 /// What is known of the register.
 pub(crate) fn known_at(kinds: &[Kind<Value>], register: usize) -> Kind<Value> {
     element_or(kinds, register, Kind::Empty)
-}
-
-/// How the register relates to the last statement, if that is known.
-pub(crate) fn followed_at(facts: &[Option<Fact>], register: usize) -> Option<Fact> {
-    element_or(facts, register, None)
 }
 
 /// What is known of a register.
@@ -130,14 +113,12 @@ pub(crate) fn push_rank(out: &mut Text, before: &str, rank: Rank, behind: &str) 
     out.push(behind)
 }
 
-/// What is known of the stack from this place on.
-fn entry_at(entries: &[StackEntry<Value>], place: usize) -> StackEntry<Value> {
-    element_or(entries, place, StackEntry::Unknown)
-}
-
 /// Whether the byte at this place of the stack is known to be one of a number.
 pub(crate) fn is_byte(entries: &[StackEntry<Value>], place: usize) -> bool {
-    matches!(entry_at(entries, place), StackEntry::Byte)
+    matches!(
+        element_or(entries, place, StackEntry::Unknown),
+        StackEntry::Byte
+    )
 }
 
 /// The end of the range of bytes that begins at this place.
@@ -153,7 +134,7 @@ pub(crate) fn end_of(entries: &[StackEntry<Value>], start: usize) -> usize {
 /// A line for the bytes or the pointer that begin at this place of the stack. Returns the end of
 /// the bytes, if there are any.
 fn push_entry(out: &mut Text, entries: &[StackEntry<Value>], place: usize) -> usize {
-    match entry_at(entries, place) {
+    match element_or(entries, place, StackEntry::Unknown) {
         StackEntry::Byte => {
             let end = end_of(entries, place);
             let last = end.saturating_sub(1);

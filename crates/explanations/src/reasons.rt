@@ -1,12 +1,13 @@
 //! What breaks a rule at an instruction, and what is allowed.
 ghost use Rattle.std.specs.Prelude.{◌<◌};
 
-use crate::phrases::{Value, end_of, known_at, push_place, push_register, range_of};
-use crate::rules::rule_words;
+use crate::phrases::{Value, end_of, known_at, push_place, push_register};
+use crate::rules::{WORDS, row_of};
 use crate::text::Text;
+use absdom::Domain;
 use inference::liveness::{has, reads};
 use isa::{Hook, Instruction, Operation, Register, Width};
-use kinds::{AbstractState, Kind, PointerPlace, StackEntry, kind_at};
+use kinds::{AbstractState, Kind, PointerPlace, kind_at};
 use segments::places::jump_of;
 use transfer::load::{load_length, map_length};
 use transfer::place::reached;
@@ -83,22 +84,14 @@ fn is_wrong(rule: Rule, register: usize, kind: Kind<Value>) -> bool {
             } else {
                 MOST_ADDED
             };
-            range_of(value).1 > most
+            value.range().1 > most
         }
         _ => false,
     }
 }
 
-/// The end of such a register's line, and what is allowed if that depends on the register.
-fn behind_register(rule: Rule, register: usize) -> &'static str {
-    match (rule, register) {
-        (Rule::Argument, 1) => "\n  allowed: r1, the counter, 0..255\n",
-        (Rule::Argument, _) => "\n  allowed: r2, the amount that is added, 0..16777215\n",
-        _ => "\n",
-    }
-}
-
-/// A line for each register that the instruction reads and that breaks the rule.
+/// A line for each register that the instruction reads and that breaks the rule, with what is
+/// allowed if that depends on the register.
 fn push_registers(
     out: &mut Text,
     hook: Hook,
@@ -110,23 +103,12 @@ fn push_registers(
     for register in 0..10usize {
         let kind = known_at(&state.kinds, register);
         if has(read, register) & is_wrong(rule, register, kind) {
-            let behind = behind_register(rule, register);
+            let behind = match (rule, register) {
+                (Rule::Argument, 1) => "\n  allowed: r1, the counter, 0..255\n",
+                (Rule::Argument, _) => "\n  allowed: r2, the amount that is added, 0..16777215\n",
+                _ => "\n",
+            };
             push_register(out, "  r{}: ", register, kind, behind)
-        }
-    }
-}
-
-/// The first byte of an access to the stack that isn't known to be a byte of a number.
-fn push_unknown(
-    out: &mut Text,
-    entries: &[StackEntry<Value>],
-    place: PointerPlace<Value>,
-    length: u64,
-) {
-    if let PointerPlace::Stack(start) = place {
-        let byte = end_of(entries, start as usize) as u64;
-        if (byte < 512) & (byte.wrapping_sub(start) < length) {
-            out.numbered("  stack ", byte, ": may be empty, or a part of a pointer\n");
         }
     }
 }
@@ -141,37 +123,32 @@ fn push_bytes(out: &mut Text, access: &Access, place: PointerPlace<Value>) {
     out.push("\n")
 }
 
-fn length_of(place: PointerPlace<Value>) -> u64 {
-    match place {
-        PointerPlace::Context(_) => 64,
-        PointerPlace::Stack(_) => 512,
-        PointerPlace::Map(map, _) => map_length(map),
-    }
-}
-
-/// What is wrong with the bytes of the access; if they are out of bounds, also the allowed offsets.
+/// What is wrong with the bytes of the access: on the stack the first one that isn't known to be a
+/// byte of a number; if they are out of bounds, also the allowed offsets.
 fn push_access(out: &mut Text, state: &AbstractState<Value>, access: &Access, rule: Rule) {
     if let Ok(place) = reached(kind_at(state, access.base), access.offset) {
         match rule {
-            Rule::Empty => push_unknown(out, &state.entries, place, access.length),
+            Rule::Empty => {
+                if let PointerPlace::Stack(start) = place {
+                    let byte = end_of(&state.entries, start as usize) as u64;
+                    if (byte < 512) & (byte.wrapping_sub(start) < access.length) {
+                        out.numbered("  stack ", byte, ": may be empty, or a part of a pointer\n");
+                    }
+                }
+            }
             Rule::Align => push_bytes(out, access, place),
             Rule::Bounds => {
                 push_bytes(out, access, place);
-                let most = length_of(place).saturating_sub(access.length);
+                let length = match place {
+                    PointerPlace::Context(_) => 64,
+                    PointerPlace::Stack(_) => 512,
+                    PointerPlace::Map(map, _) => map_length(map),
+                };
+                let most = length.saturating_sub(access.length);
                 out.numbered("  allowed: 0..", most, "\n")
             }
             _ => {}
         }
-    }
-}
-
-/// The helper that the hook lacks.
-fn push_helper(out: &mut Text, hook: Hook, instruction: &Instruction) {
-    if let Instruction::Call { helper } = *instruction {
-        out.push("  the hook ");
-        out.push(hook.name());
-        out.push(" has no helper ");
-        out.signed(helper as i64)
     }
 }
 
@@ -181,7 +158,7 @@ fn allowed(hook: Hook, instruction: &Instruction, rule: Rule) -> &'static str {
         (Rule::Kind, _) => allowed_kinds(instruction),
         (Rule::Helper, Hook::Count) => "\n  allowed: 1 add, 2 read, 3 packet byte\n",
         (Rule::Helper, _) => "\n  allowed: 1 add, 2 read, 4 table cost\n",
-        _ => rule_words(rule),
+        _ => row_of(&WORDS, rule),
     }
 }
 
@@ -198,27 +175,18 @@ pub(crate) fn push_reason(
     requires { slot < 4096 }
 {
     push_registers(out, hook, state, instruction, rule);
-    match rule {
-        Rule::Helper => push_helper(out, hook, instruction),
-        _ => {
-            if let Some(access) = access_of(instruction) {
-                push_access(out, state, &access, rule)
-            }
-        }
+    if let Some(access) = access_of(instruction) {
+        push_access(out, state, &access, rule)
+    }
+    if let (Rule::Helper, Instruction::Call { helper }) = (rule, *instruction) {
+        out.push("  the hook ");
+        out.push(hook.name());
+        out.push(" has no helper ");
+        out.signed(helper as i64)
     }
     let to = match rule {
         Rule::Unreached => slot,
         _ => jump_of(slot, instruction).unwrap_or(slot),
     };
     out.fill(allowed(hook, instruction, rule), &[to as u128])
-}
-
-/// What is wrong with a statement where no instruction begins.
-pub(crate) fn push_stray(out: &mut Text, slot: usize) {
-    out.numbered(
-        "  slot ",
-        slot as u64,
-        " is stated, and is the second half of a wide instruction\n  allowed: a slot where an \
-            instruction begins\n",
-    );
 }

@@ -3,7 +3,7 @@
 use verifier::Rule;
 
 /// The names of the rules, as in docs/reference/VERIFIER.md, by their numbers from 1 on.
-const NAMES: [&str; 16] = [
+pub(crate) const NAMES: [&str; 16] = [
     "Target",
     "FallsOff",
     "Unreached",
@@ -23,7 +23,7 @@ const NAMES: [&str; 16] = [
 ];
 
 /// What an author can do if a rule is broken, in the same order.
-const HINTS: [&str; 16] = [
+pub(crate) const HINTS: [&str; 16] = [
     "name the slot by a label, and jump to the label",
     "end the code by exit, or by a goto",
     "state the slot that a jump comes to, or take out code that nothing comes to",
@@ -50,7 +50,7 @@ const HINTS: [&str; 16] = [
 
 /// The text for a broken rule, and what is allowed, in the same order; a `{}` stands for a slot.
 /// Empty if the text depends on the instruction.
-const WORDS: [&str; 16] = [
+pub(crate) const WORDS: [&str; 16] = [
     "  it jumps to slot {}, where no instruction begins\n  allowed: a slot of the code where one \
         begins\n",
     "  behind it the code ends\n  allowed: an exit or a goto as the last instruction\n",
@@ -72,23 +72,8 @@ const WORDS: [&str; 16] = [
     "",
 ];
 
-/// The rule's row in the table.
-fn row_of(table: &[&'static str], rule: Rule) -> &'static str {
+/// The rule's row in one of these tables.
+pub(crate) fn row_of(table: &[&'static str], rule: Rule) -> &'static str {
     let place = usize::from(rule.number()).saturating_sub(1);
     table.get(place).copied().unwrap_or("")
-}
-
-/// The name of a rule, as in docs/reference/VERIFIER.md.
-pub fn rule_name(rule: Rule) -> &'static str {
-    row_of(&NAMES, rule)
-}
-
-/// What an author can do if a rule is broken.
-pub fn rule_hint(rule: Rule) -> &'static str {
-    row_of(&HINTS, rule)
-}
-
-/// The text for a broken rule, without what is known there.
-pub(crate) fn rule_words(rule: Rule) -> &'static str {
-    row_of(&WORDS, rule)
 }

@@ -61,13 +61,6 @@ impl Text {
         self.push("\n");
     }
 
-    /// Appends the other text, and empties it.
-    pub fn take(&mut self, other: &mut Text) {
-        self.push(other.words.as_str());
-        self.is_cut |= other.is_cut;
-        other.words.clear();
-    }
-
     /// The text; errors with `AllocError` if an allocation was refused for a part of it.
     pub fn finish(self) -> Result<String, AllocError> {
         let Text { words, is_cut } = self;

@@ -2,11 +2,10 @@
 ghost use Rattle.std.specs.Prelude.{◌≡◌, ◌<◌, slice_get, Some};
 ghost use Rattle.isa.specs.declared.code.Slot.TheVariants.{Start};
 
-use crate::edges::{Ways, target_at};
+use crate::edges::Ways;
 use crate::page::Page;
-use crate::phrases::{Value, push_rank, push_stack};
-use crate::reasons::{push_reason, push_stray};
-use crate::replay::push_live;
+use crate::phrases::{Value, known_at, push_fact, push_rank, push_register, push_stack};
+use crate::reasons::push_reason;
 use crate::text::Text;
 use inference::liveness::{Registers, has};
 use inference::memory::{Memory, element_or};
@@ -16,6 +15,7 @@ use kinds::{AbstractState, SegmentStart, reset};
 use segments::follow::follow;
 use segments::known::Known;
 use segments::places::check_places;
+use segments::target::stated_at;
 use verifier::{Refusal, Rule};
 
 /// A program, and what is the same at all slots.
@@ -36,7 +36,7 @@ impl<'a> Program<'a> {
     /// The statement of the segment that begins at the slot, or at the entry.
     fn segment(&self, begun: Option<usize>) -> &SegmentStart<'a, Value> {
         match begun {
-            Some(slot) => target_at(&self.targets, slot).unwrap_or(&self.entry),
+            Some(slot) => stated_at(&self.targets, slot).unwrap_or(&self.entry),
             None => &self.entry,
         }
     }
@@ -70,14 +70,17 @@ impl Here {
         }
     }
 
-    /// Reaches the slot. A statement there is printed, and begins a segment.
-    fn arrive(&mut self, out: &mut Text, program: &Program<'_>, slot: usize) {
-        if let Some(target) = target_at(&program.targets, slot) {
-            push_rank(out, "    stated, rank ", target.statement.rank(), "\n");
-            self.begun = Some(slot);
-            self.known.state = reset(entry_state(program.memory, 512), target);
-            self.known.is_live = true;
+    /// What is known of the register, and how it has changed since the statement at the slot at
+    /// which the segment begins.
+    fn push_live(&self, out: &mut Text, register: usize) {
+        let kind = known_at(&self.known.state.kinds, register);
+        push_register(out, "    r{}: ", register, kind, "");
+        if let Some(begun) = self.begun {
+            if let Some(fact) = element_or(&self.known.state.facts, register, None) {
+                push_fact(out, register, fact, begun)
+            }
         }
+        out.push("\n")
     }
 
     /// Prints what is known at the slot of each register that may be read from there on, and of the
@@ -87,7 +90,7 @@ impl Here {
             let live = element_or(&program.live, slot, 0);
             for register in 0..10usize {
                 if has(live, register) {
-                    push_live(out, self.begun, &self.known.state, register)
+                    self.push_live(out, register)
                 }
             }
             push_stack(out, &self.known.state.entries)
@@ -160,8 +163,9 @@ impl Here {
         }
     }
 
-    /// Prints the slot, and moves on past its instruction. If the verifier refuses it, prints what
-    /// is wrong there. Returns whether it moved on.
+    /// Prints the slot, with its statement, which begins a segment, and moves on past its
+    /// instruction. If the verifier refuses it, prints what is wrong there. Returns whether it moved
+    /// on.
     fn pass(
         &mut self,
         page: &mut Page<'_>,
@@ -173,7 +177,13 @@ impl Here {
         requires here { slice_get program.now.code.now slot ≡ Some (Start instruction) }
     {
         page.turn(slot);
-        self.arrive(&mut page.here, program, slot);
+        if let Some(target) = stated_at(&program.targets, slot) {
+            let rank = target.statement.rank();
+            push_rank(&mut page.here, "    stated, rank ", rank, "\n");
+            self.begun = Some(slot);
+            self.known.state = reset(entry_state(program.memory, 512), target);
+            self.known.is_live = true;
+        }
         self.push(&mut page.here, program, slot);
         match program.rule_at(slot) {
             Some(rule) => {
@@ -194,7 +204,12 @@ pub(crate) fn push_pass(page: &mut Page<'_>, program: &Program<'_>, here: &mut H
                 return;
             }
         } else if program.rule_at(slot).is_some() {
-            return push_stray(&mut page.reasons, slot);
+            return page.reasons.numbered(
+                "  slot ",
+                slot as u64,
+                " is stated, and is the second half of a wide instruction\n  allowed: a slot \
+                    where an instruction begins\n",
+            );
         }
     }
 }

@@ -1,11 +1,10 @@
 //! The statements found so far.
 
-use crate::edges::{Edge, registers_of};
+use crate::edges::Edge;
 use crate::joining::{Growth, Value, first_statement, joined_statement};
 use crate::liveness::Registers;
 use crate::memory::{Memory, element_or};
 use crate::turns::Turns;
-use crate::widening::Widening;
 use kinds::{AbstractState, put};
 use object::Statement;
 
@@ -34,14 +33,14 @@ pub struct StatementDraft {
     /// The limits that growing bounds are widened to.
     limits: Vec<u64>,
     /// The sites whose segments are still to be visited, since their statements have changed.
-    waiting: Vec<bool>,
+    pub waiting: Vec<bool>,
     /// How often each statement has changed.
     changes: Vec<u32>,
     /// The sites whose statements are fixed.
-    kept: Vec<bool>,
+    pub kept: Vec<bool>,
     pub stated: Vec<Option<Statement>>,
     /// What a narrowing pass finds, or the states at the site that aren't followed yet.
-    found: Vec<Option<Statement>>,
+    pub found: Vec<Option<Statement>>,
     pub edges: Vec<Edge>,
     pub turns: Turns,
 }
@@ -65,16 +64,6 @@ const EXACT_CHANGES: u32 = 3;
 
 const LIMITED_CHANGES: u32 = 40;
 
-fn widening_after(changes: u32) -> Widening {
-    if changes < EXACT_CHANGES {
-        Widening::None
-    } else if changes < LIMITED_CHANGES {
-        Widening::Limits
-    } else {
-        Widening::Any
-    }
-}
-
 impl StatementDraft {
     /// A draft without statements, for `size` sites. Bounds that grow are widened to these limits.
     pub fn new(memory: &Memory, size: usize, limits: Vec<u64>) -> StatementDraft {
@@ -90,69 +79,46 @@ impl StatementDraft {
             stated: memory.filled(None, size),
             found: memory.filled(None, size),
             edges: Vec::new(memory.alloc),
-            turns: Turns::new(memory, size),
+            turns: Turns {
+                counted: memory.filled(false, size),
+                pending: memory.filled(0, size),
+                now: 0,
+                most: 0,
+            },
         }
-    }
-
-    /// The statement at the site so far.
-    fn statement(&self, site: usize) -> Option<Statement> {
-        element_or(&self.stated, site, None)
     }
 
     /// Whether the site lacks a statement, and edges that no run takes may give it one.
     pub fn lacks(&self, site: usize) -> bool {
-        self.is_lenient && self.statement(site).is_none()
+        self.is_lenient && element_or(&self.stated, site, None).is_none()
     }
 
-    /// Starts a pass.
-    pub fn begin(&mut self, purpose: Purpose) {
-        self.purpose = purpose;
-        self.has_changed = false;
-    }
-
-    /// Makes what a narrowing pass found the site's statement. A site that no edge reached keeps
-    /// its own.
-    fn settle_at(&mut self, site: usize) {
-        let next = element_or(&self.found, site, None);
-        if next.is_some() {
-            self.has_changed |= next != self.statement(site);
-            put(&mut self.stated, site, next);
-            put(&mut self.found, site, None);
-        }
-    }
-
-    /// Makes what a narrowing pass found the statements.
+    /// Makes what a narrowing pass found the statements. A site that no edge reached keeps its own.
     pub fn settle(&mut self) {
         for site in 0..self.stated.len() {
-            self.settle_at(site)
-        }
-    }
-
-    /// Marks all segments to be visited again.
-    pub fn renew(&mut self) {
-        self.is_new = true;
-        for site in 0..self.waiting.len() {
-            put(&mut self.waiting, site, true)
+            let next = element_or(&self.found, site, None);
+            if next.is_some() {
+                self.has_changed |= next != element_or(&self.stated, site, None);
+                put(&mut self.stated, site, next);
+                put(&mut self.found, site, None);
+            }
         }
     }
 
     /// Whether only segments whose statements have changed are visited.
-    fn is_rising(&self) -> bool {
+    pub fn is_rising(&self) -> bool {
         matches!(self.purpose, Purpose::Rise)
-    }
-
-    /// Whether the entry's segment is to be visited now.
-    pub fn is_entry_due(&mut self) -> bool {
-        let is_due = self.is_new | !self.is_rising();
-        self.is_new = false;
-        is_due
     }
 
     /// The statement at the site, if its segment is to be visited now.
     pub fn due(&mut self, site: usize) -> Option<Statement> {
         let is_due = element_or(&self.waiting, site, false) | !self.is_rising();
         put(&mut self.waiting, site, false);
-        if is_due { self.statement(site) } else { None }
+        if is_due {
+            element_or(&self.stated, site, None)
+        } else {
+            None
+        }
     }
 
     /// Replaces the statement at the site.
@@ -164,27 +130,16 @@ impl StatementDraft {
         self.has_changed = true;
     }
 
-    /// Fixes the statement at the site, whatever reaches it.
-    pub fn keep(&mut self, site: usize, statement: Statement) {
-        self.assume(site, Some(statement));
-        put(&mut self.kept, site, true)
-    }
-
-    /// How the bounds at the edge's target are widened.
-    fn widening_at(&self, arrival: &Arrival) -> Widening {
-        if arrival.is_head & self.is_rising() {
-            widening_after(element_or(&self.changes, arrival.site, 0))
-        } else {
-            Widening::None
-        }
-    }
-
-    /// The statement that the pass extends at the site.
-    fn last(&self, site: usize) -> Option<Statement> {
-        if self.is_rising() {
-            self.statement(site)
-        } else {
-            element_or(&self.found, site, None)
+    /// How the bounds at the edge's target grow.
+    fn growth_at(&self, arrival: &Arrival) -> Growth<'_> {
+        let changes = element_or(&self.changes, arrival.site, 0);
+        Growth {
+            is_exact: !(arrival.is_head & self.is_rising()) | (changes < EXACT_CHANGES),
+            limits: if changes < LIMITED_CHANGES {
+                self.limits.as_slice()
+            } else {
+                &[]
+            },
         }
     }
 
@@ -195,12 +150,8 @@ impl StatementDraft {
         arrival: &Arrival,
         state: &AbstractState<Value>,
     ) -> Option<Statement> {
-        let growth = Growth {
-            widening: self.widening_at(arrival),
-            limits: &self.limits,
-        };
         match old {
-            Some(old) => joined_statement(growth, &old, arrival.live, state),
+            Some(old) => joined_statement(self.growth_at(arrival), &old, arrival.live, state),
             None => first_statement(arrival.slot, arrival.live, state),
         }
     }
@@ -208,29 +159,35 @@ impl StatementDraft {
     /// Extends the statement at the edge's target, or what a narrowing pass found there, by what is
     /// known at the edge.
     fn grow(&mut self, arrival: &Arrival, state: &AbstractState<Value>) {
-        let old = self.last(arrival.site);
-        let next = self.grown(old, arrival, state);
-        if !self.is_rising() {
+        if self.is_rising() {
+            let old = element_or(&self.stated, arrival.site, None);
+            let next = self.grown(old, arrival, state);
+            if next != old {
+                self.assume(arrival.site, next)
+            }
+        } else {
+            let old = element_or(&self.found, arrival.site, None);
+            let next = self.grown(old, arrival, state);
             put(&mut self.found, arrival.site, next)
-        } else if next != old {
-            self.assume(arrival.site, next)
         }
-    }
-
-    fn gather(&mut self, memory: &Memory, arrival: &Arrival, state: &AbstractState<Value>) {
-        let edge = Edge {
-            from: arrival.from,
-            to: arrival.site,
-            is_back: arrival.is_back,
-            state: registers_of(memory, state),
-        };
-        memory.push(&mut self.edges, edge)
     }
 
     /// Takes an edge with this state.
     pub fn take(&mut self, memory: &Memory, arrival: &Arrival, state: &AbstractState<Value>) {
         match self.purpose {
-            Purpose::Gather => self.gather(memory, arrival, state),
+            Purpose::Gather => {
+                let edge = Edge {
+                    from: arrival.from,
+                    to: arrival.site,
+                    is_back: arrival.is_back,
+                    state: AbstractState {
+                        kinds: memory.copied(&state.kinds),
+                        facts: memory.copied(&state.facts),
+                        entries: Vec::new(memory.alloc),
+                    },
+                };
+                memory.push(&mut self.edges, edge)
+            }
             Purpose::Unroll => {
                 self.turns.take(arrival.site, arrival.is_back);
                 self.grow(arrival, state)
@@ -241,23 +198,5 @@ impl StatementDraft {
                 }
             }
         }
-    }
-
-    /// What has reached the site and isn't followed yet.
-    pub fn pending(&self, site: usize) -> Option<Statement> {
-        element_or(&self.found, site, None)
-    }
-
-    /// Whether the site has been reached and isn't followed yet.
-    pub fn is_pending(&self, site: usize) -> bool {
-        self.pending(site).is_some()
-    }
-
-    /// The statement of what has reached the site, which the caller follows from there.
-    pub fn take_pending(&mut self, site: usize) -> Option<Statement> {
-        let pending = self.pending(site);
-        put(&mut self.found, site, None);
-        self.turns.leave(site);
-        pending
     }
 }

@@ -8,8 +8,8 @@ use crate::memory::Memory;
 use crate::sites::{Sites, sites_of};
 use crate::widening::limits_of;
 use isa::{Code, Hook};
+use kinds::put;
 use object::Statement;
-use std::alloc::{AllocError, Global};
 
 /// The statements that were found for code, without ranks, with an element for each site, and the
 /// edges between them, with what is known there.
@@ -28,7 +28,8 @@ const MOST_CHANGES: usize = 64;
 
 /// Passes over the code once.
 fn pass(passes: &mut Passes<'_>, purpose: Purpose) {
-    passes.draft.begin(purpose);
+    passes.draft.purpose = purpose;
+    passes.draft.has_changed = false;
     passes.pass();
     passes.draft.settle()
 }
@@ -37,37 +38,35 @@ fn pass(passes: &mut Passes<'_>, purpose: Purpose) {
 fn repeat(passes: &mut Passes<'_>, purpose: Purpose, most: usize) {
     for _ in 0..most {
         pass(passes, purpose);
-        if passes.program.memory.is_refused() | !passes.draft.has_changed {
+        if passes.program.memory.is_refused.get() | !passes.draft.has_changed {
             break;
         }
     }
 }
 
 /// Widens the statements until each edge stays within them, and then narrows them to what reaches
-/// them. If lenient, sites without a statement get one from edges that no run takes.
+/// them. All segments are visited again. If lenient, sites without a statement get one from edges
+/// that no run takes.
 fn widen_and_narrow(passes: &mut Passes<'_>, is_lenient: bool) {
-    let most = passes.program.sites.len().saturating_mul(MOST_CHANGES);
-    passes.draft.renew();
+    passes.draft.is_new = true;
+    for site in 0..passes.draft.waiting.len() {
+        put(&mut passes.draft.waiting, site, true)
+    }
     passes.draft.is_lenient = is_lenient;
+    let most = passes.draft.waiting.len().saturating_mul(MOST_CHANGES);
     repeat(passes, Purpose::Rise, most.saturating_add(1));
     passes.draft.is_lenient = false;
     repeat(passes, Purpose::Fall, MOST_FALLS)
 }
 
-/// Fixes these statements.
+/// Fixes these statements, whatever reaches them.
 fn keep(passes: &mut Passes<'_>, kept: &[Statement]) {
     for statement in kept {
         if let Some(site) = passes.program.sites.at(statement.slot() as usize) {
-            passes.draft.keep(site, *statement);
+            passes.draft.assume(site, Some(*statement));
+            put(&mut passes.draft.kept, site, true)
         }
     }
-}
-
-/// Finds the statements of the program without ranks, and the edges between them.
-fn find(passes: &mut Passes<'_>) {
-    widen_and_narrow(passes, false);
-    widen_and_narrow(passes, true);
-    pass(passes, Purpose::Gather)
 }
 
 /// The program of the code at the hook.
@@ -82,40 +81,35 @@ pub fn program_of<'a>(
         code,
         hook,
         sites: sites_of(memory, code, given),
-        live: memory.list(live_registers(memory.alloc, code, hook)),
+        live: live_registers(memory, code, hook),
         depth: if reads_frame(code, hook) { 512 } else { 0 },
     }
 }
 
-/// What passes over the program find, unless an allocation is refused. If `are_kept`, the given
-/// statements are fixed.
-fn inferred(program: Program<'_>, given: &[Statement], are_kept: bool) -> Inference {
-    let limits = limits_of(program.memory, program.code, given);
-    let draft = StatementDraft::new(program.memory, program.sites.len(), limits);
+/// Finds statements for the code at the hook, unless an allocation is refused: at each target of a
+/// jump, after each instruction that never falls through, and where one is given. Given statements
+/// are fixed if `are_kept`; otherwise only their numbers are used, as limits.
+pub fn infer_statements(
+    memory: &Memory,
+    code: &Code,
+    hook: Hook,
+    given: &[Statement],
+    are_kept: bool,
+) -> Inference {
+    let program = program_of(memory, code, hook, given);
+    let limits = limits_of(memory, code, given);
+    let draft = StatementDraft::new(memory, program.sites.slots.len(), limits);
     let mut passes = Passes::new(program, draft);
     if are_kept {
         keep(&mut passes, given)
     }
-    find(&mut passes);
+    widen_and_narrow(&mut passes, false);
+    widen_and_narrow(&mut passes, true);
+    pass(&mut passes, Purpose::Gather);
     let Passes { program, draft, .. } = passes;
     Inference {
         sites: program.sites,
         stated: draft.stated,
         edges: draft.edges,
     }
-}
-
-/// Finds statements for the code at the hook: at each target of a jump, after each instruction that
-/// never falls through, and where one is given. Given statements are fixed if `are_kept`; otherwise
-/// only their numbers are used, as limits.
-pub fn infer_statements(
-    alloc: Global,
-    code: &Code,
-    hook: Hook,
-    given: &[Statement],
-    are_kept: bool,
-) -> Result<Inference, AllocError> {
-    let memory = Memory::new(alloc);
-    let program = program_of(&memory, code, hook, given);
-    memory.enough(inferred(program, given, are_kept))
 }

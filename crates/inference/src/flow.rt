@@ -4,14 +4,14 @@ ghost use Rattle.std.specs.Prelude.{◌<◌};
 use crate::draft::{Arrival, StatementDraft};
 use crate::edges::copy_of;
 use crate::joining::{Value, any_number, idle_statement};
-use crate::liveness::{self, Registers};
+use crate::liveness::{Registers, target_of};
 use crate::memory::{Memory, element_or};
 use crate::sites::Sites;
 use isa::{Code, Hook, Instruction, Register, Slot, Source, Test, Width};
-use kinds::{AbstractState, Kind, PointerPlace, StackEntry, put, reset, target_of};
+use kinds::{AbstractState, Kind, PointerPlace, StackEntry, put, reset, target_of as stated};
 use object::Statement;
 use segments::places::{jump_of, jumped_near, slots_of};
-use transfer::branch::{Edges, tested};
+use transfer::branch::tested;
 use transfer::load::any_loaded;
 use transfer::straight::straight;
 
@@ -71,19 +71,20 @@ pub fn entry_state(memory: &Memory, depth: usize) -> AbstractState<Value> {
     }
 }
 
-/// Sets the kinds of the operands.
-fn put_operands(kinds: &mut Vec<Kind<Value>>, branch: &Branch, left: Value, right: Value) {
-    put(kinds, branch.left.index(), Kind::Number(left));
-    if let Source::Register(register) = branch.right {
-        put(kinds, register.index(), Kind::Number(right))
-    }
-}
-
 /// Narrows what is known to the operands having these values. If that is impossible, no run takes
 /// the edge.
 fn narrow(here: &mut Here, branch: &Branch, values: Option<(Value, Value)>) {
     match values {
-        Some((left, right)) => put_operands(&mut here.state.kinds, branch, left, right),
+        Some((left, right)) => {
+            put(
+                &mut here.state.kinds,
+                branch.left.index(),
+                Kind::Number(left),
+            );
+            if let Source::Register(register) = branch.right {
+                put(&mut here.state.kinds, register.index(), Kind::Number(right))
+            }
+        }
         None => here.is_idle = true,
     }
 }
@@ -91,7 +92,7 @@ fn narrow(here: &mut Here, branch: &Branch, values: Option<(Value, Value)>) {
 /// What is known at the entry of the program.
 fn entry(program: &Program<'_>, is_live: bool) -> Here {
     Here {
-        begun: program.sites.len(),
+        begun: program.sites.slots.len(),
         state: entry_state(program.memory, program.depth),
         is_live,
         is_idle: false,
@@ -109,29 +110,20 @@ impl<'a> Passes<'a> {
         }
     }
 
-    fn live_at(&self, slot: usize) -> Registers {
-        element_or(&self.program.live, slot, 0)
-    }
-
-    /// Takes the edge to the site at the slot.
-    fn enter_site(&mut self, slot: usize, site: usize, is_back: bool) {
-        let arrival = Arrival {
-            slot,
-            site,
-            from: self.here.begun,
-            is_back,
-            is_head: self.program.sites.is_head(site),
-            live: self.live_at(slot),
-        };
-        self.draft
-            .take(self.program.memory, &arrival, &self.here.state)
-    }
-
     /// Takes the edge to a slot, if that has a statement.
-    fn enter(&mut self, to: usize, is_back: bool) {
-        if let Some(site) = self.program.sites.at(to) {
+    fn enter(&mut self, slot: usize, is_back: bool) {
+        if let Some(site) = self.program.sites.at(slot) {
             if !self.here.is_idle || self.draft.lacks(site) {
-                self.enter_site(to, site, is_back)
+                let arrival = Arrival {
+                    slot,
+                    site,
+                    from: self.here.begun,
+                    is_back,
+                    is_head: self.program.sites.is_head(site),
+                    live: element_or(&self.program.live, slot, 0),
+                };
+                self.draft
+                    .take(self.program.memory, &arrival, &self.here.state)
             }
         }
     }
@@ -144,15 +136,7 @@ impl<'a> Passes<'a> {
         self.here.is_live = is_followed & self.program.sites.at(next).is_none();
     }
 
-    /// Takes the edge to the target of a jump, if the instruction is one.
-    fn leave(&mut self, slot: usize, to: Option<usize>) {
-        if let Some(to) = to {
-            self.enter(to, to <= slot);
-        }
-        self.here.is_live = false;
-    }
-
-    /// Takes both edges of a conditional jump.
+    /// Takes each edge of a conditional jump that a run may take.
     fn branch(&mut self, slot: usize, branch: &Branch)
         requires { slot < 4096 }
     {
@@ -163,49 +147,35 @@ impl<'a> Passes<'a> {
             branch.left,
             branch.right,
         );
-        // If the verifier refuses the test, both edges get what is known before it.
         if let Ok(edges) = tested {
-            self.part(slot, branch, edges)
-        } else {
+            let was_idle = self.here.is_idle;
+            narrow(&mut self.here, branch, edges.taken);
             self.enter(branch.to, branch.to <= slot);
-            self.go_on(slot + 1)
+            self.here.is_idle = was_idle;
+            narrow(&mut self.here, branch, edges.passed);
+        } else {
+            // The verifier refuses the test: both edges get what is known before it.
+            self.enter(branch.to, branch.to <= slot);
         }
-    }
-
-    /// Takes each edge that a run may take.
-    fn part(&mut self, slot: usize, branch: &Branch, edges: Edges<Value>)
-        requires { slot < 4096 }
-    {
-        let was_idle = self.here.is_idle;
-        narrow(&mut self.here, branch, edges.taken);
-        self.enter(branch.to, branch.to <= slot);
-        self.here.is_idle = was_idle;
-        narrow(&mut self.here, branch, edges.passed);
         self.go_on(slot + 1)
     }
 
     /// Moves on past an instruction that is no jump.
-    fn straight(&mut self, slot: usize, instruction: Instruction)
+    fn move_on(&mut self, slot: usize, instruction: Instruction)
         requires { slot < 4096 }
     {
-        let next = slot + slots_of(&instruction);
         let before = copy_of(self.program.memory, &self.here.state);
-        follow(&mut self.here, before, self.program.hook, instruction);
-        self.go_on(next)
-    }
-
-    /// States a site that no edge reaches, so that the verifier has a statement to check.
-    fn fill(&mut self, site: usize, slot: usize) {
-        if self.draft.lacks(site) {
-            let statement = idle_statement(slot, self.live_at(slot));
-            self.draft.assume(site, statement)
+        match straight(before, self.program.hook, instruction) {
+            Ok(after) => self.here.state = after,
+            Err(_) => excuse(&mut self.here.state, &instruction),
         }
+        self.go_on(slot + slots_of(&instruction))
     }
 
     /// Begins a segment at the site, with this statement.
     pub fn begin(&mut self, site: usize, statement: &Statement) {
         let memory = self.program.memory;
-        match target_of(memory.alloc, statement) {
+        match stated(memory.alloc, statement) {
             Ok(target) => {
                 self.here = Here {
                     begun: site,
@@ -218,11 +188,15 @@ impl<'a> Passes<'a> {
         }
     }
 
-    /// Reaches the slot. A statement there begins a segment, if that is to be visited now.
+    /// Reaches the slot. A statement there begins a segment, if that is to be visited now. A site
+    /// that no edge reaches is stated, so that the verifier has a statement to check.
     fn arrive(&mut self, slot: usize) {
         if let Some(site) = self.program.sites.at(slot) {
             self.here.is_live = false;
-            self.fill(site, slot);
+            if self.draft.lacks(site) {
+                let live = element_or(&self.program.live, slot, 0);
+                self.draft.assume(site, idle_statement(slot, live))
+            }
             if let Some(statement) = self.draft.due(site) {
                 self.begin(site, &statement)
             }
@@ -235,7 +209,10 @@ impl<'a> Passes<'a> {
     {
         match instruction {
             Instruction::Jump { .. } | Instruction::LongJump { .. } | Instruction::Exit => {
-                self.leave(slot, jump_of(slot, &instruction))
+                if let Some(to) = jump_of(slot, &instruction) {
+                    self.enter(to, to <= slot);
+                }
+                self.here.is_live = false;
             }
             Instruction::Branch {
                 width,
@@ -253,13 +230,15 @@ impl<'a> Passes<'a> {
                 };
                 self.branch(slot, &branch)
             }
-            _ => self.straight(slot, instruction),
+            _ => self.move_on(slot, instruction),
         }
     }
 
-    /// Begins at the entry of the program: at slot 0, unless that has a statement.
-    pub fn begin_at_entry(&mut self) {
-        let is_live = self.program.sites.at(0).is_none();
+    /// Begins at the entry of the program. If slot 0 has a statement, the edge from the entry leads
+    /// there, which is no backward jump: it comes from before the first slot. Else the entry's
+    /// segment begins there, if it `is_due`.
+    pub fn begin_at_entry(&mut self, is_due: bool) {
+        let is_live = is_due & self.program.sites.at(0).is_none();
         self.here = entry(&self.program, is_live);
         self.enter(0, false)
     }
@@ -280,44 +259,20 @@ impl<'a> Passes<'a> {
         steps
     }
 
-    /// Reaches the instruction at the slot, and moves on by it.
-    fn visit(&mut self, slot: usize, instruction: Instruction)
-        requires { slot < 4096 }
-    {
-        self.arrive(slot);
-        if self.here.is_live {
-            self.step(slot, instruction)
-        }
-    }
-
-    /// Passes over the code once. If slot 0 has a statement, the edge from the entry leads there,
-    /// which is no backward jump: it comes from before the first slot.
+    /// Passes over the code once.
     pub fn pass(&mut self) {
-        let is_due = self.draft.is_entry_due();
-        self.here = entry(&self.program, is_due);
-        self.enter(0, false);
+        let is_due = self.draft.is_new | !self.draft.is_rising();
+        self.draft.is_new = false;
+        self.begin_at_entry(is_due);
         let code = self.program.code;
         for slot in 0..code.len() {
             if let Some(Slot::Start(instruction)) = code.at(slot as u64) {
-                self.visit(slot, instruction)
+                self.arrive(slot);
+                if self.here.is_live {
+                    self.step(slot, instruction)
+                }
             }
         }
-    }
-}
-
-/// Moves on past the instruction, from what was known before it.
-fn follow(here: &mut Here, before: AbstractState<Value>, hook: Hook, instruction: Instruction) {
-    match straight(before, hook, instruction) {
-        Ok(after) => here.state = after,
-        Err(_) => excuse(&mut here.state, &instruction),
-    }
-}
-
-/// The kind that includes whatever an instruction fills its target with.
-fn filled(instruction: &Instruction) -> Kind<Value> {
-    match *instruction {
-        Instruction::Load { size, .. } => Kind::Number(any_loaded(size)),
-        _ => any_number(),
     }
 }
 
@@ -327,21 +282,20 @@ fn put_known(state: &mut AbstractState<Value>, register: usize, kind: Kind<Value
     put(&mut state.facts, register, None)
 }
 
-/// Empties the registers that a call empties, and fills r0 with any number.
-fn call(state: &mut AbstractState<Value>) {
-    for register in 0..6usize {
-        put_known(state, register, Kind::Empty)
-    }
-    put_known(state, 0, any_number())
-}
-
-/// Moves on past an instruction that the verifier refuses: it fills its target with any number, and
-/// a call has the effect of any call.
+/// Moves on past an instruction that the verifier refuses: it fills its target with any number that
+/// it may load, and a call empties the registers that any call empties, and fills r0 with any number.
 fn excuse(state: &mut AbstractState<Value>, instruction: &Instruction) {
-    if let Some(target) = liveness::target_of(instruction) {
-        put_known(state, target.index(), filled(instruction))
+    if let Some(target) = target_of(instruction) {
+        let filled = match *instruction {
+            Instruction::Load { size, .. } => Kind::Number(any_loaded(size)),
+            _ => any_number(),
+        };
+        put_known(state, target.index(), filled)
     }
     if matches!(instruction, Instruction::Call { .. }) {
-        call(state);
+        for register in 0..6usize {
+            put_known(state, register, Kind::Empty)
+        }
+        put_known(state, 0, any_number())
     }
 }

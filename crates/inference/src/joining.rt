@@ -3,7 +3,7 @@ ghost use Rattle.std.specs.Prelude.{◌<◌};
 
 use crate::liveness::{Registers, has};
 use crate::memory::element_or;
-use crate::widening::{Widening, above, below};
+use crate::widening::{above, below};
 use absdom::{Domain, Pair};
 use interval::Interval;
 use isa::Map;
@@ -21,10 +21,12 @@ pub const NO_RANK: Rank = Rank {
     second: None,
 };
 
-/// How a join widens bounds that keep growing.
+/// What becomes of a bound that has grown.
 #[derive(Clone, Copy)]
 pub struct Growth<'a> {
-    pub widening: Widening,
+    /// It is kept as it is.
+    pub is_exact: bool,
+    /// Else it is widened to the next of these, or given up if there is none.
     pub limits: &'a [u64],
 }
 
@@ -57,33 +59,19 @@ fn placed(map: Map, numbers: Option<StatedNumber>) -> StatedKind {
     }
 }
 
-fn context_of(at: u64) -> StatedKind {
-    if at > 64 {
-        return StatedKind::Empty;
-    }
-    match ContextOffset::new(at as u32) {
-        Some(offset) => StatedKind::Context(offset),
-        None => StatedKind::Empty,
-    }
-}
-
-fn stack_of(at: u64) -> StatedKind {
-    if at > 512 {
-        return StatedKind::Empty;
-    }
-    match StackOffset::new(at as u32) {
-        Some(offset) => StatedKind::Stack(offset),
-        None => StatedKind::Empty,
-    }
-}
-
 /// The statement of what is known of a register: `Empty` if an object can't express it.
 fn told(known: Known<Value>) -> StatedKind {
     match known {
         Known::Empty => StatedKind::Empty,
         Known::Number(value) => numbered(stated_of(value)),
-        Known::Pointer(PointerPlace::Context(at)) => context_of(at),
-        Known::Pointer(PointerPlace::Stack(at)) => stack_of(at),
+        Known::Pointer(PointerPlace::Context(at)) => match ContextOffset::new(at.min(65) as u32) {
+            Some(offset) => StatedKind::Context(offset),
+            None => StatedKind::Empty,
+        },
+        Known::Pointer(PointerPlace::Stack(at)) => match StackOffset::new(at.min(513) as u32) {
+            Some(offset) => StatedKind::Stack(offset),
+            None => StatedKind::Empty,
+        },
         Known::Pointer(PointerPlace::Map(map, value)) => placed(map, stated_of(value)),
     }
 }
@@ -98,24 +86,6 @@ fn known_bits(numbers: StatedNumber) -> (u64, u64) {
     }
 }
 
-fn joined_low(growth: Growth<'_>, old: u64, new: u64) -> u64 {
-    match growth.widening {
-        _ if old <= new => old,
-        Widening::None => new,
-        Widening::Limits => below(growth.limits, new),
-        Widening::Any => 0,
-    }
-}
-
-fn joined_high(growth: Growth<'_>, old: u64, new: u64) -> u64 {
-    match growth.widening {
-        _ if new <= old => old,
-        Widening::None => new,
-        Widening::Limits => above(growth.limits, new),
-        Widening::Any => u64::MAX,
-    }
-}
-
 /// The bits with the same known value in both; of numbers that keep growing only the lowest ones,
 /// since higher ones would give the old bounds back.
 fn joined_mask(growth: Growth<'_>, old: StatedNumber, new: StatedNumber) -> u64 {
@@ -123,7 +93,7 @@ fn joined_mask(growth: Growth<'_>, old: StatedNumber, new: StatedNumber) -> u64 
     let (new_mask, new_bits) = known_bits(new);
     let mask = old_mask & new_mask & !(old_bits ^ new_bits);
     let has_grown = (new.low() < old.low()) | (old.high() < new.high());
-    if has_grown && !matches!(growth.widening, Widening::None) {
+    if has_grown & !growth.is_exact {
         mask & !mask.wrapping_add(1)
     } else {
         mask
@@ -136,12 +106,17 @@ fn joined_numbers(
     old: StatedNumber,
     new: StatedNumber,
 ) -> Option<StatedNumber> {
-    number(
-        joined_low(growth, old.low(), new.low()),
-        joined_high(growth, old.high(), new.high()),
-        joined_mask(growth, old, new),
-        known_bits(old).1,
-    )
+    let low = if growth.is_exact | (old.low() <= new.low()) {
+        old.low().min(new.low())
+    } else {
+        below(growth.limits, new.low())
+    };
+    let high = if growth.is_exact | (new.high() <= old.high()) {
+        old.high().max(new.high())
+    } else {
+        above(growth.limits, new.high())
+    };
+    number(low, high, joined_mask(growth, old, new), known_bits(old).1)
 }
 
 /// The join of what both say of a register.
@@ -186,12 +161,6 @@ fn bytes_of(state: &AbstractState<Value>, others: &StackBytes) -> StackBytes {
     bytes
 }
 
-fn all_bytes() -> StackBytes {
-    let mut bytes = StackBytes::new();
-    bytes.insert_range(0, 512);
-    bytes
-}
-
 fn statement_at(slot: usize, kinds: [StatedKind; 10], bytes: StackBytes) -> Option<Statement> {
     match u32::try_from(slot) {
         Ok(slot) => Statement::new(slot, NO_RANK, kinds, bytes),
@@ -205,24 +174,9 @@ pub fn first_statement(
     live: Registers,
     state: &AbstractState<Value>,
 ) -> Option<Statement> {
-    let bytes = bytes_of(state, &all_bytes());
-    statement_at(slot, kinds_of(live, &state.kinds), bytes)
-}
-
-/// The join of what both say of the registers.
-fn joined_kinds(
-    growth: Growth<'_>,
-    old: &[StatedKind],
-    live: Registers,
-    state: &AbstractState<Value>,
-) -> [StatedKind; 10] {
-    let mut kinds = kinds_of(live, &state.kinds);
-    for register in 0..10 {
-        let old = element_or(old, register, StatedKind::Empty);
-        let joined = joined_kind(growth, &old, &kinds[register]);
-        kinds[register] = joined;
-    }
-    kinds
+    let mut all = StackBytes::new();
+    all.insert_range(0, 512);
+    statement_at(slot, kinds_of(live, &state.kinds), bytes_of(state, &all))
 }
 
 /// The join of the old statement and what is known.
@@ -232,7 +186,12 @@ pub fn joined_statement(
     live: Registers,
     state: &AbstractState<Value>,
 ) -> Option<Statement> {
-    let kinds = joined_kinds(growth, old.kinds(), live, state);
+    let mut kinds = kinds_of(live, &state.kinds);
+    for register in 0..10 {
+        let before = element_or(old.kinds(), register, StatedKind::Empty);
+        let joined = joined_kind(growth, &before, &kinds[register]);
+        kinds[register] = joined;
+    }
     let bytes = bytes_of(state, old.stack());
     Statement::new(old.slot(), NO_RANK, kinds, bytes)
 }
@@ -244,11 +203,6 @@ pub fn any_number() -> Known<Value> {
 
 /// A statement for a slot that no edge reaches: registers that are read hold any number.
 pub fn idle_statement(slot: usize, live: Registers) -> Option<Statement> {
-    let mut kinds = [StatedKind::Empty; 10];
-    for register in 0..10 {
-        if has(live, register) {
-            kinds[register] = told(any_number());
-        }
-    }
-    statement_at(slot, kinds, StackBytes::new())
+    let known = [any_number(); 10];
+    statement_at(slot, kinds_of(live, &known), StackBytes::new())
 }

@@ -2,12 +2,11 @@
 
 ghost use Rattle.std.specs.Prelude.{◌<◌};
 
-use crate::memory::element_or;
+use crate::memory::{Memory, element_or};
 use isa::{Code, Hook, Instruction, Operation, Register, Slot, Source};
 use kinds::put;
 use machine::Helper;
 use segments::places::{falls_through, jump_of, slots_of};
-use std::alloc::{AllocError, Global};
 
 /// Registers, r0 in bit 0.
 pub type Registers = u16;
@@ -20,15 +19,6 @@ fn bit_of(source: Source) -> Registers {
     match source {
         Source::Immediate(_) => 0,
         Source::Register(register) => bit(register),
-    }
-}
-
-/// The arguments that a call reads.
-fn arguments(hook: Hook, number: i32) -> Registers {
-    match Helper::at(hook, number) {
-        Some(Helper::CounterAdd | Helper::TableCost) => 0b110,
-        Some(Helper::CounterRead | Helper::PacketByte) => 0b10,
-        None => 0,
     }
 }
 
@@ -68,7 +58,11 @@ pub fn reads(hook: Hook, instruction: &Instruction) -> Registers {
             ..
         }
         | Instruction::Load { base: register, .. } => bit(register),
-        Instruction::Call { helper } => arguments(hook, helper),
+        Instruction::Call { helper } => match Helper::at(hook, helper) {
+            Some(Helper::CounterAdd | Helper::TableCost) => 0b110,
+            Some(Helper::CounterRead | Helper::PacketByte) => 0b10,
+            None => 0,
+        },
         Instruction::Exit => 1,
         _ => 0,
     }
@@ -101,7 +95,7 @@ pub fn target_of(instruction: &Instruction) -> Option<Register> {
 }
 
 /// The registers that the instruction writes.
-pub fn writes(instruction: &Instruction) -> Registers {
+fn writes(instruction: &Instruction) -> Registers {
     match target_of(instruction) {
         Some(target) => bit(target),
         None if matches!(instruction, Instruction::Call { .. }) => 0b11_1111,
@@ -123,44 +117,31 @@ fn live_before(live: &[Registers], hook: Hook, slot: usize, instruction: &Instru
     after & !writes(instruction) | reads(hook, instruction)
 }
 
-/// The registers that may be read from the slot on; unchanged if no instruction begins there.
-fn live_from(code: &Code, hook: Hook, live: &[Registers], slot: usize) -> Registers {
-    match code.at(slot as u64) {
-        Some(Slot::Start(instruction)) => live_before(live, hook, slot, &instruction),
-        Some(Slot::SecondHalf) | None => element_or(live, slot, 0),
-    }
-}
-
-/// One pass over the code, last slot first. Whether anything changed.
+/// One pass over the code, last slot first: notes the registers that may be read from each slot on
+/// at which an instruction begins. Whether anything changed.
 fn refine(code: &Code, hook: Hook, live: &mut Vec<Registers>) -> bool {
     let mut has_changed = false;
     for passed in 0..code.len() {
         let slot = code.len() - 1 - passed;
-        let before = live_from(code, hook, live, slot);
-        has_changed |= before != element_or(live, slot, 0);
-        put(live, slot, before);
+        if let Some(Slot::Start(instruction)) = code.at(slot as u64) {
+            let before = live_before(live, hook, slot, &instruction);
+            has_changed |= before != element_or(live, slot, 0);
+            put(live, slot, before);
+        }
     }
     has_changed
 }
 
-/// Passes over the code until nothing changes.
-fn settle(code: &Code, hook: Hook, live: &mut Vec<Registers>) {
+/// For each slot the registers that may be read from there on before they are written.
+pub fn live_registers(memory: &Memory, code: &Code, hook: Hook) -> Vec<Registers> {
+    let mut live = memory.filled(0, code.len());
+    // Passes over the code until nothing changes.
     for _ in 0..code.len() {
-        if !refine(code, hook, live) {
+        if !refine(code, hook, &mut live) {
             break;
         }
     }
-}
-
-/// For each slot the registers that may be read from there on before they are written.
-pub fn live_registers(
-    alloc: Global,
-    code: &Code,
-    hook: Hook,
-) -> Result<Vec<Registers>, AllocError> {
-    let mut live = vec![in alloc; 0; code.len()]?;
-    settle(code, hook, &mut live);
-    Ok(live)
+    live
 }
 
 /// Whether the register of this number is among them.

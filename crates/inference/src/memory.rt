@@ -9,7 +9,7 @@ use std::cell::Cell;
 pub struct Memory {
     pub alloc: Global,
     /// Whether an allocation was refused.
-    is_refused: Cell<bool>,
+    pub is_refused: Cell<bool>,
 }
 
 impl Memory {
@@ -23,11 +23,6 @@ impl Memory {
     /// Records whether an allocation was refused.
     pub fn note(&self, is_refused: bool) {
         self.is_refused.set(is_refused | self.is_refused.get())
-    }
-
-    /// Whether an allocation was refused.
-    pub fn is_refused(&self) -> bool {
-        self.is_refused.get()
     }
 
     /// The list; an empty one if its allocation was refused.
@@ -63,7 +58,7 @@ impl Memory {
 
     /// The result; errors with `AllocError` if any allocation was refused.
     pub fn enough<T: Drop>(&self, made: T) -> Result<T, AllocError> {
-        if self.is_refused() {
+        if self.is_refused.get() {
             Err(AllocError)
         } else {
             Ok(made)

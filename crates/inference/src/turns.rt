@@ -1,37 +1,22 @@
 //! Counts of backward jumps.
 
-use crate::memory::{Memory, element_or};
+use crate::memory::element_or;
 use kinds::put;
 
 /// The maximum number of backward jumps to some heads on the paths to each site.
 #[derive(Drop)]
 pub struct Turns {
     /// The sites to which backward jumps count.
-    counted: Vec<bool>,
+    pub counted: Vec<bool>,
     /// The counts of what has reached each site and isn't followed yet.
-    pending: Vec<u32>,
+    pub pending: Vec<u32>,
     /// The count at the start of the segment that is being followed.
-    now: u32,
+    pub now: u32,
     /// The maximum of all counts.
     pub most: u32,
 }
 
 impl Turns {
-    /// No backward jumps so far, and none that count.
-    pub fn new(memory: &Memory, size: usize) -> Turns {
-        Turns {
-            counted: memory.filled(false, size),
-            pending: memory.filled(0, size),
-            now: 0,
-            most: 0,
-        }
-    }
-
-    /// From now on backward jumps to the site count.
-    pub fn count(&mut self, site: usize) {
-        put(&mut self.counted, site, true)
-    }
-
     /// Takes an edge to the site.
     pub fn take(&mut self, site: usize, is_back: bool) {
         let is_turn = is_back & element_or(&self.counted, site, false);

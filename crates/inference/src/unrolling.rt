@@ -32,37 +32,21 @@ struct Unrolling<'a> {
     mark: Mark,
 }
 
-/// The last site at the slot or before it; the first one if there is none.
-fn last_before(program: &Program<'_>, slot: usize) -> usize {
-    let mut last = 0;
-    for site in 0..program.sites.len() {
-        if program.sites.slot(site) <= slot {
-            last = site
-        }
-    }
-    last
-}
-
-/// Records the jump at the slot, if it is a backward jump to a site.
-fn note_jump(program: &Program<'_>, lasts: &mut Vec<usize>, slot: usize, to: usize) {
-    if to <= slot {
-        if let Some(head) = program.sites.at(to) {
-            let last = last_before(program, slot).max(element_or(lasts, head, 0));
-            put(lasts, head, last)
-        }
-    }
-}
-
 /// For each site the last one of the loop that it begins; the site itself if it begins none.
 fn lasts_of(program: &Program<'_>) -> Vec<usize> {
-    let mut lasts = program.memory.filled(0, program.sites.len());
-    for site in 0..program.sites.len() {
-        put(&mut lasts, site, site)
-    }
+    let mut lasts = program.memory.filled(0, program.sites.slots.len());
+    let mut last = 0;
     for slot in 0..program.code.len() {
+        if let Some(site) = program.sites.at(slot) {
+            last = site;
+            put(&mut lasts, site, site);
+        }
         if let Some(Slot::Start(instruction)) = program.code.at(slot as u64) {
-            if let Some(to) = jump_of(slot, &instruction) {
-                note_jump(program, &mut lasts, slot, to)
+            let to = jump_of(slot, &instruction).unwrap_or(usize::MAX);
+            if to <= slot {
+                if let Some(head) = program.sites.at(to) {
+                    put(&mut lasts, head, last)
+                }
             }
         }
     }
@@ -73,7 +57,7 @@ impl<'a> Unrolling<'a> {
     /// The first reached site from `from` on and before `to`.
     fn first_pending(&self, from: usize, to: usize) -> Option<usize> {
         for site in from..to {
-            if self.passes.draft.is_pending(site) {
+            if element_or(&self.passes.draft.found, site, None).is_some() {
                 return Some(site);
             }
         }
@@ -83,7 +67,7 @@ impl<'a> Unrolling<'a> {
     /// The site to follow next: the first reached one, but the head of a loop only after all that
     /// is left within the loop.
     fn next(&self) -> Option<usize> {
-        let sites = self.passes.program.sites.len();
+        let sites = self.passes.program.sites.slots.len();
         let mut next = self.first_pending(0, sites)?;
         for _ in 0..sites {
             let last = element_or(&self.lasts, next, 0);
@@ -95,20 +79,17 @@ impl<'a> Unrolling<'a> {
         Some(next)
     }
 
-    /// Whether nothing but what has reached the site is left to follow.
-    fn is_alone(&self, site: usize) -> bool {
-        let sites = self.passes.program.sites.len();
-        self.first_pending(0, site).is_none()
-            && self.first_pending(site.saturating_add(1), sites).is_none()
-    }
-
-    /// Whether a state comes back, so that the loops don't end. The mark moves on at each step
-    /// whose number is a power of two, so that a circle of any length is found.
+    /// Whether a state comes back and nothing else is left to follow, so that the loops don't end.
+    /// The mark moves on at each step whose number is a power of two, so that a circle of any length
+    /// is found.
     fn comes_back(&mut self, site: usize, step: usize) -> bool {
-        if !self.is_alone(site) {
+        let sites = self.passes.program.sites.slots.len();
+        if self.first_pending(0, site).is_some()
+            || self.first_pending(site.saturating_add(1), sites).is_some()
+        {
             return false;
         }
-        let state = self.passes.draft.pending(site);
+        let state = element_or(&self.passes.draft.found, site, None);
         if (self.mark.site == site) & (self.mark.state == state) {
             return true;
         }
@@ -124,10 +105,13 @@ impl<'a> Unrolling<'a> {
 
     /// Follows the segment that begins at the site. Returns the number of its instructions.
     fn follow(&mut self, site: usize) -> usize {
-        match self.passes.draft.take_pending(site) {
+        let reached = element_or(&self.passes.draft.found, site, None);
+        put(&mut self.passes.draft.found, site, None);
+        self.passes.draft.turns.leave(site);
+        match reached {
             Some(statement) => {
                 self.passes.begin(site, &statement);
-                let first = self.passes.program.sites.slot(site);
+                let first = element_or(&self.passes.program.sites.slots, site, 0);
                 self.passes.follow_segment(first)
             }
             None => 0,
@@ -158,13 +142,14 @@ impl<'a> Unrolling<'a> {
 /// The loops of the program, at its entry. Backward jumps to these slots count.
 fn loops_of<'a>(memory: &'a Memory, code: &'a Code, hook: Hook, heads: &[usize]) -> Unrolling<'a> {
     let program = program_of(memory, code, hook, &[]);
-    let mut draft = StatementDraft::new(memory, program.sites.len(), Vec::new(memory.alloc));
+    let sites = program.sites.slots.len();
+    let mut draft = StatementDraft::new(memory, sites, Vec::new(memory.alloc));
     for head in heads {
         if let Some(site) = program.sites.at(*head) {
-            draft.turns.count(site)
+            put(&mut draft.turns.counted, site, true)
         }
     }
-    draft.begin(Purpose::Unroll);
+    draft.purpose = Purpose::Unroll;
     let lasts = lasts_of(&program);
     Unrolling {
         passes: Passes::new(program, draft),
@@ -189,7 +174,7 @@ pub fn most_turns(
 ) -> Result<Option<u32>, AllocError> {
     let memory = Memory::new(alloc);
     let mut unrolling = loops_of(&memory, code, hook, heads);
-    unrolling.passes.begin_at_entry();
+    unrolling.passes.begin_at_entry(true);
     unrolling.passes.follow_segment(0);
     let ends = unrolling.ends(most);
     let turns = unrolling.passes.draft.turns.most;

@@ -1,6 +1,6 @@
 //! Loops among the sites, and how a number is carried around one.
 
-use crate::loops::{Circle, SiteEdges, is_marked};
+use crate::loops::{Circle, SiteEdges};
 use crate::weights::Bounds;
 use inference::memory::{Memory, element_or};
 use inference::{Edge, Sites};
@@ -36,37 +36,30 @@ pub struct Carried {
 /// The fact of the register that holds the number at the edge's target.
 fn fact_at(registers: &[Option<u8>], edge: &Edge) -> Option<Fact> {
     match element_or(registers, edge.to, None) {
-        Some(register) => edge.fact(register),
+        Some(register) => element_or(&edge.state.facts, usize::from(register), None),
         None => None,
     }
 }
 
 impl<'a> Graph<'a> {
-    /// The number of sites, plus 1 for the entry.
-    pub fn nodes(&self) -> usize {
-        self.bounds.len()
-    }
-
     /// The greatest value of the register at the site.
-    pub fn high(&self, node: usize, register: u8) -> Option<u64> {
-        match self.bounds.get(node) {
+    pub fn high(&self, node: usize, register: u8) -> u64 {
+        let high = match self.bounds.get(node) {
             Some(bounds) => element_or(&bounds.highs, usize::from(register), None),
             None => None,
-        }
+        };
+        high.unwrap_or(u64::MAX)
     }
 
-    /// The loop whose first site is this one, by all edges. Without sites if there is none.
-    pub fn circle(&self, head: usize) -> Circle {
-        self.ways.circle(self.memory, self.edges, head)
-    }
-
-    /// Whether the site is the target of a backward jump and isn't done.
-    pub fn is_open(&self, head: usize, done: &[bool]) -> bool {
-        self.sites.is_head(head) && !is_marked(done, head)
-    }
-
-    /// The loop whose first site is this one, by these edges. Marks its sites as done.
+    /// The loop whose first site is this one, by these edges, if that is the target of a backward
+    /// jump and isn't done. Marks its sites as done.
     pub fn next_circle(&self, ways: &SiteEdges, head: usize, done: &mut Vec<bool>) -> Circle {
+        if !self.sites.is_head(head) | element_or(done, head, false) {
+            return Circle {
+                sites: Vec::new(self.memory.alloc),
+                within: Vec::new(self.memory.alloc),
+            };
+        }
         let circle = ways.circle(self.memory, self.edges, head);
         for site in &circle.sites {
             put(done, *site, true)
@@ -74,48 +67,22 @@ impl<'a> Graph<'a> {
         circle
     }
 
-    /// Follows the number back along the edge, from the register at its end. Returns whether that
-    /// is new.
-    fn trace_by(&self, edge: &Edge, registers: &mut Vec<Option<u8>>) -> bool {
-        if element_or(registers, edge.from, None).is_some() {
-            return false;
-        }
-        match fact_at(registers, edge) {
-            Some(fact) => {
-                put(registers, edge.from, Some(fact.origin));
-                true
-            }
-            None => false,
-        }
-    }
-
-    /// Follows the number back along each edge of the loop once, the last edges first. Returns
-    /// whether anything was new.
+    /// Follows the number back along each edge of the loop once, the last edges first: from the
+    /// register at its end to that at its start. Returns whether anything was new.
     fn trace(&self, circle: &Circle, registers: &mut Vec<Option<u8>>) -> bool {
         let mut has_changed = false;
         for passed in 0..circle.within.len() {
             let place = circle.within.len() - 1 - passed;
             if let Some(edge) = self.edges.get(circle.within[place]) {
-                has_changed |= self.trace_by(edge, registers);
+                if element_or(registers, edge.from, None).is_none() {
+                    if let Some(fact) = fact_at(registers, edge) {
+                        put(registers, edge.from, Some(fact.origin));
+                        has_changed = true;
+                    }
+                }
             }
         }
         has_changed
-    }
-
-    /// Finds the register that holds, at each site, the number that this one holds at the head.
-    fn trace_all(
-        &self,
-        circle: &Circle,
-        head: usize,
-        register: u8,
-        registers: &mut Vec<Option<u8>>,
-    ) {
-        put(registers, head, Some(register));
-        for _ in 0..circle.sites.len() {
-            if !self.trace(circle, registers) {
-                break;
-            }
-        }
     }
 
     /// Records on which edges of the loop the number falls, and whether it rises on any.
@@ -141,13 +108,18 @@ impl<'a> Graph<'a> {
     /// How the number that the register holds at the head is carried around the loop.
     pub fn carried(&self, circle: &Circle, head: usize, register: u8) -> Carried {
         let mut carried = Carried {
-            registers: self.memory.filled(None, self.nodes()),
+            registers: self.memory.filled(None, self.bounds.len()),
             stays: self.memory.filled(true, circle.within.len()),
             has_fall: false,
             has_rise: false,
             is_lost: false,
         };
-        self.trace_all(circle, head, register, &mut carried.registers);
+        put(&mut carried.registers, head, Some(register));
+        for _ in 0..circle.sites.len() {
+            if !self.trace(circle, &mut carried.registers) {
+                break;
+            }
+        }
         self.follow(circle, &mut carried);
         carried
     }
@@ -155,9 +127,9 @@ impl<'a> Graph<'a> {
     /// The edges of the loop on which the number doesn't fall.
     pub fn rest(&self, circle: &Circle, carried: &Carried) -> Vec<usize> {
         let mut rest = Vec::new(self.memory.alloc);
-        for (place, number) in circle.within.iter().enumerate() {
-            if is_marked(&carried.stays, place) {
-                self.memory.push(&mut rest, *number)
+        for place in 0..circle.within.len() {
+            if element_or(&carried.stays, place, false) {
+                self.memory.push(&mut rest, circle.within[place])
             }
         }
         rest

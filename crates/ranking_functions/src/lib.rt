@@ -12,6 +12,6 @@ mod trouble;
 mod unranked;
 mod weights;
 
-pub use plan::{RankPlan, Ranking, Unranked};
-pub use planning::rank_statements;
+pub use planning::{Ranking, kinds_of, rank_statements};
 pub use trouble::{Endless, Trouble};
+pub use unranked::Unranked;

@@ -7,24 +7,19 @@ use kinds::put;
 /// Some of the edges, by their numbers, in the order of the sites at which they start.
 #[derive(Drop)]
 pub struct SiteEdges {
-    pub numbers: Vec<usize>,
+    numbers: Vec<usize>,
     /// For each site the place of the first edge that starts there or at a later site.
     starts: Vec<usize>,
     /// For each site the last one with an edge back to it.
     lasts: Vec<usize>,
 }
 
-/// A loop, if there is one: its sites, and the edges between them.
+/// A loop, if there is one: its sites, and the edges between them, in the order of the sites at
+/// which they start.
 #[derive(Drop)]
 pub struct Circle {
-    members: Vec<bool>,
     pub sites: Vec<usize>,
     pub within: Vec<usize>,
-}
-
-/// Whether this place is marked.
-pub fn is_marked(marks: &[bool], place: usize) -> bool {
-    element_or(marks, place, false)
 }
 
 /// The numbers from 0 up to but excluding `count`.
@@ -45,12 +40,12 @@ impl SiteEdges {
             numbers,
         };
         ways.note(edges);
-        ways.close();
         ways
     }
 
     /// Records for each edge where it starts and leads back to. The entry, which has the last
-    /// number, comes first among the edges, and no edge leads back to it.
+    /// number, comes first among the edges, and no edge leads back to it. A site at which no edge
+    /// starts gets the place of the next one's first edge.
     fn note(&mut self, edges: &[Edge]) {
         for passed in 0..self.numbers.len() {
             let place = self.numbers.len().saturating_sub(1).saturating_sub(passed);
@@ -62,10 +57,6 @@ impl SiteEdges {
                 }
             }
         }
-    }
-
-    /// Gives each site at which no edge starts the place of the next one's first edge.
-    fn close(&mut self) {
         let mut next = self.numbers.len();
         for passed in 0..self.starts.len() {
             let site = self.starts.len() - 1 - passed;
@@ -74,9 +65,9 @@ impl SiteEdges {
         }
     }
 
-    /// The last site of the stretch that begins at this one: no edge leads back into the stretch
-    /// from a later site.
-    fn last_from(&self, head: usize) -> usize {
+    /// The edges within the stretch that begins at the site, which include all edges of a loop that
+    /// begins there. No edge leads back into the stretch from a site behind it.
+    fn stretch(&self, memory: &Memory, edges: &[Edge], head: usize) -> Vec<usize> {
         let mut last = head;
         for site in head..self.lasts.len() {
             if last < site {
@@ -84,13 +75,6 @@ impl SiteEdges {
             }
             last = last.max(self.lasts[site]);
         }
-        last
-    }
-
-    /// The edges within the stretch that begins at the site, which include all edges of a loop that
-    /// begins there.
-    fn stretch(&self, memory: &Memory, edges: &[Edge], head: usize) -> Vec<usize> {
-        let last = self.last_from(head);
         let mut kept = Vec::new(memory.alloc);
         for place in element_or(&self.starts, head, usize::MAX)..self.numbers.len() {
             let number = self.numbers[place];
@@ -113,14 +97,17 @@ impl SiteEdges {
         let forward = marked_from(memory, edges, &kept, nodes, head, true);
         let back = marked_from(memory, edges, &kept, nodes, head, false);
         let mut circle = Circle {
-            members: memory.filled(false, nodes),
             sites: Vec::new(memory.alloc),
             within: Vec::new(memory.alloc),
         };
         for number in &kept {
             if let Some(edge) = edges.get(*number) {
-                let is_from = is_marked(&forward, edge.from) & is_marked(&back, edge.from);
-                if is_from & is_marked(&forward, edge.to) & is_marked(&back, edge.to) {
+                let is_from = element_or(&forward, edge.from, false)
+                    & element_or(&back, edge.from, false);
+                if is_from
+                    & element_or(&forward, edge.to, false)
+                    & element_or(&back, edge.to, false)
+                {
                     circle.add(memory, edge.from, *number)
                 }
             }
@@ -130,47 +117,19 @@ impl SiteEdges {
 }
 
 impl Circle {
-    /// Adds an edge, with the site at which it starts.
+    /// Adds an edge, with the site at which it starts. The edges of a site come one after the
+    /// other.
     fn add(&mut self, memory: &Memory, from: usize, number: usize) {
         memory.push(&mut self.within, number);
-        if !self.has(from) {
-            put(&mut self.members, from, true);
+        let last = self.sites.last().copied().unwrap_or(usize::MAX);
+        if last != from {
             memory.push(&mut self.sites, from)
         }
     }
-
-    /// Whether there is a loop and the site belongs to it.
-    pub fn has(&self, site: usize) -> bool {
-        is_marked(&self.members, site)
-    }
-
-    /// All sites and edges.
-    pub fn of_all(memory: &Memory, edges: usize, nodes: usize) -> Circle {
-        Circle {
-            members: memory.filled(true, nodes),
-            sites: numbers_below(memory, nodes),
-            within: numbers_below(memory, edges),
-        }
-    }
 }
 
-/// Marks the end of the edge, if it starts at a marked site or at the head. Returns whether that is
-/// new.
-fn spread_by(edge: &Edge, head: usize, is_forward: bool, marks: &mut Vec<bool>) -> bool {
-    let (here, there) = if is_forward {
-        (edge.from, edge.to)
-    } else {
-        (edge.to, edge.from)
-    };
-    let is_new = ((here == head) | is_marked(marks, here)) & !is_marked(marks, there);
-    if is_new {
-        put(marks, there, true);
-    }
-    is_new
-}
-
-/// Marks the end of each of these edges, in the order in which most of them lead. Returns whether
-/// anything was new.
+/// Marks the end of each of these edges that starts at a marked site or at the head, in the order
+/// in which most of them lead. Returns whether anything was new.
 fn spread(
     edges: &[Edge],
     kept: &[usize],
@@ -183,7 +142,16 @@ fn spread(
         let behind = kept.len() - 1 - passed;
         let place = if is_forward { passed } else { behind };
         if let Some(edge) = edges.get(kept[place]) {
-            has_changed |= spread_by(edge, head, is_forward, marks);
+            let (here, there) = if is_forward {
+                (edge.from, edge.to)
+            } else {
+                (edge.to, edge.from)
+            };
+            let is_reached = (here == head) | element_or(marks, here, false);
+            if is_reached & !element_or(marks, there, false) {
+                put(marks, there, true);
+                has_changed = true;
+            }
         }
     }
     has_changed
@@ -207,24 +175,12 @@ fn marked_from(
     marks
 }
 
-/// The number of these edges that lead to each site.
-fn entries_of(memory: &Memory, edges: &[Edge], kept: &[usize], nodes: usize) -> Vec<u32> {
-    let mut entries = memory.filled(0u32, nodes);
-    for number in kept {
-        if let Some(edge) = edges.get(*number) {
-            let more = element_or(&entries, edge.to, 0).saturating_add(1);
-            put(&mut entries, edge.to, more)
-        }
-    }
-    entries
-}
-
 /// Removes each edge whose start no remaining edge leads to. Returns how many there were.
 fn take_out(edges: &[Edge], kept: &[usize], entries: &mut Vec<u32>, gone: &mut Vec<bool>) -> usize {
     let mut count = 0usize;
     for place in 0..kept.len() {
         if let Some(edge) = edges.get(kept[place]) {
-            if !is_marked(gone, place) && element_or(entries, edge.from, 0) == 0 {
+            if !element_or(gone, place, false) && element_or(entries, edge.from, 0) == 0 {
                 let fewer = element_or(entries, edge.to, 0).saturating_sub(1);
                 put(entries, edge.to, fewer);
                 put(gone, place, true);
@@ -237,7 +193,14 @@ fn take_out(edges: &[Edge], kept: &[usize], entries: &mut Vec<u32>, gone: &mut V
 
 /// Whether there is no loop among these edges, so that all can be removed one after the other.
 pub fn is_straight(memory: &Memory, edges: &[Edge], kept: &[usize], nodes: usize) -> bool {
-    let mut entries = entries_of(memory, edges, kept, nodes);
+    // The number of the edges that lead to each site.
+    let mut entries = memory.filled(0u32, nodes);
+    for number in kept {
+        if let Some(edge) = edges.get(*number) {
+            let more = element_or(&entries, edge.to, 0).saturating_add(1);
+            put(&mut entries, edge.to, more)
+        }
+    }
     let mut gone = memory.filled(false, kept.len());
     let mut left = kept.len();
     for _ in 0..kept.len() {

@@ -1,6 +1,5 @@
 //! Ranks under construction: at each site the terms, and the constant that they need.
 
-use crate::trouble::Endless;
 use inference::memory::{Memory, element_or};
 use kinds::put;
 use object::{Rank, RankTerm};
@@ -15,7 +14,7 @@ pub enum WhichTerm {
 /// Ranks: an element for each site, and the last one for the entry.
 #[derive(Drop)]
 pub struct RankPlan {
-    places: Vec<RankCandidate>,
+    pub places: Vec<RankCandidate>,
 }
 
 /// The terms and the constant of a rank, and the value from which the constant is raised.
@@ -27,29 +26,12 @@ pub struct RankCandidate {
     least: u64,
 }
 
-const NO_RANK: RankCandidate = RankCandidate {
+pub const NO_RANK: RankCandidate = RankCandidate {
     first: None,
     second: None,
     now: 0,
     least: 0,
 };
-
-/// Ranks; if a loop has none, which loop and why.
-#[derive(Drop)]
-pub struct Ranking {
-    pub plan: RankPlan,
-    pub endless: Option<Endless>,
-    pub unranked: Unranked,
-}
-
-/// The slots at which loops without a rank begin.
-#[derive(Drop)]
-pub enum Unranked {
-    /// Each of these loops has none on its own, though the loops within it have.
-    Alone(Vec<usize>),
-    /// Each of these has one on its own, but they have none together. The outermost comes first.
-    Together(Vec<usize>),
-}
 
 impl RankPlan {
     /// Ranks that are all 0.
@@ -59,14 +41,9 @@ impl RankPlan {
         }
     }
 
-    /// The terms and the constant so far.
-    pub fn at(&self, node: usize) -> RankCandidate {
-        element_or(&self.places, node, NO_RANK)
-    }
-
     /// The rank.
     pub fn rank_at(&self, node: usize) -> Rank {
-        let place = self.at(node);
+        let place = element_or(&self.places, node, NO_RANK);
         Rank {
             constant: place.now.min(1_000_000) as u32,
             first: place.first,
@@ -87,7 +64,7 @@ impl RankPlan {
 
     /// Sets one of the terms.
     pub fn set_term(&mut self, node: usize, which: WhichTerm, term: Option<RankTerm>) {
-        let mut place = self.at(node);
+        let mut place = element_or(&self.places, node, NO_RANK);
         match which {
             WhichTerm::First => place.first = term,
             WhichTerm::Second => place.second = term,
@@ -95,18 +72,19 @@ impl RankPlan {
         put(&mut self.places, node, place)
     }
 
-    /// Sets the constant.
-    pub fn set_constant(&mut self, node: usize, constant: u64) {
-        let mut place = self.at(node);
-        place.now = constant;
-        put(&mut self.places, node, place)
+    /// Removes the ranks at these sites.
+    pub fn clear(&mut self, nodes: &[usize]) {
+        for node in nodes {
+            put(&mut self.places, *node, NO_RANK)
+        }
     }
 
     /// Resets the constants at these sites to the values from which they are raised.
     pub fn flatten(&mut self, nodes: &[usize]) {
         for node in nodes {
-            let least = self.at(*node).least;
-            self.set_constant(*node, least)
+            let mut place = element_or(&self.places, *node, NO_RANK);
+            place.now = place.least;
+            put(&mut self.places, *node, place)
         }
     }
 }

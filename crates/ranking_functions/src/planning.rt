@@ -2,16 +2,25 @@
 
 use crate::circles::Graph;
 use crate::loops::{Circle, SiteEdges, numbers_below};
-use crate::plan::{RankPlan, Ranking, Unranked};
-use crate::trouble::unranked_loop;
+use crate::plan::RankPlan;
+use crate::unranked::Unranked;
 use crate::weights::bounds_of;
-use inference::Inference;
 use inference::memory::Memory;
-use object::Statement;
+use inference::{Inference, infer_statements};
+use isa::{Code, Hook};
+use object::{StatedKind, Statement};
 use std::alloc::{AllocError, Global};
 
+/// Statements with ranks, and the loops that have none.
+#[derive(Drop)]
+pub struct Ranking {
+    pub entry_rank: u32,
+    pub statements: Vec<Statement>,
+    pub unranked: Unranked,
+}
+
 fn given_ranks(graph: &Graph<'_>, given: &[Statement]) -> RankPlan {
-    let mut plan = RankPlan::new(graph.memory, graph.nodes());
+    let mut plan = RankPlan::new(graph.memory, graph.bounds.len());
     for statement in given {
         if let Some(site) = graph.sites.at(statement.slot() as usize) {
             plan.give(site, statement.rank());
@@ -31,30 +40,52 @@ fn by_given(graph: &Graph<'_>, given: &[Statement], plan: &mut RankPlan) -> bool
     }
 }
 
-/// Ranks the program by its loops, or by the hints if that fails. Otherwise says why the loops have
-/// no ranks.
-fn by_loops(graph: &Graph<'_>, hints: &[Statement], are_hints: bool, ranking: &mut Ranking) {
-    let failed = graph.rank_loops(&mut ranking.plan);
-    let is_ranked = graph.settles(&mut ranking.plan, graph.all)
-        || are_hints && by_given(graph, hints, &mut ranking.plan);
-    if !is_ranked {
-        ranking.plan.flatten(&graph.all.sites);
-        ranking.endless = unranked_loop(graph, failed);
-        ranking.unranked = graph.unranked_loops(&mut ranking.plan, failed);
+/// Ranks the program by the given ranks if they are kept, else by its loops, or by the given ranks
+/// if that fails. Returns the loops that have no ranks.
+fn planned(
+    graph: &Graph<'_>,
+    given: &[Statement],
+    are_kept: bool,
+    plan: &mut RankPlan,
+) -> Unranked {
+    if !are_kept || !by_given(graph, given, plan) {
+        let failed = graph.rank_loops(plan);
+        let is_ranked = graph.settles(plan, graph.all) || !are_kept && by_given(graph, given, plan);
+        if !is_ranked {
+            plan.flatten(&graph.all.sites);
+            return graph.unranked_loops(plan, failed);
+        }
+    }
+    Unranked {
+        slots: Vec::new(graph.memory.alloc),
+        are_together: false,
+        endless: None,
     }
 }
 
-/// Ranks for the program, by the given terms or by its loops.
-fn planned(graph: &Graph<'_>, given: &[Statement], are_kept: bool) -> Ranking {
-    let mut ranking = Ranking {
-        plan: RankPlan::new(graph.memory, graph.nodes()),
-        endless: None,
-        unranked: Unranked::Alone(Vec::new(graph.memory.alloc)),
-    };
-    if !are_kept || !by_given(graph, given, &mut ranking.plan) {
-        by_loops(graph, given, !are_kept, &mut ranking)
+/// What the statement says of r0 to r9.
+pub fn kinds_of(statement: &Statement) -> [StatedKind; 10] {
+    let mut kinds = [StatedKind::Empty; 10];
+    for (register, kind) in statement.kinds().iter().enumerate() {
+        if register < 10 {
+            kinds[register] = *kind;
+        }
     }
-    ranking
+    kinds
+}
+
+/// The statements with their ranks.
+fn statements_of(memory: &Memory, stated: &[Option<Statement>], plan: &RankPlan) -> Vec<Statement> {
+    let mut statements = Vec::new(memory.alloc);
+    for site in 0..stated.len() {
+        if let Some(one) = &stated[site] {
+            let rank = plan.rank_at(site);
+            if let Some(ranked) = Statement::new(one.slot(), rank, kinds_of(one), *one.stack()) {
+                memory.push(&mut statements, ranked)
+            }
+        }
+    }
+    statements
 }
 
 /// Ranks for the statements, unless an allocation is refused.
@@ -68,7 +99,10 @@ fn ranked(
     let bounds = bounds_of(memory, &found.stated);
     let numbers = numbers_below(memory, found.edges.len());
     let ways = SiteEdges::new(memory, &found.edges, numbers, bounds.len());
-    let all = Circle::of_all(memory, found.edges.len(), bounds.len());
+    let all = Circle {
+        sites: numbers_below(memory, bounds.len()),
+        within: numbers_below(memory, found.edges.len()),
+    };
     let graph = Graph {
         memory,
         sites: &found.sites,
@@ -78,19 +112,28 @@ fn ranked(
         bounds: &bounds,
         most,
     };
-    planned(&graph, given, are_kept)
+    let mut plan = RankPlan::new(memory, bounds.len());
+    let unranked = planned(&graph, given, are_kept, &mut plan);
+    Ranking {
+        entry_rank: plan.rank_at(found.stated.len()).constant,
+        statements: statements_of(memory, &found.stated, &plan),
+        unranked,
+    }
 }
 
-/// Finds ranks for the statements. The ranks of given statements are tried first if `are_kept`,
-/// otherwise only if none are found. `most` is the greatest constant that keeps the code within its
-/// budget.
+/// Finds statements with ranks for the code at the hook. The given statements are fixed if
+/// `are_kept`, and their ranks tried first; otherwise only their numbers are used, as limits, and
+/// their ranks only if none are found. `most` is the greatest constant that keeps the code within
+/// its budget.
 pub fn rank_statements(
     alloc: Global,
-    found: &Inference,
+    code: &Code,
+    hook: Hook,
     given: &[Statement],
     are_kept: bool,
     most: u64,
 ) -> Result<Ranking, AllocError> {
     let memory = Memory::new(alloc);
-    memory.enough(ranked(&memory, found, given, are_kept, most))
+    let found = infer_statements(&memory, code, hook, given, are_kept);
+    memory.enough(ranked(&memory, &found, given, are_kept, most))
 }

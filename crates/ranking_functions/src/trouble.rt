@@ -3,6 +3,7 @@
 use crate::circles::Graph;
 use crate::loops::Circle;
 use crate::plan::RankPlan;
+use inference::memory::element_or;
 
 /// Why a loop has no rank.
 #[derive(Clone, Copy)]
@@ -28,8 +29,10 @@ fn trouble_with(graph: &Graph<'_>, circle: &Circle, head: usize, register: u8) -
     if carried.has_rise {
         Trouble::Rises { register }
     } else if graph.falls_each_turn(circle, &carried) {
-        let from = graph.high(head, register).unwrap_or(u64::MAX);
-        Trouble::TooHigh { register, from }
+        Trouble::TooHigh {
+            register,
+            from: graph.high(head, register),
+        }
     } else {
         Trouble::NoneFalls
     }
@@ -46,11 +49,11 @@ fn too_long(graph: &Graph<'_>, circle: &Circle, head: usize) -> Option<Trouble> 
     }
     let mut without_budget = *graph;
     without_budget.most = u64::MAX;
-    let mut plan = RankPlan::new(graph.memory, graph.nodes());
+    let mut plan = RankPlan::new(graph.memory, graph.bounds.len());
     match without_budget.best_register(&mut plan, circle, head) {
         Some(register) => Some(Trouble::TooHigh {
             register,
-            from: graph.high(head, register).unwrap_or(u64::MAX),
+            from: graph.high(head, register),
         }),
         None => None,
     }
@@ -72,18 +75,17 @@ fn trouble_at(graph: &Graph<'_>, circle: &Circle, head: usize) -> Trouble {
 
 /// What is wrong with the loop through the site, if there is one.
 fn endless_at(graph: &Graph<'_>, head: usize) -> Option<Endless> {
-    let circle = graph.circle(head);
-    if circle.has(head) {
-        Some(Endless {
-            slot: graph.sites.slot(head),
-            trouble: match too_long(graph, &circle, head) {
-                Some(trouble) => trouble,
-                None => trouble_at(graph, &circle, head),
-            },
-        })
-    } else {
-        None
+    let circle = graph.ways.circle(graph.memory, graph.edges, head);
+    if circle.sites.is_empty() {
+        return None;
     }
+    Some(Endless {
+        slot: element_or(&graph.sites.slots, head, 0),
+        trouble: match too_long(graph, &circle, head) {
+            Some(trouble) => trouble,
+            None => trouble_at(graph, &circle, head),
+        },
+    })
 }
 
 /// What is wrong with the loop through the site, or with the first one that has trouble.
@@ -91,7 +93,7 @@ pub fn unranked_loop(graph: &Graph<'_>, failed: Option<usize>) -> Option<Endless
     if let Some(head) = failed {
         return endless_at(graph, head);
     }
-    for head in 0..graph.sites.len() {
+    for head in 0..graph.sites.slots.len() {
         if graph.sites.is_head(head) {
             let found = endless_at(graph, head);
             if found.is_some() {

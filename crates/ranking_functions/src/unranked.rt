@@ -1,15 +1,29 @@
 //! Which loops have no rank.
 
 use crate::circles::Graph;
-use crate::loops::{Circle, is_marked};
-use crate::plan::{RankPlan, Unranked};
+use crate::loops::Circle;
+use crate::plan::RankPlan;
+use crate::trouble::{Endless, unranked_loop};
+use inference::memory::element_or;
 use kinds::put;
+
+/// The loops that have no rank, if there are any.
+#[derive(Drop)]
+pub struct Unranked {
+    /// The slots at which they begin.
+    pub slots: Vec<usize>,
+    /// Whether each of them has one on its own, but they have none together; the outermost comes
+    /// first. Else each has none on its own, though the loops within it have.
+    pub are_together: bool,
+    /// Which loop has none, and why.
+    pub endless: Option<Endless>,
+}
 
 impl<'a> Graph<'a> {
     /// Whether one of the loop's sites is marked.
     fn has_marked(&self, circle: &Circle, marks: &[bool]) -> bool {
         for site in &circle.sites {
-            if is_marked(marks, *site) {
+            if element_or(marks, *site, false) {
                 return true;
             }
         }
@@ -18,65 +32,62 @@ impl<'a> Graph<'a> {
 
     /// Whether a loop begins at the site that has no rank on its own, though those within it have.
     fn is_unranked(&self, plan: &mut RankPlan, unranked: &[bool], head: usize) -> bool {
-        let circle = self.circle(head);
-        circle.has(head)
+        let circle = self.ways.circle(self.memory, self.edges, head);
+        !circle.sites.is_empty()
             && !self.has_marked(&circle, unranked)
             && !self.rank_circle(plan, &circle, head)
+    }
+
+    /// Marks the heads of loops that have no rank on their own, though those within them have,
+    /// found from the last site on.
+    fn mark_unranked(&self, plan: &mut RankPlan, marks: &mut Vec<bool>) {
+        let count = self.sites.slots.len();
+        for passed in 0..count {
+            let head = count - 1 - passed;
+            if self.sites.is_head(head) && self.is_unranked(plan, marks, head) {
+                put(marks, head, true)
+            }
+        }
+    }
+
+    /// Marks the sites of the loop that begins at this one; all sites if there is none.
+    fn mark_together(&self, failed: Option<usize>, marks: &mut Vec<bool>) {
+        let sites = match failed {
+            Some(head) => self.ways.circle(self.memory, self.edges, head).sites,
+            None => self.memory.copied(&self.all.sites),
+        };
+        for site in &sites {
+            put(marks, *site, true)
+        }
     }
 
     /// The slots of the heads that are marked.
     fn slots_of(&self, marks: &[bool]) -> Vec<usize> {
         let mut slots = Vec::new(self.memory.alloc);
-        for site in 0..self.sites.len() {
-            if self.sites.is_head(site) && is_marked(marks, site) {
-                self.memory.push(&mut slots, self.sites.slot(site));
+        for site in 0..self.sites.slots.len() {
+            if self.sites.is_head(site) & element_or(marks, site, false) {
+                let slot = element_or(&self.sites.slots, site, 0);
+                self.memory.push(&mut slots, slot);
             }
         }
         slots
     }
 
-    /// The slots of the heads among these sites.
-    fn slots_among(&self, circle: &Circle) -> Vec<usize> {
-        let mut slots = Vec::new(self.memory.alloc);
-        for site in &circle.sites {
-            if self.sites.is_head(*site) {
-                self.memory.push(&mut slots, self.sites.slot(*site));
-            }
-        }
-        slots
-    }
-
-    /// The slots of the heads of the loop that begins at this site; of all if there is none.
-    fn slots_together(&self, failed: Option<usize>) -> Vec<usize> {
-        match failed {
-            Some(head) => self.slots_among(&self.circle(head)),
-            None => self.slots_among(self.all),
-        }
-    }
-
-    /// The heads of loops that have no rank on their own, though those within them have, found from
-    /// the last site on.
-    fn unranked(&self, plan: &mut RankPlan) -> Vec<bool> {
-        let mut unranked = self.memory.filled(false, self.nodes());
-        let count = self.sites.len();
-        for passed in 0..count {
-            let head = count - 1 - passed;
-            if self.sites.is_head(head) && self.is_unranked(plan, &unranked, head) {
-                put(&mut unranked, head, true)
-            }
-        }
-        unranked
-    }
-
-    /// The slots at which loops without a rank begin. If each loop has one on its own, those that
-    /// have none together.
+    /// The loops without a rank. If each loop has one on its own, those that have none together: in
+    /// the loop that begins at this site, or all.
     pub fn unranked_loops(&self, plan: &mut RankPlan, failed: Option<usize>) -> Unranked {
-        let unranked = self.unranked(plan);
-        let slots = self.slots_of(&unranked);
-        if slots.is_empty() {
-            Unranked::Together(self.slots_together(failed))
-        } else {
-            Unranked::Alone(slots)
+        let mut marks = self.memory.filled(false, self.bounds.len());
+        self.mark_unranked(plan, &mut marks);
+        let mut slots = self.slots_of(&marks);
+        let are_together = slots.is_empty();
+        if are_together {
+            self.mark_together(failed, &mut marks);
+            slots = self.slots_of(&marks);
+        }
+        Unranked {
+            slots,
+            are_together,
+            endless: unranked_loop(self, failed),
         }
     }
 }

@@ -3,7 +3,7 @@
 
 use crate::circles::Graph;
 use crate::loops::Circle;
-use crate::plan::{RankCandidate, RankPlan};
+use crate::plan::{NO_RANK, RankCandidate, RankPlan};
 use absdom::Domain;
 use inference::memory::{Memory, element_or};
 use inference::{Edge, Value};
@@ -66,20 +66,16 @@ fn add_term(coefficients: &mut [u64; 10], term: Option<RankTerm>) {
     }
 }
 
-fn coefficients_at(plan: &RankPlan, node: usize) -> [u64; 10] {
-    let mut coefficients = [0; 10];
-    let place = plan.at(node);
-    add_term(&mut coefficients, place.first);
-    add_term(&mut coefficients, place.second);
-    coefficients
-}
-
 /// A multiple of the number.
 pub fn multiple(factor: u64, number: u64) -> u128 {
     u128::from(factor).saturating_mul(u128::from(number))
 }
 
-fn gap_of(lefts: [u64; 10], rights: [u64; 10], bounds: &Bounds) -> Gap {
+/// The gap between these multiples and those of a rank's terms.
+fn gap_of(lefts: [u64; 10], place: RankCandidate, bounds: &Bounds) -> Gap {
+    let mut rights = [0; 10];
+    add_term(&mut rights, place.first);
+    add_term(&mut rights, place.second);
     let mut gap = Gap {
         saved: 0,
         needed: 0,
@@ -111,17 +107,18 @@ struct Need {
 
 /// What the edge needs; `None` if no constant is enough.
 fn need_of(plan: &RankPlan, bounds: &[Bounds], edge: &Edge) -> Option<Need> {
-    let RankCandidate { first, second, .. } = plan.at(edge.to);
+    let end = element_or(&plan.places, edge.to, NO_RANK);
     let slope = Rank {
         constant: 0,
-        first,
-        second,
+        first: end.first,
+        second: end.second,
     };
     let Some(line) = bound_of(slope, &edge.state) else {
         return None;
     };
+    let start = element_or(&plan.places, edge.from, NO_RANK);
     let from = element_or(bounds, edge.from, NO_BOUNDS);
-    let gap = gap_of(line.coefficients, coefficients_at(plan, edge.from), &from);
+    let gap = gap_of(line.coefficients, start, &from);
     if !gap.is_bounded {
         return None;
     }
@@ -138,86 +135,53 @@ fn need_of(plan: &RankPlan, bounds: &[Bounds], edge: &Edge) -> Option<Need> {
     })
 }
 
-/// What these edges need; `None` if no constants are enough.
-fn needs_of(
-    memory: &Memory,
-    plan: &RankPlan,
-    bounds: &[Bounds],
-    edges: &[Edge],
-    kept: &[usize],
-) -> Option<Vec<Need>> {
-    let mut needs = Vec::new(memory.alloc);
-    for number in kept {
-        if let Some(edge) = edges.get(*number) {
-            let Some(need) = need_of(plan, bounds, edge) else {
-                return None;
-            };
-            memory.push(&mut needs, need)
-        }
-    }
-    Some(needs)
-}
-
-/// The outcome of one round over the edges.
-#[derive(Clone, Copy)]
-enum Round {
-    Still,
-    Raised,
-    TooHigh,
-}
-
-/// Raises the constant at an edge's start to what the edge needs.
-fn raise_by(plan: &mut RankPlan, need: &Need, most: u64) -> Round {
-    let end = u128::from(plan.at(need.to).now);
-    let needed = end.saturating_add(need.more).saturating_sub(need.less);
-    if u128::from(most) < needed {
-        Round::TooHigh
-    } else if u128::from(plan.at(need.from).now) < needed {
-        plan.set_constant(need.from, needed as u64);
-        Round::Raised
-    } else {
-        Round::Still
-    }
-}
-
-/// Raises the constants at the starts of edges once.
-fn raise_once(plan: &mut RankPlan, needs: &[Need], most: u64) -> Round {
-    let mut round = Round::Still;
-    // An edge raises the constant at its start, so the last edges come first.
-    for passed in 0..needs.len() {
-        match raise_by(plan, &needs[needs.len() - 1 - passed], most) {
-            Round::Still => {}
-            Round::Raised => round = Round::Raised,
-            Round::TooHigh => return Round::TooHigh,
-        }
-    }
-    round
-}
-
 /// Raises the constants until each edge has what it needs, in at most `rounds` rounds. Returns
 /// whether that succeeds: none exceeds the maximum, and they stop rising.
 fn raise(plan: &mut RankPlan, needs: &[Need], rounds: usize, most: u64) -> bool {
     for _ in 0..rounds {
-        match raise_once(plan, needs, most) {
-            Round::Still => return true,
-            Round::TooHigh => return false,
-            Round::Raised => {}
+        let mut is_still = true;
+        // An edge raises the constant at its start, so the last edges come first.
+        for passed in 0..needs.len() {
+            let need = &needs[needs.len() - 1 - passed];
+            let end = u128::from(element_or(&plan.places, need.to, NO_RANK).now);
+            let needed = end.saturating_add(need.more).saturating_sub(need.less);
+            if u128::from(most) < needed {
+                return false;
+            }
+            let mut start = element_or(&plan.places, need.from, NO_RANK);
+            if u128::from(start.now) < needed {
+                start.now = needed as u64;
+                put(&mut plan.places, need.from, start);
+                is_still = false;
+            }
+        }
+        if is_still {
+            return true;
         }
     }
     false
 }
 
 impl<'a> Graph<'a> {
+    /// Adds what these edges need. Returns whether there are constants that are enough.
+    fn add_needs(&self, plan: &RankPlan, kept: &[usize], needs: &mut Vec<Need>) -> bool {
+        for number in kept {
+            if let Some(edge) = self.edges.get(*number) {
+                let Some(need) = need_of(plan, self.bounds, edge) else {
+                    return false;
+                };
+                self.memory.push(needs, need)
+            }
+        }
+        true
+    }
+
     /// Raises the constants from their starting values until each edge of the loop has what it
     /// needs. Returns whether that succeeds.
     pub fn settles(&self, plan: &mut RankPlan, circle: &Circle) -> bool {
         plan.flatten(&circle.sites);
-        match needs_of(self.memory, plan, self.bounds, self.edges, &circle.within) {
-            Some(needs) => {
-                let rounds = circle.sites.len().saturating_add(1);
-                raise(plan, &needs, rounds, self.most)
-            }
-            None => false,
-        }
+        let mut needs = Vec::new(self.memory.alloc);
+        let rounds = circle.sites.len().saturating_add(1);
+        self.add_needs(plan, &circle.within, &mut needs) && raise(plan, &needs, rounds, self.most)
     }
 }

@@ -1,25 +1,14 @@
-use Rattle.std.proofs.Common.{◌≡◌, List, ap, arith, inl, inr, length, refl, subst, sym, ℕ}
+use Rattle.std.proofs.Common.{◌≡◌, List, ap, arith, inl, inr, length, refl, sym, ℕ}
 use Rattle.std.specs.Prelude.{vec_len}
 use Rattle.std.proofs.lemmas.Bool.{eqb-false}
-use Rattle.annotations.specs.Annotated.{CountsLoops}
-use Rattle.annotations.proofs.Faults.{count_fault}
 use Rattle.annotations.proofs.Outcomes.{with_turns}
 use Rattle.annotations.proofs.counting.try_heads.Goals as goal
 
 pub returns-then-is_empty : goal.returns-then-is_empty
 returns-then-is_empty c = with_turns _ _ _ _ _ (inl refl) c.annotate.ensures
 
-pub returns-in-Ok : goal.returns-in-Ok
-returns-in-Ok c = with_turns _ _ _ _ _
-    (inr (subst (λ (text : List ℕ). CountsLoops c.args.task.now.answer c.args.turns
-    c.args.task.now.bytes.now text) (sym c.deref-in-Ok.ensures.value) c.in-Ok.ensures.counts))
-    c.try_text.ensures
-
-pub returns-in-Err : goal.returns-in-Err
-returns-in-Err c = count_fault _ _ _ _ _ c.in-Err.ensures.fault
-
-pub counted_text-requires-clause-inside : goal.counted_text-requires-clause-inside
-counted_text-requires-clause-inside c = elim c.requires.inside [
+pub try_counted-requires-clause-inside : goal.try_counted-requires-clause-inside
+try_counted-requires-clause-inside c = elim c.requires.inside [
   | inl none ↦
       let slots = c.args.heads.now.slots in
       let items : length slots.items ≡ 0 = ap (λ (xs : List ℕ). length xs) none in
