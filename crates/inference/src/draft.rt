@@ -4,7 +4,6 @@ use crate::edges::Edge;
 use crate::joining::{Growth, Value, first_statement, joined_statement};
 use crate::liveness::Registers;
 use crate::memory::{Memory, element_or};
-use crate::turns::Turns;
 use kinds::{AbstractState, put};
 use object::Statement;
 
@@ -13,13 +12,39 @@ use object::Statement;
 pub enum Purpose {
     /// It widens the statement at the target.
     Rise,
-    /// It collects a new statement from the edges alone.
-    Fall,
+    /// It collects what reaches each site from the edges alone, and counts backward jumps.
+    Collect,
     /// It records the edge.
     Gather,
-    /// It collects the states at each site, iteration by iteration, and counts the iterations.
-    Unroll,
 }
+
+/// What was found for a site so far.
+#[derive(Clone, Copy)]
+pub struct SiteDraft {
+    pub stated: Option<Statement>,
+    /// What a narrowing pass finds, or the states at the site that aren't followed yet.
+    pub found: Option<Statement>,
+    /// Whether its segment is still to be visited, since its statement has changed.
+    pub is_waiting: bool,
+    /// How often its statement has changed.
+    pub changes: u32,
+    /// Whether its statement is fixed.
+    pub is_kept: bool,
+    /// Whether backward jumps to it count.
+    pub is_counted: bool,
+    /// The maximum number of those on the paths of what isn't followed yet.
+    pub turns: u32,
+}
+
+pub const NOTHING: SiteDraft = SiteDraft {
+    stated: None,
+    found: None,
+    is_waiting: false,
+    changes: 0,
+    is_kept: false,
+    is_counted: false,
+    turns: 0,
+};
 
 /// The statements found so far, with an element for each site.
 #[derive(Drop)]
@@ -32,17 +57,12 @@ pub struct StatementDraft {
     pub is_new: bool,
     /// The limits that growing bounds are widened to.
     limits: Vec<u64>,
-    /// The sites whose segments are still to be visited, since their statements have changed.
-    pub waiting: Vec<bool>,
-    /// How often each statement has changed.
-    changes: Vec<u32>,
-    /// The sites whose statements are fixed.
-    pub kept: Vec<bool>,
-    pub stated: Vec<Option<Statement>>,
-    /// What a narrowing pass finds, or the states at the site that aren't followed yet.
-    pub found: Vec<Option<Statement>>,
+    pub sites: Vec<SiteDraft>,
     pub edges: Vec<Edge>,
-    pub turns: Turns,
+    /// The number of backward jumps that count, up to the start of the segment that is followed.
+    pub turns: u32,
+    /// The maximum of these numbers.
+    pub most_turns: u32,
 }
 
 /// An edge to a site: the site and its slot; the site that the edge comes from, or the number of
@@ -73,34 +93,27 @@ impl StatementDraft {
             has_changed: false,
             is_new: true,
             limits,
-            waiting: memory.filled(false, size),
-            changes: memory.filled(0, size),
-            kept: memory.filled(false, size),
-            stated: memory.filled(None, size),
-            found: memory.filled(None, size),
+            sites: memory.filled(NOTHING, size),
             edges: Vec::new(memory.alloc),
-            turns: Turns {
-                counted: memory.filled(false, size),
-                pending: memory.filled(0, size),
-                now: 0,
-                most: 0,
-            },
+            turns: 0,
+            most_turns: 0,
         }
     }
 
     /// Whether the site lacks a statement, and edges that no run takes may give it one.
     pub fn lacks(&self, site: usize) -> bool {
-        self.is_lenient && element_or(&self.stated, site, None).is_none()
+        self.is_lenient && element_or(&self.sites, site, NOTHING).stated.is_none()
     }
 
     /// Makes what a narrowing pass found the statements. A site that no edge reached keeps its own.
     pub fn settle(&mut self) {
-        for site in 0..self.stated.len() {
-            let next = element_or(&self.found, site, None);
-            if next.is_some() {
-                self.has_changed |= next != element_or(&self.stated, site, None);
-                put(&mut self.stated, site, next);
-                put(&mut self.found, site, None);
+        for site in 0..self.sites.len() {
+            let mut draft = element_or(&self.sites, site, NOTHING);
+            if draft.found.is_some() {
+                self.has_changed |= draft.found != draft.stated;
+                draft.stated = draft.found;
+                draft.found = None;
+                put(&mut self.sites, site, draft);
             }
         }
     }
@@ -112,29 +125,28 @@ impl StatementDraft {
 
     /// The statement at the site, if its segment is to be visited now.
     pub fn due(&mut self, site: usize) -> Option<Statement> {
-        let is_due = element_or(&self.waiting, site, false) | !self.is_rising();
-        put(&mut self.waiting, site, false);
-        if is_due {
-            element_or(&self.stated, site, None)
-        } else {
-            None
-        }
+        let mut draft = element_or(&self.sites, site, NOTHING);
+        let is_due = draft.is_waiting | !self.is_rising();
+        let stated = if is_due { draft.stated } else { None };
+        draft.is_waiting = false;
+        put(&mut self.sites, site, draft);
+        stated
     }
 
     /// Replaces the statement at the site.
     pub fn assume(&mut self, site: usize, statement: Option<Statement>) {
-        let changes = element_or(&self.changes, site, 0);
-        put(&mut self.changes, site, changes.saturating_add(1));
-        put(&mut self.waiting, site, true);
-        put(&mut self.stated, site, statement);
+        let mut draft = element_or(&self.sites, site, NOTHING);
+        draft.stated = statement;
+        draft.changes = draft.changes.saturating_add(1);
+        draft.is_waiting = true;
+        put(&mut self.sites, site, draft);
         self.has_changed = true;
     }
 
-    /// How the bounds at the edge's target grow.
-    fn growth_at(&self, arrival: &Arrival) -> Growth<'_> {
-        let changes = element_or(&self.changes, arrival.site, 0);
+    /// How the bounds of a statement grow that has changed so often.
+    fn growth_after(&self, changes: u32, is_head: bool) -> Growth<'_> {
         Growth {
-            is_exact: !(arrival.is_head & self.is_rising()) | (changes < EXACT_CHANGES),
+            is_exact: !(is_head & self.is_rising()) | (changes < EXACT_CHANGES),
             limits: if changes < LIMITED_CHANGES {
                 self.limits.as_slice()
             } else {
@@ -147,56 +159,56 @@ impl StatementDraft {
     fn grown(
         &self,
         old: Option<Statement>,
+        changes: u32,
         arrival: &Arrival,
         state: &AbstractState<Value>,
     ) -> Option<Statement> {
         match old {
-            Some(old) => joined_statement(self.growth_at(arrival), &old, arrival.live, state),
+            Some(old) => {
+                let growth = self.growth_after(changes, arrival.is_head);
+                joined_statement(growth, &old, arrival.live, state)
+            }
             None => first_statement(arrival.slot, arrival.live, state),
         }
     }
 
-    /// Extends the statement at the edge's target, or what a narrowing pass found there, by what is
-    /// known at the edge.
+    /// Extends the statement at the edge's target, or what was collected there, by what is known at
+    /// the edge. A statement that is fixed stays as it is.
     fn grow(&mut self, arrival: &Arrival, state: &AbstractState<Value>) {
+        let mut draft = element_or(&self.sites, arrival.site, NOTHING);
+        if draft.is_kept {
+            return;
+        }
         if self.is_rising() {
-            let old = element_or(&self.stated, arrival.site, None);
-            let next = self.grown(old, arrival, state);
-            if next != old {
+            let next = self.grown(draft.stated, draft.changes, arrival, state);
+            if next != draft.stated {
                 self.assume(arrival.site, next)
             }
         } else {
-            let old = element_or(&self.found, arrival.site, None);
-            let next = self.grown(old, arrival, state);
-            put(&mut self.found, arrival.site, next)
+            let is_turn = arrival.is_back & draft.is_counted;
+            let turns = self.turns.saturating_add(u32::from(is_turn));
+            draft.turns = draft.turns.max(turns);
+            draft.found = self.grown(draft.found, draft.changes, arrival, state);
+            put(&mut self.sites, arrival.site, draft);
+            self.most_turns = self.most_turns.max(turns);
         }
     }
 
     /// Takes an edge with this state.
     pub fn take(&mut self, memory: &Memory, arrival: &Arrival, state: &AbstractState<Value>) {
-        match self.purpose {
-            Purpose::Gather => {
-                let edge = Edge {
-                    from: arrival.from,
-                    to: arrival.site,
-                    is_back: arrival.is_back,
-                    state: AbstractState {
-                        kinds: memory.copied(&state.kinds),
-                        facts: memory.copied(&state.facts),
-                        entries: Vec::new(memory.alloc),
-                    },
-                };
-                memory.push(&mut self.edges, edge)
-            }
-            Purpose::Unroll => {
-                self.turns.take(arrival.site, arrival.is_back);
-                self.grow(arrival, state)
-            }
-            Purpose::Rise | Purpose::Fall => {
-                if !element_or(&self.kept, arrival.site, false) {
-                    self.grow(arrival, state)
-                }
-            }
+        if !matches!(self.purpose, Purpose::Gather) {
+            return self.grow(arrival, state);
         }
+        let edge = Edge {
+            from: arrival.from,
+            to: arrival.site,
+            is_back: arrival.is_back,
+            state: AbstractState {
+                kinds: memory.copied(&state.kinds),
+                facts: memory.copied(&state.facts),
+                entries: Vec::new(memory.alloc),
+            },
+        };
+        memory.push(&mut self.edges, edge)
     }
 }

@@ -1,22 +1,22 @@
 //! Passes over the code until the statements don't change any more.
 
-use crate::draft::{Purpose, StatementDraft};
+use crate::draft::{NOTHING, Purpose, SiteDraft, StatementDraft};
 use crate::edges::Edge;
 use crate::flow::{Passes, Program};
 use crate::liveness::{live_registers, reads_frame};
-use crate::memory::Memory;
+use crate::memory::{Memory, element_or};
 use crate::sites::{Sites, sites_of};
 use crate::widening::limits_of;
 use isa::{Code, Hook};
 use kinds::put;
 use object::Statement;
 
-/// The statements that were found for code, without ranks, with an element for each site, and the
-/// edges between them, with what is known there.
+/// The statements that were found for code, without ranks, and the edges between them, with what is
+/// known there.
 #[derive(Drop)]
 pub struct Inference {
     pub sites: Sites,
-    pub stated: Vec<Option<Statement>>,
+    pub drafts: Vec<SiteDraft>,
     pub edges: Vec<Edge>,
 }
 
@@ -49,22 +49,26 @@ fn repeat(passes: &mut Passes<'_>, purpose: Purpose, most: usize) {
 /// that no run takes.
 fn widen_and_narrow(passes: &mut Passes<'_>, is_lenient: bool) {
     passes.draft.is_new = true;
-    for site in 0..passes.draft.waiting.len() {
-        put(&mut passes.draft.waiting, site, true)
+    for site in 0..passes.draft.sites.len() {
+        let mut draft = element_or(&passes.draft.sites, site, NOTHING);
+        draft.is_waiting = true;
+        put(&mut passes.draft.sites, site, draft)
     }
     passes.draft.is_lenient = is_lenient;
-    let most = passes.draft.waiting.len().saturating_mul(MOST_CHANGES);
+    let most = passes.draft.sites.len().saturating_mul(MOST_CHANGES);
     repeat(passes, Purpose::Rise, most.saturating_add(1));
     passes.draft.is_lenient = false;
-    repeat(passes, Purpose::Fall, MOST_FALLS)
+    repeat(passes, Purpose::Collect, MOST_FALLS)
 }
 
 /// Fixes these statements, whatever reaches them.
 fn keep(passes: &mut Passes<'_>, kept: &[Statement]) {
     for statement in kept {
         if let Some(site) = passes.program.sites.at(statement.slot() as usize) {
-            passes.draft.assume(site, Some(*statement));
-            put(&mut passes.draft.kept, site, true)
+            let mut draft = NOTHING;
+            draft.stated = Some(*statement);
+            draft.is_kept = true;
+            put(&mut passes.draft.sites, site, draft)
         }
     }
 }
@@ -109,7 +113,7 @@ pub fn infer_statements(
     let Passes { program, draft, .. } = passes;
     Inference {
         sites: program.sites,
-        stated: draft.stated,
+        drafts: draft.sites,
         edges: draft.edges,
     }
 }

@@ -10,10 +10,10 @@ mod joining;
 pub mod liveness;
 pub mod memory;
 mod sites;
-mod turns;
 mod unrolling;
 mod widening;
 
+pub use draft::SiteDraft;
 pub use edges::{Edge, copy_of};
 pub use fixpoint::{Inference, infer_statements};
 pub use flow::entry_state;

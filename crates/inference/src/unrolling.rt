@@ -1,6 +1,6 @@
 //! The maximum number of iterations of loops, found by following them one iteration at a time.
 
-use crate::draft::{Purpose, StatementDraft};
+use crate::draft::{NOTHING, Purpose, SiteDraft, StatementDraft};
 use crate::fixpoint::program_of;
 use crate::flow::{Passes, Program};
 use crate::memory::{Memory, element_or};
@@ -57,7 +57,7 @@ impl<'a> Unrolling<'a> {
     /// The first reached site from `from` on and before `to`.
     fn first_pending(&self, from: usize, to: usize) -> Option<usize> {
         for site in from..to {
-            if element_or(&self.passes.draft.found, site, None).is_some() {
+            if let Some(SiteDraft { found: Some(_), .. }) = self.passes.draft.sites.get(site) {
                 return Some(site);
             }
         }
@@ -89,7 +89,7 @@ impl<'a> Unrolling<'a> {
         {
             return false;
         }
-        let state = element_or(&self.passes.draft.found, site, None);
+        let state = element_or(&self.passes.draft.sites, site, NOTHING).found;
         if (self.mark.site == site) & (self.mark.state == state) {
             return true;
         }
@@ -105,17 +105,17 @@ impl<'a> Unrolling<'a> {
 
     /// Follows the segment that begins at the site. Returns the number of its instructions.
     fn follow(&mut self, site: usize) -> usize {
-        let reached = element_or(&self.passes.draft.found, site, None);
-        put(&mut self.passes.draft.found, site, None);
-        self.passes.draft.turns.leave(site);
-        match reached {
-            Some(statement) => {
-                self.passes.begin(site, &statement);
-                let first = element_or(&self.passes.program.sites.slots, site, 0);
-                self.passes.follow_segment(first)
-            }
-            None => 0,
-        }
+        let mut draft = element_or(&self.passes.draft.sites, site, NOTHING);
+        let Some(statement) = draft.found else {
+            return 0;
+        };
+        self.passes.draft.turns = draft.turns;
+        draft.found = None;
+        draft.turns = 0;
+        put(&mut self.passes.draft.sites, site, draft);
+        self.passes.begin(site, &statement);
+        let first = element_or(&self.passes.program.sites.slots, site, 0);
+        self.passes.follow_segment(first)
     }
 
     /// Follows the reached sites until there is none, with at most `most` backward jumps that
@@ -131,7 +131,7 @@ impl<'a> Unrolling<'a> {
             }
             let more = self.follow(site).max(1);
             steps = steps.saturating_add(more);
-            if (steps > MOST_STEPS) | (self.passes.draft.turns.most > most) {
+            if (steps > MOST_STEPS) | (self.passes.draft.most_turns > most) {
                 break;
             }
         }
@@ -146,10 +146,12 @@ fn loops_of<'a>(memory: &'a Memory, code: &'a Code, hook: Hook, heads: &[usize])
     let mut draft = StatementDraft::new(memory, sites, Vec::new(memory.alloc));
     for head in heads {
         if let Some(site) = program.sites.at(*head) {
-            put(&mut draft.turns.counted, site, true)
+            let mut counted = NOTHING;
+            counted.is_counted = true;
+            put(&mut draft.sites, site, counted)
         }
     }
-    draft.purpose = Purpose::Unroll;
+    draft.purpose = Purpose::Collect;
     let lasts = lasts_of(&program);
     Unrolling {
         passes: Passes::new(program, draft),
@@ -177,6 +179,6 @@ pub fn most_turns(
     unrolling.passes.begin_at_entry(true);
     unrolling.passes.follow_segment(0);
     let ends = unrolling.ends(most);
-    let turns = unrolling.passes.draft.turns.most;
+    let turns = unrolling.passes.draft.most_turns;
     memory.enough(if ends { Some(turns) } else { None })
 }

@@ -6,7 +6,7 @@ use crate::plan::RankPlan;
 use crate::unranked::Unranked;
 use crate::weights::bounds_of;
 use inference::memory::Memory;
-use inference::{Inference, infer_statements};
+use inference::{Inference, SiteDraft, infer_statements};
 use isa::{Code, Hook};
 use object::{StatedKind, Statement};
 use std::alloc::{AllocError, Global};
@@ -75,10 +75,10 @@ pub fn kinds_of(statement: &Statement) -> [StatedKind; 10] {
 }
 
 /// The statements with their ranks.
-fn statements_of(memory: &Memory, stated: &[Option<Statement>], plan: &RankPlan) -> Vec<Statement> {
+fn statements_of(memory: &Memory, drafts: &[SiteDraft], plan: &RankPlan) -> Vec<Statement> {
     let mut statements = Vec::new(memory.alloc);
-    for site in 0..stated.len() {
-        if let Some(one) = &stated[site] {
+    for site in 0..drafts.len() {
+        if let Some(one) = &drafts[site].stated {
             let rank = plan.rank_at(site);
             if let Some(ranked) = Statement::new(one.slot(), rank, kinds_of(one), *one.stack()) {
                 memory.push(&mut statements, ranked)
@@ -96,7 +96,7 @@ fn ranked(
     are_kept: bool,
     most: u64,
 ) -> Ranking {
-    let bounds = bounds_of(memory, &found.stated);
+    let bounds = bounds_of(memory, &found.drafts);
     let numbers = numbers_below(memory, found.edges.len());
     let ways = SiteEdges::new(memory, &found.edges, numbers, bounds.len());
     let all = Circle {
@@ -115,8 +115,8 @@ fn ranked(
     let mut plan = RankPlan::new(memory, bounds.len());
     let unranked = planned(&graph, given, are_kept, &mut plan);
     Ranking {
-        entry_rank: plan.rank_at(found.stated.len()).constant,
-        statements: statements_of(memory, &found.stated, &plan),
+        entry_rank: plan.rank_at(found.drafts.len()).constant,
+        statements: statements_of(memory, &found.drafts, &plan),
         unranked,
     }
 }

@@ -6,7 +6,7 @@ use crate::loops::Circle;
 use crate::plan::{NO_RANK, RankCandidate, RankPlan};
 use absdom::Domain;
 use inference::memory::{Memory, element_or};
-use inference::{Edge, Value};
+use inference::{Edge, SiteDraft, Value};
 use kinds::{Kind, kind_of, put};
 use object::{Rank, RankTerm, StatedKind as Stated, Statement};
 use ranks::bound_of;
@@ -46,10 +46,10 @@ fn bounds_at(statement: &Statement) -> Bounds {
 }
 
 /// The bounds at each site, and at the entry, where no register has any.
-pub fn bounds_of(memory: &Memory, stated: &[Option<Statement>]) -> Vec<Bounds> {
-    let mut all = memory.filled(NO_BOUNDS, stated.len() + 1);
-    for site in 0..stated.len() {
-        if let Some(statement) = &stated[site] {
+pub fn bounds_of(memory: &Memory, drafts: &[SiteDraft]) -> Vec<Bounds> {
+    let mut all = memory.filled(NO_BOUNDS, drafts.len() + 1);
+    for site in 0..drafts.len() {
+        if let Some(statement) = &drafts[site].stated {
             put(&mut all, site, bounds_at(statement))
         }
     }
