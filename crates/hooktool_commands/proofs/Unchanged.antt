@@ -1,6 +1,11 @@
 -- Functions that no linker would change.
-use Rattle.std.proofs.Common.{◌≡◌, List, [], false, refl, subst, sym}
+use Rattle.std.proofs.Common.{◌≡◌, ◌∙◌, ◌++◌, ◌∷◌, [], Bool, List, false, length, refl, subst, sym}
+use Rattle.std.proofs.Common.{true}
+use Rattle.std.proofs.lemmas.Bool.{eqb-true}
+use Rattle.std.proofs.lemmas.List.{nil_from_length}
+use Rattle.std.proofs.lemmas.List.Elements.{All-push}
 use Rattle.std.specs.List.{All}
+use Rattle.std.specs.Prelude.{◌==◌}
 use Rattle.elf.specs.declared.lists.LinkedRelocation.{LinkedRelocation}
 use Rattle.elf.specs.declared.lists.LinkedSymbol.{LinkedSymbol}
 use Rattle.hooktool_commands.specs.Linked.{is_changed}
@@ -20,3 +25,29 @@ by_none all functions none =
     subst (λ (these : List LinkedRelocation).
     All (λ (function : LinkedSymbol). is_changed these function ≡ false) functions) (sym none)
     (λ k d less. refl)
+
+-- there are none where none was read
+pub none_read : (read all : List LinkedRelocation) (is_none : Bool) → read ≡ all
+    → is_none ≡ (length read == 0) → is_none ≡ true → all ≡ []
+none_read read all is_none are empty is =
+    sym are ∙ nil_from_length read (eqb-true (length read) 0 (sym empty ∙ is))
+
+-- one more
+pub one_more : (relocations : List LinkedRelocation) (old new : List LinkedSymbol)
+    (function : LinkedSymbol) → new ≡ old ++ function ∷ []
+    → is_changed relocations function ≡ false
+    → All (λ (other : LinkedSymbol). is_changed relocations other ≡ false) old
+    → All (λ (other : LinkedSymbol). is_changed relocations other ≡ false) new
+one_more relocations old new function added is are =
+    subst (λ (functions : List LinkedSymbol).
+    All (λ (other : LinkedSymbol). is_changed relocations other ≡ false) functions) (sym added)
+    (All-push (λ (other : LinkedSymbol). is_changed relocations other ≡ false) old function are is)
+
+-- the same ones
+pub same : (relocations : List LinkedRelocation) (old new : List LinkedSymbol) → new ≡ old
+    → All (λ (other : LinkedSymbol). is_changed relocations other ≡ false) old
+    → All (λ (other : LinkedSymbol). is_changed relocations other ≡ false) new
+same relocations old new are unchanged =
+    subst (λ (functions : List LinkedSymbol).
+    All (λ (other : LinkedSymbol). is_changed relocations other ≡ false) functions) (sym are)
+    unchanged
