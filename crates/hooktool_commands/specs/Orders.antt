@@ -28,14 +28,6 @@ wanted_of known order = record {
   written = known.written;
 }
 
--- what is ordered where an ELF file is explained
-abbrev pub explanation_order : Order
-explanation_order = record {
-  purpose = purposes.Explanation;
-  hook = None;
-  fuel = record { turns = None; answer = None };
-}
-
 -- An object was found of this code that the verifier accepts; its bytes were written, where
 -- objects are asked for, and its bound is told.
 pub record IsFoundCode (wanted : Wanted) (hook : Hook) (function code : List ℕ)

@@ -4,7 +4,6 @@ ghost use Rattle.std.specs.Prelude.{◌≡◌, ◌⊎◌, ◌++◌, List, ℕ, I
 ghost use Rattle.hooktool_commands.specs.Explanations.{IsExplained};
 ghost use Rattle.hooktool_commands.specs.Builds.{IsExplainedFile};
 ghost use Rattle.hooktool_commands.specs.Faults.{IsObjectFault, IsUnread};
-ghost use Rattle.hooktool_commands.specs.Orders.{explanation_order};
 
 use crate::annotating::is_elf;
 use crate::building::{Order, Purpose, build_bytes};
@@ -82,18 +81,14 @@ pub(crate) fn explanation_of<'a>(
 }
 
 /// What is asked for of an ELF file.
-fn explaining<'a>() -> Order<'a>
-    ensures { result ≡ explanation_order }
-{
-    Order {
-        purpose: Purpose::Explanation,
-        hook: None,
-        fuel: FuelAsked {
-            turns: None,
-            answer: None,
-        },
-    }
-}
+const EXPLAINING: Order<'_> = Order {
+    purpose: Purpose::Explanation,
+    hook: None,
+    fuel: FuelAsked {
+        turns: None,
+        answer: None,
+    },
+};
 
 /// What is told of these bytes of the file at `path`: of an object file, or of each function of an
 /// ELF file.
@@ -106,7 +101,7 @@ fn explain_bytes<'a, R: WholeFiles + AllocGlobal>(
     ensures fault { IfErr result (IsObjectFault bytes.now) }
 {
     if is_elf(bytes) {
-        build_bytes(rt, &explaining(), path, bytes)
+        build_bytes(rt, &EXPLAINING, path, bytes)
     } else {
         explanation_of(rt.alloc(), bytes)
     }
