@@ -178,19 +178,6 @@ fn rejection_text(
     }
 }
 
-/// What is told of a program that the verifier refuses.
-fn rejection<'a>(
-    alloc: Global,
-    rejected: &Rejected,
-    endless: &Option<EndlessLoop>,
-    telling: Telling,
-) -> Result<CommandReport, HooktoolFault<'a>>
-    ensures refused { IfOk result (λ report. report.is_refused ≡ true) }
-    ensures fault { IfErr result (λ fault. fault ≡ HooktoolFault.Memory) }
-{
-    told(rejection_text(alloc, rejected, endless, telling), true)
-}
-
 /// Why turns can't be counted.
 fn uncounted<'a>(error: CountError) -> HooktoolFault<'a>
     ensures { IsFaultOfCount error result }
@@ -217,7 +204,9 @@ pub(crate) fn shortfall<'a>(
     ensures fault { IfErr result (IsFaultOfShortfall shortfall) }
 {
     match shortfall {
-        Shortfall::Refused(rejected, endless) => rejection(alloc, &rejected, &endless, telling),
+        Shortfall::Refused(rejected, endless) => {
+            told(rejection_text(alloc, &rejected, &endless, telling), true)
+        }
         Shortfall::Code(error) => Err(HooktoolFault::from(error)),
         Shortfall::Object(error) => Err(HooktoolFault::from(error)),
         Shortfall::OtherHook(hook) => Err(HooktoolFault::OtherHook { hook: hook.name() }),
@@ -248,22 +237,6 @@ pub(crate) fn accepted_text(alloc: Global, found: &AnnotatedObject) -> Result<St
     format!(in alloc; "accepted bound {bound}{counted}{note}")
 }
 
-/// What is told of a program that is accepted.
-fn accepted<'a>(alloc: Global, found: &AnnotatedObject) -> Result<CommandReport, HooktoolFault<'a>>
-    ensures told { IfOk result (λ report. string_bytes report.text
-        ≡ accepted_text found.now.annotated.accepted found.now.turns) }
-    ensures done { IfOk result (λ report. report.is_refused ≡ false) }
-    ensures fault { IfErr result (λ fault. fault ≡ HooktoolFault.Memory) }
-{
-    match accepted_text(alloc, found) {
-        Ok(text) => Ok(CommandReport {
-            text,
-            is_refused: false,
-        }),
-        Err(error) => Err(HooktoolFault::from(error)),
-    }
-}
-
 /// Writes the object, which the verifier accepted, and tells its bound.
 fn written<'a, R: WholeFiles + AllocGlobal>(
     rt: &R,
@@ -278,11 +251,12 @@ fn written<'a, R: WholeFiles + AllocGlobal>(
     ensures done { IfOk result (λ report. report.is_refused ≡ false) }
     ensures fault { IfErr result (IsUnwritten R.known path.entry) }
 {
-    match accepted(rt.alloc(), found) {
-        Ok(report) => match files::write_accepted(rt, path, &found.annotated.bytes) {
-            Ok(()) => Ok(report),
-            Err(fault) => Err(fault),
-        },
+    let text = accepted_text(rt.alloc(), found)?;
+    match files::write_accepted(rt, path, &found.annotated.bytes) {
+        Ok(()) => Ok(CommandReport {
+            text,
+            is_refused: false,
+        }),
         Err(fault) => Err(fault),
     }
 }
