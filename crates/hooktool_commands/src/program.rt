@@ -20,6 +20,7 @@ use hooktool_line::{FuelAsked, HooktoolRequest};
 use isa::Hook;
 use object_trials::WholeFiles;
 use std::alloc::Global;
+use std::fmt::Display;
 use std::io::{self, ErrorKind as IoKind};
 
 // Prints what a command made, and answers the status.
@@ -53,12 +54,13 @@ fn end<O: Stream>(outcome: Result<CommandReport, HooktoolFault<'_>>, output: &mu
     }
 }
 
-// Prints which line of a test can't be played, and answers the status.
-fn tell_unread<O: Stream>(text: &str, output: &mut O) -> u8
-    ensures { Fails (O.state output.new) result ⊎ (result ≡ 2) }
+// Writes help, or a text about the words of the command line or of a test, and answers the status,
+// which is this one where that is done.
+fn tell_usage<D: Display + Drop, O: Stream>(text: D, stream: &mut O, status: u8) -> u8
+    ensures { Fails (O.state stream.new) result ⊎ (result ≡ status) }
 {
-    match output.print(text) {
-        Ok(()) => USAGE,
+    match stream.print(text) {
+        Ok(()) => status,
         Err(_) => OUTSIDE,
     }
 }
@@ -69,18 +71,8 @@ fn end_test<O: Stream>(outcome: Result<Tested, HooktoolFault<'_>>, output: &mut 
 {
     match outcome {
         Ok(Tested::Played(report)) => print(&report, output),
-        Ok(Tested::Unread(text)) => tell_unread(text.as_str(), output),
+        Ok(Tested::Unread(text)) => tell_usage(text.as_str(), output, USAGE),
         Err(fault) => tell(fault, output),
-    }
-}
-
-// Writes a text of clap's, and answers the status, which is this one where that is done.
-fn tell_usage<O: Stream>(error: &Error, stream: &mut O, status: u8) -> u8
-    ensures { Fails (O.state stream.new) result ⊎ (result ≡ status) }
-{
-    match stream.print(error) {
-        Ok(()) => status,
-        Err(_) => OUTSIDE,
     }
 }
 
