@@ -1,6 +1,6 @@
 -- Lines of functions and sections that were built, one behind the other.
 use Rattle.std.proofs.Common.{◌≡◌, ◌∙◌, ◌+◌, ◌||◌, ◌++◌, ap, subst, sym, refl, ℕ, List, [], Bool}
-use Rattle.std.proofs.Common.{true, false, Option, Some, None, Ok, Err, codes, inl, inr, length}
+use Rattle.std.proofs.Common.{true, false, Option, Some, None, Ok, Err, inl, inr, length}
 use Rattle.std.proofs.Common.{add-one}
 use Rattle.std.specs.Prelude.{◌⊎◌, IfErr, IfOk, IfSome, IsSome, Result, is_err, slice_get}
 use Rattle.std.specs.Prelude.{string_bytes}
@@ -25,7 +25,7 @@ use Rattle.hooktool_commands.specs.Builds.{IsBuiltFunction, IsBuiltSection, IsHo
 use Rattle.hooktool_commands.specs.Builds.{IsPlaced, Wanted, built_text, is_file_name}
 use Rattle.hooktool_commands.specs.Builds.{is_program_section, object_path}
 use Rattle.hooktool_commands.specs.Explanations.{IsExplained}
-use Rattle.hooktool_commands.specs.Orders.{IsBuiltCode, IsHandedOut, folder_of}
+use Rattle.hooktool_commands.specs.Orders.{IsBuiltCode, IsHandedOut, IsJoined, folder_of}
 use Rattle.hooktool_commands.specs.declared.building.Purpose.{Purpose}
 use Rattle.hooktool_commands.specs.declared.building.Purpose.TheVariants as purposes
 use Rattle.hooktool_commands.specs.Faults.{IsBuildFault}
@@ -60,6 +60,34 @@ pub memory_built : {T : Type 0} (known : KnownFiles) (purpose : Purpose)
     → IfErr r (IsBuildFault known purpose)
 memory_built {T} known purpose (Ok value) is = tt
 memory_built {T} known purpose (Err fault) is = inl is
+
+-- ---- of what is added
+
+-- a fault of what is added, or want of memory
+pub added_fault : (known : KnownFiles) (purpose : Purpose)
+    (more : Result CommandReport HooktoolFault) (fault : HooktoolFault)
+    → (fault ≡ faults.Memory) ⊎ (more ≡ Err fault) → IfErr more (IsBuildFault known purpose)
+    → IsBuildFault known purpose fault
+added_fault known purpose more fault is own = elim is [
+  | inl memory ↦ inl memory
+  | inr same ↦ subst
+      (λ (r : Result CommandReport HooktoolFault). IfErr r (IsBuildFault known purpose)) same own
+]
+
+ok≢err : (report : CommandReport) (fault : HooktoolFault)
+    → ◌≡◌ {A = Result CommandReport HooktoolFault} (Ok report) (Err fault) → ⊥
+ok≢err report fault e = cc
+
+-- to add what there is lacks nothing but memory
+pub added_lacks : (more : CommandReport) (r : Result CommandReport HooktoolFault)
+    → IfErr r (λ fault. (fault ≡ faults.Memory)
+    ⊎ ◌≡◌ {A = Result CommandReport HooktoolFault} (Ok more) (Err fault))
+    → IfErr r (λ fault. fault ≡ faults.Memory)
+added_lacks more (Ok report) is = tt
+added_lacks more (Err fault) is = elim is [
+  | inl memory ↦ memory
+  | inr same ↦ absurd (ok≢err more fault same)
+]
 
 -- ---- functions
 
@@ -102,30 +130,23 @@ second_true : (a b : Bool) → b ≡ true → (a || b) ≡ true
 second_true true b h = refl
 second_true false b h = h
 
--- what was refused stays so with more
-pub still_refused : (before more after : CommandReport) → before.is_refused ≡ true
-    → after.is_refused ≡ (before.is_refused || more.is_refused) → after.is_refused ≡ true
-still_refused before more after was refused =
-    refused ∙ first_true before.is_refused more.is_refused was
-
 -- a line more
 pub functions_more : (file : List ℕ) (wanted : Wanted) (hook : Hook) (functions : List LinkedSymbol)
-    (function : LinkedSymbol) (n : ℕ) (before more after : CommandReport)
+    (function : LinkedSymbol) (n : ℕ) (before : CommandReport)
+    (more : Result CommandReport HooktoolFault) (after : CommandReport)
     → (before.is_refused ≡ true) ⊎ AreBuiltFunctions file wanted hook functions n
-    (string_bytes before.text) → (more.is_refused ≡ true)
-    ⊎ IsBuiltFunction file wanted hook function (string_bytes more.text)
-    → slice_get functions n ≡ Some function
-    → string_bytes after.text ≡ string_bytes before.text
-    ++ string_bytes more.text
-    → after.is_refused ≡ (before.is_refused || more.is_refused)
+    (string_bytes before.text)
+    → IfOk more (λ report. (report.is_refused ≡ true)
+    ⊎ IsBuiltFunction file wanted hook function (string_bytes report.text))
+    → slice_get functions n ≡ Some function → IsJoined before more after
     → (after.is_refused ≡ true)
     ⊎ AreBuiltFunctions file wanted hook functions (n + 1)
     (string_bytes after.text)
-functions_more file wanted hook functions function n before more after so_far built at text refused
+functions_more file wanted hook functions function n before (Ok more) after so_far built at joined
     = elim so_far [
-      | inl was ↦ inl (refused ∙ first_true before.is_refused more.is_refused was)
+      | inl was ↦ inl (joined.1 ∙ first_true before.is_refused more.is_refused was)
       | inr lines ↦ elim built [
-        | inl is ↦ inl (refused ∙ second_true before.is_refused more.is_refused is)
+        | inl is ↦ inl (joined.1 ∙ second_true before.is_refused more.is_refused is)
         | inr line ↦ inr (rw add-one (
           string_bytes before.text,
           string_bytes more.text,
@@ -133,32 +154,35 @@ functions_more file wanted hook functions function n before more after so_far bu
           lines,
           at,
           line,
-          text,
+          joined.0,
         ))
       ]
     ]
+functions_more file wanted hook functions function n before (Err fault) after so_far built at joined
+    = absurd joined
 
 -- the lines of a section more
-pub sections_more : (file : List ℕ) (wanted : Wanted) (i : ℕ) (before more after : CommandReport)
+pub sections_more : (file : List ℕ) (wanted : Wanted) (i : ℕ) (before : CommandReport)
+    (more : Result CommandReport HooktoolFault) (after : CommandReport)
     → (before.is_refused ≡ true) ⊎ AreBuiltSections file wanted i (string_bytes before.text)
-    → (more.is_refused ≡ true) ⊎ IsBuiltAt file wanted i (string_bytes more.text)
-    → string_bytes after.text ≡ string_bytes before.text ++ string_bytes more.text
-    → after.is_refused ≡ (before.is_refused || more.is_refused)
+    → IfOk more (λ report. (report.is_refused ≡ true)
+    ⊎ IsBuiltAt file wanted i (string_bytes report.text)) → IsJoined before more after
     → (after.is_refused ≡ true)
     ⊎ AreBuiltSections file wanted (i + 1) (string_bytes after.text)
-sections_more file wanted i before more after so_far built text refused = elim so_far [
-  | inl was ↦ inl (refused ∙ first_true before.is_refused more.is_refused was)
+sections_more file wanted i before (Ok more) after so_far built joined = elim so_far [
+  | inl was ↦ inl (joined.1 ∙ first_true before.is_refused more.is_refused was)
   | inr lines ↦ elim built [
-    | inl is ↦ inl (refused ∙ second_true before.is_refused more.is_refused is)
+    | inl is ↦ inl (joined.1 ∙ second_true before.is_refused more.is_refused is)
     | inr section ↦ inr (rw add-one (
       string_bytes before.text,
       string_bytes more.text,
       lines,
       section,
-      text,
+      joined.0,
     ))
   ]
 ]
+sections_more file wanted i before (Err fault) after so_far built joined = absurd joined
 
 -- a section whose functions were built
 pub section_built : (file : List ℕ) (wanted : Wanted) (i : ℕ) (hook : Hook)
@@ -221,23 +245,6 @@ built_at {E} file wanted i (Ok report) has built = elim built [
   | inr section ↦ inr ((λ _. section), (λ none. absurd (true≢false (sym has ∙ none))))
 ]
 built_at {E} file wanted i (Err e) has built = tt
-
--- the hook of .text is the asked one
-pub asked_hook : (asked : Option Hook) (section : List ℕ) → section ≡ codes ".text"
-    → IfSome asked (IsHookOf asked section)
-asked_hook None section is = tt
-asked_hook (Some hook) section is = inr (is, refl)
-
-pub own_hook : (asked found : Option Hook) (section : List ℕ)
-    → IfSome found (λ hook. section ≡ hook_name hook) → IfSome found (IsHookOf asked section)
-own_hook asked None section is = tt
-own_hook asked (Some hook) section is = inl is
-
--- the same of a name that is the section's
-pub hook_found : (asked found : Option Hook) (name section : List ℕ) → name ≡ section
-    → IfSome found (IsHookOf asked name) → IfSome found (IsHookOf asked section)
-hook_found asked found name section is has =
-    subst (λ (n : List ℕ). IfSome found (IsHookOf asked n)) is has
 
 -- behind the last function
 pub functions_all : (file : List ℕ) (wanted : Wanted) (hook : Hook) (functions : List LinkedSymbol)

@@ -1,6 +1,6 @@
 -- What an order wants, and what is told of the code of one function.
-use Rattle.std.specs.Prelude.{◌≡◌, ◌⊎◌, ℕ, List, Option, Some, None, true, IsSome}
-use Rattle.std.specs.Prelude.{string_bytes}
+use Rattle.std.specs.Prelude.{◌≡◌, ◌⊎◌, ◌++◌, ◌||◌, ℕ, List, Option, Some, None, Result, Ok, Err}
+use Rattle.std.specs.Prelude.{true, IsSome, string_bytes}
 use Rattle.isa.specs.declared.hook.Hook.{Hook}
 use Rattle.isa.specs.Hooks.{hook_name}
 use Rattle.object.specs.Objects.{ObjectParts}
@@ -10,6 +10,7 @@ use Rattle.object_trials.specs.Stops.{KnownFiles}
 use Rattle.hooktool_commands.specs.declared.building.Order.{Order}
 use Rattle.hooktool_commands.specs.declared.building.Purpose.{Purpose}
 use Rattle.hooktool_commands.specs.declared.building.Purpose.TheVariants as purposes
+use Rattle.hooktool_commands.specs.declared.fault.HooktoolFault.{HooktoolFault}
 use Rattle.hooktool_commands.specs.declared.report.CommandReport.{CommandReport}
 use Rattle.hooktool_commands.specs.Annotations.{fuel_for}
 use Rattle.hooktool_commands.specs.Builds.{IsPlaced, TellsFunction, Wanted, built_text}
@@ -57,3 +58,10 @@ IsHandedOut written (purposes.Object folder) function hook bytes program found r
     × (string_bytes report.text ≡ built_text folder.now function hook program found)
 IsHandedOut written purposes.Explanation function hook bytes program found report =
     IsExplained bytes report
+
+-- What else is told stands behind the report, if it is told. Both are refused if one is.
+abbrev pub IsJoined : CommandReport → Result CommandReport HooktoolFault → CommandReport → Type 0
+IsJoined before (Ok more) after =
+    (string_bytes after.text ≡ string_bytes before.text ++ string_bytes more.text)
+    × (after.is_refused ≡ (before.is_refused || more.is_refused))
+IsJoined before (Err fault) after = ⊥

@@ -1,7 +1,7 @@
 //! `build`: an object for each function that clang compiled for a hook. `explain`: what the
 //! verifier knows of each.
 
-ghost use Rattle.std.specs.Prelude.{◌≡◌, ◌⊎◌, ◌++◌, ◌||◌, ◌<◌, false, true, Some, IfErr};
+ghost use Rattle.std.specs.Prelude.{◌≡◌, ◌⊎◌, ◌++◌, ◌||◌, ◌<◌, Err, false, true, Some, IfErr};
 ghost use Rattle.std.specs.Prelude.{IfNone, IfOk, IfSome, OnOk, length, string_bytes};
 ghost use Rattle.std.specs.List.{All};
 ghost use Rattle.isa.specs.Hooks.{hook_name};
@@ -17,7 +17,7 @@ ghost use Rattle.hooktool_commands.specs.Builds.{object_path};
 ghost use Rattle.hooktool_commands.specs.Explanations.{IsExplained};
 ghost use Rattle.hooktool_commands.specs.Faults.{IsBuildFault, IsUnplaced};
 ghost use Rattle.hooktool_commands.specs.Linked.{is_changed};
-ghost use Rattle.hooktool_commands.specs.Orders.{IsBuiltCode, IsHandedOut, wanted_of};
+ghost use Rattle.hooktool_commands.specs.Orders.{IsBuiltCode, IsHandedOut, IsJoined, wanted_of};
 
 use crate::annotating::{Telling, accepted_text, fuel_for, shortfall};
 use crate::explaining::explanation_of;
@@ -68,6 +68,24 @@ fn join(report: &mut CommandReport, more: &CommandReport) -> Result<(), AllocErr
     report.text.push_str(more.text.as_str())?;
     report.is_refused = report.is_refused || more.is_refused;
     Ok(())
+}
+
+/// The report with what else is told behind it, or why that isn't told.
+fn added<'a>(
+    mut report: CommandReport,
+    more: Result<CommandReport, HooktoolFault<'a>>,
+) -> Result<CommandReport, HooktoolFault<'a>>
+    ensures joined { IfOk result (IsJoined report.entry more.entry) }
+    ensures fault { IfErr result (λ fault. (fault ≡ HooktoolFault.Memory)
+        ⊎ (more.entry ≡ Err fault)) }
+{
+    match more {
+        Ok(more) => {
+            join(&mut report, &more)?;
+            Ok(report)
+        }
+        Err(fault) => Err(fault),
+    }
 }
 
 /// Adds the beginning of a line about a function.
@@ -248,17 +266,13 @@ fn explain_function<'a>(
         // The verifier accepted these bytes.
         return Err(HooktoolFault::Memory);
     };
-    let mut head = about(alloc, names.section, names.function);
-    head.push(match found.turns {
+    let mut text = about(alloc, names.section, names.function);
+    text.push(match found.turns {
         Some(_) => ": its turns are counted, so each slot is one later\n",
         None => ":\n",
     });
-    let mut report = CommandReport {
-        text: head.finish()?,
-        is_refused: false,
-    };
-    join(&mut report, &explained)?;
-    Ok(report)
+    let head = told(text.finish(), false)?;
+    added(head, Ok(explained))
 }
 
 /// What is told of a function with so many bytes of code for which no object was found.
@@ -422,8 +436,10 @@ fn build_functions<'a, R: WholeFiles + AllocGlobal>(
         is_refused: false,
     };
     for function in functions {
-        let built = build_function(rt, order, hook, file, index, function)?;
-        join(&mut report, &built)?;
+        report = added(
+            report,
+            build_function(rt, order, hook, file, index, function),
+        )?;
     }
     Ok(report)
 }
@@ -561,8 +577,7 @@ fn build_sections<'a, R: WholeFiles + AllocGlobal>(
         is_refused: false,
     };
     for index in 0..file.section_count() {
-        let built = build_at(rt, order, file, index)?;
-        join(&mut report, &built)?;
+        report = added(report, build_at(rt, order, file, index))?;
     }
     Ok(report)
 }

@@ -1,6 +1,6 @@
 use Rattle.std.proofs.Common.{◌<◌, length, arith}
 use Rattle.std.proofs.lemmas.Option.{slice_get-get_or}
-use Rattle.hooktool_commands.proofs.Built.{functions_all, functions_more}
+use Rattle.hooktool_commands.proofs.Built.{added_fault, functions_all, functions_more}
 use Rattle.hooktool_commands.specs.Orders.{wanted_of}
 use Rattle.hooktool_commands.proofs.building.build_functions.Goals as goal
 
@@ -10,10 +10,14 @@ loop-function-preserved g c =
     let n = c.loop-function.function-index in
     let within : n < length functions = c.loop-function-test.true in
     functions_more c.args.file.now (wanted_of g.R.WholeFiles.known c.args.order.now) c.args.hook
-    functions _ n c.loop-function.report c.in_ok-built.built c.join.new.report
-    c.loop-function.invariant
-    c.in_ok-built.ensures.built (slice_get-get_or functions n _ within) c.in_ok-join.ensures.text
-    c.in_ok-join.ensures.refused
+    functions _ n c.loop-function.report c.build_function.result c.in_ok-report.report
+    c.loop-function.invariant c.build_function.ensures.built
+    (slice_get-get_or functions n _ within) c.in_ok-report.ensures.joined
+
+pub returns-in_err-report-clause-fault : goal.returns-in_err-report-clause-fault
+returns-in_err-report-clause-fault g c =
+    added_fault g.R.WholeFiles.known c.args.order.now.purpose c.build_function.result _
+    c.in_err-report.ensures.fault c.build_function.ensures.fault
 
 pub returns-clause-built : goal.returns-clause-built
 returns-clause-built g c =

@@ -1,14 +1,18 @@
 use Rattle.std.proofs.Common.{arith}
-use Rattle.hooktool_commands.proofs.Built.{sections_all, sections_more}
+use Rattle.hooktool_commands.proofs.Built.{added_fault, sections_all, sections_more}
 use Rattle.hooktool_commands.specs.Orders.{wanted_of}
 use Rattle.hooktool_commands.proofs.building.build_sections.Goals as goal
 
 pub loop-index-preserved : goal.loop-index-preserved
 loop-index-preserved g c =
     sections_more c.args.file.now (wanted_of g.R.WholeFiles.known c.args.order.now)
-    c.loop-index.index c.loop-index.report c.in_ok-built.built c.join.new.report
-    c.loop-index.invariant
-    c.in_ok-built.ensures.built c.in_ok-join.ensures.text c.in_ok-join.ensures.refused
+    c.loop-index.index c.loop-index.report c.build_at.result c.in_ok-report.report
+    c.loop-index.invariant c.build_at.ensures.built c.in_ok-report.ensures.joined
+
+pub returns-in_err-report-clause-fault : goal.returns-in_err-report-clause-fault
+returns-in_err-report-clause-fault g c =
+    added_fault g.R.WholeFiles.known c.args.order.now.purpose c.build_at.result _
+    c.in_err-report.ensures.fault c.build_at.ensures.fault
 
 pub returns-clause-built : goal.returns-clause-built
 returns-clause-built g c = sections_all c.args.file.now

@@ -1,4 +1,6 @@
-use Rattle.std.proofs.Common.{subst, ℕ, List}
+use Rattle.std.proofs.Common.{◌∙◌, ◌||◌, ap, Bool, subst, ℕ, List}
+use Rattle.std.specs.Prelude.{string_bytes}
+use Rattle.hooktool_commands.proofs.Built.{added_lacks, told_more}
 use Rattle.hooktool_commands.proofs.Explained.{explained_behind}
 use Rattle.hooktool_commands.specs.Explanations.{IsExplained}
 use Rattle.hooktool_commands.proofs.building.explain_function.Goals as goal
@@ -6,7 +8,12 @@ use Rattle.hooktool_commands.proofs.building.explain_function.Goals as goal
 pub returns-clause-explained : goal.returns-clause-explained
 returns-clause-explained c =
     let explained = c.in-Ok.explained in
-    explained_behind _ _ explained c.join.new.report
+    told_more _ _ c.added.result (λ report joined.
+    explained_behind _ (string_bytes c.in_ok-head.head.text) explained report
     (subst (λ (bytes : List ℕ). IsExplained bytes explained) c.deref.ensures.value
     c.in-Ok.ensures.explained)
-    c.in_ok-join.ensures.text c.in_ok-join.ensures.refused
+    joined.0 (joined.1 ∙ ap (λ (is : Bool). is || explained.is_refused)
+    c.in_ok-head.ensures.refused)) c.added.ensures.joined
+
+pub returns-clause-fault : goal.returns-clause-fault
+returns-clause-fault c = added_lacks c.in-Ok.explained c.added.result c.added.ensures.fault
