@@ -1,22 +1,27 @@
 -- A received packet, by the Router ID and the state of the neighbor at its interface.
-use Rattle.std.proofs.Common.{◌≡◌, ℕ, Bool, true, false, List, refl, sym, ap, ◌∙◌}
-use Rattle.std.specs.Prelude.{Option, None, Some}
+use Rattle.std.proofs.Common.{◌≡◌, ℕ, Bool, true, false, cond, List, refl, sym, ap, ◌∙◌}
+use Rattle.std.specs.Prelude.{◌&&◌, ◌||◌, Option, None, Some}
+use mathlib.Core.Bool.{false≢true}
+use Rattle.words.specs.declared.key.Key.{Key}
 use Rattle.adjacency.specs.lsdb.Headers.{Header}
 use Rattle.packet.specs.declared.model.PacketBody.{PacketBody}
 use Rattle.packet.specs.declared.model.PacketBody.TheVariants as body
 use Rattle.packet.specs.declared.model.Description.{Description}
+use Rattle.packet.specs.declared.model.Hello.{Hello}
 use Rattle.packet.specs.declared.model.Packet.{Packet}
 use Rattle.adjacency.specs.Drafts.{Drafted}
 use Rattle.adjacency.specs.Neighbors.{Neighbor}
 use Rattle.adjacency.specs.Steps.{named_neighbor}
 use Rattle.events.specs.received.Links.{neighbor_at}
 use Rattle.events.specs.EventState.{EventState, on_area}
-use Rattle.events.specs.Packets.{acknowledged_by, after_packet, describe_to, from_neighbor, is_from}
-use Rattle.events.specs.Packets.{is_heard, is_in_exchange}
+use Rattle.events.specs.Packets.{acknowledged_by, after_hello, after_lsas, after_packet}
+use Rattle.events.specs.Packets.{describe_to, from_neighbor, is_from, is_heard, is_in_exchange}
+use Rattle.events.specs.Packets.{requested_from}
 use Rattle.events.specs.Routers.{Router}
 use Rattle.procedures.specs.Making.{Makes}
-use Rattle.procedures.proofs.Making.{makes_if_false, makes_if_true, makes_nothing, makes_same}
-use Rattle.procedures.specs.Received.{is_from_named, is_in_exchange_named}
+use Rattle.procedures.proofs.Making.{makes_if_true, makes_nothing, makes_same}
+use Rattle.procedures.specs.Received.{counts_before_exchange, is_from_named, is_in_exchange_named}
+use Rattle.procedures.specs.Received.{is_processed}
 
 pub exchange_named : (o : Option Neighbor)
     → is_in_exchange_named (named_neighbor o) ≡ is_in_exchange o
@@ -28,55 +33,135 @@ pub from_named : (from : ℕ) (o : Option Neighbor)
 from_named from None = refl
 from_named from (Some n) = refl
 
+-- ---- which packets are processed
+
+-- what isn't processed changes nothing
+unprocessed : (heard in_exchange : Bool) (moment number from : ℕ) (b : PacketBody) (p : EventState)
+    → (heard && (in_exchange || counts_before_exchange b)) ≡ false
+    → p ≡ cond heard (from_neighbor moment number from in_exchange b p) p
+unprocessed false in_exchange moment number from b p is = refl
+unprocessed true true moment number from b p is = absurd (false≢true (sym is))
+unprocessed true false moment number from (body.Hello h) p is = absurd (false≢true (sym is))
+unprocessed true false moment number from (body.Description d) p is = absurd (false≢true (sym is))
+unprocessed true false moment number from (body.Request keys) p is = refl
+unprocessed true false moment number from (body.Update lsas) p is = refl
+unprocessed true false moment number from (body.Acknowledgment headers) p is = refl
+
+first_holds : (a b : Bool) → (a && b) ≡ true → a ≡ true
+first_holds true b is = refl
+first_holds false b is = is
+
+-- what is processed, though it waits for Exchange, came in Exchange or later
+waited : (heard in_exchange early : Bool) → early ≡ false
+    → (heard && (in_exchange || early)) ≡ true → in_exchange ≡ true
+waited true true early waits is = refl
+waited true false early waits is = sym waits ∙ is
+waited false true early waits is = refl
+waited false false early waits is = is
+
 module _ (moment number : ℕ) (packet : Packet) where
   abbrev pub is_heard_at : Router → Bool
   is_heard_at r = is_heard r.id packet (neighbor_at number r.area.links)
 
+  abbrev pub exchanges_at : Router → Bool
+  exchanges_at r = is_in_exchange (neighbor_at number r.area.links)
+
+  abbrev pub is_processed_at : Router → Bool
+  is_processed_at r = is_processed r.id packet (neighbor_at number r.area.links)
+
   abbrev pub heard : EventState → EventState
-  heard p = from_neighbor moment number packet.router
-      (is_in_exchange (neighbor_at number p.router.area.links)) packet.body p
+  heard p = from_neighbor moment number packet.router (exchanges_at p.router) packet.body p
 
   abbrev pub discarded : EventState → EventState
   discarded p = p
 
-  pub is_discarded : (r : Router) (ds : List Drafted) → is_heard_at r ≡ false
+  pub is_discarded : (r : Router) (ds : List Drafted) → is_processed_at r ≡ false
       → Makes (after_packet moment number packet) r r ds ds
-  is_discarded r ds fails = makes_if_false heard discarded is_heard_at fails (makes_nothing r ds)
+  is_discarded r ds fails =
+      makes_same
+      (λ p here. unprocessed (is_heard_at p.router) (exchanges_at p.router) moment number
+      packet.router packet.body p (ap is_processed_at here ∙ fails))
+      (makes_nothing r ds)
 
-  pub is_taken : {old new : Router} {before after : List Drafted} (b : Bool)
-      → is_heard_at old ≡ true → is_in_exchange (neighbor_at number old.area.links) ≡ b
+  is_taken : {old new : Router} {before after : List Drafted} (b : Bool)
+      → is_processed_at old ≡ true → exchanges_at old ≡ b
       → Makes (from_neighbor moment number packet.router b packet.body) old new before after
       → Makes (after_packet moment number packet) old new before after
-  is_taken b holds exchanges a =
-      makes_if_true heard discarded is_heard_at holds
+  is_taken {old = old} b holds exchanges a =
+      makes_if_true heard discarded is_heard_at
+      (first_holds (is_heard_at old) (exchanges_at old || counts_before_exchange packet.body) holds)
       (makes_same
       (λ p here. ap (λ c. from_neighbor moment number packet.router c packet.body p)
-      (sym (ap (λ (r : Router). is_in_exchange (neighbor_at number r.area.links)) here
-      ∙ exchanges)))
+      (sym (ap exchanges_at here ∙ exchanges)))
       a)
 
--- ---- by the types of packets
+  pub came_in_exchange : (r : Router) → is_processed_at r ≡ true
+      → counts_before_exchange packet.body ≡ false → exchanges_at r ≡ true
+  came_in_exchange r holds waits =
+      waited (is_heard_at r) (exchanges_at r) (counts_before_exchange packet.body) waits holds
 
-module _ (moment number from : ℕ) (b : PacketBody) where
-  pub describes : {old new : Router} {before after : List Drafted} (in_exchange : Bool)
-      (d : Description) → b ≡ body.Description d
+  -- ---- by the types of packets
+
+  pub greets : {old new : Router} {before after : List Drafted} (h : Hello)
+      → is_processed_at old ≡ true → packet.body ≡ body.Hello h
+      → Makes (on_area (after_hello old.id moment number packet.router h)) old new before after
+      → Makes (after_packet moment number packet) old new before after
+  greets {old = old} h holds is a =
+      is_taken (exchanges_at old) holds refl
+      (makes_same
+      (λ p here.
+      ap (λ (own : ℕ). on_area (after_hello own moment number packet.router h) p)
+      (sym (ap (λ (r : Router). r.id) here))
+      ∙ ap (λ (k : PacketBody). from_neighbor moment number packet.router (exchanges_at old) k p)
+      (sym is))
+      a)
+
+  pub describes : {old new : Router} {before after : List Drafted} (d : Description)
+      → is_processed_at old ≡ true → packet.body ≡ body.Description d
       → Makes (on_area (describe_to old.id moment number d)) old new before after
-      → Makes (from_neighbor moment number from in_exchange b) old new before after
-  describes in_exchange d is a =
-      makes_same
+      → Makes (after_packet moment number packet) old new before after
+  describes {old = old} d holds is a =
+      is_taken (exchanges_at old) holds refl
+      (makes_same
       (λ p here.
       ap (λ (own : ℕ). on_area (describe_to own moment number d) p)
       (sym (ap (λ (r : Router). r.id) here))
-      ∙ ap (λ (k : PacketBody). from_neighbor moment number from in_exchange k p) (sym is))
-      a
+      ∙ ap (λ (k : PacketBody). from_neighbor moment number packet.router (exchanges_at old) k p)
+      (sym is))
+      a)
+
+  pub requests : {old new : Router} {before after : List Drafted} (keys read : List Key)
+      → is_processed_at old ≡ true → packet.body ≡ body.Request keys → read ≡ keys
+      → Makes (on_area (requested_from moment number read)) old new before after
+      → Makes (after_packet moment number packet) old new before after
+  requests {old = old} keys read holds is same a =
+      is_taken true holds (came_in_exchange old holds (ap counts_before_exchange is))
+      (makes_same
+      (λ p _.
+      ap (λ (ks : List Key). on_area (requested_from moment number ks) p) same
+      ∙ ap (λ (k : PacketBody). from_neighbor moment number packet.router true k p) (sym is))
+      a)
+
+  pub updates : {old new : Router} {before after : List Drafted} (lsas read : List (List ℕ))
+      → is_processed_at old ≡ true → packet.body ≡ body.Update lsas → read ≡ lsas
+      → Makes (after_lsas moment number read) old new before after
+      → Makes (after_packet moment number packet) old new before after
+  updates {old = old} lsas read holds is same a =
+      is_taken true holds (came_in_exchange old holds (ap counts_before_exchange is))
+      (makes_same
+      (λ p _.
+      ap (λ (ls : List (List ℕ)). after_lsas moment number ls p) same
+      ∙ ap (λ (k : PacketBody). from_neighbor moment number packet.router true k p) (sym is))
+      a)
 
   pub acknowledges : {old new : Router} {before after : List Drafted} (headers read : List Header)
-      → b ≡ body.Acknowledgment headers → read ≡ headers
+      → is_processed_at old ≡ true → packet.body ≡ body.Acknowledgment headers → read ≡ headers
       → Makes (on_area (acknowledged_by moment number read)) old new before after
-      → Makes (from_neighbor moment number from true b) old new before after
-  acknowledges headers read is same a =
-      makes_same
+      → Makes (after_packet moment number packet) old new before after
+  acknowledges {old = old} headers read holds is same a =
+      is_taken true holds (came_in_exchange old holds (ap counts_before_exchange is))
+      (makes_same
       (λ p _.
       ap (λ (hs : List Header). on_area (acknowledged_by moment number hs) p) same
-      ∙ ap (λ (k : PacketBody). from_neighbor moment number from true k p) (sym is))
-      a
+      ∙ ap (λ (k : PacketBody). from_neighbor moment number packet.router true k p) (sym is))
+      a)

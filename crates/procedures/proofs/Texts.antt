@@ -36,6 +36,19 @@ reads_none bytes f r = sym (ap (read_unless bytes) r)
 
 -- ---- one LSA
 
+-- after an LSA that is newer the rest of the Link State Update is processed
+pub newer_goes_on : (c : Case) → is_newer c ≡ true → true ≡ goes_on c
+newer_goes_on Case.Unreadable is = refl
+newer_goes_on Case.NothingToFlush is = refl
+newer_goes_on Case.TooSoon is = refl
+newer_goes_on Case.Newer is = refl
+newer_goes_on Case.BadRequest is = absurd (false≢true is)
+newer_goes_on Case.ImpliedAcknowledgment is = refl
+newer_goes_on Case.Duplicate is = refl
+newer_goes_on Case.SequenceWraps is = refl
+newer_goes_on Case.SentJustNow is = refl
+newer_goes_on Case.Older is = refl
+
 module _ (moment : ℕ) (lsa : Lsa) (p : EventState) where
   pub settled_self : (c : Case) → is_newer c ≡ true
       → receive_self_originated moment lsa p ≡ after_self_originated c moment lsa p

@@ -1,12 +1,15 @@
 -- Tests of a packet and of the LSAs of a Link State Update.
-use Rattle.std.specs.Prelude.{Bool, true, false, ◌==◌, [], Option, None, Some}
+use Rattle.std.specs.Prelude.{Bool, true, false, ◌==◌, ◌&&◌, ◌||◌, [], Option, None, Some}
 use Rattle.words.specs.Numbers.{InterfaceNumber, Moment, RouterNumber}
+use Rattle.packet.specs.declared.model.Packet.{Packet}
+use Rattle.packet.specs.declared.model.PacketBody.{PacketBody}
+use Rattle.packet.specs.declared.model.PacketBody.TheVariants as body
 use Rattle.adjacency.specs.lsdb.Headers.{Lsa}
-use Rattle.adjacency.specs.Neighbors.{is_exchange_or_later}
+use Rattle.adjacency.specs.Neighbors.{Neighbor, is_exchange_or_later}
 use Rattle.adjacency.specs.declared.state.NeighborState.{NeighborState}
 use Rattle.events.specs.received.Cases.{Case}
 use Rattle.events.specs.received.Updates.{goes_on}
-use Rattle.events.specs.Packets.{case_in}
+use Rattle.events.specs.Packets.{case_in, is_heard, is_in_exchange}
 use Rattle.events.specs.Routers.{Router}
 
 -- ---- by the neighbor's Router ID and state
@@ -18,6 +21,21 @@ is_in_exchange_named (Some named) = is_exchange_or_later named.1
 abbrev pub is_from_named : (from : RouterNumber) → Option (RouterNumber × NeighborState) → Bool
 is_from_named from None = false
 is_from_named from (Some named) = named.0 == from
+
+-- ---- which packets are processed
+
+-- it is processed before Exchange, too
+abbrev pub counts_before_exchange : PacketBody → Bool
+counts_before_exchange (body.Hello h) = true
+counts_before_exchange (body.Description d) = true
+counts_before_exchange (body.Request keys) = false
+counts_before_exchange (body.Update lsas) = false
+counts_before_exchange (body.Acknowledgment headers) = false
+
+-- it is heard, and doesn't wait for Exchange before that
+abbrev pub is_processed : RouterNumber → Packet → Option Neighbor → Bool
+is_processed own packet n =
+    is_heard own packet n && (is_in_exchange n || counts_before_exchange packet.body)
 
 -- ---- LSAs of a Link State Update
 

@@ -38,22 +38,6 @@ fn put_out(
     router.note_originated(moment, key)
 }
 
-// The LSA waits for a Tick.
-fn put_off(
-    router: &mut Router,
-    moment: Second,
-    key: &Key,
-    drafts: &mut [Draft],
-) -> Result<(), AllocError>
-    requires drafts { length drafts.old ≡ length router.old.present.area.links }
-    ensures makes { OnOk result (Makes (after_origination moment key.now Origination.Waits)
-        router.old.present router.new.present drafts.old drafts.new) }
-    ensures drafts { OnOk result (length drafts.new ≡ length router.new.present.area.links) }
-    ensures settled { router.new.settled ≡ router.old.settled }
-{
-    router.wait(key)
-}
-
 // Carries out what was decided for the LSA.
 fn carry_out(
     router: &mut Router,
@@ -71,7 +55,8 @@ fn carry_out(
 {
     match found {
         Origination::Flushes => router.flush(alloc, moment, key, drafts),
-        Origination::Waits => put_off(router, moment, key, drafts),
+        // The LSA waits for a Tick.
+        Origination::Waits => router.wait(key),
         Origination::Originates(lsa) => put_out(router, alloc, moment, key, lsa, drafts),
     }
 }

@@ -1,11 +1,11 @@
 //! Received packets by their types.
-ghost use Rattle.std.specs.Prelude.{◌≡◌, ◌≤◌, OnOk, false, length, true};
+ghost use Rattle.std.specs.Prelude.{◌≡◌, ◌≤◌, OnOk, length};
 ghost use Rattle.adjacency.specs.Steps.{named_neighbor};
 ghost use Rattle.events.specs.received.Links.{neighbor_at};
-ghost use Rattle.events.specs.Packets.{after_packet, from_neighbor, is_from, is_heard, is_hello};
-ghost use Rattle.events.specs.Packets.{is_in_exchange};
+ghost use Rattle.events.specs.Packets.{after_packet, is_from, is_heard, is_hello, is_in_exchange};
 ghost use Rattle.procedures.specs.Making.{Makes};
-ghost use Rattle.procedures.specs.Received.{is_from_named, is_in_exchange_named};
+ghost use Rattle.procedures.specs.Received.{counts_before_exchange, is_from_named};
+ghost use Rattle.procedures.specs.Received.{is_in_exchange_named, is_processed};
 
 use crate::updates::receive_lsas;
 use adjacency::{Draft, NeighborState};
@@ -20,6 +20,20 @@ fn is_hello(body: &PacketBody) -> bool
     match body {
         PacketBody::Hello(_hello) => true,
         PacketBody::Description(_description) => false,
+        PacketBody::Request(_keys) => false,
+        PacketBody::Update(_lsas) => false,
+        PacketBody::Acknowledgment(_headers) => false,
+    }
+}
+
+// Whether such a packet is processed before Exchange, too: Link State Requests, Updates and
+// Acknowledgments aren't.
+fn counts_before_exchange(body: &PacketBody) -> bool
+    ensures { result ≡ counts_before_exchange body.now }
+{
+    match body {
+        PacketBody::Hello(_hello) => true,
+        PacketBody::Description(_description) => true,
         PacketBody::Request(_keys) => false,
         PacketBody::Update(_lsas) => false,
         PacketBody::Acknowledgment(_headers) => false,
@@ -90,71 +104,17 @@ fn is_heard(packet: &Packet, router: &Router, number: usize) -> bool
     foreign && (hello || from_neighbor)
 }
 
-// Processes a packet from a neighbor in Exchange or later.
-fn from_neighbor_in_exchange(
-    router: &mut Router,
-    alloc: Global,
-    moment: Second,
-    number: usize,
-    from: RouterId,
-    body: &PacketBody,
-    drafts: &mut [Draft],
-) -> Result<(), AllocError>
+// Whether the packet is processed: whether it is heard, and doesn't wait for Exchange before that.
+fn is_processed(packet: &Packet, router: &Router, number: usize) -> bool
     requires first { 1 ≤ number }
-    requires last { number ≤ length router.old.present.area.links }
-    requires exchange { is_in_exchange
-        (neighbor_at number router.old.present.area.links) ≡ true }
-    requires drafts { length drafts.old ≡ length router.old.present.area.links }
-    ensures makes { OnOk result (Makes
-        (from_neighbor moment number from true body.now)
-        router.old.present router.new.present drafts.old drafts.new) }
-    ensures drafts { OnOk result (length drafts.new ≡ length router.new.present.area.links) }
-    ensures settled { router.new.settled ≡ router.old.settled }
+    requires last { number ≤ length router.now.present.area.links }
+    ensures { result ≡ is_processed router.now.present.id packet.now
+        (neighbor_at number router.now.present.area.links) }
 {
-    match body {
-        PacketBody::Hello(hello) => router.hear(alloc, moment, number, from, hello, drafts),
-        PacketBody::Description(description) => {
-            router.describe(alloc, moment, number, description, drafts)
-        }
-        PacketBody::Request(keys) => router.answer(alloc, moment, number, keys.as_slice(), drafts),
-        PacketBody::Update(lsas) => {
-            receive_lsas(router, alloc, moment, number, lsas.as_slice(), drafts)
-        }
-        PacketBody::Acknowledgment(headers) => {
-            router.acknowledged(alloc, moment, number, headers.as_slice(), drafts)
-        }
-    }
-}
-
-// Processes a packet from a neighbor before Exchange: Link State Requests, Updates and
-// Acknowledgments are discarded.
-fn from_neighbor_before_exchange(
-    router: &mut Router,
-    alloc: Global,
-    moment: Second,
-    number: usize,
-    from: RouterId,
-    body: &PacketBody,
-    drafts: &mut [Draft],
-) -> Result<(), AllocError>
-    requires first { 1 ≤ number }
-    requires last { number ≤ length router.old.present.area.links }
-    requires drafts { length drafts.old ≡ length router.old.present.area.links }
-    ensures makes { OnOk result (Makes
-        (from_neighbor moment number from false body.now)
-        router.old.present router.new.present drafts.old drafts.new) }
-    ensures drafts { OnOk result (length drafts.new ≡ length router.new.present.area.links) }
-    ensures settled { router.new.settled ≡ router.old.settled }
-{
-    match body {
-        PacketBody::Hello(hello) => router.hear(alloc, moment, number, from, hello, drafts),
-        PacketBody::Description(description) => {
-            router.describe(alloc, moment, number, description, drafts)
-        }
-        PacketBody::Request(_keys) => Ok(()),
-        PacketBody::Update(_lsas) => Ok(()),
-        PacketBody::Acknowledgment(_headers) => Ok(()),
-    }
+    let heard = is_heard(packet, router, number);
+    let exchanging = is_in_exchange(router, number);
+    let early = counts_before_exchange(&packet.body);
+    heard && (exchanging || early)
 }
 
 /// Processes a packet that was received at the interface with this number (RFC 2328, section 8.2).
@@ -180,15 +140,21 @@ pub fn receive_packet(
     ensures drafts { OnOk result (length drafts.new ≡ length router.new.present.area.links) }
     ensures settled { router.new.settled ≡ router.old.settled }
 {
-    let heard = is_heard(packet, router, number);
-    if !heard {
+    if !is_processed(packet, router, number) {
         return Ok(());
     }
     let from = packet.router;
-    let body = &packet.body;
-    let exchanging = is_in_exchange(router, number);
-    if exchanging {
-        return from_neighbor_in_exchange(router, alloc, moment, number, from, body, drafts);
+    match &packet.body {
+        PacketBody::Hello(hello) => router.hear(alloc, moment, number, from, hello, drafts),
+        PacketBody::Description(description) => {
+            router.describe(alloc, moment, number, description, drafts)
+        }
+        PacketBody::Request(keys) => router.answer(alloc, moment, number, keys.as_slice(), drafts),
+        PacketBody::Update(lsas) => {
+            receive_lsas(router, alloc, moment, number, lsas.as_slice(), drafts)
+        }
+        PacketBody::Acknowledgment(headers) => {
+            router.acknowledged(alloc, moment, number, headers.as_slice(), drafts)
+        }
     }
-    from_neighbor_before_exchange(router, alloc, moment, number, from, body, drafts)
 }

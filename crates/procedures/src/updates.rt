@@ -1,8 +1,8 @@
 //! The LSAs of a received Link State Update in turn (RFC 2328, section 13).
 ghost use Rattle.std.specs.Prelude.{◌≡◌, ◌≤◌, IfOk, OnOk, length};
 ghost use Rattle.lsa.specs.Reading.{lsa_in};
-ghost use Rattle.events.specs.received.Updates.{case_at, goes_on};
-ghost use Rattle.events.specs.Packets.{after_lsa, after_lsas, after_unread};
+ghost use Rattle.events.specs.received.Updates.{goes_on};
+ghost use Rattle.events.specs.Packets.{after_lsas, after_unread};
 ghost use Rattle.originations.specs.flooding.Cases.{case_of};
 ghost use Rattle.procedures.specs.Making.{Makes};
 ghost use Rattle.procedures.specs.Received.{goes_on_at, is_newer};
@@ -61,39 +61,10 @@ fn read_lsa(alloc: Global, bytes: &[u8]) -> Result<Option<Lsa>, AllocError>
     }
 }
 
-// Processes an LSA of the Link State Update and returns its case. A self-originated one that was
-// installed is originated again or flushed.
-fn receive_lsa(
-    router: &mut Router,
-    alloc: Global,
-    moment: Second,
-    number: usize,
-    lsa: Lsa,
-    drafts: &mut [Draft],
-) -> Result<Case, AllocError>
-    requires first { 1 ≤ number }
-    requires last { number ≤ length router.old.present.area.links }
-    requires drafts { length drafts.old ≡ length router.old.present.area.links }
-    ensures case { IfOk result (λ c. case_of c
-        ≡ case_at moment number lsa router.old.present.area) }
-    ensures makes { IfOk result (λ c. Makes (after_lsa (case_of c) moment number lsa)
-        router.old.present router.new.present drafts.old drafts.new) }
-    ensures drafts { OnOk result (length drafts.new ≡ length router.new.present.area.links) }
-    ensures settled { router.new.settled ≡ router.old.settled }
-{
-    let header = lsa.header();
-    let case = router.receive(alloc, moment, number, lsa, drafts)?;
-    let newer = is_newer(case);
-    if newer {
-        receive_self_originated(router, alloc, moment, &header, drafts)?;
-        return Ok(case);
-    }
-    Ok(case)
-}
-
 // Processes the bytes of an LSA, or bytes that encode none. Returns whether the rest of the Link
-// State Update is processed.
-fn receive_text(
+// State Update is processed. A self-originated LSA that was installed is originated again or
+// flushed.
+fn receive_lsa(
     router: &mut Router,
     alloc: Global,
     moment: Second,
@@ -112,13 +83,17 @@ fn receive_text(
     ensures settled { router.new.settled ≡ router.old.settled }
 {
     let unread = read_lsa(alloc, bytes)?;
-    match unread {
-        None => Ok(true),
-        Some(lsa) => {
-            let case = receive_lsa(router, alloc, moment, number, lsa, drafts)?;
-            Ok(goes_on(case))
-        }
+    let Some(lsa) = unread else {
+        return Ok(true);
+    };
+    let header = lsa.header();
+    let case = router.receive(alloc, moment, number, lsa, drafts)?;
+    let newer = is_newer(case);
+    if newer {
+        receive_self_originated(router, alloc, moment, &header, drafts)?;
+        return Ok(true);
     }
+    Ok(goes_on(case))
 }
 
 /// Processes the LSAs of a Link State Update that was received at the interface with this number,
@@ -146,7 +121,7 @@ pub fn receive_lsas(
 {
     for i in 0..lsas.len() {
         let bytes = lsas[i].as_slice();
-        let goes = receive_text(router, alloc, moment, number, bytes, drafts)?;
+        let goes = receive_lsa(router, alloc, moment, number, bytes, drafts)?;
         if !goes {
             return Ok(());
         }

@@ -1,25 +1,56 @@
-use Rattle.std.proofs.Common.{true, false, sym, ◌∙◌}
+use Rattle.std.proofs.Common.{sym, ap, ◌∙◌}
 use Rattle.keyed_map.proofs.Helds.{on_ok}
-use Rattle.procedures.proofs.Heard.{is_discarded, is_taken}
+use Rattle.procedures.specs.Received.{counts_before_exchange}
+use Rattle.procedures.proofs.Heard.{acknowledges, came_in_exchange, describes, greets, is_discarded}
+use Rattle.procedures.proofs.Heard.{requests, updates}
 use Rattle.procedures.proofs.packets.receive_packet.Goals as goal
 
-pub returns-then-not-heard-clause-makes : goal.returns-then-not-heard-clause-makes
-returns-then-not-heard-clause-makes c =
+pub returns-then-not-is_processed-clause-makes : goal.returns-then-not-is_processed-clause-makes
+returns-then-not-is_processed-clause-makes c =
     is_discarded c.args.moment c.args.number c.args.packet.now c.args.router.now.present
-    c.args.drafts.now (sym c.is_heard-heard.ensures ∙ c.if-not-heard.true)
+    c.args.drafts.now (sym c.is_processed.ensures ∙ c.if-not-is_processed.true)
 
-pub returns-then-exchanging-clause-makes : goal.returns-then-exchanging-clause-makes
-returns-then-exchanging-clause-makes c =
-    on_ok c.from_neighbor_in_exchange.result
-    (is_taken c.args.moment c.args.number c.args.packet.now true
-    (sym c.is_heard-heard.ensures ∙ c.if-not-heard.false)
-    (sym c.is_in_exchange-exchanging.ensures ∙ c.if-exchanging.true))
-    c.from_neighbor_in_exchange.ensures.makes
+pub answer-requires-clause-exchange : goal.answer-requires-clause-exchange
+answer-requires-clause-exchange c =
+    came_in_exchange c.args.moment c.args.number c.args.packet.now c.args.router.now.present
+    (sym c.is_processed.ensures ∙ c.if-not-is_processed.false)
+    (ap counts_before_exchange c.in-Request.is)
 
-pub returns-clause-makes : goal.returns-clause-makes
-returns-clause-makes c =
-    on_ok c.from_neighbor_before_exchange.result
-    (is_taken c.args.moment c.args.number c.args.packet.now false
-    (sym c.is_heard-heard.ensures ∙ c.if-not-heard.false)
-    (sym c.is_in_exchange-exchanging.ensures ∙ c.if-exchanging.false))
-    c.from_neighbor_before_exchange.ensures.makes
+pub returns-in-Hello-clause-makes : goal.returns-in-Hello-clause-makes
+returns-in-Hello-clause-makes c =
+    on_ok c.hear.result
+    (greets c.args.moment c.args.number c.args.packet.now c.in-Hello.hello
+    (sym c.is_processed.ensures ∙ c.if-not-is_processed.false) c.in-Hello.is)
+    c.hear.ensures.makes
+
+pub returns-in-Description-clause-makes : goal.returns-in-Description-clause-makes
+returns-in-Description-clause-makes c =
+    on_ok c.describe.result
+    (describes c.args.moment c.args.number c.args.packet.now c.in-Description.description
+    (sym c.is_processed.ensures ∙ c.if-not-is_processed.false) c.in-Description.is)
+    c.describe.ensures.makes
+
+pub returns-in-Request-clause-makes : goal.returns-in-Request-clause-makes
+returns-in-Request-clause-makes c =
+    on_ok c.answer.result
+    (requests c.args.moment c.args.number c.args.packet.now c.in-Request.keys
+    c.as_slice.result.now (sym c.is_processed.ensures ∙ c.if-not-is_processed.false)
+    c.in-Request.is c.as_slice.ensures)
+    c.answer.ensures.makes
+
+pub returns-in-Update-clause-makes : goal.returns-in-Update-clause-makes
+returns-in-Update-clause-makes c =
+    on_ok c.receive_lsas.result
+    (updates c.args.moment c.args.number c.args.packet.now c.in-Update.lsas
+    c.as_slice-in-Update.result.now (sym c.is_processed.ensures ∙ c.if-not-is_processed.false)
+    c.in-Update.is c.as_slice-in-Update.ensures)
+    c.receive_lsas.ensures.makes
+
+pub returns-in-Acknowledgment-clause-makes : goal.returns-in-Acknowledgment-clause-makes
+returns-in-Acknowledgment-clause-makes c =
+    on_ok c.acknowledged.result
+    (acknowledges c.args.moment c.args.number c.args.packet.now c.in-Acknowledgment.headers
+    c.as_slice-in-Acknowledgment.result.now
+    (sym c.is_processed.ensures ∙ c.if-not-is_processed.false)
+    c.in-Acknowledgment.is c.as_slice-in-Acknowledgment.ensures)
+    c.acknowledged.ensures.makes

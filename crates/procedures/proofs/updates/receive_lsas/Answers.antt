@@ -10,9 +10,9 @@ returns-then-not-goes-clause-makes c =
     let split = drop_next i lsas c.index-lsas-i.result (omega (arith, c.loop-i-test.true))
     ∙ ap (λ y. y ∷ drop (i + 1) lsas) (sym (c.as_slice-bytes.ensures ∙ c.index-lsas-i.is)) in
     goes_no_further c.args.moment c.args.number lsas c.args.router.now.present c.args.drafts.now i
-    c.as_slice-bytes.result.now c.loop-i.router.present c.receive_text.new.router.present
+    c.as_slice-bytes.result.now c.loop-i.router.present c.receive_lsa.new.router.present
     c.loop-i.drafts
-    c.receive_text.new.drafts split (sym c.in_ok-goes.ensures.goes_on ∙ c.if-not-goes.true)
+    c.receive_lsa.new.drafts split (sym c.in_ok-goes.ensures.goes_on ∙ c.if-not-goes.true)
     c.in_ok-goes.ensures.makes c.loop-i.invariant.goes
 
 pub loop-i-preserved : goal.loop-i-preserved
@@ -24,8 +24,8 @@ loop-i-preserved c =
     record {
       goes = goes_further c.args.moment c.args.number lsas c.args.router.now.present
           c.args.drafts.now i c.as_slice-bytes.result.now c.loop-i.router.present
-          c.receive_text.new.router.present
-          c.loop-i.drafts c.receive_text.new.drafts split
+          c.receive_lsa.new.router.present
+          c.loop-i.drafts c.receive_lsa.new.drafts split
           (sym c.in_ok-goes.ensures.goes_on ∙ c.if-not-goes.false) c.in_ok-goes.ensures.makes
           c.loop-i.invariant.goes;
       drafts = c.in_ok-goes.ensures.drafts;
