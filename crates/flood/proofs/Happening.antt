@@ -6,9 +6,10 @@ use Rattle.events.specs.received.Outcomes.{Send}
 use Rattle.events.specs.RoomLaws.{IsRoomy}
 use Rattle.events.proofs.Roomy.{every_packet_has_room}
 use Rattle.events.specs.declared.model.Out.{Out}
-use Rattle.flood_laws.specs.InOrder.{IsInOrder}
+use Rattle.flood_laws.specs.InOrder.{AnnouncesItsOwn, IsInOrder}
 use Rattle.flood_laws.specs.Keeping.{AnnouncesAddress, AreTexts, HoldsInstances, KeepsWhatIsKnown}
 use Rattle.flood_laws.proofs.Keeping.{events_keep_what_is_known, instances_stay_in_range}
+use Rattle.flood_laws.proofs.Known.{router_stays}
 use Rattle.flood_laws.proofs.Acknowledged.{routers_stay_in_order}
 use Rattle.events.specs.Endings.{start_event}
 use Rattle.events.specs.Events.{Happens}
@@ -17,7 +18,9 @@ use Rattle.events.specs.Refusals.{WouldExceed, exceeds, first_refusal}
 use Rattle.events.specs.Routers.{Occurrence, Router}
 use Rattle.events.proofs.Outcomes.{determined}
 use Rattle.flood.specs.declared.part.Part.{Part}
+use Rattle.flood.specs.Occurrences.{brings_answers}
 use Rattle.flood.specs.Parts.{IsMade, IsPartOf, after_part, made_state}
+use Rattle.flood.proofs.Answering.{answers_stay}
 
 module _ (old : Router) (moment : ℕ) (event : Occurrence) (p : Part) (is : IsPartOf event p) where
   -- the result happens
@@ -54,6 +57,14 @@ module _ (old : Router) (moment : ℕ) (event : Occurrence) (p : Part) (is : IsP
   makes : Happens old moment event (outs_of old.id old.area.links (made_state old moment p).sends)
       (made_state old moment p).router
   makes = made_happens _ _ (record { router = refl; outs = refl })
+
+  -- whatever is sent, the Router ID stays, and so do the programs' answers except at an `Install`
+  pub made_id : AnnouncesItsOwn old → (made_state old moment p).router.id ≡ old.id
+  made_id own = router_stays old moment event _ _ makes own
+
+  pub made_answers : brings_answers event ≡ false
+      → (made_state old moment p).router.answers ≡ old.answers
+  made_answers none = answers_stay old moment event _ _ makes none
 
   -- all that is sent fits
   pub made_has_room : IsRoomy old → AllByRecursion (λ (s : Send). HasRoom s.content)

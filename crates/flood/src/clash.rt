@@ -1,23 +1,11 @@
 //! When the answers of a `Redistribute` clash.
 ghost use Rattle.std.specs.Prelude.{◌≡◌, IsTrue};
 ghost use Rattle.std.specs.FinMap as finite;
-ghost use Rattle.events.specs.Commands.{is_for};
 ghost use Rattle.events.specs.Originations.{external_key};
 ghost use Rattle.events.specs.Refusals.{clashes, is_taken};
 
 use procedures::{Router, external_key, same_external, same_network};
 use words::{External, Prefix};
-
-/// Whether an external destination with this prefix is announced.
-pub fn is_announced(router: &Router, prefix: Prefix) -> bool
-    ensures { result ≡ is_for prefix
-        (finite.get router.now.present.announced (external_key router.now.present.id prefix)) }
-{
-    match router.announced().get(&external_key(router.id(), prefix)) {
-        None => false,
-        Some(external) => same_network(prefix, external.prefix),
-    }
-}
 
 // Whether the Link State ID is that of another announced prefix.
 fn is_taken(router: &Router, prefix: Prefix) -> bool

@@ -1,21 +1,23 @@
-//! What is kept for routes between events.
-ghost use Rattle.std.specs.Prelude.{◌≡◌, ◌≤◌, IfOk, OnErr, OnOk, false};
+//! The end of an event: what it sends, and what is kept for routes between events.
+ghost use Rattle.std.specs.Prelude.{◌≡◌, ◌≤◌, List, IfOk, OnErr, OnOk, false, length};
 ghost use Rattle.area_routes.specs.Kept.{AreKept, ServesOnlyThen};
-ghost use Rattle.events.specs.RoomLaws.{IsRoomy};
-ghost use Rattle.events.specs.Events.{Happens};
-ghost use Rattle.events.specs.Refusals.{Answers, exceeds};
-ghost use Rattle.flood_laws.specs.InOrder.{IsInOrder};
-ghost use Rattle.flood_laws.specs.Keeping.{HoldsInstances, KeepsWhatIsKnown};
+ghost use Rattle.events.specs.received.Links.{Link as LinkOfArea};
+ghost use Rattle.events.specs.received.Outcomes.{Send};
+ghost use Rattle.events.specs.Packing.{outs_of};
+ghost use Rattle.flood_laws.specs.Keeping.{AreTexts};
+ghost use Rattle.flood.specs.Drafts.{AreDrafts};
 ghost use Rattle.flood.specs.Occurrences.{brings_answers, occurrence_of};
-ghost use Rattle.flood.specs.Offers.{AreKeptNow, WalksOnlyThen};
+ghost use Rattle.flood.specs.Offers.{AreKeptNow};
+ghost use Rattle.flood.specs.Parts.{TellsLimit};
 
 use crate::event::Event;
-use crate::taking::take;
+use crate::sending::outs;
 use area_routes::AreaRoutes;
 use events::{CoreError, Out};
+use flood_laws::Draft;
 use procedures::Router;
 use std::alloc::{AllocError, Global};
-use words::Second;
+use words::{RouterId, Second};
 
 fn brings_answers(event: &Event) -> bool
     ensures { result ≡ brings_answers (occurrence_of event.now) }
@@ -59,38 +61,47 @@ fn keep(
     Ok(())
 }
 
-/// Processes one event, and updates what is kept for routes. After a refusal the caller rolls the
-/// router back; the routes are unchanged.
-pub fn take_and_keep(
-    router: &mut Router,
+/// What an event sends, once its end is done, unless the router exceeds a limit then; and updates
+/// what is kept for routes. `own` is the router's Router ID, `before` the moment of the event before.
+///
+/// # Errors
+/// `Full` if the router exceeds a limit, `Memory` if an allocation is refused. The routes are
+/// unchanged then.
+pub fn finish(
+    router: &Router,
     routes: &mut AreaRoutes,
     alloc: Global,
-    moment: Second,
+    own: RouterId,
+    before: Second,
     event: &Event,
+    drafts: Vec<Draft>,
 ) -> Result<Vec<Out>, CoreError>
-    requires settled { router.old.settled ≡ router.old.present }
-    requires roomy { IsRoomy router.old.present }
-    requires order { IsInOrder router.old.present }
-    requires holds { HoldsInstances router.old.present }
-    requires kept { AreKeptNow router.old.present routes.old }
-    ensures ok { IfOk result (λ outs. Happens router.old.present moment (occurrence_of event.now)
-        outs.items router.new.present) }
-    ensures keeps { IfOk result (λ outs. KeepsWhatIsKnown router.old.present moment
-        (occurrence_of event.now) outs.items router.new.present) }
-    ensures order { OnOk result (IsInOrder router.new.present) }
-    ensures holds { OnOk result (HoldsInstances router.new.present) }
-    ensures refused { Answers router.old.present moment (occurrence_of event.now) result }
-    ensures limit { IfOk result (λ outs. exceeds router.new.present ≡ false) }
-    ensures settled { router.new.settled ≡ router.old.settled }
-    ensures kept { IfOk result (λ outs. AreKeptNow router.new.present routes.new) }
-    // No walk is made, and the one that is kept stays valid unless an LSA of type 1 or 2 was added
-    // or removed, has reached MaxAge or says something else, or the interfaces' addresses differ.
-    ensures walks { IfOk result (λ outs. WalksOnlyThen router.old.present router.new.present
+    // They are the drafts of an event's contents, each of which fits into a packet.
+    requires drafts { (links : List LinkOfArea) × (sends : List Send)
+        × AreDrafts links sends drafts.items }
+    requires few { length drafts.items ≤ 63 }
+    requires order { before ≤ router.now.present.moment }
+    requires kept { AreKept router.now.present.id router.now.settled.area before
+        router.now.settled.answers routes.old }
+    requires answers { brings_answers (occurrence_of event.now) ≡ false
+        → router.now.present.answers ≡ router.now.settled.answers }
+    ensures outs { (links : List LinkOfArea) (sends : List Send)
+        → AreDrafts links sends drafts.items
+        → IfOk result (λ outs. outs.items ≡ outs_of own links sends) }
+    // Each packet is encoded correctly.
+    ensures texts { (links : List LinkOfArea) (sends : List Send)
+        → AreDrafts links sends drafts.items → OnOk result (AreTexts own links sends) }
+    ensures limit { TellsLimit router.now.present result }
+    ensures kept { OnOk result (AreKeptNow router.now.present routes.new) }
+    ensures walks { OnOk result (ServesOnlyThen before router.now.present.moment
+        router.now.present.id router.now.settled.area router.now.present.area
         routes.old routes.new) }
     ensures err { OnErr result (routes.new ≡ routes.old) }
 {
-    let before = router.moment();
-    let outs = take(router, alloc, moment, event)?;
+    if router.area().database().exceeds() {
+        return Err(CoreError::Full);
+    }
+    let outs = outs(alloc, own, drafts)?;
     keep(router, routes, alloc, before, event)?;
     Ok(outs)
 }

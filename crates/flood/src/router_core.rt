@@ -12,16 +12,14 @@ ghost use Rattle.flood.specs.Offers.{AreCandidatesNow, IsOffered, IsStaleNow, Is
 ghost use Rattle.flood.specs.Occurrences.{occurrence_of};
 ghost use Rattle.flood.specs.Owed.{owed_at};
 
-use crate::clash::is_announced;
 use crate::event::Event;
-use crate::keeping::take_and_keep;
 use crate::profile::in_profile;
 use crate::start::begin;
-use crate::taking::refuses;
+use crate::taking::{refuses, take};
 use area_routes::{AreaRoutes, Offered};
 use events::{Config, ConfigError, CoreError, Out};
 use flood_laws::{Lsdb, NeighborState};
-use procedures::Router;
+use procedures::{Router, external_key, same_network};
 use std::alloc::{AllocError, Global};
 use std::marker::Model;
 use words::{Prefix, Route, RouterId, Second};
@@ -129,7 +127,7 @@ impl Core {
         ensures refused { Answers self.old moment (occurrence_of event.now) result }
         ensures err { OnErr result (self.new ≡ self.old) }
     {
-        match take_and_keep(
+        match take(
             &mut self.router,
             &mut self.routes,
             self.alloc,
@@ -173,13 +171,6 @@ impl Core {
                 Err(error)
             }
         }
-    }
-
-    /// The router's own Router ID.
-    pub fn router_id(&self) -> RouterId
-        ensures { result ≡ self.now.id }
-    {
-        self.router.id()
     }
 
     /// The moment of the last event, or of the start if there was none.
@@ -319,7 +310,14 @@ impl Core {
         ensures { result ≡ is_for prefix
             (finite.get self.now.announced (external_key self.now.id prefix)) }
     {
-        is_announced(&self.router, prefix)
+        match self
+            .router
+            .announced()
+            .get(&external_key(self.router.id(), prefix))
+        {
+            None => false,
+            Some(external) => same_network(prefix, external.prefix),
+        }
     }
 
     /// Drops the router. A function above that drops one itself would have to prove the drop of

@@ -1,21 +1,22 @@
 //! One event, before it is settled or rolled back.
-ghost use Rattle.std.specs.Prelude.{◌≡◌, IfOk, OnOk, None, false, length};
+ghost use Rattle.std.specs.Prelude.{◌≡◌, IfOk, None, OnErr, OnOk, false};
 ghost use Rattle.events.specs.RoomLaws.{IsRoomy};
 ghost use Rattle.events.specs.Events.{Happens};
 ghost use Rattle.events.specs.Refusals.{Answers, exceeds, is_interface, no_interface};
-ghost use Rattle.events.specs.Routers.{Occurrence};
 ghost use Rattle.flood_laws.specs.InOrder.{IsInOrder};
-ghost use Rattle.flood_laws.specs.Keeping.{AreTexts, HoldsInstances, KeepsWhatIsKnown};
+ghost use Rattle.flood_laws.specs.Keeping.{HoldsInstances, KeepsWhatIsKnown};
 ghost use Rattle.flood.specs.Early.{early_refusal};
 ghost use Rattle.flood.specs.Occurrences.{occurrence_of};
-ghost use Rattle.flood.specs.Parts.{HasInterface, IsMade, IsPartOf, TellsLimit, made_state};
+ghost use Rattle.flood.specs.Offers.{AreKeptNow, WalksOnlyThen};
 
 use crate::event::Event;
-use crate::making::make_event;
-use crate::part::{Part, read_part};
-use crate::sending::{drafts_for, outs};
+use crate::keeping::finish;
+use crate::making::make_part;
+use crate::part::read_part;
+use crate::sending::drafts_for;
+use area_routes::AreaRoutes;
 use events::{CoreError, Out};
-use procedures::Router;
+use procedures::{Router, end_event, full_routers};
 use std::alloc::Global;
 use words::Second;
 
@@ -53,37 +54,13 @@ pub fn refuses(router: &Router, moment: Second, event: &Event) -> Option<CoreErr
     }
 }
 
-// The event with this own part.
-fn make(
-    router: &mut Router,
-    alloc: Global,
-    moment: Second,
-    part: Part,
-) -> Result<Vec<Out>, CoreError>
-    requires settled { router.old.settled ≡ router.old.present }
-    requires roomy { IsRoomy router.old.present }
-    requires part { (event : Occurrence) × IsPartOf event part }
-    requires interface { HasInterface part (length router.old.present.area.links) }
-    ensures made { IfOk result (λ outs. IsMade router.old.present moment part
-        outs.items router.new.present) }
-    ensures texts { OnOk result (AreTexts router.old.present.id router.old.present.area.links
-        (made_state router.old.present moment part).sends) }
-    ensures limit { TellsLimit (made_state router.old.present moment part).router result }
-    ensures settled { router.new.settled ≡ router.old.settled }
-{
-    let own = router.id();
-    let mut drafts = drafts_for(router, alloc)?;
-    make_event(router, alloc, moment, part, &mut drafts)?;
-    if router.area().database().exceeds() {
-        return Err(CoreError::Full);
-    }
-    let outs = outs(alloc, own, drafts)?;
-    Ok(outs)
-}
-
-/// Processes one event. After a refusal the caller rolls the router back.
+/// Processes one event: unless it is refused before, copies that have reached MaxAge are flooded,
+/// then the event's own part is done, then the end that all events share; last, what is kept for
+/// routes is updated. After a refusal the caller rolls the router back; the routes are unchanged.
+#[tactic(auto, using(crate::proofs::Early::may_run_out))]
 pub fn take(
     router: &mut Router,
+    routes: &mut AreaRoutes,
     alloc: Global,
     moment: Second,
     event: &Event,
@@ -92,6 +69,7 @@ pub fn take(
     requires roomy { IsRoomy router.old.present }
     requires order { IsInOrder router.old.present }
     requires holds { HoldsInstances router.old.present }
+    requires kept { AreKeptNow router.old.present routes.old }
     ensures ok { IfOk result (λ outs. Happens router.old.present moment (occurrence_of event.now)
         outs.items router.new.present) }
     ensures keeps { IfOk result (λ outs. KeepsWhatIsKnown router.old.present moment
@@ -99,12 +77,25 @@ pub fn take(
     ensures order { OnOk result (IsInOrder router.new.present) }
     ensures holds { OnOk result (HoldsInstances router.new.present) }
     ensures refused { Answers router.old.present moment (occurrence_of event.now) result }
-    ensures limit { IfOk result (λ outs. exceeds router.new.present ≡ false) }
+    ensures limit { OnOk result (exceeds router.new.present ≡ false) }
     ensures settled { router.new.settled ≡ router.old.settled }
+    ensures kept { OnOk result (AreKeptNow router.new.present routes.new) }
+    // No walk is made, and the one that is kept stays valid unless an LSA of type 1 or 2 was added
+    // or removed, has reached MaxAge or says something else, or the interfaces' addresses differ.
+    ensures walks { OnOk result (WalksOnlyThen router.old.present router.new.present
+        routes.old routes.new) }
+    ensures err { OnErr result (routes.new ≡ routes.old) }
 {
     if let Some(error) = refuses(router, moment, event) {
         return Err(error);
     }
     let part = read_part(router, alloc, event)?;
-    make(router, alloc, moment, part)
+    let own = router.id();
+    let before = router.moment();
+    let full = full_routers(router, alloc)?;
+    let mut drafts = drafts_for(router, alloc)?;
+    router.age(alloc, before, moment, &mut drafts)?;
+    make_part(router, alloc, moment, part, &mut drafts)?;
+    end_event(router, alloc, moment, &full, &mut drafts)?;
+    finish(router, routes, alloc, own, before, event, drafts)
 }

@@ -1,0 +1,25 @@
+use Rattle.std.proofs.Common.{sym, ap, ◌∙◌}
+use Rattle.flood_laws.specs.lsdb.Kept.{RouterDatabase}
+use Rattle.flood_laws.specs.lsdb.Limits.{exceeds as database_exceeds}
+use Rattle.area_routes.specs.flooding.Kept.{RouterArea}
+use Rattle.flood.proofs.keeping.finish.Goals as goal
+
+pub returns-then-exceeds-clause-limit : goal.returns-then-exceeds-clause-limit
+returns-then-exceeds-clause-limit c =
+    sym (c.exceeds.ensures ∙ ap (λ (d : RouterDatabase). database_exceeds d.router d.present)
+    c.database.ensures ∙ ap (λ (a : RouterArea). database_exceeds a.router a.present.database)
+    c.area.ensures.parts)
+    ∙ c.if-exceeds.true
+
+pub returns-clause-outs : goal.returns-clause-outs
+returns-clause-outs c = c.in_ok-outs.ensures.outs
+
+pub returns-clause-texts : goal.returns-clause-texts
+returns-clause-texts c = c.in_ok-outs.ensures.texts
+
+pub returns-clause-limit : goal.returns-clause-limit
+returns-clause-limit c =
+    sym (c.exceeds.ensures ∙ ap (λ (d : RouterDatabase). database_exceeds d.router d.present)
+    c.database.ensures ∙ ap (λ (a : RouterArea). database_exceeds a.router a.present.database)
+    c.area.ensures.parts)
+    ∙ c.if-exceeds.false
