@@ -1,6 +1,7 @@
 -- What is noted in a book, and what it refuses, after it was marked or not.
-use Rattle.std.proofs.Common.{◌≡◌, true, List, [], ◌∷◌, ◌++◌, sym, subst, refl, ap, ◌∙◌, inl, inr}
-use Rattle.std.proofs.Common.{◌+◌, ℕ, Bool, Option, None, Some, Result, Ok, Err}
+use Rattle.std.proofs.Common.{◌≡◌, ◌<◌, ◌^◌, true, List, [], ◌∷◌, ◌++◌, length, sym, subst, refl}
+use Rattle.std.proofs.Common.{◌+◌, ℕ, Bool, Option, None, Some, Result, Ok, Err, ap, ◌∙◌, inl, inr}
+use Rattle.std.proofs.Common.{arith}
 use Rattle.std.specs.Prelude.{false, if◌then◌else◌, is_err, OnOk}
 use Rattle.words.specs.Numbers.{Moment}
 use Rattle.events.specs.declared.model.CoreError.{CoreError}
@@ -16,9 +17,9 @@ use Rattle.flood.specs.Occurrences.{brings_answers, occurrence_of}
 use Rattle.book.specs.declared.entry.JournalEntry.{JournalEntry}
 use Rattle.book.specs.declared.error.BookError.{BookError}
 use Rattle.book.specs.declared.error.BookError.TheVariants as refusing
-use Rattle.book.specs.Refusals.{AnswersAnew, IsRefusedEarly, IsSpent}
-use Rattle.book.specs.Replay.{BookView, EndsWith, IsLightened, IsNoted, IsNotedAtLast, IsNotedIn}
-use Rattle.book.specs.Replay.{IsSameOrAnew, IsSameOrMarked, entry, forgotten_at, marked_book}
+use Rattle.book.specs.Refusals.{Answers, AnswersAnew, IsFull, IsRefusedEarly, IsSpent}
+use Rattle.book.specs.Replay.{BookView, EndsWith, IsLightened, IsNotedIn, IsSameOrAnew}
+use Rattle.book.specs.Replay.{IsSameOrMarked, forgotten_at, marked_book}
 
 -- two lists with one entry behind them
 same_ends : (xs ys : List JournalEntry) (x y : JournalEntry) → xs ++ x ∷ [] ≡ ys ++ y ∷ []
@@ -63,50 +64,14 @@ pub same_or_anew : (old new : BookView) → IsSameOrMarked old new → IsSameOrA
 same_or_anew old new (inl same) = inl same
 same_or_anew old new (inr marked) = inr marked.1
 
--- a book that is marked, or was
-marked_anew : (old between new : BookView) → IsSameOrMarked old between
-    → IsSameOrMarked (marked_book between) new → new ≡ marked_book old
-marked_anew old between new first second = marked second ∙ was first
+-- a book that is marked for want of memory, whatever room was made in it before
+pub marked_again : (old between last new : BookView) → IsSameOrMarked old between → last ≡ between
+    → new ≡ marked_book last → new ≡ marked_book old
+marked_again old between last new first same is = is ∙ ap marked_book same ∙ was first
   where
-    marked : IsSameOrMarked (marked_book between) new → new ≡ marked_book between
-    marked (inl same) = same.1
-    marked (inr again) = again.1
-
     was : IsSameOrMarked old between → marked_book between ≡ marked_book old
-    was (inl same) = ap marked_book same.1
+    was (inl stays) = ap marked_book stays.1
     was (inr before) = ap marked_book before.1
-
-anew : (old between new : BookView) → IsSameOrMarked old between
-    → IsSameOrMarked (marked_book between) new → IsSameOrAnew old new
-anew old between new first second = inr (marked_anew old between new first second)
-
--- a book that is marked for want of memory, whatever room was made in it before and after
-pub left_marked : (old between middle new : BookView) → IsSameOrMarked old between
-    → middle ≡ marked_book between → IsSameOrMarked middle new → new ≡ marked_book old
-left_marked old between middle new first is second =
-    marked_anew old between new first (subst (λ (b : BookView). IsSameOrMarked b new) is second)
-
-pub at_last : (old new : BookView) (e : JournalEntry) → IsNoted old e new → IsNotedAtLast old e new
-at_last old new e (before, is, ends) = (before, same_or_anew old before is, ends)
-
--- what is noted after a mark for want of memory
-pub noted_anew : (old between new : BookView) (moment : Moment) (e back : Event)
-    → back ≡ e → IsSameOrMarked old between
-    → IsNoted (marked_book between) (entry moment back) new
-    → IsNotedAtLast old (entry moment e) new
-noted_anew old between new moment e back same first (before, is, ends) = (
-  before,
-  anew old between before first is,
-  subst (λ (one : Event). IsNotedIn before (entry moment one) new) same ends,
-)
-
-pub same_router : (old new : BookView) → IsSameOrMarked old new → new.current ≡ old.current
-same_router old new (inl same) = ap (λ (b : BookView). b.current) same.1
-same_router old new (inr marked) = ap (λ (b : BookView). b.current) marked.1
-
-pub same_count : (old new : BookView) → IsSameOrMarked old new → new.taken ≡ old.taken
-same_count old new (inl same) = ap (λ (b : BookView). b.taken) same.1
-same_count old new (inr marked) = ap (λ (b : BookView). b.taken) marked.1
 
 -- the same event at the same router
 pub happens_at : (a b : Router) (moment : Moment) (e back : Event) (outs : List Out) (new : Router)
@@ -131,6 +96,16 @@ answered_at a b moment e (Err (refusing.Core x)) current taken (fresh, answers) 
       answers,
 )
 
+-- where the journal has room, only a book that may take no more is full
+pub answered_anew : {X : Type 0} (b : BookView) (moment : Moment) (e : Event)
+    (r : Result X BookError) → length b.journal < 65536 → Answers b moment e r
+    → AnswersAnew b moment e r
+answered_anew b moment e (Ok x) room (free, answers) = ((λ spent. free (inr spent)), answers)
+answered_anew b moment e (Err refusing.Journal) room (inl long) = absurd (omega (arith, room, long))
+answered_anew b moment e (Err refusing.Journal) room (inr spent) = spent
+answered_anew b moment e (Err (refusing.Core x)) room (free, answers) =
+    ((λ spent. free (inr spent)), answers)
+
 pub answered_back : {X : Type 0} (a b : BookView) (moment : Moment) (e back : Event)
     (r : Result X BookError) → back ≡ e → b.current ≡ a.current → b.taken ≡ a.taken
     → AnswersAnew b moment back r → AnswersAnew a moment e r
@@ -142,6 +117,11 @@ answered_back {X = X} a b moment e back r same current taken answers =
 pub where_ok : {X E : Type 0} (r : Result X E) (P : Type 0) → is_err r ≡ false → OnOk r P → P
 where_ok (Ok x) P is holds = holds
 where_ok (Err x) P is holds = absurd cc
+
+-- a book with room, that may take more
+pub not_full : (b : BookView) → length b.journal < 65536 → b.taken < 2 ^ 63 → IsFull b → ⊥
+not_full b room few (inl long) = omega (arith, room, long)
+not_full b room few (inr spent) = omega (arith, few, spent)
 
 -- ---- refusals before any mark
 

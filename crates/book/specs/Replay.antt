@@ -119,12 +119,8 @@ IsSameOrMarked old new =
 abbrev pub IsNotedIn : (before : BookView) → JournalEntry → (new : BookView) → Type 0
 IsNotedIn before e new = (new.start ≡ before.start) × EndsWith before.journal e new.journal
 
--- the entry stands last in the journal, which goes on; or, where that was too much, alone in one
--- that was emptied by a mark before
-abbrev pub IsNoted : (old : BookView) → JournalEntry → (new : BookView) → Type 0
-IsNoted old e new = (before : BookView) × IsSameOrMarked old before × IsNotedIn before e new
-
--- the same in a book that may be marked for want of memory, too
+-- the entry stands last in the journal, which goes on; or alone in one that was emptied by a mark
+-- before, since it was too much, or for want of memory
 abbrev pub IsNotedAtLast : (old : BookView) → JournalEntry → (new : BookView) → Type 0
 IsNotedAtLast old e new = (before : BookView) × IsSameOrAnew old before × IsNotedIn before e new
 

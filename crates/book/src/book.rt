@@ -1,12 +1,15 @@
 //! The book itself: an event is taken, and the book starts anew.
 ghost use Rattle.std.specs.Prelude.{◌≡◌, ℕ, ◌+◌, ◌^◌, ◌<◌, ◌≤◌, [], ◌∷◌, ◌++◌, ◌↔◌, ◌⊎◌, length};
-ghost use Rattle.std.specs.Prelude.{Err, IfErr, IfOk, IsOk, IsTrue, OnErr, OnOk, Some, false, true};
+ghost use Rattle.std.specs.Prelude.{Err, IfErr, IfOk, IsOk, IsTrue, None, OnErr, OnOk, Some};
+ghost use Rattle.std.specs.Prelude.{false, true};
 ghost use Rattle.std.specs.FinMap as finite;
 ghost use Rattle.events.specs.Events.{Happens};
+ghost use Rattle.flood.specs.Early.{early_refusal};
 ghost use Rattle.flood.specs.Occurrences.{occurrence_of};
 ghost use Rattle.flood.specs.Offers.{IsStaleNow};
-ghost use Rattle.book.specs.Refusals.{Answers, AnswersAnew, IsRefusedEarly, without_event};
-ghost use Rattle.book.specs.Replay.{IsDue, IsLightened, IsNoted, IsNotedAtLast, IsSameOrAnew};
+ghost use Rattle.book.specs.Refusals.{Answers, AnswersAnew, IsFull, IsRefusedEarly};
+ghost use Rattle.book.specs.Refusals.{without_event};
+ghost use Rattle.book.specs.Replay.{IsDue, IsLightened, IsNotedAtLast, IsSameOrAnew};
 ghost use Rattle.book.specs.Replay.{IsSameOrMarked, Leads, Replays, entry, marked_book, start_of};
 ghost use Rattle.book.specs.Replay.{started_book};
 
@@ -161,21 +164,41 @@ impl<L: Origin> Book<L> {
         ensures err { OnErr result
             ((self.new ≡ self.old) × (mine.new.amount ≡ mine.old.amount)) }
     {
+        if self.is_full() {
+            return Err(BookError::Journal);
+        }
+        let early = self.now().refuses(moment, &event);
+        if let Some(error) = early {
+            return Err(BookError::Core(error));
+        }
         match self.attempt(mine, moment, event) {
             Ok(outs) => Ok(outs),
             Err(refused) => Err(refused.error),
         }
     }
 
-    // As `apply`; a refusal gives the event back.
-    #[tactic(auto, using(flood::proofs::Early::may_run_out, flood::proofs::Early::early_answers))]
+    // Whether the journal holds 65,536 events, or 2^63 were taken in all.
+    fn is_full(&self) -> bool
+        ensures full { result ≡ true → IsFull self.now }
+        ensures room { result ≡ false → length self.now.journal < 65536 }
+        ensures few { result ≡ false → self.now.taken < 2 ^ 63 }
+    {
+        self.journal.len() == JOURNAL || self.taken == TAKEN
+    }
+
+    // As `apply`, where neither the journal nor the clock nor the interface is refused. A refusal
+    // gives the event back.
+    #[tactic(auto, using(flood::proofs::Early::may_run_out, crate::proofs::Noted::not_full))]
     fn attempt(
         &mut self,
         mine: &mut Share<L>,
         moment: Second,
         event: Event,
     ) -> Result<Vec<Out>, Refused>
-        requires { 0 < mine.old.parts }
+        requires parts { 0 < mine.old.parts }
+        requires room { length self.old.journal < 65536 }
+        requires few { self.old.taken < 2 ^ 63 }
+        requires early { early_refusal self.old.current moment (occurrence_of event) ≡ None }
         ensures ok { IfOk result (λ outs. Happens
             self.old.current moment (occurrence_of event) outs.items self.new.current) }
         ensures book { OnOk result (self.new ≡ record self.old {
@@ -190,12 +213,6 @@ impl<L: Origin> Book<L> {
         ensures err { OnErr result
             ((self.new ≡ self.old) × (mine.new.amount ≡ mine.old.amount)) }
     {
-        if self.journal.len() == JOURNAL || self.taken == TAKEN {
-            return Err(Refused::new(BookError::Journal, event));
-        }
-        if let Some(error) = self.current.refuses(moment, &event) {
-            return Err(Refused::new(BookError::Core(error), event));
-        }
         // What needs memory comes before the step, after which nothing may fail.
         if hold(&mut self.start, &self.current).is_err() {
             return Err(Refused::new(BookError::Core(CoreError::Memory), event));
@@ -276,36 +293,6 @@ impl<L: Origin> Book<L> {
         }
     }
 
-    // As `apply`, in a book that is marked first where that is due, and in whose journal an Install
-    // that another follows has no answers any more. A refusal gives the event back.
-    fn apply_where_due(
-        &mut self,
-        mine: &mut Share<L>,
-        moment: Second,
-        event: Event,
-    ) -> Result<Vec<Out>, Refused>
-        requires { 0 < mine.old.parts }
-        ensures ok { IfOk result (λ outs. Happens
-            self.old.current moment (occurrence_of event) outs.items self.new.current) }
-        ensures noted { OnOk result (IsNoted self.old (entry moment event) self.new) }
-        ensures taken { OnOk result (self.new.taken ≡ self.old.taken + 1) }
-        ensures share { OnOk result (mine.new.amount ≡ mine.old.amount + 1) }
-        ensures parts { mine.new.parts ≡ mine.old.parts }
-        ensures refused { AnswersAnew self.old moment event (without_event result) }
-        ensures back { IfErr result (λ refused. refused.event ≡ event) }
-        ensures err { OnErr result
-            (IsSameOrMarked self.old self.new × (mine.new.amount ≡ mine.old.amount)) }
-    {
-        self.make_room();
-        match self.attempt(mine, moment, event) {
-            Ok(outs) => {
-                self.lighten();
-                Ok(outs)
-            }
-            Err(refused) => Err(refused),
-        }
-    }
-
     /// Takes an event as [`apply`](Book::apply) does, in a book that is marked first where its
     /// journal is full, or where its events hold more bytes than 256 KiB and 256 for each LSA of
     /// the router. So `Journal` is answered only where 2^63 events were taken. Where memory is
@@ -338,23 +325,30 @@ impl<L: Origin> Book<L> {
             ((IsRefusedEarly self.old moment event ⊎ IsSameOrAnew self.old self.new)
             × (mine.new.amount ≡ mine.old.amount)) }
     {
-        if self.taken == TAKEN {
+        if self.taken() == TAKEN {
             return Err(BookError::Journal);
         }
         // `ClockBack` and `NoInterface` come before any mark.
         if let Some(error) = self.now().refuses(moment, &event) {
             return Err(BookError::Core(error));
         }
-        let refused = match self.apply_where_due(mine, moment, event) {
-            Ok(outs) => return Ok(outs),
+        self.make_room();
+        let refused = match self.attempt(mine, moment, event) {
+            Ok(outs) => {
+                self.lighten();
+                return Ok(outs);
+            }
             Err(refused) => refused,
         };
-        if refused.error.number() != CoreError::Memory.number() {
+        if !refused.is_short() {
             return Err(refused.error);
         }
         self.start_anew();
-        match self.apply_where_due(mine, moment, refused.event) {
-            Ok(outs) => Ok(outs),
+        match self.attempt(mine, moment, refused.event) {
+            Ok(outs) => {
+                self.lighten();
+                Ok(outs)
+            }
             Err(refused) => Err(refused.error),
         }
     }

@@ -1,5 +1,5 @@
 //! Why a book takes no event.
-ghost use Rattle.std.specs.Prelude.{◌≡◌};
+ghost use Rattle.std.specs.Prelude.{◌≡◌, false, true};
 ghost use Rattle.book.specs.Numbers.{book_error_number};
 
 use flood::{CoreError, Event};
@@ -30,6 +30,14 @@ impl Refused {
         ensures { result ≡ record { error = error; event = event } }
     {
         Refused { error, event }
+    }
+
+    /// Whether an allocation was refused, and that is why.
+    pub(crate) fn is_short(&self) -> bool
+        ensures short { result ≡ true → self.now.error ≡ BookError.Core CoreError.Memory }
+        ensures other { result ≡ false → self.now.error ≡ BookError.Core CoreError.Memory → ⊥ }
+    {
+        matches!(self.error, BookError::Core(CoreError::Memory))
     }
 }
 

@@ -1,9 +1,11 @@
-use Rattle.std.proofs.Common.{◌≡◌, ◌+◌, List, [], ◌∷◌, ◌++◌, Some, sym, subst, ap, ◌∙◌, rules}
+use Rattle.std.proofs.Common.{◌≡◌, ◌<◌, ◌^◌, ◌+◌, List, [], ◌∷◌, ◌++◌, Some, length, sym, subst}
+use Rattle.std.proofs.Common.{ap, ◌∙◌, arith, rules}
+use Rattle.std.proofs.lemmas.List.{length-append}
 use Rattle.events.specs.Routers.{Router}
 use Rattle.flood.specs.Occurrences.{occurrence_of}
 use Rattle.book.specs.declared.entry.JournalEntry.{JournalEntry}
 use Rattle.book.specs.Bytes.{bytes_of, with_event}
-use Rattle.book.specs.Replay.{Replays, entry, start_of}
+use Rattle.book.specs.Replay.{BookView, Replays, entry, start_of}
 use Rattle.book.proofs.Noted.{where_ok}
 use Rattle.book.proofs.Replayed.{bytes_with, late_enough, leads_on, replays_on}
 use Rattle.book.proofs.book.Book.attempt.Goals as goal
@@ -33,7 +35,13 @@ invariant_of-self-in-Ok g c =
       weighed =
           c.with_event-self-inside.ensures ∙ (ap (λ n. with_event n c.args.event) kept.weighed
           ∙ (sym (bytes_with journal last) ∙ ap bytes_of (sym grown)));
-      room = search rules;
-      few = search rules;
+      room =
+          (let fits : length journal < 65536 =
+          subst (λ (b : BookView). length b.journal < 65536) (sym c.self.view_is) c.requires.room in
+          omega (arith, fits, ap length grown, length-append journal (last ∷ [])));
+      few =
+          (let free : c.self.inside.taken < 2 ^ 63 =
+          subst (λ (b : BookView). b.taken < 2 ^ 63) (sym c.self.view_is) c.requires.few in
+          omega (arith, free));
       counted = ap (λ n. n + 1) kept.counted ∙ sym c.add.ensures.total;
     }
