@@ -41,7 +41,7 @@ pub struct Hub<L: Site, B: Taker<L>> {
     book: Mutex<B>,
     of: PhantomData<L>,
     // how often the programs were changed
-    changes: AtomicU64,
+    pub(crate) changes: AtomicU64,
     pub(crate) shared: Shared,
     pub ghost words: { shared ≡ L.words },
 }
@@ -111,13 +111,6 @@ impl<L: Site, B: Taker<L>> Hub<L, B> {
         B::tell(&self.changes, notice);
     }
 
-    // How often the programs were changed, as a port reads it.
-    pub(crate) fn changes(&self, mine: &Share<L>) -> u64
-        ensures { is_counted B.refuses mine.now.amount result }
-    {
-        B::changes(&self.changes, mine)
-    }
-
     /// Takes an event under the lock.
     pub(crate) fn take<R: Wait>(
         &self,
@@ -165,7 +158,7 @@ impl<L: Site, B: Taker<L>> Hub<L, B> {
         ensures err { OnErr result (mine.new.amount ≡ mine.old.amount) }
     {
         let mut guard = self.book.lock(rt);
-        if self.changes(mine) != changes {
+        if B::changes(&self.changes, mine) != changes {
             return Err(TurnError::Away);
         }
         let book: &mut B = &mut *guard;

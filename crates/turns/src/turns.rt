@@ -78,7 +78,7 @@ pub fn turn<L: Site, B: Taker<L>, G: Gate, R: Wait>(
     ensures number { port.new.number ≡ port.old.number }
     ensures known { IsPrefix (known_to port.old.asker) (known_to port.new.asker) }
 {
-    let changes = hub.changes(&port.share);
+    let changes = B::changes(&hub.changes, &port.share);
     let event = asked(rt, hub, &mut port.asker, &mut port.seat, moment, work)?;
     gate.pass(port.number);
     let taken = hub.take(rt, &mut port.share, moment, event)?;
