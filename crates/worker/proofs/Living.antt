@@ -1,8 +1,9 @@
 -- The steps of a worker's life, put together.
 use Rattle.std.proofs.Common.{◌≡◌, ◌≢◌, inl, inr, ℕ, suc, ◌+◌, ◌≤◌, List, [], ◌∷◌}
 use Rattle.std.proofs.Common.{true, false}
-use Rattle.std.proofs.Common.{length, Option, Some, Result, Ok, Err, OnOk, refl, subst}
+use Rattle.std.proofs.Common.{length, Option, Some, Result, Ok, Err, IfErr, IfOk, OnOk, refl, subst}
 use Rattle.std.proofs.Common.{◌∙◌, arith}
+use Rattle.std.specs.Prelude.{MatchResult, OnErr}
 use mathlib.Core.List.{IsPrefix}
 use Rattle.turns.specs.Turns.{Offers, Refuses, Took}
 use Rattle.turns.specs.declared.turned.Turned.{Turned}
@@ -87,44 +88,35 @@ pub on_ok : {T E P Q : Type 0} (r : Result T E) → (P → Q) → OnOk r P → O
 on_ok (Ok x) f h = f h
 on_ok (Err e) f h = h
 
-pub served : {Link Clock : Type 0} (senses : Senses Link Clock) (moment : ℕ) (work : Work)
+-- a turn that was tried, and whose outs were sent, if it was taken
+pub serves : {Link Clock : Type 0} (senses : Senses Link Clock) (moment : ℕ) (work : Work)
     (before : Standing Link Clock) (ended : ℕ) (after : Standing Link Clock)
-    (outcome : Result Turned TurnError) (turned : Turned) → outcome ≡ Ok turned
-    → IsPrefix before.known after.known
+    (outcome : Result Turned TurnError) → IsPrefix before.known after.known
     → IsTried senses.shows (λ m. senses.refusals before.known after.known before.events m work)
     before.clock moment after.clock ended outcome → senses.asks ended work
-    → senses.turns before.known after.known ended work before.events after.events turned
-    → IsSent senses.gives before.link turned after.link
+    → IfOk outcome (λ turned. senses.turns before.known after.known ended work before.events
+    after.events turned)
+    → IfErr outcome (λ error. senses.refusals before.known after.known before.events ended work
+    error)
+    → OnErr outcome (after.events ≡ before.events)
+    → MatchResult outcome (λ turned. IsSent senses.gives before.link turned after.link)
+    (λ _. after.link ≡ before.link)
     → Serves senses moment work before ended after
-served senses moment work before ended after outcome turned is learnt tried asked turns sent =
+serves senses moment work before ended after (Ok turned) learnt tried asked turns why events sent =
     record {
       outcome = Ok turned;
       learnt = learnt;
-      tried = subst (IsTried senses.shows
-          (λ m. senses.refusals before.known after.known before.events m work)
-          before.clock moment after.clock ended) is tried;
+      tried = tried;
       asked = asked;
       given = (turns, sent);
     }
-
-pub refused : {Link Clock : Type 0} (senses : Senses Link Clock) (moment : ℕ) (work : Work)
-    (before : Standing Link Clock) (ended : ℕ) (after : Standing Link Clock)
-    (outcome : Result Turned TurnError) (error : TurnError) → outcome ≡ Err error
-    → IsPrefix before.known after.known
-    → IsTried senses.shows (λ m. senses.refusals before.known after.known before.events m work)
-    before.clock moment after.clock ended outcome → senses.asks ended work
-    → senses.refusals before.known after.known before.events ended work error
-    → after.link ≡ before.link → after.events ≡ before.events
-    → Serves senses moment work before ended after
-refused senses moment work before ended after outcome error is learnt tried asked why link events =
+serves senses moment work before ended after (Err error) learnt tried asked turns why events sent =
     record {
       outcome = Err error;
       learnt = learnt;
-      tried = subst (IsTried senses.shows
-          (λ m. senses.refusals before.known after.known before.events m work)
-          before.clock moment after.clock ended) is tried;
+      tried = tried;
       asked = asked;
-      given = (why, link, events);
+      given = (why, sent, events);
     }
 
 -- ---- a round

@@ -1,13 +1,13 @@
 //! The loop of a worker.
-ghost use Rattle.std.specs.Prelude.{◌≡◌, ◌<◌, ◌++◌, ◌↔◌, Err, IfErr, IfOk, MatchOption};
-ghost use Rattle.std.specs.Prelude.{OnOk, OnErr, false, true};
+ghost use Rattle.std.specs.Prelude.{◌≡◌, ◌≢◌, ◌<◌, ◌++◌, ◌↔◌, Err, IfErr, IfOk, MatchOption};
+ghost use Rattle.std.specs.Prelude.{MatchResult, OnOk, OnErr, Some, false, true};
 ghost use mathlib.Core.List.{IsPrefix};
 ghost use Rattle.hooks.specs.Known.{known_to};
 ghost use Rattle.turns.specs.Turns.{AsksFor, IsTurned, RefusesFor};
 ghost use Rattle.worker.specs.Refusals.{clock_back};
 ghost use Rattle.worker.specs.Sending.{IsGivenEach};
-ghost use Rattle.worker.specs.Lives.{HasLived, HasLivedOn, IsTried, IsTurnedTo, Listens, Round};
-ghost use Rattle.worker.specs.Lives.{Serves, Ticks, senses_of, standing};
+ghost use Rattle.worker.specs.Lives.{HasLived, HasLivedOn, IsSent, IsTried, Listens, Round, Ticks};
+ghost use Rattle.worker.specs.Lives.{senses_of, standing};
 ghost use Rattle.worker.specs.declared.serving.Ended.TheVariants.{Fault, Quit};
 
 use crate::flag::Flag;
@@ -17,7 +17,7 @@ use std::sync::Wait;
 use turns::{
     BookError, CoreError, Gate, Hub, Out, Port, Site, Taker, TurnError, Turned, Work, turn,
 };
-use words::{Second, Sequence};
+use words::Second;
 
 /// How a worker ended.
 #[derive(Clone, Copy, Debug, PartialEq, Eq)]
@@ -124,9 +124,17 @@ fn round<L: Site, B: Taker<L>, G: Gate, K: Transport, S: Seconds, R: Wait>(
     listen(rt, alloc, hub, port, gate, link, clock, buffer)
 }
 
-// A Tick's turn, if the second has changed since this worker's last one. Each worker takes such
-// turns: of those in one second the first does what is due.
-#[tactic(auto, using(crate::proofs::Living::ticked_then, crate::proofs::Living::ticks_now, crate::proofs::Tries::known_first))]
+// Whether this was the moment of the last Tick.
+fn has_ticked(ticked: Option<Second>, now: Second) -> bool
+    ensures same { result ≡ true → ticked ≡ Some now }
+    ensures other { result ≡ false → ticked ≢ Some now }
+{
+    ticked == Some(now)
+}
+
+// A Tick's turn, if the second has changed since this worker's last one, and what it sends. Each
+// worker takes such turns: of those in one second the first does what is due.
+#[tactic(auto, using(crate::proofs::Living::ticked_then, crate::proofs::Tries::known_first))]
 fn tick<L: Site, B: Taker<L>, G: Gate, K: Transport, S: Seconds, R: Wait>(
     rt: &R,
     hub: &Hub<L, B>,
@@ -147,15 +155,16 @@ fn tick<L: Site, B: Taker<L>, G: Gate, K: Transport, S: Seconds, R: Wait>(
     ensures fault { OnErr result (K.faults link.old < K.faults link.new) }
 {
     let mut now = clock.second();
-    if *ticked == Some(now) {
+    if has_ticked(*ticked, now) {
         return Ok(());
     }
-    serve(rt, hub, port, gate, link, clock, &mut now, &Work::Tick)?;
+    let turned = tried(rt, hub, port, gate, clock, &mut now, &Work::Tick);
+    send_turned(link, &turned)?;
     *ticked = Some(now);
     Ok(())
 }
 
-// A turn with the datagram that the link gives, if it gives one.
+// A turn with the datagram that the link gives, if it gives one, and what that sends.
 #[tactic(auto, using(crate::proofs::Living::listened, crate::proofs::Tries::known_first))]
 fn listen<L: Site, B: Taker<L>, G: Gate, K: Transport, S: Seconds, R: Wait>(
     rt: &R,
@@ -176,65 +185,14 @@ fn listen<L: Site, B: Taker<L>, G: Gate, K: Transport, S: Seconds, R: Wait>(
     ensures fine { OnOk result (K.faults link.new ≡ K.faults link.old) }
     ensures fault { OnErr result (K.faults link.old < K.faults link.new) }
 {
-    match link.receive(alloc, buffer)? {
-        Some(bytes) => hear(rt, hub, port, gate, link, clock, bytes),
-        None => Ok(()),
-    }
-}
-
-// A turn with a datagram.
-#[tactic(auto, using(crate::proofs::Living::turned_to, crate::proofs::Tries::known_first))]
-fn hear<L: Site, B: Taker<L>, G: Gate, K: Transport, S: Seconds, R: Wait>(
-    rt: &R,
-    hub: &Hub<L, B>,
-    port: &mut Port<L>,
-    gate: &mut G,
-    link: &mut K,
-    clock: &mut S,
-    heard: Sequence<u8>,
-) -> Result<(), LinkFault>
-    ensures turned { OnOk result (IsTurnedTo
-        (senses_of K.gives K.hears S.shows B.offers B.took B.refuses port.old.number)
-        heard
-        (standing link.old clock.old (known_to port.old.asker) port.old.share.amount)
-        (standing link.new clock.new (known_to port.new.asker) port.new.share.amount)) }
-    ensures number { port.new.number ≡ port.old.number }
-    ensures known { IsPrefix (known_to port.old.asker) (known_to port.new.asker) }
-    ensures fine { OnOk result (K.faults link.new ≡ K.faults link.old) }
-    ensures fault { OnErr result (K.faults link.old < K.faults link.new) }
-{
-    let work = Work::Datagram(port.number(), heard);
+    let heard = link.receive(alloc, buffer)?;
+    let Some(bytes) = heard else {
+        return Ok(());
+    };
+    let work = Work::Datagram(port.number(), bytes);
     let mut now = clock.second();
-    serve(rt, hub, port, gate, link, clock, &mut now, &work)
-}
-
-// Takes a turn, and sends its outs; a refused one sends nothing. Afterwards `moment` is that of the
-// turn's last try.
-#[tactic(auto, using(crate::proofs::Living::served, crate::proofs::Living::refused, crate::proofs::Tries::known_first))]
-fn serve<L: Site, B: Taker<L>, G: Gate, K: Transport, S: Seconds, R: Wait>(
-    rt: &R,
-    hub: &Hub<L, B>,
-    port: &mut Port<L>,
-    gate: &mut G,
-    link: &mut K,
-    clock: &mut S,
-    moment: &mut Second,
-    work: &Work,
-) -> Result<(), LinkFault>
-    ensures serves { OnOk result (Serves
-        (senses_of K.gives K.hears S.shows B.offers B.took B.refuses port.old.number)
-        moment.old work.now
-        (standing link.old clock.old (known_to port.old.asker) port.old.share.amount) moment.new
-        (standing link.new clock.new (known_to port.new.asker) port.new.share.amount)) }
-    ensures number { port.new.number ≡ port.old.number }
-    ensures known { IsPrefix (known_to port.old.asker) (known_to port.new.asker) }
-    ensures fine { OnOk result (K.faults link.new ≡ K.faults link.old) }
-    ensures fault { OnErr result (K.faults link.old < K.faults link.new) }
-{
-    match tried(rt, hub, port, gate, clock, moment, work) {
-        Ok(turned) => send_all(link, &turned),
-        Err(_) => Ok(()),
-    }
+    let turned = tried(rt, hub, port, gate, clock, &mut now, &work);
+    send_turned(link, &turned)
 }
 
 // Whether the turn was refused since the router's clock is ahead.
@@ -301,6 +259,22 @@ pub fn send_all<K: Transport>(link: &mut K, turned: &Turned) -> Result<(), LinkF
     match &turned.refreshed {
         Some(outs) => send_each(link, outs),
         None => Ok(()),
+    }
+}
+
+// Sends what a turn sends; a refused one sends nothing.
+fn send_turned<K: Transport>(
+    link: &mut K,
+    turned: &Result<Turned, TurnError>,
+) -> Result<(), LinkFault>
+    ensures sent { OnOk result (MatchResult turned.now
+        (λ turned. IsSent K.gives link.old turned link.new) (λ _. link.new ≡ link.old)) }
+    ensures fine { OnOk result (K.faults link.new ≡ K.faults link.old) }
+    ensures fault { OnErr result (K.faults link.old < K.faults link.new) }
+{
+    match turned {
+        Ok(turned) => send_all(link, turned),
+        Err(_) => Ok(()),
     }
 }
 

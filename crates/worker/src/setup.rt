@@ -56,13 +56,6 @@ impl Setup {
         };
         Ok((loader, setup))
     }
-
-    /// How many ports there will be.
-    pub fn ports(&self) -> usize
-        ensures { result ≡ vec_len self.now.seats }
-    {
-        self.seats.len()
-    }
 }
 
 // A table with so many seats.

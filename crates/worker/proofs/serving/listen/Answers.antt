@@ -1,0 +1,45 @@
+use Rattle.std.proofs.Common.{ℕ, List, Option, refl, subst, sym}
+use Rattle.hooks.specs.Known.{known_to}
+use Rattle.turns.specs.declared.work.Work.TheVariants.{Datagram}
+use Rattle.worker.specs.Lives.{IsHeard, Serves, senses_of, standing}
+use Rattle.worker.proofs.Living.{listened, on_ok, serves, turned_to}
+use Rattle.worker.proofs.serving.listen.Goals as goal
+
+pub returns-in_default-clause-listens : goal.returns-in_default-clause-listens
+returns-in_default-clause-listens g c =
+    let senses = senses_of g.K.Transport.gives g.K.Transport.hears g.S.Seconds.shows
+    g.B.Taker.offers g.B.Taker.took g.B.Taker.refuses c.args.port.now.number in
+    let before = standing c.args.link.now c.args.clock.now (known_to c.args.port.now.asker)
+    c.args.port.now.share.amount in
+    let after = standing c.receive.new.self c.args.clock.now (known_to c.args.port.now.asker)
+    c.args.port.now.share.amount in
+    listened senses before after c.in_ok-heard.heard c.receive.new.self
+    c.in_ok-heard.ensures.heard
+    (subst (λ (heard : Option (List ℕ)). IsHeard senses heard after after) (sym c.in_default.is)
+    refl)
+
+pub returns-clause-listens : goal.returns-clause-listens
+returns-clause-listens g c =
+    let senses = senses_of g.K.Transport.gives g.K.Transport.hears g.S.Seconds.shows
+    g.B.Taker.offers g.B.Taker.took g.B.Taker.refuses c.args.port.now.number in
+    let before = standing c.args.link.now c.args.clock.now (known_to c.args.port.now.asker)
+    c.args.port.now.share.amount in
+    let after = standing c.send_turned.new.link c.tried-turned.new.clock
+    (known_to c.tried-turned.new.port.asker) c.tried-turned.new.port.share.amount in
+    let heard = standing c.receive.new.self c.args.clock.now (known_to c.args.port.now.asker)
+    c.args.port.now.share.amount in
+    let shown = standing c.receive.new.self c.second-now.new.self
+    (known_to c.args.port.now.asker) c.args.port.now.share.amount in
+    on_ok c.send_turned.result
+    (λ sent. listened senses before after c.in_ok-heard.heard c.receive.new.self
+    c.in_ok-heard.ensures.heard
+    (subst (λ (h : Option (List ℕ)). IsHeard senses h heard after) (sym c.in-Some.is)
+    (turned_to senses c.in-Some.bytes heard c.second-now.result c.second-now.new.self
+    c.tried-turned.new.moment after c.second-now.ensures
+    (subst (λ (n : ℕ). Serves senses c.second-now.result (Datagram n c.in-Some.bytes) shown
+    c.tried-turned.new.moment after) c.number.ensures
+    (serves senses c.second-now.result (Datagram c.number.result c.in-Some.bytes) shown
+    c.tried-turned.new.moment after c.tried-turned.result c.tried-turned.ensures.known
+    c.tried-turned.ensures.tried c.tried-turned.ensures.asked c.tried-turned.ensures.turned
+    c.tried-turned.ensures.refused c.tried-turned.ensures.err sent)))))
+    c.send_turned.ensures.sent

@@ -1,0 +1,25 @@
+use Rattle.std.proofs.Common.{◌≡◌, Result, refl, subst, sym}
+use Rattle.std.specs.Prelude.{MatchResult}
+use Rattle.turns.specs.declared.turned.Turned.{Turned}
+use Rattle.turns.specs.declared.turned.TurnError.{TurnError}
+use Rattle.worker.specs.Lives.{IsSent}
+use Rattle.worker.proofs.Living.{on_ok}
+use Rattle.worker.proofs.serving.send_turned.Goals as goal
+
+pub returns-in-Ok-clause-sent : goal.returns-in-Ok-clause-sent
+returns-in-Ok-clause-sent g c =
+    on_ok c.send_all.result
+    (λ each. subst
+    (λ (o : Result Turned TurnError). MatchResult o
+    (λ (t : Turned). IsSent g.K.Transport.gives c.args.link.now t c.send_all.new.link)
+    (λ _. c.send_all.new.link ≡ c.args.link.now))
+    (sym c.in-Ok.is) each)
+    c.send_all.ensures.each
+
+pub returns-in-Err-clause-sent : goal.returns-in-Err-clause-sent
+returns-in-Err-clause-sent g c =
+    subst
+    (λ (o : Result Turned TurnError). MatchResult o
+    (λ (t : Turned). IsSent g.K.Transport.gives c.args.link.now t c.args.link.now)
+    (λ _. c.args.link.now ≡ c.args.link.now))
+    (sym c.in-Err.is) refl
