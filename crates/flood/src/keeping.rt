@@ -61,8 +61,8 @@ fn keep(
     Ok(())
 }
 
-/// What an event sends, once its end is done, unless the router exceeds a limit then; and updates
-/// what is kept for routes. `own` is the router's Router ID, `before` the moment of the event before.
+/// What an event sends, once its end is done, unless the router exceeds a limit then. Updates what
+/// is kept for routes. `own` is the router's Router ID, `before` the moment of the last event.
 ///
 /// # Errors
 /// `Full` if the router exceeds a limit, `Memory` if an allocation is refused. The routes are
