@@ -82,35 +82,33 @@ left_long count items lent made long is same =
     ∙ ap length (sym (left_so count items lent made long is same))
 
 -- each part begins with the drafts as the one before left them
-made_of_parts : (old aged parted new settled : Router) (moment before : ℕ) (p : Part)
-    (d0 d1 e1 d2 e2 d3 : List Drafted) → before ≡ old.moment → settled ≡ old → e1 ≡ d1 → e2 ≡ d2
-    → Makes (on_area (with_ages before moment)) old aged d0 d1
+made_of_parts : (old aged parted new settled : Router) (moment : ℕ) (p : Part)
+    (d0 d1 e1 d2 e2 d3 : List Drafted) → settled ≡ old → e1 ≡ d1 → e2 ≡ d2
+    → Makes (on_area (with_ages old.moment moment)) old aged d0 d1
     → Makes (after_part p moment) aged parted e1 d2
     → Makes (end_event settled moment) parted new e2 d3
     → Makes (after_event old moment p) old new d0 d3
-made_of_parts old aged parted new settled moment before p d0 d1 e1 d2 e2 d3 at is first second
-    ages part end =
+made_of_parts old aged parted new settled moment p d0 d1 e1 d2 e2 d3 is first second ages part end =
     makes_then
-    (makes_then (subst (λ m. Makes (on_area (with_ages m moment)) old aged d0 d1) at ages)
-    (subst (λ ds. Makes (after_part p moment) aged parted ds d2) first part))
+    (makes_then ages (subst (λ ds. Makes (after_part p moment) aged parted ds d2) first part))
     (subst (λ ds. Makes (end_event old moment) parted new ds d3) second
     (subst (λ (r : Router). Makes (end_event r moment) parted new e2 d3) is end))
 
 -- the complete event, each of whose three parts borrows the drafts
-pub made_whole : (old aged parted new settled : Router) (moment before : ℕ) (p : Part) (count : ℕ)
+pub made_whole : (old aged parted new settled : Router) (moment : ℕ) (p : Part) (count : ℕ)
     (items lent1 made1 lent2 made2 lent3 made3 : List Drafted)
-    → before ≡ old.moment → settled ≡ old
+    → settled ≡ old
     → count ≡ length items → items ≡ nothing_at old.area.links
     → lent1 ≡ items → length made1 ≡ length lent1
     → lent2 ≡ left count made1 items → length made2 ≡ length lent2
     → lent3 ≡ left count made2 (left count made1 items) → length made3 ≡ length lent3
-    → Makes (on_area (with_ages before moment)) old aged lent1 made1
+    → Makes (on_area (with_ages old.moment moment)) old aged lent1 made1
     → Makes (after_part p moment) aged parted lent2 made2
     → Makes (end_event settled moment) parted new lent3 made3
     → Makes (after_event old moment p) old new (nothing_at old.area.links)
     (left count made3 (left count made2 (left count made1 items)))
-made_whole old aged parted new settled moment before p count items lent1 made1 lent2 made2 lent3
-    made3 at is long none is1 same1 is2 same2 is3 same3 ages part end =
+made_whole old aged parted new settled moment p count items lent1 made1 lent2 made2 lent3
+    made3 is long none is1 same1 is2 same2 is3 same3 ages part end =
     let items1 : List Drafted = left count made1 items in
     let items2 : List Drafted = left count made2 items1 in
     let long1 : count ≡ length items1 = left_long count items lent1 made1 long is1 same1 in
@@ -122,8 +120,8 @@ made_whole old aged parted new settled moment before p count items lent1 made1 l
     subst (λ ds. Makes (after_event old moment p) old new ds (left count made3 items2))
     (is1 ∙ none)
     (subst (λ ds. Makes (after_event old moment p) old new lent1 ds) (sym third)
-    (made_of_parts old aged parted new settled moment before p lent1 made1 lent2 made2 lent3 made3
-    at is first second ages part end))
+    (made_of_parts old aged parted new settled moment p lent1 made1 lent2 made2 lent3 made3
+    is first second ages part end))
 
 -- ---- its result
 

@@ -94,7 +94,7 @@ pub fn take(
     let before = router.moment();
     let full = full_routers(router, alloc)?;
     let mut drafts = drafts_for(router, alloc)?;
-    router.age(alloc, before, moment, &mut drafts)?;
+    router.age(alloc, moment, &mut drafts)?;
     make_part(router, alloc, moment, part, &mut drafts)?;
     end_event(router, alloc, moment, &full, &mut drafts)?;
     finish(router, routes, alloc, own, before, event, drafts)

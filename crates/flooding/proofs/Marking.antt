@@ -13,6 +13,7 @@ use Rattle.adjacency.specs.Neighbors.{Neighbor, is_exchange_or_later}
 use Rattle.adjacency.specs.Retransmissions.{remove_retransmission}
 use Rattle.received.specs.Links.{Area, Link}
 use Rattle.received.specs.Outcomes.{Send, marked_database, sends_at, only_at, stepping_sends}
+use Rattle.flooding.specs.Kept.{RouterArea}
 use Rattle.flooding.specs.Links.{present}
 use Rattle.flooding.proofs.Only.{sends_stepped}
 
@@ -61,3 +62,11 @@ pub area_is : {ls ms : List Link} {d e : Database} → ls ≡ ms → d ≡ e →
   database = d;
 }) (record { links = ms; database = e })
 area_is ls d i = record { links = ls i; database = d i }
+
+pub router_area_is : {q r : ℕ} {a b s t : Area} → q ≡ r → a ≡ b → s ≡ t
+    → ◌≡◌ {A = RouterArea} (record {
+      router = q;
+      present = a;
+      settled = s;
+    }) (record { router = r; present = b; settled = t })
+router_area_is own now before i = record { router = own i; present = now i; settled = before i }

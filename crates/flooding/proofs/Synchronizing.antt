@@ -1,25 +1,11 @@
 -- The neighbor's state in a link's view, as the definitions read it.
-use Rattle.std.proofs.Common.{◌≡◌, ℕ, zero, suc, ◌+◌, ◌<◌, List, [], ◌∷◌, ◌||◌, length, map, get_or}
+use Rattle.std.proofs.Common.{◌≡◌, ℕ, zero, suc, ◌+◌, ◌<◌, List, [], ◌∷◌, length, map, get_or}
 use Rattle.std.proofs.Common.{refl, ap, ◌∙◌, arith}
-use Rattle.std.specs.List.{list_any, slice_get}
-use Rattle.std.specs.Prelude.{Option, None, Some}
+use Rattle.std.specs.List.{slice_get}
+use Rattle.std.specs.Prelude.{Some}
 use Rattle.adjacency.specs.Kept.{Kept}
-use Rattle.adjacency.specs.Neighbors.{Neighbor}
-use Rattle.adjacency.specs.Asked as neighbor
-use Rattle.received.specs.Links.{Link, any_exchange_or_loading, neighbor_at}
-use Rattle.received.specs.Links.{neighbor_is_exchange_or_loading, neighbor_on}
+use Rattle.received.specs.Links.{Link, neighbor_at, neighbor_on}
 use Rattle.flooding.specs.Links.{present}
-
-same_state : (o : Option Neighbor)
-    → neighbor.any_exchange_or_loading o ≡ neighbor_is_exchange_or_loading o
-same_state None = refl
-same_state (Some n) = refl
-
-pub shown_any : (ls : List (Kept Link))
-    → list_any (λ (l : Kept Link). neighbor.any_exchange_or_loading l.present.neighbor) ls
-    ≡ any_exchange_or_loading (map present ls)
-shown_any [] = refl
-shown_any (l ∷ ls) = λ i. same_state l.present.neighbor i || shown_any ls i
 
 shown_get : (ls : List (Kept Link)) (i : ℕ) (d : Kept Link) → i < length ls
     → Some (get_or ls i d).present ≡ slice_get (map present ls) i

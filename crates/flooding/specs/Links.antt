@@ -4,14 +4,14 @@ use Rattle.std.specs.FinMap as finite
 use Rattle.words.specs.Numbers.{InterfaceNumber, Moment}
 use Rattle.words.specs.declared.key.Key.{Key}
 use Rattle.words.specs.Constants.{max_age}
-use Rattle.adjacency.specs.lsdb.Copies.{Database, DatabaseCopy, age_out, install_flooded}
-use Rattle.adjacency.specs.lsdb.Copies.{has_just_aged_out, install_originated, is_aged_out, lsa_now}
+use Rattle.adjacency.specs.lsdb.Copies.{Database, DatabaseCopy, age_out, has_just_aged_out}
+use Rattle.adjacency.specs.lsdb.Copies.{install_originated, lsa_now}
 use Rattle.adjacency.specs.lsdb.Headers.{Lsa, lsa_aged}
 use Rattle.adjacency.specs.Kept.{Kept}
 use Rattle.adjacency.specs.Neighbors.{Neighbor}
 use Rattle.adjacency.specs.declared.interface.Interface.{Interface}
 use Rattle.received.specs.Flooding.{flood}
-use Rattle.received.specs.Links.{Area, Link}
+use Rattle.received.specs.Links.{Area, Link, any_has_retransmission}
 use Rattle.received.specs.Outcomes.{Outcome, on_database}
 
 abbrev pub present : Kept Link → Link
@@ -52,26 +52,19 @@ flooded_copy moment sender (Some c) o = flood moment sender (lsa_now moment c) o
 abbrev pub flooded_key : Moment → Option InterfaceNumber → Key → Area → Outcome
 flooded_key moment sender key a = flooded_copy moment sender (finite.get a.database key) (start a)
 
--- the LSA was received by flooding: it is installed and flooded
-abbrev pub install_outcome : Moment → Option InterfaceNumber → Lsa → Area → Outcome
-install_outcome moment sender lsa a =
-    flood moment sender lsa (on_database (install_flooded moment lsa) (start a))
-
 -- this router originated the LSA: it is installed and flooded to every neighbor
 abbrev pub originate_outcome : Moment → Lsa → Area → Outcome
 originate_outcome moment lsa a =
     flood moment None lsa (on_database (install_originated moment lsa) (start a))
 
--- premature aging (section 14.1): a copy that is younger than MaxAge is set to MaxAge and flooded
--- to every neighbor
-abbrev pub flushed_copy : Moment → Key → Option DatabaseCopy → Outcome → Outcome
-flushed_copy moment key None o = o
-flushed_copy moment key (Some c) o =
-    if is_aged_out moment c then o
-    else flood moment None (lsa_aged max_age c.lsa) (on_database (age_out moment key) o)
+-- a copy, if there is one, is set to MaxAge and flooded to every neighbor
+abbrev pub aged_copy : Moment → Key → Option DatabaseCopy → Outcome → Outcome
+aged_copy moment key None o = o
+aged_copy moment key (Some c) o =
+    flood moment None (lsa_aged max_age c.lsa) (on_database (age_out moment key) o)
 
-abbrev pub flush_outcome : Moment → Key → Area → Outcome
-flush_outcome moment key a = flushed_copy moment key (finite.get a.database key) (start a)
+abbrev pub age_outcome : Moment → Key → Area → Outcome
+age_outcome moment key a = aged_copy moment key (finite.get a.database key) (start a)
 
 -- a copy that has reached MaxAge since the moment `before` is flooded to every neighbor (section
 -- 14)
@@ -84,3 +77,8 @@ come_of_age_copy before moment (Some c) o =
 abbrev pub come_of_age : (before : Moment) → (moment : Moment) → Key → Area → Outcome
 come_of_age before moment key a =
     come_of_age_copy before moment (finite.get a.database key) (start a)
+
+-- the copy of this key is removed unless the key is on some retransmission list (section 14)
+abbrev pub without_acknowledged : List Link → Database → Key → Database
+without_acknowledged links db key =
+    if any_has_retransmission key links then db else finite.remove db key

@@ -1,10 +1,11 @@
 -- A step of each link, and a step of one link.
-use Rattle.std.specs.Prelude.{ℕ, List, [], Option, None, Some}
+use Rattle.std.specs.Prelude.{ℕ, List, [], ◌∷◌, ◌++◌, drop, length, map, Option, None, Some}
 use Rattle.std.specs.List.{enumerate_from, flat_map, fold}
 use Rattle.words.specs.Numbers.{InterfaceNumber, Moment}
 use Rattle.words.specs.declared.key.Key.{Key}
 use Rattle.adjacency.specs.lsdb.Copies.{Database, mark_sent}
 use Rattle.adjacency.specs.Contents.{Content, sent_on, step_on}
+use Rattle.adjacency.specs.Drafts.{Drafted}
 use Rattle.adjacency.specs.Retransmissions.{send_again}
 use Rattle.adjacency.specs.declared.draft.Update.{Update}
 use Rattle.received.specs.Links.{Link, change_link, link_at}
@@ -13,6 +14,14 @@ use Rattle.flooding.specs.Links.{with_neighbor}
 
 abbrev pub sends_of : (Link → List Content) → List Link → List Send
 sends_of f links = flat_map (λ (e : ℕ × Link). sends_at e.0 (f e.1)) (enumerate_from 1 links)
+
+-- each link takes a step, which reads the database before it, and the copies that they send in Link
+-- State Updates are marked as sent
+abbrev pub all_links : Moment → (after : Database → Link → Link)
+    → (sends : Database → Link → List Content) → Outcome → Outcome
+all_links moment after sends o =
+    let db : Database = o.area.database in
+    sending moment (sends_of (sends db) o.area.links) (on_links (map (after db)) o)
 
 -- what the link sends, if there is one
 abbrev pub sent_by : (Link → List Content) → Option Link → List Content
@@ -47,3 +56,12 @@ key_of_update u = u.key
 -- the copies of these keys are marked as sent
 abbrev pub mark_each : Moment → Database → List Key → Database
 mark_each moment db keys = fold (λ (d : Database) (key : Key). mark_sent moment key d) db keys
+
+abbrev pub update_count : Drafted → ℕ
+update_count d = length d.updates
+
+-- the keys of the Link State Updates of each draft after its first ones
+abbrev pub keys_behind : List ℕ → List Drafted → List Key
+keys_behind [] ds = []
+keys_behind (c ∷ cs) [] = []
+keys_behind (c ∷ cs) (d ∷ ds) = map key_of_update (drop c d.updates) ++ keys_behind cs ds

@@ -1,17 +1,19 @@
-//! Flooding over links and database, which the caller passes separately.
-ghost use Rattle.std.specs.Prelude.{◌≡◌, ◌≤◌, ◌||◌, IfOk, OnOk, length, map};
+//! Flooding over the links of an area.
+ghost use Rattle.std.specs.Prelude.{◌≡◌, ◌≤◌, ◌||◌, IfOk, None, OnOk, length, map};
 ghost use Rattle.words.specs.Constants.{max_age};
 ghost use Rattle.adjacency.specs.lsdb.Copies.{has_just_aged_out, lsa_now};
 ghost use Rattle.adjacency.specs.Floods.{is_any};
 ghost use Rattle.received.specs.Flooding.{flood_to, is_sender};
 ghost use Rattle.received.specs.Outcomes.{stepped_links, stepping_sends};
+ghost use Rattle.received.specs.Updates.{install};
 ghost use Rattle.flooding.specs.Drafted.{drafts_with};
-ghost use Rattle.flooding.specs.Links.{area_of, come_of_age, flooded_key, flush_outcome};
-ghost use Rattle.flooding.specs.Links.{install_outcome};
-ghost use Rattle.flooding.specs.Links.{originate_outcome, present, settled_link};
+ghost use Rattle.flooding.specs.Links.{age_outcome, come_of_age, flooded_key, originate_outcome};
+ghost use Rattle.flooding.specs.Links.{present, settled_link, start};
 
+use crate::area::Area;
 use crate::link::Link;
-use adjacency::{DatabaseCopy, Draft, Lsdb};
+use crate::rows::acknowledge_later;
+use adjacency::{DatabaseCopy, Draft};
 use lsa::Lsa;
 use lsdb::CopyTimes;
 use std::alloc::{AllocError, Global};
@@ -65,39 +67,6 @@ fn flood_links(
     Ok(sent)
 }
 
-// Floods the copy of this key over all links, if there is one, and marks it as sent if it was.
-fn flood(
-    alloc: Global,
-    moment: Second,
-    sender: Option<usize>,
-    key: &Key,
-    links: &mut [Link],
-    database: &mut Lsdb,
-    drafts: &mut [Draft],
-) -> Result<(), AllocError>
-    requires { length drafts.old ≡ length links.old }
-    ensures ok { OnOk result (area_of links.new database.new.present
-        ≡ (flooded_key moment sender key.now (area_of links.old database.old.present)).area) }
-    ensures drafts { OnOk result (drafts.new
-        ≡ drafts_with (flooded_key moment sender key.now
-        (area_of links.old database.old.present)).sends
-        (map present links.old) drafts.old) }
-    ensures links { map settled_link links.new ≡ map settled_link links.old }
-    ensures settled { database.new.settled ≡ database.old.settled }
-    ensures router { database.new.router ≡ database.old.router }
-{
-    let Some(copy) = database.get(key) else {
-        return Ok(());
-    };
-    let header = copy.header(moment);
-    let sent = flood_links(alloc, moment, sender, &copy, links, drafts)?;
-    if sent {
-        let sent_key = header.key();
-        return database.mark_sent(moment, &sent_key);
-    }
-    Ok(())
-}
-
 // Floods the LSA over all links as the copy that is going to be installed, so that it needn't be
 // searched for afterwards. Returns whether any Link State Update was sent.
 fn flood_received(
@@ -130,129 +99,160 @@ fn flood_received(
     flood_links(alloc, moment, sender, &copy, links, drafts)
 }
 
-// Installs the LSA that was received by flooding, and floods it.
-pub fn install(
-    alloc: Global,
-    moment: Second,
-    sender: Option<usize>,
-    lsa: Lsa,
-    links: &mut [Link],
-    database: &mut Lsdb,
-    drafts: &mut [Draft],
-) -> Result<(), AllocError>
-    requires { length drafts.old ≡ length links.old }
-    ensures ok { OnOk result (area_of links.new database.new.present
-        ≡ (install_outcome moment sender lsa (area_of links.old database.old.present)).area) }
-    ensures drafts { OnOk result (drafts.new
-        ≡ drafts_with (install_outcome moment sender lsa
-        (area_of links.old database.old.present)).sends
-        (map present links.old) drafts.old) }
-    ensures links { map settled_link links.new ≡ map settled_link links.old }
-    ensures settled { database.new.settled ≡ database.old.settled }
-    ensures router { database.new.router ≡ database.old.router }
-{
-    lsa.check_age();
-    let header = lsa.header();
-    let sent = flood_received(alloc, moment, sender, &lsa, links, drafts)?;
-    database.install_flooded(moment, lsa)?;
-    if sent {
-        let sent_key = header.key();
-        return database.mark_sent(moment, &sent_key);
-    }
-    Ok(())
-}
-
-// Installs an LSA that this router originated, and floods it to every neighbor.
-pub fn originate(
-    alloc: Global,
-    moment: Second,
-    lsa: Lsa,
-    links: &mut [Link],
-    database: &mut Lsdb,
-    drafts: &mut [Draft],
-) -> Result<(), AllocError>
-    requires { length drafts.old ≡ length links.old }
-    ensures ok { OnOk result (area_of links.new database.new.present
-        ≡ (originate_outcome moment lsa (area_of links.old database.old.present)).area) }
-    ensures drafts { OnOk result (drafts.new
-        ≡ drafts_with (originate_outcome moment lsa (area_of links.old database.old.present)).sends
-        (map present links.old) drafts.old) }
-    ensures links { map settled_link links.new ≡ map settled_link links.old }
-    ensures settled { database.new.settled ≡ database.old.settled }
-    ensures router { database.new.router ≡ database.old.router }
-{
-    lsa.check_age();
-    let header = lsa.header();
-    let key = header.key();
-    database.install_originated(moment, lsa)?;
-    flood(alloc, moment, None, &key, links, database, drafts)
-}
-
-// Sets a copy that is younger than MaxAge to MaxAge, and floods it to every neighbor.
-pub fn flush(
-    alloc: Global,
-    moment: Second,
-    key: &Key,
-    links: &mut [Link],
-    database: &mut Lsdb,
-    drafts: &mut [Draft],
-) -> Result<(), AllocError>
-    requires { length drafts.old ≡ length links.old }
-    ensures ok { OnOk result (area_of links.new database.new.present
-        ≡ (flush_outcome moment key.now (area_of links.old database.old.present)).area) }
-    ensures drafts { OnOk result (drafts.new
-        ≡ drafts_with (flush_outcome moment key.now (area_of links.old database.old.present)).sends
-        (map present links.old) drafts.old) }
-    ensures links { map settled_link links.new ≡ map settled_link links.old }
-    ensures settled { database.new.settled ≡ database.old.settled }
-    ensures router { database.new.router ≡ database.old.router }
-{
-    let Some(copy) = database.get(key) else {
-        return Ok(());
-    };
-    let aged = copy.is_aged_out(moment);
-    if aged {
-        return Ok(());
-    }
-    database.age_out(moment, key)?;
-    flood(alloc, moment, None, key, links, database, drafts)
-}
-
 fn has_just_aged_out(before: Second, moment: Second, copy: &DatabaseCopy<'_>) -> bool
     ensures { result ≡ has_just_aged_out before moment copy.now }
 {
     copy.is_aged_out(moment) && !copy.is_aged_out(before)
 }
 
-// Floods a copy that has reached MaxAge since the moment `before` to every neighbor.
-pub fn come_of_age(
-    alloc: Global,
-    before: Second,
-    moment: Second,
-    key: &Key,
-    links: &mut [Link],
-    database: &mut Lsdb,
-    drafts: &mut [Draft],
-) -> Result<(), AllocError>
-    requires { length drafts.old ≡ length links.old }
-    ensures ok { OnOk result (area_of links.new database.new.present
-        ≡ (come_of_age before moment key.now (area_of links.old database.old.present)).area) }
-    ensures drafts { OnOk result (drafts.new
-        ≡ drafts_with (come_of_age before moment key.now
-        (area_of links.old database.old.present)).sends
-        (map present links.old) drafts.old) }
-    ensures links { map settled_link links.new ≡ map settled_link links.old }
-    ensures settled { database.new.settled ≡ database.old.settled }
-    ensures router { database.new.router ≡ database.old.router }
-{
-    let Some(copy) = database.get(key) else {
-        return Ok(());
-    };
-    let came = has_just_aged_out(before, moment, &copy);
-    if came {
-        return flood(alloc, moment, None, key, links, database, drafts);
+impl Area {
+    // Floods the copy of this key to every neighbor, if there is one, and marks it as sent if it
+    // was.
+    fn flood(
+        &mut self,
+        alloc: Global,
+        moment: Second,
+        key: &Key,
+        drafts: &mut [Draft],
+    ) -> Result<(), AllocError>
+        requires { length drafts.old ≡ length self.old.present.links }
+        ensures ok { OnOk result (self.new.present
+            ≡ (flooded_key moment None key.now self.old.present).area) }
+        ensures drafts { OnOk result (drafts.new
+            ≡ drafts_with (flooded_key moment None key.now self.old.present).sends
+            self.old.present.links drafts.old) }
+        ensures settled { self.new.settled ≡ self.old.settled }
+        ensures router { self.new.router ≡ self.old.router }
+    {
+        let Some(copy) = self.database.get(key) else {
+            return Ok(());
+        };
+        let header = copy.header(moment);
+        let sent = flood_links(alloc, moment, None, &copy, &mut self.links, drafts)?;
+        if sent {
+            let sent_key = header.key();
+            return self.database.mark_sent(moment, &sent_key);
+        }
+        Ok(())
     }
-    Ok(())
+
+    // Floods an LSA that was received at the interface with this number, delays its
+    // acknowledgment, and installs it.
+    pub(crate) fn install(
+        &mut self,
+        alloc: Global,
+        moment: Second,
+        number: usize,
+        lsa: Lsa,
+        drafts: &mut [Draft],
+    ) -> Result<(), AllocError>
+        requires first { 1 ≤ number }
+        requires last { number ≤ length self.old.present.links }
+        requires drafts { length drafts.old ≡ length self.old.present.links }
+        ensures ok { OnOk result (self.new.present
+            ≡ (install moment number lsa (start self.old.present)).area) }
+        ensures drafts { OnOk result (drafts.new
+            ≡ drafts_with (install moment number lsa (start self.old.present)).sends
+            self.old.present.links drafts.old) }
+        ensures settled { self.new.settled ≡ self.old.settled }
+        ensures router { self.new.router ≡ self.old.router }
+    {
+        lsa.check_age();
+        let header = lsa.header();
+        let key = header.key();
+        let sent = flood_received(alloc, moment, Some(number), &lsa, &mut self.links, drafts)?;
+        acknowledge_later(number, header, &mut self.links)?;
+        self.database.install_flooded(moment, lsa)?;
+        if sent {
+            return self.database.mark_sent(moment, &key);
+        }
+        Ok(())
+    }
+
+    /// Installs an LSA that this router originated (RFC 2328, section 12.4), and floods it to every
+    /// neighbor.
+    ///
+    /// Errors with `AllocError` if an allocation is refused; the caller then rolls the area back
+    /// and drops the drafts.
+    pub fn originate(
+        &mut self,
+        alloc: Global,
+        moment: Second,
+        lsa: Lsa,
+        drafts: &mut [Draft],
+    ) -> Result<(), AllocError>
+        requires { length drafts.old ≡ length self.old.present.links }
+        ensures ok { OnOk result (self.new.present
+            ≡ (originate_outcome moment lsa self.old.present).area) }
+        ensures drafts { OnOk result (drafts.new
+            ≡ drafts_with (originate_outcome moment lsa self.old.present).sends
+            self.old.present.links drafts.old) }
+        ensures settled { self.new.settled ≡ self.old.settled }
+        ensures router { self.new.router ≡ self.old.router }
+    {
+        lsa.check_age();
+        let header = lsa.header();
+        let key = header.key();
+        self.database.install_originated(moment, lsa)?;
+        self.flood(alloc, moment, &key, drafts)
+    }
+
+    /// Sets the copy of this key to MaxAge, and floods it to every neighbor (RFC 2328, section
+    /// 14.1). Without a copy nothing changes.
+    ///
+    /// Errors with `AllocError` if an allocation is refused; the caller then rolls the area back
+    /// and drops the drafts.
+    pub fn age_out(
+        &mut self,
+        alloc: Global,
+        moment: Second,
+        key: &Key,
+        drafts: &mut [Draft],
+    ) -> Result<(), AllocError>
+        requires { length drafts.old ≡ length self.old.present.links }
+        ensures ok { OnOk result (self.new.present
+            ≡ (age_outcome moment key.now self.old.present).area) }
+        ensures drafts { OnOk result (drafts.new
+            ≡ drafts_with (age_outcome moment key.now self.old.present).sends
+            self.old.present.links drafts.old) }
+        ensures settled { self.new.settled ≡ self.old.settled }
+        ensures router { self.new.router ≡ self.old.router }
+    {
+        self.database.age_out(moment, key)?;
+        self.flood(alloc, moment, key, drafts)
+    }
+
+    /// Floods a copy of this key that has reached MaxAge since the moment `before` to every
+    /// neighbor (RFC 2328, section 14). Without such a copy nothing changes.
+    ///
+    /// Errors with `AllocError` if an allocation is refused; the caller then rolls the area back
+    /// and drops the drafts.
+    pub fn come_of_age(
+        &mut self,
+        alloc: Global,
+        before: Second,
+        moment: Second,
+        key: &Key,
+        drafts: &mut [Draft],
+    ) -> Result<(), AllocError>
+        requires { length drafts.old ≡ length self.old.present.links }
+        ensures ok { OnOk result (self.new.present
+            ≡ (come_of_age before moment key.now self.old.present).area) }
+        ensures drafts { OnOk result (drafts.new
+            ≡ drafts_with (come_of_age before moment key.now self.old.present).sends
+            self.old.present.links drafts.old) }
+        ensures settled { self.new.settled ≡ self.old.settled }
+        ensures router { self.new.router ≡ self.old.router }
+    {
+        let Some(copy) = self.database.get(key) else {
+            return Ok(());
+        };
+        let came = has_just_aged_out(before, moment, &copy);
+        if came {
+            return self.flood(alloc, moment, key, drafts);
+        }
+        Ok(())
+    }
 }
 
 pub fn settle_links(links: &mut [Link])

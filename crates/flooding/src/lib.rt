@@ -19,6 +19,7 @@ pub use cases::Case;
 pub use link::Link;
 pub use link::packets::{Acknowledging, Answering, Describing};
 pub use link::timers::{EndLoading, NextRequest, RunOut, SendingAgain};
+pub use rows::any_exchange_or_loading;
 pub use steps::{LinkChange, LinkStep};
 // Names from the crates below that crates above use.
 pub use adjacency::{DatabaseCopy, Draft, Interface, Lsdb, NeighborState, Saved, Update};

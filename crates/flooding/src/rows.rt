@@ -1,15 +1,13 @@
-//! What the cases of a received LSA do to links and drafts, which the caller passes separately.
+//! What is asked of all links, and what the cases of a received LSA do to links and drafts, which
+//! the caller passes separately.
 ghost use Rattle.std.specs.Prelude.{◌≡◌, ◌≤◌, OnOk, [], ◌∷◌, length, map};
-ghost use Rattle.std.specs.List.{list_any};
 ghost use Rattle.lsa.specs.Headers.{key_of};
 ghost use Rattle.adjacency.specs.lsdb.Copies.{lsa_now};
 ghost use Rattle.adjacency.specs.Adjacencies.{mismatch_step};
 ghost use Rattle.adjacency.specs.Contents.{Acknowledges, Updates, no_sends};
-ghost use Rattle.adjacency.specs.Asked.{any_exchange_or_loading as is_in_exchange};
 ghost use Rattle.adjacency.specs.Retransmissions.{remove_retransmission};
-ghost use Rattle.received.specs.Links.{acknowledge_later, any_exchange_or_loading, change_link};
-ghost use Rattle.adjacency.specs.Kept.{Kept};
-ghost use Rattle.received.specs.Links.{Link as OnLink};
+ghost use Rattle.received.specs.Links.{acknowledge_later, any_exchange_or_loading};
+ghost use Rattle.received.specs.Links.{any_has_retransmission, change_link};
 ghost use Rattle.received.specs.Outcomes.{sends_at, only_at, stepped_links, stepping_sends};
 ghost use Rattle.flooding.specs.Drafted.{drafts_with};
 ghost use Rattle.flooding.specs.Links.{present, settled_link};
@@ -18,25 +16,32 @@ use crate::link::Link;
 use adjacency::{DatabaseCopy, Draft};
 use lsa::Header;
 use std::alloc::{AllocError, Global};
-use words::Second;
+use words::{Key, Second};
 
-fn some_is_exchange_or_loading(links: &[Link]) -> bool
-    ensures { result ≡ list_any (λ (l : Kept OnLink). is_in_exchange l.present.neighbor) links.now }
+/// Whether some neighbor is in Exchange or Loading.
+pub fn any_exchange_or_loading(links: &[Link]) -> bool
+    ensures { result ≡ any_exchange_or_loading (map present links.now) }
 {
-    for link in links {
-        let synchronizing = link.is_exchange_or_loading();
-        if synchronizing {
+    for i in 0..links.len() {
+        let is = links[i].is_exchange_or_loading();
+        if is {
             return true;
         }
     }
     false
 }
 
-/// Whether some neighbor is in Exchange or Loading.
-pub fn any_exchange_or_loading(links: &[Link]) -> bool
-    ensures { result ≡ any_exchange_or_loading (map present links.now) }
+/// Whether the key is on some neighbor's retransmission list.
+pub fn any_has_retransmission(key: &Key, links: &[Link]) -> bool
+    ensures { result ≡ any_has_retransmission key.now (map present links.now) }
 {
-    some_is_exchange_or_loading(links)
+    for i in 0..links.len() {
+        let has = links[i].has_retransmission(key);
+        if has {
+            return true;
+        }
+    }
+    false
 }
 
 /// BadLSReq at one interface: from Exchange on, the neighbor goes back to ExStart.

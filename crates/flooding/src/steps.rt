@@ -1,14 +1,18 @@
 //! Changes of links, and steps in which links may send.
-ghost use Rattle.std.specs.Prelude.{◌≡◌, ◌≤◌, OnOk, drop, length, map};
+ghost use Rattle.std.specs.Prelude.{◌≡◌, ◌≤◌, IfOk, OnOk, drop, length, map};
 ghost use Rattle.received.specs.Links.{change_link};
 ghost use Rattle.flooding.specs.Drafted.{drafts_with};
-ghost use Rattle.flooding.specs.Links.{area_of, present, settled_link, start, without_neighbor};
-ghost use Rattle.flooding.specs.Steps.{key_of_update, mark_each, one_link, sends_of};
+ghost use Rattle.flooding.specs.Links.{present, settled_link, start, without_acknowledged};
+ghost use Rattle.flooding.specs.Links.{without_neighbor};
+ghost use Rattle.flooding.specs.Steps.{all_links, key_of_update, keys_behind, mark_each, one_link};
+ghost use Rattle.flooding.specs.Steps.{sends_of, update_count};
 
+use crate::area::Area;
 use crate::link::Link;
+use crate::rows::any_has_retransmission;
 use adjacency::{Draft, Lsdb, Update};
 use std::alloc::{AllocError, Global};
-use words::Second;
+use words::{Key, Second};
 
 /// A change of a link that sends nothing and doesn't allocate.
 pub trait LinkChange {
@@ -48,7 +52,7 @@ pub trait LinkStep {
 }
 
 // Changes each link.
-pub fn change_links<C: LinkChange>(change: &C, links: &mut [Link])
+fn change_links<C: LinkChange>(change: &C, links: &mut [Link])
     ensures present { map present links.new ≡ map (C.after change.now) (map present links.old) }
     ensures settled { map settled_link links.new ≡ map settled_link links.old }
 {
@@ -58,7 +62,7 @@ pub fn change_links<C: LinkChange>(change: &C, links: &mut [Link])
 }
 
 // Each link takes the step; what it sends is added to the draft of its interface.
-pub fn step_links<S: LinkStep>(
+fn step_links<S: LinkStep>(
     alloc: Global,
     step: &S,
     database: &Lsdb,
@@ -79,6 +83,17 @@ pub fn step_links<S: LinkStep>(
     Ok(())
 }
 
+// The number of LSAs to be sent in each draft.
+fn update_counts(alloc: Global, drafts: &[Draft]) -> Result<Vec<usize>, AllocError>
+    ensures { IfOk result (λ counts. counts.items ≡ map update_count drafts.now) }
+{
+    let mut counts = Vec::new(alloc);
+    for i in 0..drafts.len() {
+        counts.push(drafts[i].updates().len())?;
+    }
+    Ok(counts)
+}
+
 // Marks as sent the copies of the LSAs after the first `count`.
 fn mark_behind(
     moment: Second,
@@ -97,49 +112,125 @@ fn mark_behind(
     Ok(())
 }
 
-// The link with this number takes the step; what it sends is added to the draft of its interface,
-// and the copies that it sends in Link State Updates are marked as sent.
-pub fn step_link<S: LinkStep>(
-    alloc: Global,
+// Marks as sent the copies of the LSAs that each draft got after its first ones.
+fn mark_all(
     moment: Second,
-    number: usize,
-    step: &S,
-    links: &mut [Link],
+    counts: &[usize],
+    drafts: &[Draft],
     database: &mut Lsdb,
-    drafts: &mut [Draft],
 ) -> Result<(), AllocError>
-    requires first { 1 ≤ number }
-    requires last { number ≤ length links.old }
-    requires drafts { length drafts.old ≡ length links.old }
-    ensures ok { OnOk result (area_of links.new database.new.present
-        ≡ (one_link moment number (S.after step.now) (S.sends step.now)
-        (start (area_of links.old database.old.present))).area) }
-    ensures drafts { OnOk result (drafts.new
-        ≡ drafts_with (one_link moment number (S.after step.now) (S.sends step.now)
-        (start (area_of links.old database.old.present))).sends (map present links.old)
-        drafts.old) }
-    ensures links { map settled_link links.new ≡ map settled_link links.old }
+    requires { length counts.now ≡ length drafts.now }
+    ensures ok { OnOk result (database.new.present
+        ≡ mark_each moment database.old.present (keys_behind counts.now drafts.now)) }
     ensures settled { database.new.settled ≡ database.old.settled }
     ensures router { database.new.router ≡ database.old.router }
 {
-    let i = number - 1;
-    let draft = &mut drafts[i];
-    let count = draft.updates().len();
-    step.take(alloc, database, &mut links[i], draft)?;
-    mark_behind(moment, count, draft.updates(), database)
+    for i in 0..drafts.len() {
+        mark_behind(moment, counts[i], drafts[i].updates(), database)?;
+    }
+    Ok(())
 }
 
-// The neighbor on the link with this number goes Down, if there is such a link.
-pub fn take_link_down(number: usize, links: &mut [Link])
-    ensures present { map present links.new
-        ≡ change_link number without_neighbor (map present links.old) }
-    ensures settled { map settled_link links.new ≡ map settled_link links.old }
-{
-    if number == 0 {
-        return;
+impl Area {
+    /// Changes each link. It doesn't allocate.
+    pub fn change_links<C: LinkChange>(&mut self, change: &C)
+        ensures { self.new ≡ record self.old {
+          present = record self.old.present {
+            links = map (C.after change.now) self.old.present.links;
+          };
+        } }
+    {
+        change_links(change, &mut self.links);
     }
-    if links.len() < number {
-        return;
+
+    /// The neighbor on the link with this number goes Down. It doesn't allocate.
+    pub fn take_down(&mut self, number: usize)
+        requires first { 1 ≤ number }
+        requires last { number ≤ length self.old.present.links }
+        ensures { self.new ≡ record self.old {
+          present = record self.old.present {
+            links = change_link number without_neighbor self.old.present.links;
+          };
+        } }
+    {
+        self.links[number - 1].take_down();
     }
-    links[number - 1].take_down();
+
+    /// Each link takes the step; what it sends is added to the draft of its interface, and each
+    /// copy that it sends in a Link State Update is marked as sent at this moment.
+    ///
+    /// Errors with `AllocError` if an allocation is refused; the caller then rolls the area back
+    /// and drops the drafts.
+    pub fn step_links<S: LinkStep>(
+        &mut self,
+        alloc: Global,
+        moment: Second,
+        step: &S,
+        drafts: &mut [Draft],
+    ) -> Result<(), AllocError>
+        requires { length drafts.old ≡ length self.old.present.links }
+        ensures ok { OnOk result (self.new.present
+            ≡ (all_links moment (S.after step.now) (S.sends step.now)
+            (start self.old.present)).area) }
+        ensures drafts { OnOk result (drafts.new
+            ≡ drafts_with (all_links moment (S.after step.now) (S.sends step.now)
+            (start self.old.present)).sends self.old.present.links drafts.old) }
+        ensures settled { self.new.settled ≡ self.old.settled }
+        ensures router { self.new.router ≡ self.old.router }
+    {
+        let counts = update_counts(alloc, drafts)?;
+        step_links(alloc, step, &self.database, &mut self.links, drafts)?;
+        mark_all(moment, &counts, drafts, &mut self.database)
+    }
+
+    /// The link with this number takes the step; what it sends is added to the draft of its
+    /// interface, and each copy that it sends in a Link State Update is marked as sent at this
+    /// moment.
+    ///
+    /// Errors with `AllocError` if an allocation is refused; the caller then rolls the area back
+    /// and drops the drafts.
+    pub fn step_link<S: LinkStep>(
+        &mut self,
+        alloc: Global,
+        moment: Second,
+        number: usize,
+        step: &S,
+        drafts: &mut [Draft],
+    ) -> Result<(), AllocError>
+        requires first { 1 ≤ number }
+        requires last { number ≤ length self.old.present.links }
+        requires drafts { length drafts.old ≡ length self.old.present.links }
+        ensures ok { OnOk result (self.new.present
+            ≡ (one_link moment number (S.after step.now) (S.sends step.now)
+            (start self.old.present)).area) }
+        ensures drafts { OnOk result (drafts.new
+            ≡ drafts_with (one_link moment number (S.after step.now) (S.sends step.now)
+            (start self.old.present)).sends self.old.present.links drafts.old) }
+        ensures settled { self.new.settled ≡ self.old.settled }
+        ensures router { self.new.router ≡ self.old.router }
+    {
+        let i = number - 1;
+        let draft = &mut drafts[i];
+        let count = draft.updates().len();
+        step.take(alloc, &self.database, &mut self.links[i], draft)?;
+        mark_behind(moment, count, draft.updates(), &mut self.database)
+    }
+
+    /// Removes the copy of this key from the database, if there is one, unless the key is on some
+    /// neighbor's retransmission list.
+    ///
+    /// Errors with `AllocError` if an allocation is refused; the caller then rolls the area back.
+    pub fn remove_acknowledged(&mut self, key: &Key) -> Result<(), AllocError>
+        ensures ok { OnOk result (self.new.present ≡ record self.old.present {
+          database = without_acknowledged self.old.present.links self.old.present.database key.now;
+        }) }
+        ensures settled { self.new.settled ≡ self.old.settled }
+        ensures router { self.new.router ≡ self.old.router }
+    {
+        let listed = any_has_retransmission(key, self.links());
+        if listed {
+            return Ok(());
+        }
+        self.database.remove(key)
+    }
 }

@@ -1,11 +1,9 @@
--- The parts of an event's end, which make up `end_event`.
+-- The first parts of an event's end: with `finish` of `router_state` they make up `end_event`.
 use Rattle.std.specs.Prelude.{List}
 use Rattle.words.specs.Numbers.{Moment}
 use Rattle.events.specs.received.Links.{Link}
 use Rattle.events.specs.Endings.{describe_router, describe_router_later, loading_done}
-use Rattle.events.specs.Endings.{remove_aged, request_all}
-use Rattle.events.specs.EventState.{EventState, on_area}
-use Rattle.events.specs.Routers.{Router}
+use Rattle.events.specs.EventState.{EventState}
 
 -- from Loading to Full, and the router-LSA is originated if the links have changed since `before`
 abbrev pub fill : List Link → Moment → EventState → EventState
@@ -14,9 +12,3 @@ fill before moment p = describe_router before moment (loading_done p)
 -- from Loading to Full once more, and what that changes waits for a Tick
 abbrev pub refill : EventState → EventState
 refill p = describe_router_later p.router.area.links (loading_done p)
-
-abbrev pub request_and_remove : Moment → EventState → EventState
-request_and_remove moment p = on_area (λ o. remove_aged moment (request_all moment o)) p
-
-abbrev pub at_moment : Moment → Router → Router
-at_moment moment r = record r { moment = moment }

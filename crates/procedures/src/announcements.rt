@@ -6,26 +6,14 @@ ghost use Rattle.events.specs.Commands.{same_external, same_kind, same_network};
 ghost use Rattle.events.specs.Originations.{external_key};
 ghost use Rattle.procedures.specs.Making.{Makes};
 
-use crate::origination::originate_anyway;
+use crate::origination::originate;
 use adjacency::Draft;
-use router_state::Router;
+use router_state::{Router, external_key};
 use std::alloc::{AllocError, Global};
-use words::{External, ExternalType, Key, LinkStateId, Prefix, RouterId, Second};
+use words::{External, ExternalType, Key, Prefix, Second};
 
 // LSInfinity: a destination with this metric or more is not advertised.
 const LS_INFINITY: u64 = 0xffffff;
-
-/// The key of the AS-external-LSA for a destination, whose address is the Link State ID (RFC 2328,
-/// section 12.4.4).
-pub fn external_key(own: RouterId, prefix: Prefix) -> Key
-    ensures { result ≡ external_key own prefix }
-{
-    Key {
-        ls_type: 5,
-        link_state_id: LinkStateId::new(prefix.address().bits()),
-        advertising_router: own,
-    }
-}
 
 /// Whether two prefixes are the same: one address and one length.
 pub fn same_network(a: Prefix, b: Prefix) -> bool
@@ -127,8 +115,8 @@ fn announce_as(
     if announced {
         return Ok(());
     }
-    router.announce(key, external)?;
-    originate_anyway(router, alloc, moment, key, drafts)
+    router.announce(external)?;
+    originate(router, alloc, true, moment, key, drafts)
 }
 
 /// Announces the destination with the programs' answers for its tag and its metric. Only the low 32

@@ -1,38 +1,20 @@
 //! The self-originated LSAs that a Tick originates.
 ghost use Rattle.std.specs.Prelude.{◌≡◌, ◌++◌, [], ◌∷◌, IfOk, OnOk, if◌then◌else◌, length};
-ghost use Rattle.events.specs.Originations.{due_keys, is_due, is_stale, originate_due};
+ghost use Rattle.events.specs.Originations.{due_keys, is_due, originate_due};
 ghost use Rattle.router_state.specs.Making.{Makes};
 
 use crate::origination::originate_or_wait;
 use crate::wanted::router_key;
-use adjacency::{DatabaseCopy, Draft};
+use adjacency::Draft;
 use router_state::Router;
 use std::alloc::{AllocError, Global};
 use words::{Key, Second};
-
-// LSRefreshTime: the age in seconds at which a self-originated LSA is originated again.
-const LS_REFRESH_TIME: u16 = 1800;
-
-fn is_stale(moment: Second, copy: Option<DatabaseCopy<'_>>) -> bool
-    ensures { result ≡ is_stale moment copy.entry }
-{
-    let Some(copy) = copy else {
-        return true;
-    };
-    LS_REFRESH_TIME <= copy.age(moment)
-}
-
-fn is_due(router: &Router, moment: Second, key: &Key) -> bool
-    ensures { result ≡ is_due moment router.now.present key.now }
-{
-    router.is_waiting(key) || is_stale(moment, router.area().database().get(key))
-}
 
 fn put_due(router: &Router, moment: Second, key: Key, due: &mut Vec<Key>) -> Result<(), AllocError>
     ensures { OnOk result (due.new.items ≡ due.old.items
         ++ (if is_due moment router.now.present key then key ∷ [] else [])) }
 {
-    let is_due = is_due(router, moment, &key);
+    let is_due = router.is_due(moment, &key);
     if is_due {
         due.push(key)?;
     }

@@ -4,7 +4,7 @@ ghost use Rattle.adjacency.specs.Drafts.{Drafted};
 ghost use Rattle.events.specs.received.Links.{Link};
 ghost use Rattle.events.specs.Endings.{describe_router, describe_router_later, end_event};
 ghost use Rattle.procedures.specs.Full.{full_routers};
-ghost use Rattle.procedures.specs.EndingParts.{fill, refill, request_and_remove};
+ghost use Rattle.procedures.specs.EndingParts.{fill, refill};
 ghost use Rattle.procedures.specs.Making.{Makes, interfaces_of};
 
 use crate::origination::originate_or_wait;
@@ -101,24 +101,6 @@ fn refill(router: &mut Router, alloc: Global) -> Result<(), AllocError>
     describe_router_later(router, alloc, &before)
 }
 
-// Sends Link State Requests, and removes copies at MaxAge that are on no retransmission list,
-// unless some neighbor is in Exchange or Loading.
-fn request_and_remove(
-    router: &mut Router,
-    alloc: Global,
-    moment: Second,
-    drafts: &mut [Draft],
-) -> Result<(), AllocError>
-    requires drafts { length drafts.old ≡ length router.old.present.area.links }
-    ensures makes { OnOk result (Makes (request_and_remove moment)
-        router.old.present router.new.present drafts.old drafts.new) }
-    ensures drafts { OnOk result (length drafts.new ≡ length router.new.present.area.links) }
-    ensures settled { router.new.settled ≡ router.old.settled }
-{
-    router.request_all(alloc, moment, drafts)?;
-    router.remove_aged(alloc, moment, drafts)
-}
-
 /// The end of an event: each neighbor goes from Loading to Full if its request list is empty; the
 /// router-LSA is originated again if its body has changed since the event began; Link State
 /// Requests are sent; copies at MaxAge that are on no retransmission list are removed from the
@@ -145,7 +127,5 @@ pub fn end_event(
 {
     fill(router, alloc, moment, before, drafts)?;
     refill(router, alloc)?;
-    request_and_remove(router, alloc, moment, drafts)?;
-    router.set_moment(moment);
-    Ok(())
+    router.finish(alloc, moment, drafts)
 }

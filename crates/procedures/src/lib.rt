@@ -18,10 +18,10 @@ mod ticks;
 mod updates;
 mod wanted;
 
-pub use announcements::{external_key, redistribute, same_external, same_network, withdraw};
+pub use announcements::{redistribute, same_external, same_network, withdraw};
 pub use ending::end_event;
 pub use origination::originate_or_wait;
 pub use packets::receive_packet;
-pub use router_state::Router;
+pub use router_state::{Router, external_key};
 pub use telling::full_routers;
 pub use ticks::tick;

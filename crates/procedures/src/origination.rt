@@ -1,10 +1,6 @@
 //! New instances of self-originated LSAs.
 ghost use Rattle.std.specs.Prelude.{◌≡◌, OnOk, length};
-ghost use Rattle.events.specs.Originations.{
-  originate_anyway,
-  originate_or_wait,
-  receive_self_originated,
-};
+ghost use Rattle.events.specs.Originations.{originate_or_wait, receive_self_originated};
 ghost use Rattle.adjacency.specs.lsdb.Headers.{Lsa};
 ghost use Rattle.originations.specs.Decisions.{after_origination};
 ghost use Rattle.router_state.specs.Making.{Makes};
@@ -12,31 +8,11 @@ ghost use Rattle.procedures.specs.Wanted.{originate_wanted};
 
 use crate::wanted::{is_wanted, wanted_origination};
 use adjacency::Draft;
-use lsa::{Header, Lsa};
+use lsa::Header;
 use originations::Origination;
 use router_state::Router;
 use std::alloc::{AllocError, Global};
 use words::{Key, Second};
-
-// Installs and floods the instance, and MinLSInterval starts.
-fn put_out(
-    router: &mut Router,
-    alloc: Global,
-    moment: Second,
-    key: &Key,
-    lsa: Lsa,
-    drafts: &mut [Draft],
-) -> Result<(), AllocError>
-    requires drafts { length drafts.old ≡ length router.old.present.area.links }
-    ensures makes { OnOk result (Makes (after_origination moment key.now
-        (Origination.Originates lsa))
-        router.old.present router.new.present drafts.old drafts.new) }
-    ensures drafts { OnOk result (length drafts.new ≡ length router.new.present.area.links) }
-    ensures settled { router.new.settled ≡ router.old.settled }
-{
-    router.install_and_flood(alloc, moment, lsa, drafts)?;
-    router.note_originated(moment, key)
-}
 
 // Carries out what was decided for the LSA.
 fn carry_out(
@@ -55,14 +31,17 @@ fn carry_out(
 {
     match found {
         Origination::Flushes => router.flush(alloc, moment, key, drafts),
-        // The LSA waits for a Tick.
         Origination::Waits => router.wait(key),
-        Origination::Originates(lsa) => put_out(router, alloc, moment, key, lsa, drafts),
+        Origination::Originates(lsa) => router.originate(alloc, moment, key, lsa, drafts),
     }
 }
 
-// A new instance at once or at a Tick, if the LSA is wanted; at once only if `may_now`.
-fn originate(
+/// A new instance of the LSA of this key at once or at a Tick, if it is wanted; at once only if
+/// `may_now`.
+///
+/// Errors with `AllocError` if an allocation is refused; the caller then rolls the router back and
+/// drops the drafts.
+pub fn originate(
     router: &mut Router,
     alloc: Global,
     may_now: bool,
@@ -104,26 +83,6 @@ pub fn originate_or_wait(
 {
     let has_room = router.area().database().has_room(key);
     originate(router, alloc, has_room, moment, key, drafts)
-}
-
-/// Like `originate_or_wait`, whether or not the database has room.
-///
-/// Errors with `AllocError` if an allocation is refused; the caller then rolls the router back and
-/// drops the drafts.
-pub fn originate_anyway(
-    router: &mut Router,
-    alloc: Global,
-    moment: Second,
-    key: &Key,
-    drafts: &mut [Draft],
-) -> Result<(), AllocError>
-    requires drafts { length drafts.old ≡ length router.old.present.area.links }
-    ensures makes { OnOk result (Makes (originate_anyway moment key.now) router.old.present
-        router.new.present drafts.old drafts.new) }
-    ensures drafts { OnOk result (length drafts.new ≡ length router.new.present.area.links) }
-    ensures settled { router.new.settled ≡ router.old.settled }
-{
-    originate(router, alloc, true, moment, key, drafts)
 }
 
 /// Processes a self-originated LSA with this header that was received and installed (RFC 2328,

@@ -3,7 +3,7 @@ ghost use Rattle.std.specs.Prelude.{◌≡◌, OnOk, length};
 ghost use Rattle.events.specs.Originations.{due_keys};
 ghost use Rattle.events.specs.Ticks.{after_tick};
 ghost use Rattle.procedures.specs.Making.{Makes};
-ghost use Rattle.procedures.specs.TickParts.{originate_what_is_due, run_out_all, send_what_is_due};
+ghost use Rattle.procedures.specs.TickParts.{originate_what_is_due, run_out_all};
 
 use crate::due::{due_keys, originate_due};
 use adjacency::Draft;
@@ -48,24 +48,6 @@ fn originate_what_is_due(
     originate_due(router, alloc, moment, &keys, drafts)
 }
 
-// Sends what is due: retransmissions after RxmtInterval, then delayed acknowledgments, then Hellos.
-fn send_what_is_due(
-    router: &mut Router,
-    alloc: Global,
-    moment: Second,
-    drafts: &mut [Draft],
-) -> Result<(), AllocError>
-    requires drafts { length drafts.old ≡ length router.old.present.area.links }
-    ensures makes { OnOk result (Makes (send_what_is_due moment)
-        router.old.present router.new.present drafts.old drafts.new) }
-    ensures drafts { OnOk result (length drafts.new ≡ length router.new.present.area.links) }
-    ensures settled { router.new.settled ≡ router.old.settled }
-{
-    router.send_all_again(alloc, moment, drafts)?;
-    router.acknowledge_all(alloc, moment, drafts)?;
-    router.send_hellos(alloc, moment, drafts)
-}
-
 /// What a Tick does, in order: inactive neighbors go Down; LSAs that wait or are to be refreshed
 /// are originated; what was sent RxmtInterval ago is retransmitted; delayed acknowledgments and due
 /// Hellos are sent.
@@ -86,5 +68,5 @@ pub fn tick(
 {
     run_out(router, alloc, moment, drafts)?;
     originate_what_is_due(router, alloc, moment, drafts)?;
-    send_what_is_due(router, alloc, moment, drafts)
+    router.send_what_is_due(alloc, moment, drafts)
 }

@@ -13,7 +13,8 @@ use Rattle.flooding.specs.lsdb.Keys.{key_cmp}
 use Rattle.flooding.proofs.lsdb.Keys.{keys_exact, keys_total}
 use Rattle.flooding.specs.received.Links.{Area, Link, any_has_retransmission}
 use Rattle.events.specs.Endings.{stays, stays_as}
-use Rattle.router_state.specs.Aging.{without_acknowledged, without_each}
+use Rattle.flooding.specs.Links.{without_acknowledged}
+use Rattle.router_state.specs.Aging.{without_each}
 
 first : (a b : Bool) → T (a && b) → T a
 first true b p = tt

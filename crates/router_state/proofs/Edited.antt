@@ -1,15 +1,21 @@
 -- Edits of a router's maps and sets: `shown` is the router from its fields.
-use Rattle.std.proofs.Common.{◌≡◌, ℕ, ap, ◌∙◌}
+use Rattle.std.proofs.Common.{◌≡◌, ℕ, List, ap, ◌∙◌}
 use Rattle.std.specs.FinMap as finite
 use Rattle.std.specs.FinSet as set
 use Rattle.words.specs.declared.key.Key.{Key}
 use Rattle.words.specs.declared.route.External.{External}
+use Rattle.words.specs.declared.route.Route.{Route}
 use Rattle.flooding.specs.lsdb.Keys.{ByKey, KeySet}
-use Rattle.events.specs.Commands.{unannounce}
+use Rattle.events.specs.Commands.{announce, unannounce}
 use Rattle.events.specs.Originations.{as_originated, forget_originations, is_recent, wait}
 use Rattle.events.specs.Routers.{Router}
 
 module _ (shown old : Router) (key : Key) where
+  pub announces : (m : ByKey External) (e : External) → shown ≡ old
+      → m ≡ finite.insert shown.announced key e
+      → ◌≡◌ {A = Router} (record shown { announced = m }) (announce key e old)
+  announces m e view is = (λ i. record shown { announced = is i }) ∙ ap (announce key e) view
+
   pub waits : (w : KeySet) → shown ≡ old → w ≡ set.insert shown.waiting key
       → ◌≡◌ {A = Router} (record shown { waiting = w }) (wait key old)
   waits w view is = (λ i. record shown { waiting = is i }) ∙ ap (wait key) view
@@ -40,3 +46,10 @@ pub forgets : (shown old : Router) (moment : ℕ) (m : ByKey ℕ) → shown ≡ 
 forgets shown old moment m view is = (λ i. record shown {
   originated = is i;
 }) ∙ ap (forget_originations moment) view
+
+-- the answers of an Install
+pub answers_are : (shown old : Router) (answers now : List (Route × ℕ)) → shown ≡ old
+    → now ≡ answers
+    → ◌≡◌ {A = Router} (record shown { answers = now }) (record old { answers = answers })
+answers_are shown old answers now view is = (λ i. record shown { answers = is i })
+    ∙ ap (λ (r : Router). record r { answers = answers }) view

@@ -1,13 +1,15 @@
 -- The changes of links and database that a router makes: what each sends comes after what was sent
 -- before, and the interfaces stay the same.
-use Rattle.std.proofs.Common.{◌≡◌, ℕ, Bool, true, false, cond, List, [], ◌∷◌, map, refl, ◌∙◌}
+use Rattle.std.proofs.Common.{◌≡◌, ℕ, Bool, true, false, cond, List, [], ◌∷◌, map, refl, sym}
+use Rattle.std.proofs.Common.{ap, ◌∙◌}
 use Rattle.std.specs.Prelude.{Option, None, Some}
 use Rattle.std.specs.List.{fold}
 use Rattle.std.specs.FinMap as finite
 use Rattle.words.specs.Constants.{max_age}
 use Rattle.words.specs.declared.key.Key.{Key}
 use Rattle.flooding.specs.lsdb.Headers.{Lsa, lsa_aged, lsa_key}
-use Rattle.flooding.specs.lsdb.Copies.{DatabaseCopy, age_out, has_just_aged_out, is_aged_out, lsa_now}
+use Rattle.flooding.specs.lsdb.Copies.{DatabaseCopy, age_out, has_just_aged_out, is_aged_out}
+use Rattle.flooding.specs.lsdb.Copies.{lsa_now}
 use Rattle.flooding.specs.adjacency.Adjacencies.{mismatch_step}
 use Rattle.flooding.specs.adjacency.Contents.{no_sends}
 use Rattle.flooding.specs.adjacency.Requests.{request_next}
@@ -18,14 +20,14 @@ use Rattle.flooding.specs.received.Links.{Area, acknowledge_later, any_exchange_
 use Rattle.flooding.specs.received.Links.{change_link}
 use Rattle.flooding.specs.received.Outcomes.{Outcome, on_database, on_links, only_at, stepped_links}
 use Rattle.flooding.specs.received.Updates.{after_case, copy_of, send_copy}
-use Rattle.events.specs.Commands.{taken_down}
+use Rattle.events.specs.Commands.{after_link_down, taken_down}
 use Rattle.events.specs.Endings.{link_loading_done, remove_aged, request_all, stays}
 use Rattle.events.specs.Endings.{with_age, with_ages}
-use Rattle.events.specs.EventState.{flood_from_nobody}
-use Rattle.events.specs.Originations.{flush_copy, install_and_flood}
+use Rattle.events.specs.EventState.{EventState, flood_from_nobody, on_area}
+use Rattle.events.specs.Originations.{flush, flush_copy, install_and_flood}
 use Rattle.events.specs.Ticks.{acknowledge_all, again, run_out, send_all_again, send_hellos}
 use Rattle.events.specs.Ticks.{with_hello_sent, without_acknowledgments}
-use Rattle.flooding.specs.Links.{flushed_copy, start}
+use Rattle.flooding.specs.Links.{aged_copy, start}
 use Rattle.router_state.specs.Aging.{outcomes_in_turn}
 use Rattle.router_state.specs.Making.{interfaces_of}
 use Rattle.router_state.proofs.Making.{Appends, KeepsInterfaces}
@@ -41,7 +43,7 @@ pub keeps_install : (moment : ℕ) (lsa : Lsa) → KeepsInterfaces (install_and_
 keeps_install moment lsa a = keeps_neighbors moment (flood_to moment None lsa) a
 
 module _ (moment : ℕ) (key : Key) where
-  abbrev aged_and_flooded : DatabaseCopy → Outcome → Outcome
+  abbrev pub aged_and_flooded : DatabaseCopy → Outcome → Outcome
   aged_and_flooded c o = flood_from_nobody moment (lsa_aged max_age c.lsa)
       (on_database (age_out moment key) o)
 
@@ -65,10 +67,27 @@ module _ (moment : ℕ) (key : Key) where
   keeps_flush None a = refl
   keeps_flush (Some c) a = kept_by c a (is_aged_out moment c)
 
-  pub flushed_is : (copy : Option DatabaseCopy) (o : Outcome)
-      → flushed_copy moment key copy o ≡ flush_copy moment key copy o
-  flushed_is None o = refl
-  flushed_is (Some c) o = refl
+  -- a copy that is younger than MaxAge
+  pub flushed_is : (c : DatabaseCopy) (copy : Option DatabaseCopy) (o : Outcome) → Some c ≡ copy
+      → false ≡ is_aged_out moment c
+      → aged_copy moment key copy o ≡ flush_copy moment key copy o
+  flushed_is c copy o there young =
+      ap (λ (x : Option DatabaseCopy). aged_copy moment key x o) (sym there)
+      ∙ ap (λ b. cond b o (aged_and_flooded c o)) young
+      ∙ ap (λ (x : Option DatabaseCopy). flush_copy moment key x o) there
+
+  -- nothing happens to a copy that has MaxAge, or without one
+  module _ (p : EventState) (copy : Option DatabaseCopy)
+      (is : copy ≡ finite.get p.router.area.database key) where
+    pub rests_without : None ≡ copy → p ≡ flush moment key p
+    rests_without none =
+        ap (λ (x : Option DatabaseCopy). on_area (flush_copy moment key x) p) (none ∙ is)
+
+    pub rests_aged : (c : DatabaseCopy) → Some c ≡ copy → true ≡ is_aged_out moment c
+        → p ≡ flush moment key p
+    rests_aged c there aged =
+        ap (λ b. on_area (λ o. cond b o (aged_and_flooded c o)) p) aged
+        ∙ ap (λ (x : Option DatabaseCopy). on_area (flush_copy moment key x) p) (there ∙ is)
 
 -- ---- received LSAs
 
@@ -225,3 +244,12 @@ appends_down number o = appends_links (change_link number taken_down) o
 
 pub keeps_down : (number : ℕ) → KeepsInterfaces (on_links (change_link number taken_down))
 keeps_down number a = change_interfaces number taken_down (λ l. refl) a.links
+
+-- without such a link nothing changes
+pub stays_up : (number : ℕ) (p : EventState)
+    → change_link number taken_down p.router.area.links ≡ p.router.area.links
+    → p ≡ after_link_down number p
+stays_up number p same = λ i. record {
+  router = record p.router { area = record p.router.area { links = sym same i } };
+  sends = p.sends;
+}

@@ -7,8 +7,10 @@ use Rattle.flooding.specs.adjacency.Contents.{Content, Step}
 use Rattle.flooding.specs.adjacency.Contents as neighbor
 use Rattle.flooding.specs.adjacency.Neighbors.{Neighbor}
 use Rattle.flooding.specs.received.Links.{Area, Link}
-use Rattle.flooding.specs.received.Outcomes.{Send, marked_database, sends_at, sent_on, step_on}
-use Rattle.flooding.specs.Links.{with_neighbor}
+use Rattle.flooding.specs.received.Outcomes.{Send, each_neighbor, marked_database, sends_at}
+use Rattle.flooding.specs.received.Outcomes.{sent_on, step_on}
+use Rattle.flooding.specs.Links.{start, with_neighbor}
+use Rattle.flooding.specs.Steps.{all_links}
 
 pub step_is : (f : Neighbor → Step) (o : Option Neighbor) → neighbor.step_on f o ≡ step_on f o
 step_is f None = refl
@@ -22,11 +24,6 @@ sent_is f (Some n) = refl
 abbrev pub marks : ℕ → Database → List Send → Database
 marks moment d sends = fold (λ (db : Database) (s : Send). marked_database moment db s.content) d
     sends
-
-pub marks-append : (moment : ℕ) (xs ys : List Send) (d : Database)
-    → marks moment d (xs ++ ys) ≡ marks moment (marks moment d xs) ys
-marks-append moment [] ys d = refl
-marks-append moment (x ∷ xs) ys d = marks-append moment xs ys (marked_database moment d x.content)
 
 -- F is the step of a link's neighbor
 module _ (F : Link → Neighbor → Step) where
@@ -49,18 +46,18 @@ module _ (F : Link → Neighbor → Step) where
   sends_are n [] = refl
   sends_are n (l ∷ ls) = λ i. sends_at n (sent_is (F l) l.neighbor i) ++ sends_are (n + 1) ls i
 
--- if nothing that a link sends is marked, the database stays the same
-module _ (moment : ℕ) (S : Link → List Content)
-    (none : (n : ℕ) (l : Link) (d : Database) → marks moment d (sends_at n (S l)) ≡ d) where
-  pub marks_none : (n : ℕ) (ls : List Link) (d : Database)
-      → marks moment d (flat_map (λ (e : ℕ × Link). sends_at e.0 (S e.1)) (enumerate_from n ls)) ≡ d
-  marks_none n [] d = refl
-  marks_none n (l ∷ ls) d =
-      marks-append moment (sends_at n (S l))
-      (flat_map (λ (e : ℕ × Link). sends_at e.0 (S e.1)) (enumerate_from (n + 1) ls)) d
-      ∙ ap (λ e. marks moment e (flat_map (λ (e : ℕ × Link). sends_at e.0 (S e.1))
-      (enumerate_from (n + 1) ls))) (none n l d)
-      ∙ marks_none (n + 1) ls d
+-- of every link, by a step that may read the database
+pub all_are : (moment : ℕ) (F : Database → Link → Neighbor → Step) (a : Area)
+    → all_links moment (λ (d : Database). after (F d)) (λ (d : Database). sends (F d)) (start a)
+    ≡ each_neighbor moment (λ number link n. F a.database link n) (start a)
+all_are moment F a =
+    λ i. record {
+      area = record {
+        links = links_are (F a.database) 1 a.links i;
+        database = marks moment a.database (sends_are (F a.database) 1 a.links i);
+      };
+      sends = sends_are (F a.database) 1 a.links i;
+    }
 
 pub areas : {ls ms : List Link} {d e : Database} → ls ≡ ms → d ≡ e → ◌≡◌ {A = Area} (record {
   links = ls;

@@ -1,18 +1,13 @@
 -- Copies that have reached MaxAge are flooded, and removed from the database once every neighbor
 -- has acknowledged them.
-use Rattle.std.specs.Prelude.{if◌then◌else◌, List, [], ◌∷◌, ◌++◌}
+use Rattle.std.specs.Prelude.{List, [], ◌∷◌, ◌++◌}
 use Rattle.std.specs.List.{fold}
-use Rattle.std.specs.FinMap as finite
 use Rattle.words.specs.Numbers.{Moment}
 use Rattle.words.specs.declared.key.Key.{Key}
 use Rattle.flooding.specs.lsdb.Copies.{Database}
-use Rattle.flooding.specs.received.Links.{Area, Link, any_has_retransmission}
+use Rattle.flooding.specs.received.Links.{Area, Link}
 use Rattle.flooding.specs.received.Outcomes.{Outcome}
-use Rattle.flooding.specs.Links.{come_of_age, start}
-
-abbrev pub without_acknowledged : List Link → Database → Key → Database
-without_acknowledged links db key =
-    if any_has_retransmission key links then db else finite.remove db key
+use Rattle.flooding.specs.Links.{come_of_age, start, without_acknowledged}
 
 abbrev pub without_each : List Link → Database → List Key → Database
 without_each links db keys = fold (without_acknowledged links) db keys

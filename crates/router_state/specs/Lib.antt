@@ -3,4 +3,4 @@ pub mod Owned
 pub mod Heard
 pub mod Aging
 pub mod Greetings
-pub mod Marks
+pub mod Parts

@@ -3,27 +3,11 @@ ghost use Rattle.std.specs.Prelude.{◌≡◌, OnOk, length};
 ghost use Rattle.flooding.specs.Drafted.{drafts_with};
 ghost use Rattle.flooding.specs.Links.{start};
 ghost use Rattle.events.specs.Endings.{remove_aged, with_ages};
-ghost use Rattle.router_state.specs.Aging.{each_come_of_age, without_acknowledged, without_each};
+ghost use Rattle.router_state.specs.Aging.{each_come_of_age, without_each};
 
-use crate::asked::{any_exchange_or_loading, any_has_retransmission};
-use flooding::{Area, Draft};
+use flooding::{Area, Draft, any_exchange_or_loading};
 use std::alloc::{AllocError, Global};
 use words::{Key, Second};
-
-// Removes the copy of this key unless it is on some retransmission list.
-fn remove_acknowledged(area: &mut Area, key: &Key) -> Result<(), AllocError>
-    ensures ok { OnOk result (area.new.present ≡ record area.old.present {
-      database = without_acknowledged area.old.present.links area.old.present.database key.now;
-    }) }
-    ensures settled { area.new.settled ≡ area.old.settled }
-    ensures router { area.new.router ≡ area.old.router }
-{
-    let listed = any_has_retransmission(area, key);
-    if listed {
-        return Ok(());
-    }
-    area.remove(key)
-}
 
 // Removes the copies of these keys that are on no retransmission list.
 fn remove_each(area: &mut Area, keys: &[Key]) -> Result<(), AllocError>
@@ -34,7 +18,7 @@ fn remove_each(area: &mut Area, keys: &[Key]) -> Result<(), AllocError>
     ensures router { area.new.router ≡ area.old.router }
 {
     for i in 0..keys.len() {
-        remove_acknowledged(area, &keys[i])?;
+        area.remove_acknowledged(&keys[i])?;
     }
     Ok(())
 }
@@ -51,7 +35,7 @@ pub fn remove_aged(area: &mut Area, alloc: Global, moment: Second) -> Result<(),
     ensures settled { area.new.settled ≡ area.old.settled }
     ensures router { area.new.router ≡ area.old.router }
 {
-    let exchanging = any_exchange_or_loading(area);
+    let exchanging = any_exchange_or_loading(area.links());
     if exchanging {
         return Ok(());
     }

@@ -1,16 +1,27 @@
-//! What a router announces, which self-originated LSAs wait for a Tick, and when they were last
-//! originated.
+//! What a router announces, which self-originated LSAs wait for a Tick, and which originations are
+//! forgotten.
 ghost use Rattle.std.specs.Prelude.{◌≡◌, ◌<◌, ◌^◌, OnOk};
 ghost use Rattle.std.specs.List.{fold};
 ghost use Rattle.std.specs.FinMap as finite;
 ghost use Rattle.events.specs.Commands.{announce, unannounce};
-ghost use Rattle.events.specs.Originations.{as_originated, external_key};
-ghost use Rattle.events.specs.Originations.{forget_originations, wait};
+ghost use Rattle.events.specs.Originations.{external_key, forget_originations, wait};
 
 use crate::router::Router;
 use keyed_map::{KeyTest, KeyedMap};
 use std::alloc::{AllocError, Global};
-use words::{External, Key, Second};
+use words::{External, Key, LinkStateId, Prefix, RouterId, Second};
+
+/// The key of the AS-external-LSA for a destination, whose address is the Link State ID (RFC 2328,
+/// section 12.4.4).
+pub fn external_key(own: RouterId, prefix: Prefix) -> Key
+    ensures { result ≡ external_key own prefix }
+{
+    Key {
+        ls_type: 5,
+        link_state_id: LinkStateId::new(prefix.address().bits()),
+        advertising_router: own,
+    }
+}
 
 // Selects the originations since which MinLSInterval has passed (RFC 2328, section 12.4).
 #[derive(Drop)]
@@ -45,14 +56,15 @@ impl Router {
     /// Announces the destination from now on, under the key of its AS-external-LSA.
     ///
     /// Errors with `AllocError` if an allocation is refused; the caller then rolls the router back.
-    pub fn announce(&mut self, key: &Key, external: External) -> Result<(), AllocError>
-        requires key { key.now ≡ external_key self.old.present.id external.prefix }
+    pub fn announce(&mut self, external: External) -> Result<(), AllocError>
         // A metric has 24 bits.
         requires metric { external.metric < 2 ^ 24 }
-        ensures ok { OnOk result (self.new.present ≡ announce key.now external self.old.present) }
+        ensures ok { OnOk result (self.new.present ≡ announce
+            (external_key self.old.present.id external.prefix) external self.old.present) }
         ensures settled { self.new.settled ≡ self.old.settled }
     {
-        self.announced.insert(*key, external)
+        let key = external_key(self.id, external.prefix);
+        self.announced.insert(key, external)
     }
 
     /// The destination of this key is no longer announced, and its LSA no longer waits.
@@ -74,19 +86,6 @@ impl Router {
         ensures settled { self.new.settled ≡ self.old.settled }
     {
         self.waiting.insert(*key, ())
-    }
-
-    /// Notes that the LSA of this key was originated at this moment: it no longer waits, and
-    /// MinLSInterval starts.
-    ///
-    /// Errors with `AllocError` if an allocation is refused; the caller then rolls the router back.
-    pub fn note_originated(&mut self, moment: Second, key: &Key) -> Result<(), AllocError>
-        ensures ok { OnOk result (self.new.present
-            ≡ as_originated moment key.now self.old.present) }
-        ensures settled { self.new.settled ≡ self.old.settled }
-    {
-        self.waiting.remove(key)?;
-        self.originated.insert(*key, moment)
     }
 
     /// Forgets the originations since which MinLSInterval has passed.

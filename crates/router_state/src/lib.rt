@@ -10,7 +10,6 @@
 #![tactic(auto)]
 
 mod aging;
-mod asked;
 mod conversation;
 mod copying;
 mod destinations;
@@ -18,9 +17,9 @@ mod greeting;
 mod hearing;
 mod own_lsas;
 mod receiving;
-mod retransmissions;
 mod router;
 mod times;
 
+pub use destinations::external_key;
 pub use hearing::is_foreign;
 pub use router::Router;

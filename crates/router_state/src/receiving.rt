@@ -35,6 +35,9 @@ impl Router {
         ensures drafts { OnOk result (length drafts.new ≡ length self.new.present.area.links) }
         ensures settled { self.new.settled ≡ self.old.settled }
     {
-        self.area.receive(alloc, moment, number, lsa, drafts)
+        let case = self.area.case_at(moment, number, &lsa);
+        self.area
+            .after_case(alloc, case, moment, number, lsa, drafts)?;
+        Ok(case)
     }
 }

@@ -1,14 +1,16 @@
 //! The router.
-ghost use Rattle.std.specs.Prelude.{◌≡◌, ◌≤◌, [], length, map, IfOk};
+ghost use Rattle.std.specs.Prelude.{◌≡◌, ◌≤◌, List, length, map};
 ghost use Rattle.std.specs.FinMap as finite;
-ghost use Rattle.std.specs.FinSet as set;
+ghost use Rattle.flooding.specs.adjacency.Drafts.{Drafted};
+ghost use Rattle.events.specs.Commands.{after_install};
 ghost use Rattle.events.specs.Routers.{with_links};
 ghost use Rattle.flooding.specs.Links.{present, settled_link};
+ghost use Rattle.router_state.specs.Making.{Makes};
 ghost use Rattle.router_state.specs.Owned.{AreOwn};
 
 use flooding::{Area, Link, Saved};
 use keyed_map::KeyedMap;
-use std::alloc::{AllocError, Global};
+use std::alloc::Global;
 use std::marker::Model;
 use words::{External, Key, Route, RouterId, Second, Sequence};
 
@@ -133,13 +135,6 @@ impl Router {
         &self.announced
     }
 
-    /// Whether the self-originated LSA of this key waits for a Tick.
-    pub fn is_waiting(&self, key: &Key) -> bool
-        ensures { result ≡ set.contains self.now.present.waiting key.now }
-    {
-        self.waiting.contains(key)
-    }
-
     /// When the self-originated LSA of this key was last originated, if that is known: a Tick drops
     /// what is older than MinLSInterval.
     pub fn originated(&self, key: &Key) -> Option<Second>
@@ -165,20 +160,13 @@ impl Router {
         *self.moment.get()
     }
 
-    /// Sets the moment of the last event. It doesn't allocate.
-    pub fn set_moment(&mut self, moment: Second)
-        ensures { self.new ≡ record self.old {
-          present = record self.old.present { moment = moment };
-        } }
-    {
-        self.moment.set(moment);
-    }
-
     /// Replaces the routes and the programs' answers of the last `Install`. It doesn't allocate.
     pub fn install(&mut self, answers: Sequence<(Route, u64)>)
-        ensures { self.new ≡ record self.old {
-          present = record self.old.present { answers = answers };
-        } }
+        ensures makes { (first : List Drafted)
+            → Makes (after_install answers) self.old.present self.new.present first first }
+        ensures links { length self.new.present.area.links
+            ≡ length self.old.present.area.links }
+        ensures settled { self.new.settled ≡ self.old.settled }
     {
         self.answers.set(answers);
     }

@@ -8,22 +8,9 @@ use Rattle.flood.proofs.making.make_part.Goals as goal
 
 pub returns-in-Install-clause-makes : goal.returns-in-Install-clause-makes
 returns-in-Install-clause-makes c =
-    let old = c.args.router.now.present in
-    let answers = c.in-Install.answers in
-    subst (λ (p : Part). Makes (after_part p c.args.moment) old c.install.new.self.present
-    c.args.drafts.now c.args.drafts.now) (sym c.in-Install.is)
-    (makes_on_router (λ (r : Router). record r {
-      answers = answers;
-    }) old c.install.new.self.present c.args.drafts.now refl
-    (ap (λ k. k.present) c.install.ensures))
-
-pub returns-in-Install-clause-drafts : goal.returns-in-Install-clause-drafts
-returns-in-Install-clause-drafts c =
-    let is = ap (λ k. k.present) c.install.ensures in
-    c.requires.drafts ∙ sym (ap (λ (r : Router). length r.area.links) is)
-
-pub returns-in-Install-clause-settled : goal.returns-in-Install-clause-settled
-returns-in-Install-clause-settled c = ap (λ k. k.settled) c.install.ensures
+    subst (λ (p : Part). Makes (after_part p c.args.moment) c.args.router.now.present
+    c.install.new.self.present c.args.drafts.now c.args.drafts.now) (sym c.in-Install.is)
+    (c.install.ensures.makes c.args.drafts.now)
 
 pub returns-in-LinkDown-clause-makes : goal.returns-in-LinkDown-clause-makes
 returns-in-LinkDown-clause-makes c =

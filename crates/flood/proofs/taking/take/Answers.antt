@@ -72,10 +72,10 @@ finish-requires-clause-drafts c =
     let stays = c.in_ok-make_part.ensures.settled ∙ c.in_ok-age.ensures.settled
     ∙ c.requires.settled in
     let whole = made_whole old c.age.new.self.present c.make_part.new.router.present new
-    c.make_part.new.router.settled c.args.moment c.moment-before.result c.in_ok-part.part
+    c.make_part.new.router.settled c.args.moment c.in_ok-part.part
     c.in_ok-drafts.drafts.len c.in_ok-drafts.drafts.items c.deref_mut.result.now
     c.age.new.drafts c.deref_mut-2.result.now c.make_part.new.drafts c.deref_mut-3.result.now
-    c.end_event.new.drafts c.moment-before.ensures stays c.in_ok-drafts.drafts.ok.0
+    c.end_event.new.drafts stays c.in_ok-drafts.drafts.ok.0
     c.in_ok-drafts.ensures c.deref_mut.ensures.value (omega (arith, c.age.auto.drafts))
     c.deref_mut-2.ensures.value (omega (arith, c.make_part.auto.drafts))
     c.deref_mut-3.ensures.value (omega (arith, c.end_event.auto.drafts))
@@ -94,10 +94,10 @@ finish-requires-clause-few c =
     let stays = c.in_ok-make_part.ensures.settled ∙ c.in_ok-age.ensures.settled
     ∙ c.requires.settled in
     let whole = made_whole old c.age.new.self.present c.make_part.new.router.present new
-    c.make_part.new.router.settled c.args.moment c.moment-before.result c.in_ok-part.part
+    c.make_part.new.router.settled c.args.moment c.in_ok-part.part
     c.in_ok-drafts.drafts.len c.in_ok-drafts.drafts.items c.deref_mut.result.now
     c.age.new.drafts c.deref_mut-2.result.now c.make_part.new.drafts c.deref_mut-3.result.now
-    c.end_event.new.drafts c.moment-before.ensures stays c.in_ok-drafts.drafts.ok.0
+    c.end_event.new.drafts stays c.in_ok-drafts.drafts.ok.0
     c.in_ok-drafts.ensures c.deref_mut.ensures.value (omega (arith, c.age.auto.drafts))
     c.deref_mut-2.ensures.value (omega (arith, c.make_part.auto.drafts))
     c.deref_mut-3.ensures.value (omega (arith, c.end_event.auto.drafts))
@@ -116,10 +116,10 @@ finish-requires-clause-order c =
     let stays = c.in_ok-make_part.ensures.settled ∙ c.in_ok-age.ensures.settled
     ∙ c.requires.settled in
     let whole = made_whole old c.age.new.self.present c.make_part.new.router.present new
-    c.make_part.new.router.settled c.args.moment c.moment-before.result c.in_ok-part.part
+    c.make_part.new.router.settled c.args.moment c.in_ok-part.part
     c.in_ok-drafts.drafts.len c.in_ok-drafts.drafts.items c.deref_mut.result.now
     c.age.new.drafts c.deref_mut-2.result.now c.make_part.new.drafts c.deref_mut-3.result.now
-    c.end_event.new.drafts c.moment-before.ensures stays c.in_ok-drafts.drafts.ok.0
+    c.end_event.new.drafts stays c.in_ok-drafts.drafts.ok.0
     c.in_ok-drafts.ensures c.deref_mut.ensures.value (omega (arith, c.age.auto.drafts))
     c.deref_mut-2.ensures.value (omega (arith, c.make_part.auto.drafts))
     c.deref_mut-3.ensures.value (omega (arith, c.end_event.auto.drafts))
@@ -142,10 +142,10 @@ finish-requires-clause-kept c =
     let stays = c.in_ok-make_part.ensures.settled ∙ c.in_ok-age.ensures.settled
     ∙ c.requires.settled in
     let whole = made_whole old c.age.new.self.present c.make_part.new.router.present new
-    c.make_part.new.router.settled c.args.moment c.moment-before.result c.in_ok-part.part
+    c.make_part.new.router.settled c.args.moment c.in_ok-part.part
     c.in_ok-drafts.drafts.len c.in_ok-drafts.drafts.items c.deref_mut.result.now
     c.age.new.drafts c.deref_mut-2.result.now c.make_part.new.drafts c.deref_mut-3.result.now
-    c.end_event.new.drafts c.moment-before.ensures stays c.in_ok-drafts.drafts.ok.0
+    c.end_event.new.drafts stays c.in_ok-drafts.drafts.ok.0
     c.in_ok-drafts.ensures c.deref_mut.ensures.value (omega (arith, c.age.auto.drafts))
     c.deref_mut-2.ensures.value (omega (arith, c.make_part.auto.drafts))
     c.deref_mut-3.ensures.value (omega (arith, c.end_event.auto.drafts))
@@ -169,10 +169,10 @@ finish-requires-clause-answers c none =
     let stays = c.in_ok-make_part.ensures.settled ∙ c.in_ok-age.ensures.settled
     ∙ c.requires.settled in
     let whole = made_whole old c.age.new.self.present c.make_part.new.router.present new
-    c.make_part.new.router.settled c.args.moment c.moment-before.result c.in_ok-part.part
+    c.make_part.new.router.settled c.args.moment c.in_ok-part.part
     c.in_ok-drafts.drafts.len c.in_ok-drafts.drafts.items c.deref_mut.result.now
     c.age.new.drafts c.deref_mut-2.result.now c.make_part.new.drafts c.deref_mut-3.result.now
-    c.end_event.new.drafts c.moment-before.ensures stays c.in_ok-drafts.drafts.ok.0
+    c.end_event.new.drafts stays c.in_ok-drafts.drafts.ok.0
     c.in_ok-drafts.ensures c.deref_mut.ensures.value (omega (arith, c.age.auto.drafts))
     c.deref_mut-2.ensures.value (omega (arith, c.make_part.auto.drafts))
     c.deref_mut-3.ensures.value (omega (arith, c.end_event.auto.drafts))
@@ -191,10 +191,10 @@ returns-clause-ok c =
     let stays = c.in_ok-make_part.ensures.settled ∙ c.in_ok-age.ensures.settled
     ∙ c.requires.settled in
     let whole = made_whole old c.age.new.self.present c.make_part.new.router.present new
-    c.make_part.new.router.settled c.args.moment c.moment-before.result c.in_ok-part.part
+    c.make_part.new.router.settled c.args.moment c.in_ok-part.part
     c.in_ok-drafts.drafts.len c.in_ok-drafts.drafts.items c.deref_mut.result.now
     c.age.new.drafts c.deref_mut-2.result.now c.make_part.new.drafts c.deref_mut-3.result.now
-    c.end_event.new.drafts c.moment-before.ensures stays c.in_ok-drafts.drafts.ok.0
+    c.end_event.new.drafts stays c.in_ok-drafts.drafts.ok.0
     c.in_ok-drafts.ensures c.deref_mut.ensures.value (omega (arith, c.age.auto.drafts))
     c.deref_mut-2.ensures.value (omega (arith, c.make_part.auto.drafts))
     c.deref_mut-3.ensures.value (omega (arith, c.end_event.auto.drafts))
@@ -218,10 +218,10 @@ returns-clause-keeps c =
     let stays = c.in_ok-make_part.ensures.settled ∙ c.in_ok-age.ensures.settled
     ∙ c.requires.settled in
     let whole = made_whole old c.age.new.self.present c.make_part.new.router.present new
-    c.make_part.new.router.settled c.args.moment c.moment-before.result c.in_ok-part.part
+    c.make_part.new.router.settled c.args.moment c.in_ok-part.part
     c.in_ok-drafts.drafts.len c.in_ok-drafts.drafts.items c.deref_mut.result.now
     c.age.new.drafts c.deref_mut-2.result.now c.make_part.new.drafts c.deref_mut-3.result.now
-    c.end_event.new.drafts c.moment-before.ensures stays c.in_ok-drafts.drafts.ok.0
+    c.end_event.new.drafts stays c.in_ok-drafts.drafts.ok.0
     c.in_ok-drafts.ensures c.deref_mut.ensures.value (omega (arith, c.age.auto.drafts))
     c.deref_mut-2.ensures.value (omega (arith, c.make_part.auto.drafts))
     c.deref_mut-3.ensures.value (omega (arith, c.end_event.auto.drafts))
@@ -248,10 +248,10 @@ returns-clause-order c =
     let stays = c.in_ok-make_part.ensures.settled ∙ c.in_ok-age.ensures.settled
     ∙ c.requires.settled in
     let whole = made_whole old c.age.new.self.present c.make_part.new.router.present new
-    c.make_part.new.router.settled c.args.moment c.moment-before.result c.in_ok-part.part
+    c.make_part.new.router.settled c.args.moment c.in_ok-part.part
     c.in_ok-drafts.drafts.len c.in_ok-drafts.drafts.items c.deref_mut.result.now
     c.age.new.drafts c.deref_mut-2.result.now c.make_part.new.drafts c.deref_mut-3.result.now
-    c.end_event.new.drafts c.moment-before.ensures stays c.in_ok-drafts.drafts.ok.0
+    c.end_event.new.drafts stays c.in_ok-drafts.drafts.ok.0
     c.in_ok-drafts.ensures c.deref_mut.ensures.value (omega (arith, c.age.auto.drafts))
     c.deref_mut-2.ensures.value (omega (arith, c.make_part.auto.drafts))
     c.deref_mut-3.ensures.value (omega (arith, c.end_event.auto.drafts))
@@ -276,10 +276,10 @@ returns-clause-holds c =
     let stays = c.in_ok-make_part.ensures.settled ∙ c.in_ok-age.ensures.settled
     ∙ c.requires.settled in
     let whole = made_whole old c.age.new.self.present c.make_part.new.router.present new
-    c.make_part.new.router.settled c.args.moment c.moment-before.result c.in_ok-part.part
+    c.make_part.new.router.settled c.args.moment c.in_ok-part.part
     c.in_ok-drafts.drafts.len c.in_ok-drafts.drafts.items c.deref_mut.result.now
     c.age.new.drafts c.deref_mut-2.result.now c.make_part.new.drafts c.deref_mut-3.result.now
-    c.end_event.new.drafts c.moment-before.ensures stays c.in_ok-drafts.drafts.ok.0
+    c.end_event.new.drafts stays c.in_ok-drafts.drafts.ok.0
     c.in_ok-drafts.ensures c.deref_mut.ensures.value (omega (arith, c.age.auto.drafts))
     c.deref_mut-2.ensures.value (omega (arith, c.make_part.auto.drafts))
     c.deref_mut-3.ensures.value (omega (arith, c.end_event.auto.drafts))
@@ -304,10 +304,10 @@ returns-clause-refused c =
     let stays = c.in_ok-make_part.ensures.settled ∙ c.in_ok-age.ensures.settled
     ∙ c.requires.settled in
     let whole = made_whole old c.age.new.self.present c.make_part.new.router.present new
-    c.make_part.new.router.settled c.args.moment c.moment-before.result c.in_ok-part.part
+    c.make_part.new.router.settled c.args.moment c.in_ok-part.part
     c.in_ok-drafts.drafts.len c.in_ok-drafts.drafts.items c.deref_mut.result.now
     c.age.new.drafts c.deref_mut-2.result.now c.make_part.new.drafts c.deref_mut-3.result.now
-    c.end_event.new.drafts c.moment-before.ensures stays c.in_ok-drafts.drafts.ok.0
+    c.end_event.new.drafts stays c.in_ok-drafts.drafts.ok.0
     c.in_ok-drafts.ensures c.deref_mut.ensures.value (omega (arith, c.age.auto.drafts))
     c.deref_mut-2.ensures.value (omega (arith, c.make_part.auto.drafts))
     c.deref_mut-3.ensures.value (omega (arith, c.end_event.auto.drafts))

@@ -1,5 +1,6 @@
 use Rattle.std.proofs.Common.{◌≡◌, false, refl, sym, ap, ◌∙◌}
 use Rattle.std.specs.FinMap as finite
+use Rattle.words.specs.declared.key.Key.{Key}
 use Rattle.keyed_map.proofs.Helds.{on_ok}
 use Rattle.events.specs.Commands.{announce, is_announced_as}
 use Rattle.events.specs.EventState.{EventState, on_router}
@@ -17,10 +18,11 @@ returns-clause-makes c =
     ∙ ap (λ m. finite.get m.present key) c.announced.ensures.parts))
     ∙ sym c.is_announced_as-announced.ensures ∙ c.if-announced.false in
     let added = makes_on_router (announce key e) c.args.router.now.present
-    c.announce.new.self.present c.args.drafts.now refl c.in_ok-announce.ensures.ok in
-    on_ok c.originate_anyway.result
+    c.announce.new.self.present c.args.drafts.now refl (c.in_ok-announce.ensures.ok
+    ∙ ap (λ (k : Key). announce k e c.args.router.now.present) (sym c.requires.key)) in
+    on_ok c.originate.result
     (λ makes. makes_if_false (λ (p : EventState). p)
     (λ (p : EventState). originate_anyway c.args.moment key (on_router (announce key e) p))
     (λ (r : Router). is_announced_as e (finite.get r.announced key)) differs
     (makes_then added makes))
-    c.originate_anyway.ensures.makes
+    c.originate.ensures.makes

@@ -1,6 +1,7 @@
 use Rattle.keyed_map.proofs.Helds.{on_ok}
 use Rattle.procedures.proofs.Making.{makes_then}
-use Rattle.procedures.specs.TickParts.{originate_what_is_due, run_out_all, send_what_is_due}
+use Rattle.router_state.specs.Parts.{send_what_is_due}
+use Rattle.procedures.specs.TickParts.{originate_what_is_due, run_out_all}
 use Rattle.procedures.proofs.ticks.tick.Goals as goal
 
 pub returns-clause-makes : goal.returns-clause-makes

@@ -1,7 +1,8 @@
 use Rattle.std.proofs.Common.{◌+◌, sym, ap, ◌∙◌, arith}
 use Rattle.flooding.proofs.Acknowledged.{from}
 use Rattle.router_state.proofs.Onwards.{from_end, from_next}
-use Rattle.router_state.specs.Aging.{without_acknowledged, without_each}
+use Rattle.flooding.specs.Links.{without_acknowledged}
+use Rattle.router_state.specs.Aging.{without_each}
 use Rattle.router_state.proofs.Stepped.{areas}
 use Rattle.router_state.proofs.aging.remove_each.Goals as goal
 

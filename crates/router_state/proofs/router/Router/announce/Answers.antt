@@ -1,9 +1,12 @@
 use Rattle.std.proofs.Common.{sym, ap, subst, ◌∙◌}
 use Rattle.std.specs.FinMap as finite
-use Rattle.keyed_map.proofs.Helds.{after}
+use Rattle.words.specs.declared.key.Key.{Key}
+use Rattle.keyed_map.proofs.Helds.{after, on_ok}
+use Rattle.events.specs.Commands.{announce}
 use Rattle.events.specs.Originations.{external_key}
 use Rattle.router_state.specs.Owned.{AreOwn}
 use Rattle.router_state.proofs.Announced.{insert_own}
+use Rattle.router_state.proofs.Edited.{announces}
 use Rattle.router_state.proofs.router.Router.announce.Goals as goal
 
 pub invariant_of-self : goal.invariant_of-self
@@ -11,15 +14,24 @@ invariant_of-self c =
     let id = c.self.inside.id in
     let m = c.self.inside.announced.present in
     let e = c.args.external in
-    let key = c.requires.key ∙ ap (λ k. external_key k.present.id e.prefix) (sym c.self.view_is)
-    in (
+    let k = c.external_key-key.result in (
       c.self.invariant.0,
       c.self.invariant.1,
-      after c.insert.result (AreOwn id) c.insert.new.self.present m
-          (finite.insert m c.args.key.now e) c.insert.ensures.ok c.insert.ensures.err
-          (insert_own id m c.args.key.now e c.self.invariant.2 (record {
-            key = key;
+      after c.insert.result (AreOwn id) c.insert.new.self.present m (finite.insert m k e)
+          c.insert.ensures.ok c.insert.ensures.err
+          (insert_own id m k e c.self.invariant.2 (record {
+            key = c.external_key-key.ensures;
             metric = c.requires.metric;
           })) c.self.invariant.2,
       subst (AreOwn id) (sym c.insert.ensures.settled) c.self.invariant.3,
     )
+
+pub returns-clause-ok : goal.returns-clause-ok
+returns-clause-ok c =
+    let old = c.args.self.now.present in
+    let e = c.args.external in
+    on_ok c.insert.result (λ is.
+    announces _ old c.external_key-key.result c.insert.new.self.present e
+    (ap (λ q. q.present) c.self.view_is) is
+    ∙ ap (λ (k : Key). announce k e old) (c.external_key-key.ensures
+    ∙ ap (λ v. external_key v.present.id e.prefix) c.self.view_is)) c.insert.ensures.ok

@@ -1,6 +1,0 @@
-use Rattle.std.proofs.Common.{◌≡◌, map, take}
-use Rattle.router_state.specs.Marks.{update_count}
-use Rattle.router_state.proofs.retransmissions.update_counts.Given as goal
-
-abbrev pub invariant-loop-i : goal.invariant-loop-i
-invariant-loop-i l = l.counts.items ≡ map update_count (take l.i l.drafts)

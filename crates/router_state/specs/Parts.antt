@@ -1,0 +1,27 @@
+-- Parts of an event that are done in a row.
+use Rattle.words.specs.Numbers.{Moment}
+use Rattle.words.specs.declared.key.Key.{Key}
+use Rattle.flooding.specs.lsdb.Headers.{Lsa}
+use Rattle.events.specs.Endings.{remove_aged, request_all}
+use Rattle.events.specs.EventState.{EventState, on_area, on_router}
+use Rattle.events.specs.Originations.{as_originated, install_and_flood}
+use Rattle.events.specs.Routers.{Router}
+use Rattle.events.specs.Ticks.{acknowledge_all, send_all_again, send_hellos}
+
+-- a self-originated LSA is installed and flooded; it no longer waits, and MinLSInterval starts
+abbrev pub put_out : Moment → Key → Lsa → EventState → EventState
+put_out moment key lsa p =
+    on_router (as_originated moment key) (on_area (install_and_flood moment lsa) p)
+
+-- what a Tick retransmits, delayed acknowledgments, and Hellos
+abbrev pub send_what_is_due : Moment → EventState → EventState
+send_what_is_due moment p =
+    on_area (λ o. send_hellos moment (acknowledge_all moment (send_all_again moment o))) p
+
+abbrev pub at_moment : Moment → Router → Router
+at_moment moment r = record r { moment = moment }
+
+-- what is requested, and removed, at the end of each event, whose moment is noted
+abbrev pub finish : Moment → EventState → EventState
+finish moment p =
+    on_router (at_moment moment) (on_area (λ o. remove_aged moment (request_all moment o)) p)
