@@ -51,16 +51,6 @@ pub trait LinkStep {
         ensures settled { link.new.settled ≡ link.old.settled };
 }
 
-// Changes each link.
-fn change_links<C: LinkChange>(change: &C, links: &mut [Link])
-    ensures present { map present links.new ≡ map (C.after change.now) (map present links.old) }
-    ensures settled { map settled_link links.new ≡ map settled_link links.old }
-{
-    for i in 0..links.len() {
-        change.change(&mut links[i]);
-    }
-}
-
 // Each link takes the step; what it sends is added to the draft of its interface.
 fn step_links<S: LinkStep>(
     alloc: Global,
@@ -140,7 +130,9 @@ impl Area {
           };
         } }
     {
-        change_links(change, &mut self.links);
+        for i in 0..self.links.len() {
+            change.change(&mut self.links[i]);
+        }
     }
 
     /// The neighbor on the link with this number goes Down. It doesn't allocate.

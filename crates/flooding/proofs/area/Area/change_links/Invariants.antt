@@ -1,0 +1,15 @@
+use Rattle.std.proofs.Common.{◌≡◌, length, map}
+use Rattle.flooding.specs.Links.{present, settled_link}
+use Rattle.flooding.proofs.Kept.{mixed}
+use Rattle.flooding.proofs.area.Area.change_links.Given as goal
+
+abbrev pub invariant-loop-i : goal.invariant-loop-i
+invariant-loop-i g l = record {
+  count : length l.self-inside.links.items ≡ length l.initial.self-inside.links.items;
+  stays : map settled_link l.self-inside.links.items
+      ≡ map settled_link l.initial.self-inside.links.items;
+  comes : mixed present (λ n. g.C.LinkChange.after l.change (present n)) l.i
+      l.self-inside.links.items
+      ≡ map (g.C.LinkChange.after l.change) (map present l.initial.self-inside.links.items);
+  database : l.self-inside.database ≡ l.initial.self-inside.database;
+}
