@@ -4,7 +4,7 @@ use Rattle.std.proofs.Common.{length, map, refl, sym, ap, ◌∙◌, inl, inr, a
 use Rattle.std.specs.Prelude.{slice_get}
 use Rattle.flood_laws.specs.adjacency.Kept.{Kept}
 use Rattle.area_routes.specs.flooding.Links.{present}
-use Rattle.area_routes.specs.flooding.neighbors.Owed.{owed_on}
+use Rattle.area_routes.specs.flooding.Owed.{owed_on}
 use Rattle.events.specs.received.Links.{Link, neighbor_at, neighbor_on}
 
 none_behind : (links : List (Kept Link)) (place : ℕ) → length links < suc place

@@ -1,7 +1,7 @@
 -- How much the neighbor at an interface owes this router.
 use Rattle.std.specs.Prelude.{ℕ}
 use Rattle.words.specs.Numbers.{InterfaceNumber}
-use Rattle.area_routes.specs.flooding.neighbors.Owed.{owed_on}
+use Rattle.area_routes.specs.flooding.Owed.{owed_on}
 use Rattle.events.specs.received.Links.{neighbor_at}
 use Rattle.events.specs.Routers.{Router}
 

@@ -47,12 +47,12 @@ silent : (key : Key) (k : ℕ) (o : Option Neighbor)
 silent key k None = refl
 silent key k (Some n) = refl
 
--- a release sends nothing
-pub release_sends : (ls : List (Kept Link)) (i k : ℕ) → i < length ls → k ≡ 1 + i → (key : Key)
+-- what removes a retransmission sends nothing
+pub removal_sends : (ls : List (Kept Link)) (i k : ℕ) → i < length ls → k ≡ 1 + i → (key : Key)
     → [] ≡ stepping_sends (only_at k (λ (n : Neighbor). no_sends (remove_retransmission key n)))
     (map present ls)
-release_sends [] i k lt at key = absurd (omega (arith, lt))
-release_sends (l ∷ ls) i k lt at key =
+removal_sends [] i k lt at key = absurd (omega (arith, lt))
+removal_sends (l ∷ ls) i k lt at key =
     silent key k (get_or (l ∷ ls) i l).present.neighbor
     ∙ sends_stepped (l ∷ ls) i k l l lt at
     (λ (n : Neighbor). no_sends (remove_retransmission key n))

@@ -3,8 +3,8 @@ pub mod Links
 pub mod Drafted
 pub mod Cases
 pub mod Steps
+pub mod Owed
 -- names from the crates below that crates above use
 pub use Rattle.adjacency.specs as adjacency
 pub use Rattle.adjacency.specs.lsdb as lsdb
 pub use Rattle.received.specs as received
-pub use Rattle.neighbors.specs as neighbors

@@ -118,8 +118,8 @@ impl Link {
         neighbor.flood(alloc, moment, from, copy, delay, draft)
     }
 
-    /// BadLSReq (RFC 2328, section 10.3): from Exchange on, the neighbor goes back to ExStart, and
-    /// the first Database Description of a new attempt is sent.
+    /// BadLSReq (RFC 2328, section 10.3, and section 13, step 6): from Exchange on, the neighbor
+    /// goes back to ExStart, and the first Database Description of a new attempt is sent.
     ///
     /// Errors with `AllocError` if an allocation is refused; the caller then rolls the link back.
     pub fn bad_request(
@@ -135,13 +135,17 @@ impl Link {
             ≡ drafting delay (sent_on (mismatch_step moment) self.old.present.neighbor) draft.old) }
         ensures settled { self.new.settled ≡ self.old.settled }
     {
-        self.place.bad_request(alloc, moment, draft)
+        let exchanging = self.place.is_exchange_or_later();
+        if exchanging {
+            return self.place.attempt(alloc, moment, draft);
+        }
+        Ok(())
     }
 
     /// Removes the header's key from the neighbor's retransmission list.
     ///
     /// Errors with `AllocError` if an allocation is refused; the caller then rolls the link back.
-    pub fn take_off(&mut self, header: &Header) -> Result<(), AllocError>
+    pub fn remove_retransmission(&mut self, header: &Header) -> Result<(), AllocError>
         ensures ok { OnOk result (self.new.present
             ≡ with_neighbor
             (step_on (λ n. no_sends (remove_retransmission (key_of header.now) n))
@@ -151,7 +155,7 @@ impl Link {
     {
         match &mut self.place.neighbor {
             None => Ok(()),
-            Some(neighbor) => neighbor.take_off(header),
+            Some(neighbor) => neighbor.remove_retransmission(header),
         }
     }
 

@@ -1,16 +1,16 @@
 //! The neighbor on a link, which may be Down.
 ghost use Rattle.std.specs.Prelude.{◌≡◌, ℕ, IfOk, OnOk, None, Some};
-ghost use Rattle.adjacency.specs.Adjacencies.{after_hello, enter_exstart};
+ghost use Rattle.adjacency.specs.Adjacencies.{enter_exstart};
 ghost use Rattle.adjacency.specs.Contents.{sent_on, step_on};
 ghost use Rattle.adjacency.specs.Drafts.{drafting};
-ghost use Rattle.adjacency.specs.Steps.{any_exchange_or_later, heard};
-ghost use Rattle.adjacency.specs.Views.{begins, begun, present_of};
+ghost use Rattle.adjacency.specs.Steps.{any_exchange_or_later};
+ghost use Rattle.adjacency.specs.Views.{begun, present_of};
 
 mod descriptions;
 mod requests;
 mod timers;
 
-use adjacency::{Draft, NeighborState};
+use adjacency::Draft;
 use neighbors::{Neighbor, initial_description, next_dd_sequence_start};
 use std::alloc::{AllocError, Global};
 use std::marker::Model;
@@ -43,20 +43,6 @@ impl Model for Place {
     } };
 }
 
-// Whether the neighbor starts over at a Hello, by whether that lists this router: nothing is kept
-// except the number of the last attempt.
-fn begins(state: NeighborState, names: bool) -> bool
-    ensures { result ≡ begins state names }
-{
-    match state {
-        NeighborState::Init => true,
-        NeighborState::ExStart => !names,
-        NeighborState::Exchange => !names,
-        NeighborState::Loading => !names,
-        NeighborState::Full => !names,
-    }
-}
-
 impl Place {
     pub fn down() -> Self
         ensures { result ≡ record { present = None; settled = None } }
@@ -86,9 +72,9 @@ impl Place {
         }
     }
 
-    // Replaces the neighbor by another one or by none. The old one is kept until the event is
-    // settled.
-    fn replace(&mut self, neighbor: Option<Neighbor>)
+    /// Replaces the neighbor by another one, or by none if it goes Down. The old one is kept until
+    /// the event is settled. It doesn't allocate.
+    pub fn replace(&mut self, neighbor: Option<Neighbor>)
         ensures { self.new ≡ record self.old { present = present_of neighbor } }
     {
         let before = self.neighbor.take();
@@ -98,15 +84,10 @@ impl Place {
         self.neighbor = neighbor;
     }
 
-    /// The neighbor goes Down. It doesn't allocate.
-    pub fn go_down(&mut self)
-        ensures { self.new ≡ record self.old { present = None } }
-    {
-        self.replace(None);
-    }
-
-    // A neighbor in Init receives a Hello, which lists this router or doesn't.
-    fn begin(
+    /// A neighbor in Init receives a Hello, which lists this router or doesn't.
+    ///
+    /// Errors with `AllocError` if an allocation is refused; the caller then rolls back.
+    pub fn begin(
         &mut self,
         alloc: Global,
         moment: Second,
@@ -134,8 +115,10 @@ impl Place {
         Ok(())
     }
 
-    // Transition to ExStart with a new attempt.
-    fn attempt(
+    /// Transition to ExStart with a new attempt (RFC 2328, section 10.3).
+    ///
+    /// Errors with `AllocError` if an allocation is refused; the caller then rolls back.
+    pub fn attempt(
         &mut self,
         alloc: Global,
         moment: Second,
@@ -172,58 +155,8 @@ impl Place {
     {
         match &self.neighbor {
             None => false,
-            Some(neighbor) => neighbor.floods(),
+            Some(neighbor) => neighbor.standing().state.is_exchange_or_later(),
         }
-    }
-
-    // Restarts the inactivity timer.
-    fn hear(&mut self, moment: Second)
-        ensures { self.new ≡ record self.old { present = heard moment self.old.present } }
-    {
-        if let Some(neighbor) = &mut self.neighbor {
-            neighbor.hear(moment);
-        }
-    }
-
-    /// An accepted Hello from the router with this Router ID, which lists this router or doesn't
-    /// (RFC 2328, section 10.5). Since it was accepted, the neighbor is Down or has this Router ID.
-    /// Down becomes Init, and the inactivity timer is restarted. If the Hello lists this router,
-    /// Init becomes ExStart (2-WayReceived), and the first Database Description of an attempt is
-    /// sent. If it doesn't, each later state goes back to Init (1-WayReceived), and the lists are
-    /// cleared in constant time.
-    ///
-    /// Errors with `AllocError` if an allocation is refused; the caller then rolls back.
-    pub fn hello(
-        &mut self,
-        alloc: Global,
-        moment: Second,
-        from: RouterId,
-        names: bool,
-        draft: &mut Draft,
-    ) -> Result<(), AllocError>
-        ensures ok { OnOk result (self.new.present
-            ≡ Some (after_hello moment from names self.old.present).neighbor) }
-        ensures draft { OnOk result ((delay : ℕ) → draft.new
-            ≡ drafting delay (after_hello moment from names self.old.present).sends draft.old) }
-        ensures settled { self.new.settled ≡ self.old.settled }
-    {
-        let Some(neighbor) = &self.neighbor else {
-            return self.begin(alloc, moment, from, None, names, draft);
-        };
-        let standing = neighbor.standing();
-        let begins = begins(standing.state, names);
-        if begins {
-            return self.begin(
-                alloc,
-                moment,
-                standing.router,
-                standing.dd_sequence_start,
-                names,
-                draft,
-            );
-        }
-        self.hear(moment);
-        Ok(())
     }
 
     pub fn settle(&mut self)

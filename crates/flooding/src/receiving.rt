@@ -8,7 +8,7 @@ ghost use Rattle.flooding.specs.Links.{start};
 
 use crate::area::Area;
 use crate::cases::{Case, case_on};
-use crate::rows::{acknowledge, any_exchange_or_loading, mismatch, release, update};
+use crate::rows::{acknowledge, any_exchange_or_loading, mismatch, remove_retransmission, update};
 use adjacency::Draft;
 use lsa::Lsa;
 use std::alloc::{AllocError, Global};
@@ -101,7 +101,7 @@ impl Area {
             Case::TooSoon => Ok(()),
             Case::Newer => self.install(alloc, moment, number, lsa, drafts),
             Case::BadRequest => mismatch(alloc, moment, number, &mut self.links, drafts),
-            Case::ImpliedAcknowledgment => release(number, &header, &mut self.links),
+            Case::ImpliedAcknowledgment => remove_retransmission(number, &header, &mut self.links),
             Case::Duplicate => acknowledge(number, header, self.links(), drafts),
             Case::SequenceWraps => Ok(()),
             Case::SentJustNow => Ok(()),

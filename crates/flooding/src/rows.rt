@@ -68,7 +68,11 @@ pub fn mismatch(
 }
 
 /// Removes the header's key from the retransmission list of the neighbor at one interface.
-pub fn release(number: usize, header: &Header, links: &mut [Link]) -> Result<(), AllocError>
+pub fn remove_retransmission(
+    number: usize,
+    header: &Header,
+    links: &mut [Link],
+) -> Result<(), AllocError>
     requires first { 1 ≤ number }
     requires last { number ≤ length links.old }
     ensures links { OnOk result (map present links.new
@@ -78,7 +82,7 @@ pub fn release(number: usize, header: &Header, links: &mut [Link]) -> Result<(),
     ensures settled { map settled_link links.new ≡ map settled_link links.old }
 {
     let i = number - 1;
-    links[i].take_off(header)
+    links[i].remove_retransmission(header)
 }
 
 /// Adds a delayed acknowledgment at one interface.

@@ -8,4 +8,7 @@
 mod connectives;
 mod neighbor;
 
-pub use neighbor::{Neighbor, initial_description, next_dd_sequence_start};
+pub use neighbor::{
+    Neighbor, has_passed, initial_description, is_entry, is_exchange_or_loading,
+    next_dd_sequence_start,
+};

@@ -1,6 +1,6 @@
 //! A neighbor that isn't Down.
 ghost use Rattle.std.specs.Prelude.{◌≡◌, ℕ, not, ◌&&◌, if◌then◌else◌, [], ◌∷◌, IfOk, OnOk};
-ghost use Rattle.std.specs.FinMap as finite;
+ghost use Rattle.std.specs.Prelude.{option_copied};
 ghost use Rattle.lsa.specs.Headers.{key_of};
 ghost use Rattle.adjacency.specs.lsdb.Copies.{lsa_now};
 ghost use Rattle.adjacency.specs.Adjacencies.{next_dd_sequence_start, initial_description};
@@ -10,7 +10,7 @@ ghost use Rattle.adjacency.specs.Drafts.{drafting};
 ghost use Rattle.adjacency.specs.Exchanges.{standing_of};
 ghost use Rattle.adjacency.specs.Floods.{flood_step, flooded_in_exchange, is_any, meets, passes};
 ghost use Rattle.adjacency.specs.Floods.{request_of, without_met_request};
-ghost use Rattle.adjacency.specs.Neighbors.{fresh, is_exchange_or_loading, is_exchange_or_later};
+ghost use Rattle.adjacency.specs.Neighbors.{fresh, is_exchange_or_loading};
 ghost use Rattle.adjacency.specs.Requests.{without_request};
 ghost use Rattle.adjacency.specs.Retransmissions.{acknowledged_neighbor, after_acknowledgment};
 ghost use Rattle.adjacency.specs.Retransmissions.{is_entry};
@@ -21,7 +21,6 @@ mod descriptions;
 mod negotiation;
 mod requests;
 mod timers;
-mod updates;
 mod verdicts;
 
 use adjacency::{
@@ -33,6 +32,7 @@ use packet::Description;
 use std::alloc::{AllocError, Global};
 use std::cmp::Ordering;
 use std::marker::Model;
+pub use timers::has_passed;
 use words::{E_BIT, RouterId, Second, Sequence};
 
 /// A neighbor (RFC 2328, section 10), and its state when it was last settled.
@@ -70,7 +70,8 @@ impl Model for Neighbor {
     } };
 }
 
-fn is_exchange_or_loading(state: NeighborState) -> bool
+/// Whether it is Exchange or Loading, so that the databases aren't synchronized yet.
+pub fn is_exchange_or_loading(state: NeighborState) -> bool
     ensures { result ≡ is_exchange_or_loading state }
 {
     match state {
@@ -106,11 +107,11 @@ fn meets(moment: Second, copy: &DatabaseCopy<'_>, request: &Option<ListEntry>) -
     }
 }
 
-// Whether the instance is that of the list entry.
-fn is_entry(moment: Second, header: &Header, entry: Option<ListEntry>) -> bool
-    ensures { result ≡ is_entry moment header.now entry }
+/// Whether the instance is that of the list entry, if there is one.
+pub fn is_entry(moment: Second, header: &Header, listed: Option<&ListEntry>) -> bool
+    ensures { result ≡ is_entry moment header.now (option_copied listed.entry) }
 {
-    match entry {
+    match listed {
         None => false,
         Some(listed) => compare(instance_of(header), listed.instance(moment)) == Ordering::Equal,
     }
@@ -219,27 +220,34 @@ impl Neighbor {
     }
 
     /// Its state except its lists and the last Database Description sent.
-    pub fn standing(&self) -> Standing
-        ensures { result ≡ standing_of self.now.present }
+    pub fn standing(&self) -> &Standing
+        ensures { result.now ≡ standing_of self.now.present }
     {
-        self.standing.same()
+        &self.standing
+    }
+
+    /// The request list.
+    pub fn requests(&self) -> &KeyedMap<ListEntry>
+        ensures { result.now.present ≡ self.now.present.requests }
+    {
+        &self.requests
+    }
+
+    /// The retransmission list.
+    pub fn retransmissions(&self) -> &KeyedMap<ListEntry>
+        ensures { result.now.present ≡ self.now.present.retransmissions }
+    {
+        &self.retransmissions
     }
 
     /// Restarts the inactivity timer.
-    pub fn hear(&mut self, moment: Second)
+    pub fn restart_inactivity_timer(&mut self, moment: Second)
         ensures { self.new ≡ record self.old {
           present =
               record self.old.present { last_heard = moment };
         } }
     {
         self.standing.last_heard = moment;
-    }
-
-    /// Whether it takes part in flooding: it is in Exchange or a later state.
-    pub fn floods(&self) -> bool
-        ensures { result ≡ is_exchange_or_later self.now.present.state }
-    {
-        self.standing.state.is_exchange_or_later()
     }
 
     // The entry of the copy's key on the request list.
@@ -267,8 +275,10 @@ impl Neighbor {
         self.outstanding.remove(&header.key())
     }
 
-    // Removes this key from the retransmission list.
-    fn release(&mut self, header: &Header) -> Result<(), AllocError>
+    /// Removes the header's key from the retransmission list.
+    ///
+    /// Errors with `AllocError` if an allocation is refused; the caller then rolls back.
+    pub fn remove_retransmission(&mut self, header: &Header) -> Result<(), AllocError>
         ensures ok { OnOk result (self.new.present
             ≡ remove_retransmission (key_of header.now) self.old.present) }
         ensures settled { self.new.settled ≡ self.old.settled }
@@ -277,7 +287,7 @@ impl Neighbor {
     }
 
     // Adds the instance to the retransmission list.
-    fn owe(&mut self, moment: Second, header: &Header) -> Result<(), AllocError>
+    fn add_retransmission(&mut self, moment: Second, header: &Header) -> Result<(), AllocError>
         ensures ok { OnOk result (self.new.present
             ≡ add_retransmission moment header.now self.old.present) }
         ensures settled { self.new.settled ≡ self.old.settled }
@@ -335,12 +345,12 @@ impl Neighbor {
         let passes = self.meet(moment, copy)?;
         let gets = gets(from, passes);
         if gets {
-            self.owe(moment, &header)?;
+            self.add_retransmission(moment, &header)?;
             draft.update(alloc, delay, moment, copy)?;
             return Ok(true);
         }
         // Nothing is sent, but an older instance leaves the list (RFC 2328, section 13 (5) (c)).
-        self.release(&header)?;
+        self.remove_retransmission(&header)?;
         Ok(false)
     }
 
@@ -366,33 +376,23 @@ impl Neighbor {
             ≡ is_any (flood_step moment from (lsa_now moment copy.now) self.old.present).sends) }
         ensures settled { self.new.settled ≡ self.old.settled }
     {
-        let floods = self.floods();
+        let floods = self.standing().state.is_exchange_or_later();
         if floods {
             return self.flood_in_exchange(alloc, moment, from, copy, delay, draft);
         }
         Ok(false)
     }
 
-    // The entry of this key on the retransmission list.
-    fn entry(&self, header: &Header) -> Option<ListEntry>
-        ensures { result ≡ finite.get self.now.present.retransmissions (key_of header.now) }
-    {
-        match self.retransmissions.get(&header.key()) {
-            None => None,
-            Some(listed) => Some(*listed),
-        }
-    }
-
     // Removes the instance from the retransmission list if it is the same.
-    fn acknowledge(&mut self, moment: Second, header: &Header) -> Result<(), AllocError>
+    fn remove_acknowledged(&mut self, moment: Second, header: &Header) -> Result<(), AllocError>
         ensures ok { OnOk result (self.new.present
             ≡ acknowledged_neighbor moment self.old.present header.now) }
         ensures settled { self.new.settled ≡ self.old.settled }
     {
-        let entry = self.entry(header);
-        let same = is_entry(moment, header, entry);
+        let key = header.key();
+        let same = is_entry(moment, header, self.retransmissions.get(&key));
         if same {
-            return self.release(header);
+            return self.retransmissions.remove(&key);
         }
         Ok(())
     }
@@ -401,13 +401,17 @@ impl Neighbor {
     /// same instance as the entry of its key removes that from the retransmission list.
     ///
     /// Errors with `AllocError` if an allocation is refused; the caller then rolls back.
-    pub fn ack(&mut self, moment: Second, headers: &[Header]) -> Result<(), AllocError>
+    pub fn receive_acknowledgment(
+        &mut self,
+        moment: Second,
+        headers: &[Header],
+    ) -> Result<(), AllocError>
         ensures ok { OnOk result (self.new.present
             ≡ after_acknowledgment moment headers.now self.old.present) }
         ensures settled { self.new.settled ≡ self.old.settled }
     {
         for header in headers {
-            self.acknowledge(moment, header)?;
+            self.remove_acknowledged(moment, header)?;
         }
         Ok(())
     }

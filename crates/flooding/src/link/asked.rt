@@ -3,11 +3,12 @@ ghost use Rattle.std.specs.Prelude.{◌≡◌};
 ghost use Rattle.adjacency.specs.Asked.{any_exchange_or_loading, has_instance, has_retransmission};
 ghost use Rattle.adjacency.specs.Asked.{was_requested};
 ghost use Rattle.adjacency.specs.Steps.{named_neighbor};
-ghost use Rattle.neighbors.specs.Owed.{owed_on};
+ghost use Rattle.flooding.specs.Owed.{owed_on};
 
 use super::Link;
 use adjacency::NeighborState;
 use lsa::Header;
+use neighbors::{is_entry, is_exchange_or_loading};
 use words::{Key, RouterId, Second};
 
 impl Link {
@@ -28,7 +29,7 @@ impl Link {
     {
         match &self.place.neighbor {
             None => false,
-            Some(neighbor) => neighbor.is_exchange_or_loading(),
+            Some(neighbor) => is_exchange_or_loading(neighbor.standing().state),
         }
     }
 
@@ -38,7 +39,7 @@ impl Link {
     {
         match &self.place.neighbor {
             None => false,
-            Some(neighbor) => neighbor.requests_key(key),
+            Some(neighbor) => neighbor.requests().contains(key),
         }
     }
 
@@ -48,18 +49,20 @@ impl Link {
     {
         match &self.place.neighbor {
             None => false,
-            Some(neighbor) => neighbor.has_retransmission(key),
+            Some(neighbor) => neighbor.retransmissions().contains(key),
         }
     }
 
-    /// Whether exactly this instance is on the neighbor's retransmission list.
+    /// Whether exactly this instance is on the neighbor's retransmission list (RFC 2328, section
+    /// 13, step 7a).
     pub fn has_instance(&self, moment: Second, header: &Header) -> bool
         ensures { result ≡ has_instance moment header.now self.now.present.neighbor }
     {
-        match &self.place.neighbor {
-            None => false,
-            Some(neighbor) => neighbor.has_instance(moment, header),
-        }
+        let Some(neighbor) = &self.place.neighbor else {
+            return false;
+        };
+        let listed = neighbor.retransmissions().get(&header.key());
+        is_entry(moment, header, listed)
     }
 
     /// How many entries the neighbor's retransmission list and request list have; 0 if it is Down.
@@ -68,7 +71,10 @@ impl Link {
     {
         match &self.place.neighbor {
             None => 0,
-            Some(neighbor) => neighbor.owes(),
+            Some(neighbor) => {
+                let retransmissions = neighbor.retransmissions().len();
+                retransmissions.saturating_add(neighbor.requests().len())
+            }
         }
     }
 }

@@ -3,20 +3,38 @@
 ghost use Rattle.std.specs.Prelude.{◌≡◌, ℕ, OnOk, Some};
 ghost use Rattle.adjacency.specs.Adjacencies.{after_hello};
 ghost use Rattle.adjacency.specs.Drafts.{drafting};
+ghost use Rattle.adjacency.specs.Views.{begins};
 ghost use Rattle.flooding.specs.Links.{with_neighbor};
 
 use super::Link;
 use crate::steps::LinkStep;
-use adjacency::{Draft, Lsdb};
+use adjacency::{Draft, Lsdb, NeighborState};
 use lsa::Header;
 use packet::Description;
 use std::alloc::{AllocError, Global};
 use words::{Key, RouterId, Second};
 
+// Whether the neighbor starts over at a Hello, by whether that lists this router: nothing is kept
+// except the number of the last attempt.
+fn begins(state: NeighborState, names: bool) -> bool
+    ensures { result ≡ begins state names }
+{
+    match state {
+        NeighborState::Init => true,
+        NeighborState::ExStart => !names,
+        NeighborState::Exchange => !names,
+        NeighborState::Loading => !names,
+        NeighborState::Full => !names,
+    }
+}
+
 impl Link {
     /// An accepted Hello from the router with this Router ID, which lists this router or doesn't
-    /// (RFC 2328, section 10.5), as in `Place::hello`. Since it was accepted, the neighbor is Down
-    /// or has this Router ID.
+    /// (RFC 2328, section 10.5). Since it was accepted, the neighbor is Down or has this Router ID.
+    /// Down becomes Init, and the inactivity timer is restarted. If the Hello lists this router,
+    /// Init becomes ExStart (2-WayReceived), and the first Database Description of an attempt is
+    /// sent. If it doesn't, each later state goes back to Init (1-WayReceived), and the lists are
+    /// cleared in constant time.
     ///
     /// Errors with `AllocError` if an allocation is refused; the caller then rolls the link back.
     pub fn hello(
@@ -36,7 +54,18 @@ impl Link {
             draft.old) }
         ensures settled { self.new.settled ≡ self.old.settled }
     {
-        self.place.hello(alloc, moment, from, names, draft)
+        let Some(neighbor) = &mut self.place.neighbor else {
+            return self.place.begin(alloc, moment, from, None, names, draft);
+        };
+        let standing = neighbor.standing();
+        let begins = begins(standing.state, names);
+        if begins {
+            let router = standing.router;
+            let start = standing.dd_sequence_start;
+            return self.place.begin(alloc, moment, router, start, names, draft);
+        }
+        neighbor.restart_inactivity_timer(moment);
+        Ok(())
     }
 }
 
@@ -144,6 +173,6 @@ impl<'a> LinkStep for Acknowledging<'a> {
         let Some(neighbor) = &mut link.place.neighbor else {
             return Ok(());
         };
-        neighbor.ack(self.moment, self.headers)
+        neighbor.receive_acknowledgment(self.moment, self.headers)
     }
 }

@@ -15,7 +15,7 @@ impl Link {
           present = record self.old.present { neighbor = None };
         } }
     {
-        self.place.go_down();
+        self.place.replace(None);
     }
 }
 

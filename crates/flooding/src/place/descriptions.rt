@@ -4,12 +4,11 @@ ghost use Rattle.adjacency.specs.Adjacencies.{two_way_received};
 ghost use Rattle.adjacency.specs.Contents.{sent_on, step_on};
 ghost use Rattle.adjacency.specs.Descriptions.{after_description};
 ghost use Rattle.adjacency.specs.Drafts.{drafting};
-ghost use Rattle.adjacency.specs.Exchanges.{any_init, is_init, judged_on, judging, proceeding};
-ghost use Rattle.adjacency.specs.Exchanges.{verdict_of};
+ghost use Rattle.adjacency.specs.Exchanges.{any_init, is_init, judging};
 
 use super::Place;
 use adjacency::descriptions::starts_over;
-use adjacency::{Draft, Lsdb, NeighborState, Verdict};
+use adjacency::{Draft, Lsdb, NeighborState};
 use packet::Description;
 use std::alloc::{AllocError, Global};
 use words::{RouterId, Second};
@@ -67,43 +66,8 @@ impl Place {
         Ok(())
     }
 
-    // The verdict on a Database Description; without a neighbor it is ignored.
-    fn verdict(&self, own: RouterId, description: &Description) -> Verdict
-        ensures { verdict_of result ≡ judged_on own self.now.present description.now }
-    {
-        match &self.neighbor {
-            None => Verdict::Discarded,
-            Some(neighbor) => neighbor.verdict(own, description),
-        }
-    }
-
-    // The step for the verdict, unless the adjacency starts over.
-    fn proceed(
-        &mut self,
-        alloc: Global,
-        verdict: Verdict,
-        moment: Second,
-        database: &Lsdb,
-        description: &Description,
-        draft: &mut Draft,
-    ) -> Result<(), AllocError>
-        ensures ok { OnOk result (self.new.present
-            ≡ step_on (proceeding (verdict_of verdict) moment database.now.present description.now)
-            self.old.present) }
-        ensures draft { OnOk result ((delay : ℕ) → draft.new
-            ≡ drafting delay (sent_on (proceeding (verdict_of verdict) moment database.now.present
-            description.now) self.old.present) draft.old) }
-        ensures settled { self.new.settled ≡ self.old.settled }
-    {
-        match &mut self.neighbor {
-            None => Ok(()),
-            Some(neighbor) => {
-                neighbor.proceed(alloc, verdict, moment, database, description, draft)
-            }
-        }
-    }
-
-    // The step for the Database Description in the neighbor's state.
+    // The step for the Database Description in the neighbor's state; without a neighbor it is
+    // ignored.
     fn judge(
         &mut self,
         alloc: Global,
@@ -120,12 +84,15 @@ impl Place {
             self.old.present) draft.old) }
         ensures settled { self.new.settled ≡ self.old.settled }
     {
-        let verdict = self.verdict(own, description);
+        let Some(neighbor) = &mut self.neighbor else {
+            return Ok(());
+        };
+        let verdict = neighbor.verdict(own, description);
         let over = starts_over(verdict, description);
         if over {
             return self.attempt(alloc, moment, draft);
         }
-        self.proceed(alloc, verdict, moment, database, description, draft)
+        neighbor.proceed(alloc, verdict, moment, database, description, draft)
     }
 
     /// A Database Description from the neighbor to the router with the Router ID `own` (RFC 2328,

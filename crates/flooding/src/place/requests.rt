@@ -1,7 +1,6 @@
-//! Received Link State Requests (RFC 2328, section 10.7), and BadLSReq.
+//! Received Link State Requests (RFC 2328, section 10.7).
 ghost use Rattle.std.specs.Prelude.{◌≡◌, ℕ, [], ◌∷◌, map, OnOk};
 ghost use Rattle.std.specs.List.{list_all};
-ghost use Rattle.adjacency.specs.Adjacencies.{mismatch_step};
 ghost use Rattle.adjacency.specs.Contents.{Updates, sent_on, step_on};
 ghost use Rattle.adjacency.specs.Drafts.{drafting};
 ghost use Rattle.adjacency.specs.Steps.{after_request, is_there, lsas_of};
@@ -97,29 +96,6 @@ impl Place {
             if there {
                 return send_copies(alloc, moment, delay, database, keys, draft);
             }
-            return self.attempt(alloc, moment, draft);
-        }
-        Ok(())
-    }
-
-    /// BadLSReq (RFC 2328, section 13, step 6): a neighbor in Exchange or later goes back to
-    /// ExStart with a new attempt.
-    ///
-    /// Errors with `AllocError` if an allocation is refused; the caller then rolls back.
-    pub fn bad_request(
-        &mut self,
-        alloc: Global,
-        moment: Second,
-        draft: &mut Draft,
-    ) -> Result<(), AllocError>
-        ensures ok { OnOk result (self.new.present ≡ step_on (mismatch_step moment)
-            self.old.present) }
-        ensures draft { OnOk result ((delay : ℕ) → draft.new
-            ≡ drafting delay (sent_on (mismatch_step moment) self.old.present) draft.old) }
-        ensures settled { self.new.settled ≡ self.old.settled }
-    {
-        let exchanging = self.is_exchange_or_later();
-        if exchanging {
             return self.attempt(alloc, moment, draft);
         }
         Ok(())

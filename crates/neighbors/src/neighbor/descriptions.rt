@@ -1,23 +1,20 @@
 //! The database exchange (RFC 2328, sections 10.6, 10.8 and 10.3).
 ghost use Rattle.std.specs.Prelude.{◌≡◌, ℕ, ◌+◌, ◌%◌, ◌^◌, false, true, if◌then◌else◌, []};
-ghost use Rattle.std.specs.Prelude.{◌∷◌, ◌++◌, take, Some, IfOk, OnOk};
+ghost use Rattle.std.specs.Prelude.{◌∷◌, ◌++◌, take, IfOk, OnOk};
 ghost use Rattle.std.specs.FinMap as finite;
 ghost use Rattle.std.specs.List.{filter_map, fold};
 ghost use Rattle.adjacency.specs.lsdb.Instances.{aged_header};
 ghost use Rattle.adjacency.specs.Descriptions.{
   announced_more,
-  as_received,
   describe,
   exchange_done,
   is_wanted,
-  left_to_describe,
   master_goes_on,
   negotiated_neighbor,
   next_description,
   repeat,
   slave_replies,
   with_request,
-  with_requests,
 };
 ghost use Rattle.adjacency.specs.Drafts.{drafting};
 ghost use Rattle.adjacency.specs.Exchanges.{accept_description, entry_header};
@@ -178,17 +175,6 @@ impl Neighbor {
         draft.describe(again)
     }
 
-    // Keeps what identifies a duplicate of this Database Description.
-    fn receive(&mut self, description: &Description)
-        ensures { self.new ≡ record self.old {
-          present =
-              record self.old.present { received = Some (as_received description.now) };
-        } }
-    {
-        let received = as_received(description);
-        self.standing.received = Some(received);
-    }
-
     // The exchange continues with this DD sequence number.
     fn count_on(&mut self, sequence: u32)
         ensures { self.new ≡ record self.old {
@@ -206,13 +192,6 @@ impl Neighbor {
         self.standing.sequence
     }
 
-    // Whether this router is the master.
-    fn is_master(&self) -> bool
-        ensures { result ≡ self.now.present.is_master }
-    {
-        self.standing.is_master
-    }
-
     // ExchangeDone (RFC 2328, section 10.3).
     fn finish(&mut self, moment: Second)
         ensures { self.new ≡ record self.old { present = exchange_done moment self.old.present } }
@@ -221,28 +200,6 @@ impl Neighbor {
         let state = done_state(nothing);
         self.standing.state = state;
         self.standing.exchanged = Some(moment);
-    }
-
-    // Adds the wanted ones of these instances to the request list.
-    fn request_wanted(
-        &mut self,
-        moment: Second,
-        database: &Lsdb,
-        headers: &[Header],
-    ) -> Result<(), AllocError>
-        ensures ok { OnOk result (self.new.present
-            ≡ with_requests moment database.now.present headers.now self.old.present) }
-        ensures settled { self.new.settled ≡ self.old.settled }
-    {
-        want_all(moment, database, &mut self.requests, headers)
-    }
-
-    // The keys of the headers that fit into the next Database Description.
-    fn first_described(&self, alloc: Global) -> Result<Vec<Key>, AllocError>
-        ensures { IfOk result (λ keys. keys.items
-            ≡ take most_headers_described (finite.keys self.now.present.summary)) }
-    {
-        self.summary.first(alloc, MOST_HEADERS_DESCRIBED)
     }
 
     // The next Database Description, with the headers of these keys.
@@ -270,31 +227,8 @@ impl Neighbor {
         })
     }
 
-    // Removes these keys from the Database summary list.
-    fn shorten(&mut self, keys: &[Key]) -> Result<(), AllocError>
-        requires { keys.now ≡ take most_headers_described (finite.keys self.old.present.summary) }
-        ensures ok { OnOk result (self.new.present
-            ≡ record self.old.present { summary = left_to_describe self.old.present }) }
-        ensures settled { self.new.settled ≡ self.old.settled }
-    {
-        remove_keys(&mut self.summary, keys)
-    }
-
-    // Keeps the Database Description, which may have to be sent again.
-    fn keep(&mut self, moment: Second, description: &Description) -> Result<(), AllocError>
-        ensures ok { OnOk result (self.new.present ≡ record self.old.present {
-          described = Some description.now;
-          described_at = moment;
-        }) }
-        ensures settled { self.new.settled ≡ self.old.settled }
-    {
-        let kept = copy(description)?;
-        self.described.set(Some(kept));
-        self.standing.described_at = moment;
-        Ok(())
-    }
-
-    // Sends the next Database Description (RFC 2328, section 10.8).
+    // Sends the next Database Description (RFC 2328, section 10.8), and keeps it, since it may have
+    // to be sent again.
     fn describe(
         &mut self,
         alloc: Global,
@@ -306,10 +240,12 @@ impl Neighbor {
             ≡ drafting delay (describe moment self.old.present).sends draft.old) }
         ensures settled { self.new.settled ≡ self.old.settled }
     {
-        let keys = self.first_described(alloc)?;
+        let keys = self.summary.first(alloc, MOST_HEADERS_DESCRIBED)?;
         let next = self.next_description(alloc, moment, &keys)?;
-        self.shorten(&keys)?;
-        self.keep(moment, &next)?;
+        remove_keys(&mut self.summary, &keys)?;
+        let kept = copy(&next)?;
+        self.described.set(Some(kept));
+        self.standing.described_at = moment;
         draft.describe(next)
     }
 
@@ -394,9 +330,15 @@ impl Neighbor {
             self.old.present).sends draft.old) }
         ensures settled { self.new.settled ≡ self.old.settled }
     {
-        self.receive(description);
-        self.request_wanted(moment, database, description.headers.as_slice())?;
-        let leads = self.is_master();
+        let received = as_received(description);
+        self.standing.received = Some(received);
+        want_all(
+            moment,
+            database,
+            &mut self.requests,
+            description.headers.as_slice(),
+        )?;
+        let leads = self.standing.is_master;
         if leads {
             return self.master_goes_on(alloc, moment, description, draft);
         }

@@ -31,8 +31,8 @@ const BEFORE_LSAS: u16 = 28;
 /// The greatest length of a packet, in bytes.
 const LARGEST_PACKET: u32 = 8192;
 
-// Whether at least `interval` seconds have passed from the start to the moment.
-fn has_passed(start: Second, interval: u32, moment: Second) -> bool
+/// Whether at least `interval` seconds have passed from the start to the moment.
+pub fn has_passed(start: Second, interval: u32, moment: Second) -> bool
     ensures { result ≡ has_passed start interval moment }
 {
     u64::from(interval) <= moment.since(start)
@@ -168,31 +168,6 @@ fn send_that_fit(
 impl Neighbor {
     // ---- timers that have expired
 
-    /// Whether the inactivity timer has expired: RouterDeadInterval (`dead`, in seconds) has passed
-    /// since it started.
-    pub fn is_inactive(&self, moment: Second, dead: u32) -> bool
-        ensures { result ≡ has_passed self.now.present.last_heard dead moment }
-    {
-        has_passed(self.standing.last_heard, dead, moment)
-    }
-
-    // Whether RouterDeadInterval has passed since the exchange was completed.
-    fn is_exchange_over(&self, moment: Second, dead: u32) -> bool
-        ensures { result ≡ is_over_for moment dead self.now.present.exchanged }
-    {
-        is_over_for(moment, dead, self.standing.exchanged)
-    }
-
-    // Discards the last Database Description. It doesn't allocate.
-    fn forget_description(&mut self)
-        ensures { self.new ≡ record self.old {
-          present =
-              record self.old.present { described = None };
-        } }
-    {
-        self.described.set(None);
-    }
-
     /// Discards the last Database Description if RouterDeadInterval (`dead`, in seconds) has passed
     /// since the exchange was completed (RFC 2328, section 10.8). It doesn't allocate.
     pub fn give_up_description(&mut self, moment: Second, dead: u32)
@@ -201,10 +176,11 @@ impl Neighbor {
               self.old.present;
         } }
     {
-        let over = self.is_exchange_over(moment, dead);
-        if over {
-            self.forget_description();
+        let over = is_over_for(moment, dead, self.standing.exchanged);
+        if !over {
+            return;
         }
+        self.described.set(None);
     }
 
     /// LoadingDone (RFC 2328, section 10.3): from Loading to Full if the request list is empty. It

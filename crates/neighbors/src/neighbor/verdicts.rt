@@ -38,7 +38,7 @@ impl Neighbor {
         let standing = self.standing();
         let same_roles = same_flag(description.master, standing.is_master);
         let other_options = changes_options(&standing.received, description);
-        let next = description.sequence == expected(&standing);
+        let next = description.sequence == expected(standing);
         let tests = ExchangeTests {
             same_roles,
             init: description.init,

@@ -11,9 +11,21 @@ use Rattle.flooding.specs.Cases.{case_of}
 use Rattle.flooding.specs.Drafted.{drafts_with}
 use Rattle.flooding.specs.Links.{area_of, present, start}
 use Rattle.flooding.proofs.Lent.{given_back, lent_number, settled_back}
-use Rattle.flooding.proofs.Marking.{area_is, marks, mismatch_marks, release_sends}
+use Rattle.flooding.proofs.Marking.{area_is, marks, mismatch_marks, removal_sends}
 use Rattle.flooding.proofs.Sends.{drafted_none}
 use Rattle.flooding.proofs.area.Area.after_case.Goals as goal
+use Rattle.flooding.proofs.area.Area.after_case.Goals.{
+  in-Router-4,
+  in-Network-4,
+  in-NetworkSummary-4,
+  in-RouterSummary-4,
+  in-External-4,
+  in-Router-5,
+  in-Network-5,
+  in-NetworkSummary-5,
+  in-RouterSummary-5,
+  in-External-5,
+}
 
 pub returns-in-Unreadable-clause-drafts : goal.returns-in-Unreadable-clause-drafts
 returns-in-Unreadable-clause-drafts c =
@@ -82,7 +94,7 @@ returns-in-BadRequest-clause-ok c =
     (ap (λ v. v.present.links) c.self.view_is) in
     let back = given_back items lent c.mismatch.new.links c.self.inside.links.len
     c.deref_mut.ensures.len c.mismatch.ensures.settled in
-    on_ok c.mismatch.result
+    let known = on_ok c.mismatch.result
     (λ is.
     area_is (ap (map present) back ∙ is) (mismatch_marks lent (n - 1) n
     (omega (arith, c.requires.first, c.requires.last, count)) (omega (arith, c.requires.first))
@@ -92,7 +104,14 @@ returns-in-BadRequest-clause-ok c =
     ∙ ap (λ ls. (after_case (case_of c.args.case) m n lsa (start (area_of ls d))).area)
     c.deref_mut.ensures.value
     ∙ ap (λ v. (after_case (case_of c.args.case) m n lsa (start v.present)).area) c.self.view_is)
-    c.mismatch.ensures.links
+    c.mismatch.ensures.links in
+    elim c.match-lsa-4.branch [
+      | in-Router-4 w ↦ rw (w.self-is) known
+      | in-Network-4 w ↦ rw (w.self-is) known
+      | in-NetworkSummary-4 w ↦ rw (w.self-is) known
+      | in-RouterSummary-4 w ↦ rw (w.self-is) known
+      | in-External-4 w ↦ rw (w.self-is) known
+    ]
 
 pub returns-in-BadRequest-clause-drafts : goal.returns-in-BadRequest-clause-drafts
 returns-in-BadRequest-clause-drafts c =
@@ -126,23 +145,30 @@ returns-in-ImpliedAcknowledgment-clause-ok c =
     let count : length lent ≡ length c.args.self.now.present.links =
     lent_number items lent c.args.self.now.present.links lend.ensures.value
     (ap (λ v. v.present.links) it.view_is) in
-    let back = given_back items lent c.release.new.links it.inside.links.len lend.ensures.len
-    c.release.ensures.settled in
-    on_ok c.release.result
+    let back = given_back items lent c.remove_retransmission.new.links it.inside.links.len
+    lend.ensures.len c.remove_retransmission.ensures.settled in
+    let known = on_ok c.remove_retransmission.result
     (λ is.
     area_is
     (ap (map present) back ∙ is ∙ ap (λ (h : Header). stepped_links
     (only_at n (λ (nb : Neighbor). no_sends (remove_retransmission (key_of h) nb)))
     (map present lent)) c.header-header.ensures)
     (ap (marks m d)
-    (release_sends lent (n - 1) n (omega (arith, c.requires.first, c.requires.last, count))
+    (removal_sends lent (n - 1) n (omega (arith, c.requires.first, c.requires.last, count))
     (omega (arith, c.requires.first)) (key_of lsa.header)))
     ∙ ap (λ k. (after_case (case_of k) m n lsa (start (area_of lent d))).area)
     (sym c.in-ImpliedAcknowledgment.is)
     ∙ ap (λ ls. (after_case (case_of c.args.case) m n lsa (start (area_of ls d))).area)
     lend.ensures.value
     ∙ ap (λ v. (after_case (case_of c.args.case) m n lsa (start v.present)).area) it.view_is)
-    c.release.ensures.links
+    c.remove_retransmission.ensures.links in
+    elim c.match-lsa-5.branch [
+      | in-Router-5 w ↦ rw (w.self-is) known
+      | in-Network-5 w ↦ rw (w.self-is) known
+      | in-NetworkSummary-5 w ↦ rw (w.self-is) known
+      | in-RouterSummary-5 w ↦ rw (w.self-is) known
+      | in-External-5 w ↦ rw (w.self-is) known
+    ]
 
 pub returns-in-ImpliedAcknowledgment-clause-drafts :
     goal.returns-in-ImpliedAcknowledgment-clause-drafts
@@ -159,11 +185,11 @@ returns-in-ImpliedAcknowledgment-clause-drafts c =
     let count : length lent ≡ length c.args.self.now.present.links =
     lent_number it.inside.links.items lent c.args.self.now.present.links lend.ensures.value
     (ap (λ v. v.present.links) it.view_is) in
-    on_ok c.release.result
+    on_ok c.remove_retransmission.result
     (λ _.
     drafted_none 1 P ds
     ∙ ap (λ ss. drafts_with ss P ds)
-    (release_sends lent (n - 1) n (omega (arith, c.requires.first, c.requires.last, count))
+    (removal_sends lent (n - 1) n (omega (arith, c.requires.first, c.requires.last, count))
     (omega (arith, c.requires.first)) (key_of lsa.header))
     ∙ ap (λ k. drafts_with (after_case (case_of k) m n lsa (start (area_of lent d))).sends P ds)
     (sym c.in-ImpliedAcknowledgment.is)
@@ -171,19 +197,33 @@ returns-in-ImpliedAcknowledgment-clause-drafts c =
     (map present ls) ds) lend.ensures.value
     ∙ ap (λ v. drafts_with (after_case (case_of c.args.case) m n lsa (start v.present)).sends
     v.present.links ds) it.view_is)
-    c.release.ensures.links
+    c.remove_retransmission.ensures.links
 
 pub returns-in-BadRequest-clause-settled : goal.returns-in-BadRequest-clause-settled
 returns-in-BadRequest-clause-settled c =
-    area_is (settled_back c.self.inside.links.items c.deref_mut.result.now c.mismatch.new.links
-    c.self.inside.links.len c.deref_mut.ensures.value c.deref_mut.ensures.len
-    c.mismatch.ensures.settled) refl ∙ ap (λ v. v.settled) c.self.view_is
+    let known = area_is (settled_back c.self.inside.links.items c.deref_mut.result.now
+    c.mismatch.new.links c.self.inside.links.len c.deref_mut.ensures.value c.deref_mut.ensures.len
+    c.mismatch.ensures.settled) refl ∙ ap (λ v. v.settled) c.self.view_is in
+    elim c.match-lsa-4.branch [
+      | in-Router-4 w ↦ rw (w.self-is) known
+      | in-Network-4 w ↦ rw (w.self-is) known
+      | in-NetworkSummary-4 w ↦ rw (w.self-is) known
+      | in-RouterSummary-4 w ↦ rw (w.self-is) known
+      | in-External-4 w ↦ rw (w.self-is) known
+    ]
 
 pub returns-in-ImpliedAcknowledgment-clause-settled :
     goal.returns-in-ImpliedAcknowledgment-clause-settled
 returns-in-ImpliedAcknowledgment-clause-settled c =
     let it = c.self-in-ImpliedAcknowledgment in
     let lend = c.deref_mut-in-ImpliedAcknowledgment in
-    area_is (settled_back it.inside.links.items lend.result.now c.release.new.links
-    it.inside.links.len lend.ensures.value lend.ensures.len c.release.ensures.settled) refl
-    ∙ ap (λ v. v.settled) it.view_is
+    let known = area_is (settled_back it.inside.links.items lend.result.now
+    c.remove_retransmission.new.links it.inside.links.len lend.ensures.value lend.ensures.len
+    c.remove_retransmission.ensures.settled) refl ∙ ap (λ v. v.settled) it.view_is in
+    elim c.match-lsa-5.branch [
+      | in-Router-5 w ↦ rw (w.self-is) known
+      | in-Network-5 w ↦ rw (w.self-is) known
+      | in-NetworkSummary-5 w ↦ rw (w.self-is) known
+      | in-RouterSummary-5 w ↦ rw (w.self-is) known
+      | in-External-5 w ↦ rw (w.self-is) known
+    ]

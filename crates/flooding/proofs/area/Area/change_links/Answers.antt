@@ -1,5 +1,6 @@
 use Rattle.std.proofs.Common.{◌≡◌, ◌<◌, ◌≤◌, length, map, refl, sym, ap, ◌∙◌, arith}
 use Rattle.std.proofs.lemmas.List.{length-set}
+use Rattle.flooding.specs.Kept.{RouterArea}
 use Rattle.flooding.specs.Links.{present, settled_link}
 use Rattle.flooding.proofs.Changes.{changes_begin}
 use Rattle.flooding.proofs.Kept.{mixed_all, mixed_next, shows_kept}
@@ -52,5 +53,5 @@ returns g c =
     (area_is (sym (mixed_all present (λ n. A (present n)) i links all)
     ∙ c.loop-i.invariant.comes) (ap (λ d. d.present) same))
     (area_is c.loop-i.invariant.stays (ap (λ d. d.settled) same))
-    ∙ ap (λ v. record v { present = record v.present { links = map A v.present.links } })
+    ∙ ap (λ (v : RouterArea). record v { present = record v.present { links = map A v.present.links } })
     c.self.view_is

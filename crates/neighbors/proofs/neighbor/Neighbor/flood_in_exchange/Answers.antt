@@ -20,7 +20,8 @@ returns-then-gets-clause-ok c =
     } in
     let B : Step = no_sends (remove_retransmission (lsa_key lsa) m) in
     let is = c.gets-gets.ensures ∙ ap (λ b. not c.args.from && b) c.in_ok-passes.ensures.passes in
-    c.in_ok-owe.ensures.ok ∙ ap (λ h. add_retransmission c.args.moment h c.meet.new.self.present)
+    c.in_ok-add_retransmission.ensures.ok
+    ∙ ap (λ h. add_retransmission c.args.moment h c.meet.new.self.present)
     c.header-header.ensures ∙ ap (add_retransmission c.args.moment lsa.header)
     c.in_ok-passes.ensures.ok
     ∙ ap (λ b. (cond b A B).neighbor) (sym c.if-gets.true ∙ is)
@@ -63,7 +64,8 @@ returns-clause-ok c =
     } in
     let B : Step = no_sends (remove_retransmission (lsa_key lsa) m) in
     let is = c.gets-gets.ensures ∙ ap (λ b. not c.args.from && b) c.in_ok-passes.ensures.passes in
-    c.in_ok-release.ensures.ok ∙ ap (λ h. remove_retransmission (key_of h) c.meet.new.self.present)
+    c.in_ok-remove_retransmission.ensures.ok
+    ∙ ap (λ h. remove_retransmission (key_of h) c.meet.new.self.present)
     c.header-header.ensures ∙ ap (remove_retransmission (lsa_key lsa)) c.in_ok-passes.ensures.ok
     ∙ ap (λ b. (cond b A B).neighbor) (sym c.if-gets.false ∙ is)
 

@@ -12,7 +12,7 @@ returns-in_default-clause-draft c =
 pub returns-clause-draft : goal.returns-clause-draft
 returns-clause-draft c =
     let l = c.args.link.now.present in
-    on_ok c.ack.result
+    on_ok c.receive_acknowledgment.result
     (λ _. silent (after_acknowledgment c.args.self.now.moment c.args.self.now.headers.now)
     l.neighbor l.interface.delay c.args._draft.now)
-    c.ack.ensures.ok
+    c.receive_acknowledgment.ensures.ok
