@@ -20,7 +20,8 @@ class TestList(unittest.TestCase):
         *rooms, whole = [[it.strip() for it in row if it.strip()] for row in rows]
         sums = [sum(int(room[at]) for room in rooms) for at in range(1, 5)]
         self.assertEqual([int(it) for it in whole[1:]], sums)
-        self.assertEqual(sums[1], len(list(TOP.glob("crates/*/must-fail/*.edit"))))
+        gate = [it for folder in ("must-fail", "wrong-bodies") for it in TOP.glob(f"crates/*/{folder}/*.edit")]
+        self.assertEqual(sums[1], len(gate))
         self.assertEqual(sums[2], len(list(TOP.glob("crates/*/more-edits/*.edit"))))
 
     def test_the_edits_of_a_crate(self) -> None:
@@ -29,6 +30,11 @@ class TestList(unittest.TestCase):
         lines = ran.stdout.splitlines()
         self.assertEqual(len(lines), len(list(TOP.glob("crates/elf/m*/*.edit"))))
         self.assertTrue(all(re.fullmatch(r"elf/(must-fail|more-edits)/\w+: \w+/.+", it) for it in lines), lines)
+
+    def test_wrong_bodies_are_among_the_edits_of_a_crate(self) -> None:
+        ran = listed("lsdb")
+        self.assertEqual((ran.returncode, ran.stderr), (0, ""))
+        self.assertIn("lsdb/wrong-bodies/sequence_numbers_are_compared_as_unsigned: src/order.rt", ran.stdout.splitlines())
 
     def test_no_such_crate(self) -> None:
         ran = listed("elves")
