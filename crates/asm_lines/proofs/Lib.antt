@@ -4,4 +4,5 @@ pub mod Complete
 pub mod Seen
 pub mod Items
 pub mod Spaced
+pub mod LineWords
 pub mod Whole

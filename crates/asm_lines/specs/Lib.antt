@@ -3,3 +3,4 @@ pub mod Reading
 pub mod Views
 pub mod Text
 pub mod Written
+pub mod LineWords

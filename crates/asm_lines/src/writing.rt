@@ -6,6 +6,7 @@ ghost use Rattle.asm_lines.specs.Forms.{the_operand, the_target, the_slot, the_t
 ghost use Rattle.asm_lines.specs.Forms.{the_range, the_content, form_of, is_label, is_data};
 ghost use Rattle.asm_words.specs.Names.{is_name};
 ghost use Rattle.asm_words.specs.Words.{Word, extension_width, test_word, is_word};
+ghost use Rattle.asm_lines.specs.LineWords.{part, parts, IsWhole, AreWhole};
 ghost use Rattle.asm_lines.specs.Written.{Adds, Starts, AreLines, IsNamed, line_text};
 ghost use Rattle.asm_lines.specs.declared.line.AssemblyLine.{AssemblyLine};
 ghost use Rattle.asm_words.specs.declared.numeral.Numeral.{Numeral};
@@ -20,6 +21,15 @@ use isa::{
 };
 use std::alloc::AllocError;
 use std::fmt::Write;
+
+/// A word of a line, as the form of the line has it.
+#[derive(Clone, Copy)]
+enum LineWord<'a> {
+    Exactly(&'a str),
+    Number(Numeral),
+    Distance(Numeral),
+    Name(&'a str),
+}
 
 /// The first word of the line.
 fn first(text: &mut String, word: &str) -> Result<(), AllocError>
@@ -107,37 +117,73 @@ fn next_distance(text: &mut String, number: Numeral) -> Result<(), AllocError>
     }
 }
 
-fn next_operand(text: &mut String, width: Width, operand: Operand) -> Result<(), AllocError>
-    ensures { OnOk result (Adds (string_bytes text.old) (string_bytes text.new)
-        (the_operand width operand ∷ [])) }
+/// Another word of the line.
+fn next_word(text: &mut String, word: LineWord<'_>) -> Result<(), AllocError>
+    requires { IsWhole word }
+    ensures { OnOk result (Adds (string_bytes text.old) (string_bytes text.new) (part word.entry ∷ [])) }
+{
+    match word {
+        LineWord::Exactly(word) => next(text, word),
+        LineWord::Number(number) => next_number(text, number),
+        LineWord::Distance(number) => next_distance(text, number),
+        LineWord::Name(name) => next_name(text, name),
+    }
+}
+
+/// More words of the line.
+fn next_words(text: &mut String, words: &[LineWord<'_>]) -> Result<(), AllocError>
+    requires { AreWhole words.now }
+    ensures { OnOk result (Adds (string_bytes text.old) (string_bytes text.new) (parts words.now)) }
+{
+    for word in words {
+        next_word(text, *word)?;
+    }
+    Ok(())
+}
+
+/// The first words of the line.
+fn start(text: &mut String, word: &str, others: &[LineWord<'_>]) -> Result<(), AllocError>
+    requires word { is_word word.now ≡ true }
+    requires others { AreWhole others.now }
+    ensures { OnOk result (Starts (string_bytes text.old) (string_bytes text.new) (Exactly word.now
+        ∷ parts others.now)) }
+{
+    first(text, word)?;
+    next_words(text, others)
+}
+
+/// A register of this width, or a number.
+fn operand_word(width: Width, operand: Operand) -> LineWord<'static>
+    ensures value { part result ≡ the_operand width operand }
+    ensures whole { IsWhole result }
 {
     match operand {
-        Operand::Register(register) => next_register(text, width, register),
-        Operand::Number(number) => next_number(text, number),
+        Operand::Register(register) => LineWord::Exactly(register_word(width, register)),
+        Operand::Number(number) => LineWord::Number(number),
     }
 }
 
 /// A distance, or the name of a label.
-fn next_target(text: &mut String, target: LabelOrNumber, name: &str) -> Result<(), AllocError>
+fn target_word(target: LabelOrNumber, name: &str) -> LineWord<'_>
     requires { is_label target ≡ true → is_name name.now ≡ true }
-    ensures { OnOk result (Adds (string_bytes text.old) (string_bytes text.new)
-        (the_target target name.now ∷ [])) }
+    ensures value { part result ≡ the_target target name.now }
+    ensures whole { IsWhole result }
 {
     match target {
-        LabelOrNumber::Number(number) => next_distance(text, number),
-        LabelOrNumber::Label => next_name(text, name),
+        LabelOrNumber::Number(number) => LineWord::Distance(number),
+        LabelOrNumber::Label => LineWord::Name(name),
     }
 }
 
 /// The number of a slot, or the name of a label.
-fn next_slot(text: &mut String, slot: LabelOrNumber, name: &str) -> Result<(), AllocError>
+fn slot_word(slot: LabelOrNumber, name: &str) -> LineWord<'_>
     requires { is_label slot ≡ true → is_name name.now ≡ true }
-    ensures { OnOk result (Adds (string_bytes text.old) (string_bytes text.new)
-        (the_slot slot name.now ∷ [])) }
+    ensures value { part result ≡ the_slot slot name.now }
+    ensures whole { IsWhole result }
 {
     match slot {
-        LabelOrNumber::Number(number) => next_number(text, number),
-        LabelOrNumber::Label => next_name(text, name),
+        LabelOrNumber::Number(number) => LineWord::Number(number),
+        LabelOrNumber::Label => LineWord::Name(name),
     }
 }
 
@@ -145,9 +191,14 @@ fn next_term(text: &mut String, term: Term) -> Result<(), AllocError>
     ensures { OnOk result (Adds (string_bytes text.old) (string_bytes text.new)
         (the_term term [])) }
 {
-    next_register(text, Width::Bits64, term.register)?;
-    next(text, "*")?;
-    next_number(text, term.coefficient)
+    next_words(
+        text,
+        &[
+            LineWord::Exactly(register_word(Width::Bits64, term.register)),
+            LineWord::Exactly("*"),
+            LineWord::Number(term.coefficient),
+        ],
+    )
 }
 
 fn next_terms(text: &mut String, terms: Terms) -> Result<(), AllocError>
@@ -166,19 +217,27 @@ fn next_terms(text: &mut String, terms: Terms) -> Result<(), AllocError>
 fn next_range(text: &mut String, range: Range) -> Result<(), AllocError>
     ensures { OnOk result (Adds (string_bytes text.old) (string_bytes text.new) (the_range range)) }
 {
-    next_number(text, range.low)?;
-    next_number(text, range.high)?;
-    next_number(text, range.mask)?;
-    next_number(text, range.value)
+    next_words(
+        text,
+        &[
+            LineWord::Number(range.low),
+            LineWord::Number(range.high),
+            LineWord::Number(range.mask),
+            LineWord::Number(range.value),
+        ],
+    )
 }
 
-/// A pointer into a map, after the word for it.
-fn next_map_value(text: &mut String, map: Numeral, offset: Range) -> Result<(), AllocError>
-    ensures { OnOk result (Adds (string_bytes text.old) (string_bytes text.new) (Number map
-        ∷ the_range offset)) }
+/// A keyword and a number.
+fn next_pair(text: &mut String, keyword: &str, number: Numeral) -> Result<(), AllocError>
+    requires { is_word keyword.now ≡ true }
+    ensures { OnOk result (Adds (string_bytes text.old) (string_bytes text.new)
+        (Exactly keyword.now ∷ Number number ∷ [])) }
 {
-    next_number(text, map)?;
-    next_range(text, offset)
+    next_words(
+        text,
+        &[LineWord::Exactly(keyword), LineWord::Number(number)],
+    )
 }
 
 fn next_content(text: &mut String, content: RegisterContent) -> Result<(), AllocError>
@@ -190,17 +249,11 @@ fn next_content(text: &mut String, content: RegisterContent) -> Result<(), Alloc
             next(text, "number")?;
             next_range(text, range)
         }
-        RegisterContent::Context(offset) => {
-            next(text, "context")?;
-            next_number(text, offset)
-        }
-        RegisterContent::Stack(offset) => {
-            next(text, "stack")?;
-            next_number(text, offset)
-        }
+        RegisterContent::Context(offset) => next_pair(text, "context", offset),
+        RegisterContent::Stack(offset) => next_pair(text, "stack", offset),
         RegisterContent::Map { map, offset } => {
-            next(text, "map")?;
-            next_map_value(text, map, offset)
+            next_pair(text, "map", map)?;
+            next_range(text, offset)
         }
     }
 }
@@ -215,31 +268,20 @@ fn extension_width(extension: Extension) -> Width
     }
 }
 
-/// The start of an assignment to a register, up to the `=`.
-fn assigned(text: &mut String, width: Width, target: Register) -> Result<(), AllocError>
-    ensures { OnOk result (Starts (string_bytes text.old) (string_bytes text.new)
-        (the_register width target ∷ Exactly (codes "=") ∷ [])) }
-{
-    first(text, register_word(width, target))?;
-    next(text, "=")
-}
-
 /// A line that consists of a keyword and a number.
 fn keyword_number(text: &mut String, keyword: &str, number: Numeral) -> Result<(), AllocError>
     requires { is_word keyword.now ≡ true }
     ensures { OnOk result (Starts (string_bytes text.old) (string_bytes text.new)
         (Exactly keyword.now ∷ Number number ∷ [])) }
 {
-    first(text, keyword)?;
-    next_number(text, number)
+    start(text, keyword, &[LineWord::Number(number)])
 }
 
 fn write_hook(text: &mut String, hook: Hook) -> Result<(), AllocError>
     ensures { OnOk result (Starts (string_bytes text.old) (string_bytes text.new)
         (form_of (AssemblyLine.Hook hook) [])) }
 {
-    first(text, "hook")?;
-    next(text, hook_word(hook))
+    start(text, "hook", &[LineWord::Exactly(hook_word(hook))])
 }
 
 /// A label: its name and a colon.
@@ -262,17 +304,25 @@ fn write_arithmetic(
     ensures { OnOk result (Starts (string_bytes text.old) (string_bytes text.new)
         (form_of (AssemblyLine.Arithmetic width operation target source) [])) }
 {
-    first(text, register_word(width, target))?;
-    next(text, operation_word(operation))?;
-    next_operand(text, width, source)
+    start(
+        text,
+        register_word(width, target),
+        &[
+            LineWord::Exactly(operation_word(operation)),
+            operand_word(width, source),
+        ],
+    )
 }
 
 fn write_negate(text: &mut String, width: Width, target: Register) -> Result<(), AllocError>
     ensures { OnOk result (Starts (string_bytes text.old) (string_bytes text.new)
         (form_of (AssemblyLine.Negate width target) [])) }
 {
-    assigned(text, width, target)?;
-    next(text, "neg")
+    start(
+        text,
+        register_word(width, target),
+        &[LineWord::Exactly("="), LineWord::Exactly("neg")],
+    )
 }
 
 fn write_extend(
@@ -285,9 +335,15 @@ fn write_extend(
         (form_of (AssemblyLine.SignExtend extension target source) [])) }
 {
     let width = extension_width(extension);
-    assigned(text, width, target)?;
-    next(text, extension_word(extension))?;
-    next_register(text, width, source)
+    start(
+        text,
+        register_word(width, target),
+        &[
+            LineWord::Exactly("="),
+            LineWord::Exactly(extension_word(extension)),
+            LineWord::Exactly(register_word(width, source)),
+        ],
+    )
 }
 
 fn write_reorder(
@@ -299,8 +355,14 @@ fn write_reorder(
     ensures { OnOk result (Starts (string_bytes text.old) (string_bytes text.new)
         (form_of (AssemblyLine.Reorder order width target) [])) }
 {
-    assigned(text, Width::Bits64, target)?;
-    next(text, reorder_word(order, width))
+    start(
+        text,
+        register_word(Width::Bits64, target),
+        &[
+            LineWord::Exactly("="),
+            LineWord::Exactly(reorder_word(order, width)),
+        ],
+    )
 }
 
 /// An unconditional jump, by its keyword.
@@ -315,35 +377,33 @@ fn write_jump(
     ensures { OnOk result (Starts (string_bytes text.old) (string_bytes text.new)
         (Exactly keyword.now ∷ the_target target name.now ∷ [])) }
 {
-    first(text, keyword)?;
-    next_target(text, target, name)
+    start(text, keyword, &[target_word(target, name)])
 }
 
-fn write_condition(
+fn write_branch(
     text: &mut String,
     width: Width,
     test: Test,
     left: Register,
     right: Operand,
+    target: LineWord<'_>,
 ) -> Result<(), AllocError>
+    requires { IsWhole target }
     ensures { OnOk result (Starts (string_bytes text.old) (string_bytes text.new)
         (Exactly (codes "if") ∷ the_register width left ∷ Exactly (test_word test)
-        ∷ the_operand width right ∷ [])) }
+        ∷ the_operand width right ∷ Exactly (codes "goto") ∷ part target.entry ∷ [])) }
 {
-    first(text, "if")?;
-    next_register(text, width, left)?;
-    next(text, test_word(test))?;
-    next_operand(text, width, right)
-}
-
-/// Where a conditional jump goes.
-fn write_goto(text: &mut String, target: LabelOrNumber, name: &str) -> Result<(), AllocError>
-    requires { is_label target ≡ true → is_name name.now ≡ true }
-    ensures { OnOk result (Adds (string_bytes text.old) (string_bytes text.new)
-        (Exactly (codes "goto") ∷ the_target target name.now ∷ [])) }
-{
-    next(text, "goto")?;
-    next_target(text, target, name)
+    start(
+        text,
+        "if",
+        &[
+            LineWord::Exactly(register_word(width, left)),
+            LineWord::Exactly(test_word(test)),
+            operand_word(width, right),
+            LineWord::Exactly("goto"),
+            target,
+        ],
+    )
 }
 
 fn write_load(
@@ -356,10 +416,16 @@ fn write_load(
     ensures { OnOk result (Starts (string_bytes text.old) (string_bytes text.new)
         (form_of (AssemblyLine.Load size target base offset) [])) }
 {
-    assigned(text, Width::Bits64, target)?;
-    next(text, load_word(size))?;
-    next_register(text, Width::Bits64, base)?;
-    next_number(text, offset)
+    start(
+        text,
+        register_word(Width::Bits64, target),
+        &[
+            LineWord::Exactly("="),
+            LineWord::Exactly(load_word(size)),
+            LineWord::Exactly(register_word(Width::Bits64, base)),
+            LineWord::Number(offset),
+        ],
+    )
 }
 
 fn write_store(
@@ -372,20 +438,31 @@ fn write_store(
     ensures { OnOk result (Starts (string_bytes text.old) (string_bytes text.new)
         (form_of (AssemblyLine.Store size base offset source) [])) }
 {
-    first(text, store_word(size))?;
-    next_register(text, Width::Bits64, base)?;
-    next_number(text, offset)?;
-    next(text, "=")?;
-    next_operand(text, Width::Bits64, source)
+    start(
+        text,
+        store_word(size),
+        &[
+            LineWord::Exactly(register_word(Width::Bits64, base)),
+            LineWord::Number(offset),
+            LineWord::Exactly("="),
+            operand_word(Width::Bits64, source),
+        ],
+    )
 }
 
 fn write_load_number(text: &mut String, target: Register, number: Numeral) -> Result<(), AllocError>
     ensures { OnOk result (Starts (string_bytes text.old) (string_bytes text.new)
         (form_of (AssemblyLine.LoadNumber target number) [])) }
 {
-    assigned(text, Width::Bits64, target)?;
-    next(text, "wide")?;
-    next_number(text, number)
+    start(
+        text,
+        register_word(Width::Bits64, target),
+        &[
+            LineWord::Exactly("="),
+            LineWord::Exactly("wide"),
+            LineWord::Number(number),
+        ],
+    )
 }
 
 fn write_load_map(
@@ -397,10 +474,16 @@ fn write_load_map(
     ensures { OnOk result (Starts (string_bytes text.old) (string_bytes text.new)
         (form_of (AssemblyLine.LoadMap target map offset) [])) }
 {
-    assigned(text, Width::Bits64, target)?;
-    next(text, "map")?;
-    next_number(text, map)?;
-    next_number(text, offset)
+    start(
+        text,
+        register_word(Width::Bits64, target),
+        &[
+            LineWord::Exactly("="),
+            LineWord::Exactly("map"),
+            LineWord::Number(map),
+            LineWord::Number(offset),
+        ],
+    )
 }
 
 fn write_state(
@@ -414,10 +497,15 @@ fn write_state(
     ensures { OnOk result (Starts (string_bytes text.old) (string_bytes text.new)
         (form_of (AssemblyLine.State slot constant terms) name.now)) }
 {
-    first(text, "state")?;
-    next_slot(text, slot, name)?;
-    next(text, "rank")?;
-    next_number(text, constant)?;
+    start(
+        text,
+        "state",
+        &[
+            slot_word(slot, name),
+            LineWord::Exactly("rank"),
+            LineWord::Number(constant),
+        ],
+    )?;
     next_terms(text, terms)
 }
 
@@ -429,17 +517,23 @@ fn write_with(
     ensures { OnOk result (Starts (string_bytes text.old) (string_bytes text.new)
         (form_of (AssemblyLine.With register content) [])) }
 {
-    first(text, "with")?;
-    next_register(text, Width::Bits64, register)?;
+    start(
+        text,
+        "with",
+        &[LineWord::Exactly(register_word(Width::Bits64, register))],
+    )?;
     next_content(text, content)
 }
 
-fn write_bytes(text: &mut String, start: Numeral, end: Numeral) -> Result<(), AllocError>
+fn write_bytes(text: &mut String, first: Numeral, last: Numeral) -> Result<(), AllocError>
     ensures { OnOk result (Starts (string_bytes text.old) (string_bytes text.new)
-        (form_of (AssemblyLine.Bytes start end) [])) }
+        (form_of (AssemblyLine.Bytes first last) [])) }
 {
-    keyword_number(text, "bytes", start)?;
-    next_number(text, end)
+    start(
+        text,
+        "bytes",
+        &[LineWord::Number(first), LineWord::Number(last)],
+    )
 }
 
 /// The words of an assignment to a register, of a load or of a store.
@@ -506,10 +600,7 @@ fn write_words(text: &mut String, line: AssemblyLine, name: &str) -> Result<(), 
             left,
             right,
             target,
-        } => {
-            write_condition(text, width, test, left, right)?;
-            write_goto(text, target, name)
-        }
+        } => write_branch(text, width, test, left, right, target_word(target, name)),
         AssemblyLine::Call(helper) => keyword_number(text, "call", helper),
         AssemblyLine::Exit => first(text, "exit"),
         AssemblyLine::State {
