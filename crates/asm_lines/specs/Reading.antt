@@ -41,6 +41,10 @@ or_else (Some x) other = Some x
 abbrev pub plain : AssemblyLine → AssemblyLine × Word
 plain line = (line, [])
 
+-- the line without a label's name, if there is one
+abbrev pub unnamed : Option AssemblyLine → Option (AssemblyLine × Word)
+unnamed line = line >>= λ found. Some (plain found)
+
 abbrev pub of_width : Width → Width × ℕ → Option ℕ
 of_width Bits64 (Bits64, register) = Some register
 of_width Bits32 (Bits32, register) = Some register

@@ -8,7 +8,7 @@ ghost use Rattle.asm_words.specs.Words.{Word, register_word};
 ghost use Rattle.asm_lines.specs.Views.{item_view, items, target_view, views, SpellsItem};
 ghost use Rattle.asm_lines.specs.Views.{SpellsPlain};
 ghost use Rattle.asm_lines.specs.Reading.{register_at, operand_at, name_at, target_at, slot_at};
-ghost use Rattle.asm_lines.specs.Reading.{label_at, one, two};
+ghost use Rattle.asm_lines.specs.Reading.{label_at, one, two, unnamed};
 ghost use Rattle.asm_lines.specs.Reading.{negation_or_reordering, assigned_line};
 ghost use Rattle.asm_lines.specs.Reading.{arithmetic_or_assignment};
 ghost use Rattle.asm_lines.specs.Reading.{stack_range, three, widening_line};
@@ -89,6 +89,18 @@ fn slot_at(word: &str) -> Option<(LabelOrNumber, &str)>
     match read_number(word) {
         Some(number) => Some((LabelOrNumber::Number(number), "")),
         None => name_at(word),
+    }
+}
+
+/// A line that neither defines nor uses a label, if there is one.
+fn unnamed(line: Option<AssemblyLine>) -> Option<Item<'static>>
+    ensures value { option_map item_view result ≡ unnamed line }
+    ensures found { (words : List Word) → IfSome line (SpellsPlain words)
+        → IfSome result (SpellsItem words) }
+{
+    match line {
+        Some(line) => Some(Item::plain(line)),
+        None => None,
     }
 }
 
@@ -217,8 +229,7 @@ fn three<'a>(a: &str, b: &str, c: &'a str) -> Option<Item<'a>>
             return Some(Item::plain(line));
         }
     }
-    let line = stack_range(a, b, c)?;
-    Some(Item::plain(line))
+    unnamed(stack_range(a, b, c))
 }
 
 /// An assignment whose right side is two words: a wide number, or a register that is sign-extended.
@@ -299,14 +310,12 @@ fn four<'a>(a: &str, b: &'a str, c: &str, d: &str) -> Option<Item<'a>>
 {
     if b == "=" {
         let (width, target) = register_of(a)?;
-        let line = widened(width, target, c, d)?;
-        return Some(Item::plain(line));
+        return unnamed(widened(width, target, c, d));
     }
     if a == "state" {
         return state_of(a, b, c, d, Terms::None);
     }
-    let line = offset_of(a, b, c, d)?;
-    Some(Item::plain(line))
+    unnamed(offset_of(a, b, c, d))
 }
 
 fn loaded(target: Register, c: &str, d: &str, e: &str) -> Option<AssemblyLine>
@@ -357,14 +366,12 @@ fn five<'a>(a: &str, b: &str, c: &str, d: &str, e: &'a str) -> Option<Item<'a>>
 {
     if b == "=" {
         let target = register_at(Width::Bits64, a)?;
-        let line = loaded(target, c, d, e)?;
-        return Some(Item::plain(line));
+        return unnamed(loaded(target, c, d, e));
     }
     if d != "=" {
         return None;
     }
-    let line = stored(a, b, c, e)?;
-    Some(Item::plain(line))
+    unnamed(stored(a, b, c, e))
 }
 
 /// A conditional jump, by the words beside `if` and `goto`.
@@ -460,8 +467,7 @@ fn seven<'a>(a: &str, b: &'a str, c: &str, d: &str, e: &str, f: &str, g: &str) -
         ∷ [])) }
 {
     if a == "with" {
-        let line = numbers_of(b, c, d, e, f, g)?;
-        return Some(Item::plain(line));
+        return unnamed(numbers_of(b, c, d, e, f, g));
     }
     let term = term_of(e, f, g)?;
     state_of(a, b, c, d, Terms::One(term))
@@ -522,8 +528,7 @@ fn eight<'a>(
     if a != "with" {
         return None;
     }
-    let line = map_value_of(b, c, d, e, f, g, h)?;
-    Some(Item::plain(line))
+    unnamed(map_value_of(b, c, d, e, f, g, h))
 }
 
 #[allow(clippy::too_many_arguments)]
