@@ -182,6 +182,7 @@ fn check_relocations(bytes: &[u8], section: usize) -> Result<(), ElfFault>
     Ok(())
 }
 
+#[tactic(auto, using(crate::proofs::Checked::symbols_checked, crate::proofs::Checked::relocations_checked))]
 fn check_section(bytes: &[u8], section: usize) -> Result<(), ElfFault>
     requires sections { HasSections bytes.now }
     requires index { section < section_count bytes.now }
@@ -199,14 +200,8 @@ fn check_section(bytes: &[u8], section: usize) -> Result<(), ElfFault>
             }
             Ok(())
         }
-        SectionKind::SymbolTable => {
-            check_symbols(bytes, section)?;
-            Ok(())
-        }
-        SectionKind::Relocations => {
-            check_relocations(bytes, section)?;
-            Ok(())
-        }
+        SectionKind::SymbolTable => check_symbols(bytes, section),
+        SectionKind::Relocations => check_relocations(bytes, section),
         SectionKind::OtherRelocations => Err(ElfFault::OtherRelocations { section }),
         _ => Ok(()),
     }
