@@ -24,29 +24,29 @@ others≢relocations : kinds.OtherRelocations ≡ kinds.Relocations → ⊥
 others≢relocations e = cc
 
 -- a symbol table whose symbols were checked
-pub symbols_checked : {T : Type 0} (bytes : List ℕ) (s : Section) (r : Result T ElfFault)
+pub of_symbols : {T : Type 0} (bytes : List ℕ) (s : Section) (r : Result T ElfFault)
     → s.name < length (section_names bytes) → s.kind ≡ kinds.SymbolTable
     → MatchResult r (λ _. IsSymbolTable bytes s) (λ fault. Breaks bytes fault)
     → MatchResult r (λ _. IsSection bytes s) (λ fault. Breaks bytes fault)
-symbols_checked {T} bytes s (Ok value) named is checked = record {
+of_symbols {T} bytes s (Ok value) named is checked = record {
   named = named;
   strings = λ other. absurd (strings≢symbols (sym other ∙ is));
   symbols = λ _. checked;
   relocations = λ other. absurd (symbols≢relocations (sym is ∙ other));
   others = λ other. others≢symbols (sym other ∙ is);
 }
-symbols_checked {T} bytes s (Err fault) named is checked = checked
+of_symbols {T} bytes s (Err fault) named is checked = checked
 
 -- a section of relocations that were checked
-pub relocations_checked : {T : Type 0} (bytes : List ℕ) (s : Section) (r : Result T ElfFault)
+pub of_relocations : {T : Type 0} (bytes : List ℕ) (s : Section) (r : Result T ElfFault)
     → s.name < length (section_names bytes) → s.kind ≡ kinds.Relocations
     → MatchResult r (λ _. IsRelocationTable bytes s) (λ fault. Breaks bytes fault)
     → MatchResult r (λ _. IsSection bytes s) (λ fault. Breaks bytes fault)
-relocations_checked {T} bytes s (Ok value) named is checked = record {
+of_relocations {T} bytes s (Ok value) named is checked = record {
   named = named;
   strings = λ other. absurd (strings≢relocations (sym other ∙ is));
   symbols = λ other. absurd (symbols≢relocations (sym other ∙ is));
   relocations = λ _. checked;
   others = λ other. others≢relocations (sym other ∙ is);
 }
-relocations_checked {T} bytes s (Err fault) named is checked = checked
+of_relocations {T} bytes s (Err fault) named is checked = checked

@@ -182,7 +182,7 @@ fn check_relocations(bytes: &[u8], section: usize) -> Result<(), ElfFault>
     Ok(())
 }
 
-#[tactic(auto, using(crate::proofs::Checked::symbols_checked, crate::proofs::Checked::relocations_checked))]
+#[tactic(auto, using(crate::proofs::Checked::of_symbols, crate::proofs::Checked::of_relocations))]
 fn check_section(bytes: &[u8], section: usize) -> Result<(), ElfFault>
     requires sections { HasSections bytes.now }
     requires index { section < section_count bytes.now }

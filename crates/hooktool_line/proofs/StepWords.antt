@@ -1,12 +1,13 @@
 -- The lines of a test, word by word.
 use Rattle.std.proofs.Common.{◌≡◌, ◌∙◌, ◌+◌, ◌<◌, ◌≤◌, ◌^◌, ℕ, List, [], ◌∷◌, ◌++◌, Option, Some}
 use Rattle.std.proofs.Common.{None, Ok, Err, ap, arith, get_or, inl, inr, length, refl, subst, sym}
-use Rattle.std.proofs.Common.{take, true}
+use Rattle.std.proofs.Common.{false, take, true}
 use Rattle.std.proofs.lemmas.Fmt.{decimal_injective}
 use Rattle.std.proofs.lemmas.List.{length-map, length-take-le, take_all, take_more}
+use Rattle.std.proofs.lemmas.Option.{slice_get-get_or, slice_get-map}
 use Rattle.std.specs.Borrow.{Bor}
 use Rattle.std.specs.Global.{Vec}
-use Rattle.std.specs.Prelude.{IfOk, Result}
+use Rattle.std.specs.Prelude.{IfOk, Result, option_map}
 use Rattle.clap.specs.Faults.{fault_of, is_simple_and_free}
 use Rattle.clap.specs.Matches.{found_of}
 use Rattle.clap.specs.Simple.{App, HasMatchesOf, matches_of}
@@ -14,10 +15,11 @@ use Rattle.clap.specs.Walk.{Row, Text, first_of, rows_of}
 use Rattle.clap.specs.declared.parser.matches.ArgMatches.{ArgMatches}
 use Rattle.hooktool_line.specs.CommandLine.{ask}
 use Rattle.hooktool_line.specs.Questions.{HasNumber, HasQuestion}
-use Rattle.hooktool_line.specs.Steps.{AddsLine, AreLines, IsLine, is_blank}
+use Rattle.hooktool_line.specs.Steps.{AddsLine, AreLines, IsLine, IsWrong, is_blank}
 use Rattle.hooktool_line.specs.Steps.{views, words_of}
 use Rattle.hooktool_line.specs.Words.{IsNumber, OrElse}
 use Rattle.hooktool_line.specs.declared.requests.Question.{Question}
+use Rattle.hooktool_line.specs.declared.steps.LineError.{LineError}
 use Rattle.hooktool_line.specs.declared.steps.TestLine.{TestLine}
 
 -- ---- what the line ask takes
@@ -129,3 +131,15 @@ pub lines_all : (lines : List (Vec (Bor Text))) (i : ℕ) (read : List TestLine)
     → AreLines 1 (words_of (take i lines)) read → AreLines 1 (words_of lines) read
 lines_all lines i read le are = subst
     (λ (xs : List (Vec (Bor Text))). AreLines 1 (words_of xs) read) (take_all i lines le) are
+
+-- the line at this place is wrong
+pub wrong_at : (lines : List (Vec (Bor Text))) (i : ℕ) (d : Vec (Bor Text)) (error : LineError)
+    → i < length lines → is_blank (views (get_or lines i d).items) ≡ false
+    → IsWrong (words_of lines) (record { number = i + 1; error = error })
+wrong_at lines i d error lt filled =
+    let view : Vec (Bor Text) → List Text = λ line. views line.items in (
+      i,
+      view (get_or lines i d),
+      slice_get-map view lines i ∙ ap (option_map view) (slice_get-get_or lines i d lt),
+      (refl, filled),
+    )
