@@ -1,11 +1,12 @@
 -- Functions that no linker would change.
-use Rattle.std.proofs.Common.{◌≡◌, ◌∙◌, ◌++◌, ◌∷◌, [], Bool, List, false, length, refl, subst, sym}
+use Rattle.std.proofs.Common.{◌≡◌, ◌∙◌, ◌++◌, ◌∷◌, [], Bool, List, arith, false, refl, subst, sym}
 use Rattle.std.proofs.Common.{true}
 use Rattle.std.proofs.lemmas.Bool.{eqb-true}
 use Rattle.std.proofs.lemmas.List.{nil_from_length}
 use Rattle.std.proofs.lemmas.List.Elements.{All-push}
+use Rattle.std.specs.Global.{Vec}
 use Rattle.std.specs.List.{All}
-use Rattle.std.specs.Prelude.{◌==◌}
+use Rattle.std.specs.Prelude.{◌==◌, vec_len}
 use Rattle.elf.specs.declared.lists.LinkedRelocation.{LinkedRelocation}
 use Rattle.elf.specs.declared.lists.LinkedSymbol.{LinkedSymbol}
 use Rattle.hooktool_commands.specs.Linked.{is_changed}
@@ -27,10 +28,11 @@ by_none all functions none =
     (λ k d less. refl)
 
 -- there are none where none was read
-pub none_read : (read all : List LinkedRelocation) (is_none : Bool) → read ≡ all
-    → is_none ≡ (length read == 0) → is_none ≡ true → all ≡ []
+pub none_read : (read : Vec LinkedRelocation) (all : List LinkedRelocation) (is_none : Bool)
+    → read.items ≡ all → is_none ≡ (vec_len read == 0) → is_none ≡ true → all ≡ []
 none_read read all is_none are empty is =
-    sym are ∙ nil_from_length read (eqb-true (length read) 0 (sym empty ∙ is))
+    let none : vec_len read ≡ 0 = eqb-true (vec_len read) 0 (sym empty ∙ is) in
+    sym are ∙ nil_from_length read.items (omega (arith, none, read.ok.0))
 
 -- one more
 pub one_more : (relocations : List LinkedRelocation) (old new : List LinkedSymbol)

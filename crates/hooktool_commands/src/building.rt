@@ -75,7 +75,7 @@ fn added<'a>(
     mut report: CommandReport,
     more: Result<CommandReport, HooktoolFault<'a>>,
 ) -> Result<CommandReport, HooktoolFault<'a>>
-    ensures joined { IfOk result (IsJoined report.entry more.entry) }
+    ensures joined { IfOk result (IsJoined report more.entry) }
     ensures fault { IfErr result (λ fault. (fault ≡ HooktoolFault.Memory)
         ⊎ (more.entry ≡ Err fault)) }
 {
@@ -436,10 +436,11 @@ fn build_functions<'a, R: WholeFiles + AllocGlobal>(
         is_refused: false,
     };
     for function in functions {
-        report = added(
-            report,
-            build_function(rt, order, hook, file, index, function),
-        )?;
+        let built = build_function(rt, order, hook, file, index, function);
+        match added(report, built) {
+            Ok(more) => report = more,
+            Err(fault) => return Err(fault),
+        }
     }
     Ok(report)
 }
@@ -577,7 +578,10 @@ fn build_sections<'a, R: WholeFiles + AllocGlobal>(
         is_refused: false,
     };
     for index in 0..file.section_count() {
-        report = added(report, build_at(rt, order, file, index))?;
+        match added(report, build_at(rt, order, file, index)) {
+            Ok(more) => report = more,
+            Err(fault) => return Err(fault),
+        }
     }
     Ok(report)
 }

@@ -1,4 +1,4 @@
-use Rattle.std.proofs.Common.{inr, subst, sym}
+use Rattle.std.proofs.Common.{subst, sym}
 use Rattle.std.specs.Prelude.{Result}
 use Rattle.hooktool_commands.specs.Orders.{IsJoined}
 use Rattle.hooktool_commands.specs.declared.fault.HooktoolFault.{HooktoolFault}
@@ -8,7 +8,4 @@ use Rattle.hooktool_commands.proofs.building.added.Goals as goal
 pub returns-in-Ok-clause-joined : goal.returns-in-Ok-clause-joined
 returns-in-Ok-clause-joined c = subst (λ (more : Result CommandReport HooktoolFault).
     IsJoined c.args.report more c.join.new.report) (sym c.in-Ok.is)
-    (c.in_ok-join.ensures.text, c.in_ok-join.ensures.refused)
-
-pub returns-in-Err-clause-fault : goal.returns-in-Err-clause-fault
-returns-in-Err-clause-fault c = inr c.in-Err.is
+    (c.in_ok-join-in-Ok.ensures.text, c.in_ok-join-in-Ok.ensures.refused)

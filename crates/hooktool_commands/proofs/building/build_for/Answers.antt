@@ -16,7 +16,7 @@ returns-then-not-is_empty-clause-built g c = refused_or _ c.build_others.result
 pub build_functions-requires-clause-unchanged : goal.build_functions-requires-clause-unchanged
 build_functions-requires-clause-unchanged g c =
     by_none (relocations_of c.args.file.now c.args.index) c.args.functions.now
-    (none_read c.in_ok-relocations.relocations.items
+    (none_read c.in_ok-relocations.relocations
     (relocations_of c.args.file.now c.args.index) c.is_empty.result c.in_ok-relocations.ensures
     c.is_empty.ensures c.if-not-is_empty.false)
 
@@ -24,7 +24,7 @@ pub returns-clause-built : goal.returns-clause-built
 returns-clause-built g c = told_more _ _ c.build_functions.result (λ report built.
     section_built c.args.file.now (wanted_of g.R.WholeFiles.known c.args.order.now) c.args.index
     c.args.hook c.args.functions.now report c.requires.hook
-    (none_read c.in_ok-relocations.relocations.items
+    (none_read c.in_ok-relocations.relocations
     (relocations_of c.args.file.now c.args.index) c.is_empty.result c.in_ok-relocations.ensures
     c.is_empty.ensures c.if-not-is_empty.false) c.requires.functions built)
     c.build_functions.ensures.built

@@ -6,13 +6,13 @@ use Rattle.hooktool_commands.proofs.building.build_sections.Goals as goal
 pub loop-index-preserved : goal.loop-index-preserved
 loop-index-preserved g c =
     sections_more c.args.file.now (wanted_of g.R.WholeFiles.known c.args.order.now)
-    c.loop-index.index c.loop-index.report c.build_at.result c.in_ok-report.report
-    c.loop-index.invariant c.build_at.ensures.built c.in_ok-report.ensures.joined
+    c.loop-index.index c.loop-index.report c.build_at.result c.in-Ok.more
+    c.loop-index.invariant c.build_at.ensures.built c.in-Ok.ensures.joined
 
-pub returns-in_err-report-clause-fault : goal.returns-in_err-report-clause-fault
-returns-in_err-report-clause-fault g c =
+pub returns-in-Err-clause-fault : goal.returns-in-Err-clause-fault
+returns-in-Err-clause-fault g c =
     added_fault g.R.WholeFiles.known c.args.order.now.purpose c.build_at.result _
-    c.in_err-report.ensures.fault c.build_at.ensures.fault
+    c.in-Err.ensures.fault c.build_at.ensures.fault
 
 pub returns-clause-built : goal.returns-clause-built
 returns-clause-built g c = sections_all c.args.file.now
