@@ -5,7 +5,6 @@ use Rattle.elf.specs.Faults.{Breaks}
 use Rattle.elf.specs.Files.{IsRelocationTable, IsSection, IsSymbolTable, section_names}
 use Rattle.elf.specs.declared.fault.ElfFault.{ElfFault}
 use Rattle.elf.specs.declared.section.Section.{Section}
-use Rattle.elf.specs.declared.section.SectionKind.{SectionKind}
 use Rattle.elf.specs.declared.section.SectionKind.TheVariants as kinds
 
 strings≢symbols : kinds.StringTable ≡ kinds.SymbolTable → ⊥
