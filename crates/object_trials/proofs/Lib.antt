@@ -1,4 +1,5 @@
 pub mod Behind
 pub mod Chained
+pub mod Ended
 pub mod InARow
 pub mod Same
