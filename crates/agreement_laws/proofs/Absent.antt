@@ -4,19 +4,16 @@ use Rattle.std.proofs.Common.{sym, ap, ◌∙◌}
 use Rattle.std.specs.FinMap as finite
 use Rattle.std.specs.List.{fold}
 use Rattle.words.specs.declared.key.Key.{Key}
-use Rattle.lsdb.specs.Copies.{Database, DatabaseCopy, has_just_aged_out, lsa_now}
-use Rattle.lsdb.specs.Headers.{lsa_key}
+use Rattle.lsdb.specs.Copies.{Database, DatabaseCopy}
+use Rattle.lsdb.specs.Headers.{Lsa, lsa_key}
 use Rattle.lsdb.specs.Keys.{same_key}
 use Rattle.adjacency.specs.Contents.{Content}
-use Rattle.adjacency.proofs.Kept.{chosen}
-use Rattle.received.specs.Flooding.{flood_to}
-use Rattle.received.specs.Outcomes.{Outcome, Send, Stepping, each_neighbor, marked_database}
-use Rattle.received.specs.Outcomes.{stepping_sends}
+use Rattle.received.specs.Outcomes.{Outcome, Send, marked_database}
 use Rattle.received.proofs.Marks.{changed_by}
-use Rattle.events.specs.Endings.{with_age}
-use Rattle.events.specs.EventState.{flood_from_nobody}
+use Rattle.events.specs.Originations.{new_instance}
 use Rattle.flood_laws.proofs.Limits.{tied_key}
 use Rattle.flood_laws.proofs.Owing.{put_other}
+use Rattle.agreement_laws.proofs.Databases.{IsKept, flushed_copy, originated_copy}
 
 module _ (key : Key) where
   abbrev pub IsNone : Database → Type 0
@@ -63,17 +60,21 @@ module _ (key : Key) where
   abbrev pub Lacks : Outcome → Type 0
   Lacks o = IsNone o.area.database
 
-  pub none_stepped : (moment : ℕ) (f : Stepping) (o : Outcome) → Lacks o
-      → Lacks (each_neighbor moment f o)
-  none_stepped moment f o none =
-      none_marked moment (stepping_sends f o.area.links) o.area.database none
-
-  pub none_aged : (before moment : ℕ) (es : List (Key × DatabaseCopy)) (o : Outcome) → Lacks o
-      → Lacks (fold (with_age before moment) o es)
-  none_aged before moment [] o none = none
-  none_aged before moment (e ∷ es) o none =
-      none_aged before moment es (with_age before moment o e)
-      (chosen Lacks (has_just_aged_out before moment e.1)
-      (flood_from_nobody moment (lsa_now moment e.1) o) o
-      (λ just. none_stepped moment (flood_to moment None (lsa_now moment e.1)) o none)
-      (λ young. none))
+  -- where the key isn't the router's own
+  pub none_kept : (own moment : ℕ) → (key.advertising_router ≡ own → ⊥) → IsKept own moment IsNone
+  none_kept own moment others = record {
+    marks = none_marked moment;
+    flushes = λ k c db at none. none_changed k (flushed_copy moment) db (finite.get db k) refl none;
+    originates = λ k says db its its_key none.
+        let lsa : Lsa = new_instance k (finite.get db k) says in
+        none_put (lsa_key lsa) (originated_copy moment lsa) db
+        (not_its (lsa_key lsa) (ap (λ (q : Key). q.advertising_router) its_key ∙ its)) none;
+  }
+    where
+      not_its : (k : Key) → k.advertising_router ≡ own → same_key key k ≡ false
+      not_its k its = by_key (same_key key k) refl
+        where
+          by_key : (b : Bool) → same_key key k ≡ b → same_key key k ≡ false
+          by_key true same = absurd (others
+              (ap (λ (q : Key). q.advertising_router) (tied_key key k same) ∙ its))
+          by_key false other = other

@@ -4,9 +4,8 @@ use Rattle.std.proofs.Common.{◌≡◌, ℕ, Bool, true, false, cond, ◌⊎◌
 use Rattle.std.proofs.Common.{Option, None, Some, refl, sym, ap, subst, ◌∙◌}
 use Rattle.packet.specs.declared.model.Description.{Description}
 use Rattle.adjacency.specs.declared.state.NeighborState.{NeighborState}
-use Rattle.adjacency.specs.declared.state.NeighborState.TheVariants.{Init, ExStart, Exchange}
+use Rattle.adjacency.specs.declared.state.NeighborState.TheVariants.{ExStart, Exchange, Full, Init}
 use Rattle.adjacency.specs.declared.state.NeighborState.TheVariants.{Loading}
-use Rattle.adjacency.specs.declared.state.NeighborState.TheVariants.{Full}
 use Rattle.adjacency.specs.Neighbors.{Neighbor, is_exchange_or_later}
 use Rattle.received.specs.Holds.{Holds}
 use Rattle.received.specs.Links.{neighbor_at}
@@ -37,9 +36,7 @@ use Rattle.agreement_laws.proofs.AnswerParts.{IsNew, Said, Stands, at_place}
 use Rattle.agreement_laws.proofs.StartAlone.{begins_alone}
 use Rattle.agreement_laws.proofs.AnswerSteps.{Answered, IsRight, Right, Sound}
 use Rattle.agreement_laws.proofs.AnswerWalk.{at_end}
-
-some_same : {X : Type 0} {x y : X} → Some x ≡ Some y → x ≡ y
-some_same e = cc
+use Rattle.agreement_laws.proofs.Lists.{some_same}
 
 -- ---- what is right stays right
 

@@ -48,9 +48,7 @@ use Rattle.agreement_laws.specs.Accepted.{accepts_description}
 use Rattle.agreement_laws.proofs.AnswerSteps.{AreOther, OfStep, Sound, With, fewer, none_sent}
 use Rattle.agreement_laws.proofs.AnswerSteps.{one_other}
 use Rattle.agreement_laws.proofs.AnswerSteps as steps
-
-some_same : {X : Type 0} {x y : X} → Some x ≡ Some y → x ≡ y
-some_same e = cc
+use Rattle.agreement_laws.proofs.Lists.{some_same}
 
 first_true : (a b : Bool) → (a && b) ≡ true → a ≡ true
 first_true true b e = refl

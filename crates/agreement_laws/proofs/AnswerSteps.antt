@@ -13,9 +13,8 @@ use Rattle.lsdb.specs.Copies.{Database}
 use Rattle.lsdb.specs.Headers.{Header, Lsa, key_of, lsa_key}
 use Rattle.packet.specs.declared.model.Description.{Description}
 use Rattle.adjacency.specs.declared.state.NeighborState.{NeighborState}
-use Rattle.adjacency.specs.declared.state.NeighborState.TheVariants.{Init, ExStart, Exchange}
+use Rattle.adjacency.specs.declared.state.NeighborState.TheVariants.{ExStart, Exchange, Full, Init}
 use Rattle.adjacency.specs.declared.state.NeighborState.TheVariants.{Loading}
-use Rattle.adjacency.specs.declared.state.NeighborState.TheVariants.{Full}
 use Rattle.adjacency.specs.Adjacencies.{after_hello, enter_exstart, has_passed, initial_description}
 use Rattle.adjacency.specs.Adjacencies.{loading_done, loading_done_in, mismatch_step}
 use Rattle.adjacency.specs.Adjacencies.{requests_nothing, two_way_received}
@@ -23,12 +22,11 @@ use Rattle.adjacency.specs.Adjacencies.{two_way_received_in, with_hello_heard}
 use Rattle.adjacency.specs.Contents.{Content, Describes, Requests, Step, Updates, no_sends, then_}
 use Rattle.adjacency.specs.Descriptions.{Verdict, accept, act, after_description, announced_more}
 use Rattle.adjacency.specs.Descriptions.{as_received, changes_options, describe, exchange_done}
-use Rattle.adjacency.specs.Descriptions.{exchange_over, expected_sequence, in_state}
-use Rattle.adjacency.specs.Descriptions.{is_duplicate, is_empty, is_initial_description, is_kept}
-use Rattle.adjacency.specs.Descriptions.{is_over_for, judge, knows_types, master_goes_on}
-use Rattle.adjacency.specs.Descriptions.{negotiated_neighbor, next_description, repeat, same_flag}
-use Rattle.adjacency.specs.Descriptions.{slave_replies, verdict, with_requests}
-use Rattle.adjacency.specs.Descriptions.{without_old_description}
+use Rattle.adjacency.specs.Descriptions.{exchange_over, expected_sequence, in_state, is_duplicate}
+use Rattle.adjacency.specs.Descriptions.{is_empty, is_initial_description, is_kept, is_over_for}
+use Rattle.adjacency.specs.Descriptions.{judge, knows_types, master_goes_on, negotiated_neighbor}
+use Rattle.adjacency.specs.Descriptions.{next_description, repeat, same_flag, slave_replies}
+use Rattle.adjacency.specs.Descriptions.{verdict, with_requests, without_old_description}
 use Rattle.adjacency.specs.Floods.{flooded_in_exchange, flooding, meets, passes, request_of}
 use Rattle.adjacency.specs.Floods.{without_met_request}
 use Rattle.adjacency.specs.Neighbors.{Neighbor, is_exchange_or_later}
@@ -47,9 +45,8 @@ use Rattle.agreement_laws.specs.Exchanged.{Conversation, conversation_with}
 use Rattle.agreement_laws.specs.HeldWasTold.{is_exchange_done}
 use Rattle.agreement_laws.specs.Answers.{HasRole, IsOpening}
 use Rattle.agreement_laws.specs.Accepted.{accepts_description, is_accepting}
-
-some_same : {X : Type 0} {x y : X} → Some x ≡ Some y → x ≡ y
-some_same e = cc
+use Rattle.agreement_laws.proofs.Lists.{some_same}
+use Rattle.agreement_laws.proofs.Accepting.{by_tests}
 
 -- ---- flags
 
@@ -58,12 +55,6 @@ other_flag true true e = absurd cc
 other_flag true false e = refl
 other_flag false true e = refl
 other_flag false false e = absurd cc
-
-all_three : (a b c : Bool) → a ≡ false → b ≡ true → c ≡ true → (not a && b && c) ≡ true
-all_three false true true e f g = refl
-all_three true b c e f g = absurd cc
-all_three false false c e f g = absurd cc
-all_three false true false e f g = absurd cc
 
 -- an opening Description, of a neighbor that leads
 opens : (a b c e f : Bool) → ((a && b && c && e) && f) ≡ true → (c ≡ true) × (f ≡ true)
@@ -701,5 +692,4 @@ module _ (own : ℕ) (Acc : Description → Type 0) (Began : Conversation → Ty
         chosen (OfStep S) (nat_lt 8192 d.mtu) (no_sends m) (in_state m.state own moment db d m)
         (λ big. nothing S m h)
         (λ fits. stated S m.state m.is_master m h new
-        (λ is knows. acc (all_three (nat_lt 8192 d.mtu) (knows_types d)
-        (is_accepting (verdict own (two_way_received moment m).neighbor d)) fits knows is)))
+        (λ is knows. acc (by_tests own moment m d (fits, knows, is))))

@@ -37,7 +37,7 @@ use Rattle.flood_laws.proofs.Limits.{tied_key}
 use Rattle.flood_laws.proofs.Owing.{removed_other}
 use Rattle.agreement_laws.specs.Exchanged.{Conversation, conversation_with}
 use Rattle.agreement_laws.specs.Ranks.{RanksFollowTheComparison, is_at_least}
-use Rattle.agreement_laws.proofs.Holding.{at_least_on}
+use Rattle.agreement_laws.proofs.Ranks.{at_least_on}
 
 module _ (ranks : RanksFollowTheComparison) (key : Key) (moment : ℕ) (first : Instance)
     (entry : ListEntry) (low : is_at_least (listed_now moment entry) first ≡ true)
@@ -67,7 +67,7 @@ module _ (ranks : RanksFollowTheComparison) (key : Key) (moment : ℕ) (first : 
   met_entry false lsa o is e = absurd cc
   met_entry true lsa None is e = absurd cc
   met_entry true lsa (Some r) is e =
-      at_least_on ranks (instance_of lsa.header) (listed_now moment r) first
+      at_least_on ranks.total (instance_of lsa.header) (listed_now moment r) first
       (ranks.not_newer (listed_now moment r) (instance_of lsa.header)
       (not_so (older_than_listed moment lsa.header r) e))
       (subst (λ (l : ListEntry). is_at_least (listed_now moment l) first ≡ true) (sym same) low)

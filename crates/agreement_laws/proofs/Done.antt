@@ -25,9 +25,8 @@ use Rattle.adjacency.specs.declared.state.NeighborState.{NeighborState}
 use Rattle.adjacency.specs.declared.state.NeighborState.TheVariants.{Init, ExStart, Exchange}
 use Rattle.adjacency.specs.declared.state.NeighborState.TheVariants.{Loading, Full}
 use Rattle.adjacency.specs.Adjacencies as adjacencies
-use Rattle.adjacency.specs.Adjacencies.{enter_exstart, has_passed, loading_done, loading_done_in}
-use Rattle.adjacency.specs.Adjacencies.{mismatch_step, requests_nothing, two_way_received_in}
-use Rattle.adjacency.specs.Adjacencies.{with_hello_heard}
+use Rattle.adjacency.specs.Adjacencies.{enter_exstart, has_passed, loading_done_in, mismatch_step}
+use Rattle.adjacency.specs.Adjacencies.{requests_nothing, two_way_received_in, with_hello_heard}
 use Rattle.adjacency.specs.Contents.{Requests, Step, Updates, no_sends}
 use Rattle.adjacency.specs.Descriptions.{Verdict, accept, act, after_description, announced_more}
 use Rattle.adjacency.specs.Descriptions.{as_received, changes_options, describe, exchange_done}

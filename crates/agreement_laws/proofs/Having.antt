@@ -1,48 +1,35 @@
 -- Each copy during an event is of an instance that was held before, that the event's packet has, or
 -- that is the router's own.
-use Rattle.std.proofs.Common.{◌≡◌, ℕ, Bool, true, false, List, [], ◌∷◌, map, Option, None, Some}
+use Rattle.std.proofs.Common.{◌≡◌, ℕ, Bool, true, false, List, [], Option, None, Some}
 use Rattle.std.proofs.Common.{refl, sym, ap, subst, ◌∙◌}
 use Rattle.std.specs.FinMap as finite
 use Rattle.std.specs.List.{Contains, fold}
 use Rattle.words.specs.declared.key.Key.{Key}
 use Rattle.lsa.specs.declared.body.LsaBody.{LsaBody}
-use Rattle.lsdb.specs.Copies.{Database, DatabaseCopy, age_out, copy_now, has_just_aged_out}
-use Rattle.lsdb.specs.Copies.{install_flooded, install_originated, lsa_now}
-use Rattle.lsdb.specs.Headers.{Lsa, lsa_aged, lsa_key}
+use Rattle.lsdb.specs.Copies.{Database, DatabaseCopy, age_out, copy_now}
+use Rattle.lsdb.specs.Copies.{install_flooded, install_originated}
+use Rattle.lsdb.specs.Headers.{Lsa, lsa_key}
 use Rattle.lsdb.specs.Keys.{ByKey, same_key}
 use Rattle.lsdb.specs.Order.{age_at}
 use Rattle.lsdb.specs.declared.order.Instance.{Instance}
-use Rattle.packet.specs.declared.model.Hello.{Hello}
 use Rattle.packet.specs.declared.model.Packet.{Packet}
-use Rattle.adjacency.specs.Adjacencies as adjacencies
-use Rattle.adjacency.specs.Contents.{Content, Step, Updates, no_sends}
-use Rattle.adjacency.specs.Descriptions.{after_description}
-use Rattle.adjacency.specs.Requests.{request_next}
-use Rattle.adjacency.specs.Retransmissions.{after_acknowledgment, remove_retransmission}
-use Rattle.adjacency.proofs.Kept.{chosen}
-use Rattle.received.specs.Cases.{Case}
-use Rattle.received.specs.Flooding.{flood_to}
-use Rattle.received.specs.Links.{Link, link_at}
-use Rattle.received.specs.Outcomes.{Outcome, Send, Stepping, marked_database, on_database, only_at}
-use Rattle.received.specs.Outcomes.{sends_at, stepping_sends}
-use Rattle.received.specs.Updates.{after_case, copy_of, send_copy}
-use Rattle.received.proofs.Marks.{changed_by}
-use Rattle.events.specs.Endings.{start_event, stays, with_age}
-use Rattle.events.specs.EventState.{EventState, flood_from_nobody}
-use Rattle.events.specs.Hellos.{accepts, names}
+use Rattle.received.specs.Outcomes.{Outcome, Send, marked_database, on_database}
+use Rattle.events.specs.Endings.{start_event, stays}
+use Rattle.events.specs.EventState.{EventState}
 use Rattle.events.specs.Originations.{new_instance}
-use Rattle.events.specs.Packets.{hear, heard_on, requested_lsas}
 use Rattle.events.specs.Routers.{Occurrence, Router}
-use Rattle.events.specs.Ticks.{acknowledgments_on, again, hello_sent_on, sends_of}
-use Rattle.events.proofs.Walk.{Invariant, outcome}
+use Rattle.events.specs.Ticks.{again}
+use Rattle.events.proofs.Walk.{Invariant}
 use Rattle.flood_laws.specs.NewInstances.{BringsLsa, lsas_brought}
 use Rattle.flood_laws.proofs.Acknowledged.{in_order}
 use Rattle.flood_laws.proofs.EventWalk.{IsHeard, IsKeptToo, Lately}
-use Rattle.flood_laws.proofs.Limits.{new_key, tied_key, wanted_type}
+use Rattle.flood_laws.proofs.Limits.{tied_key}
 use Rattle.agreement_laws.specs.CopiesClimb.{HasHad}
 use Rattle.agreement_laws.proofs.Describing.{held, instance_at}
 use Rattle.agreement_laws.proofs.Lists.{some_same}
 use Rattle.agreement_laws.proofs.Parts.{held_marked, held_other, held_put}
+use Rattle.agreement_laws.proofs.Databases.{IsKept, aged_out, ages, flushed_copy}
+use Rattle.agreement_laws.proofs.Databases.{installed_copy, kept_too, originated_copy}
 
 -- ---- two properties at once
 
@@ -114,7 +101,7 @@ module _ (old : Router) (event : Occurrence) (moment : ℕ) where
 
   -- ---- the database
 
-  pub whole_sent : (more : List Send) (db : Database) → Whole db
+  whole_sent : (more : List Send) (db : Database) → Whole db
       → Whole (fold (λ (d : Database) (s : Send). marked_database moment d s.content) db more)
   whole_sent more db h key i at = h key i (sym (held_marked moment key more db) ∙ at)
 
@@ -128,90 +115,36 @@ module _ (old : Router) (event : Occurrence) (moment : ℕ) where
           (subst (HasHad old event k) (some_same (sym (held_put moment key k c db here) ∙ at)) why)
       by_key false away = h key i (sym (held_other moment key k c db away) ∙ at)
 
-  abbrev flushed_copy : DatabaseCopy → DatabaseCopy
-  flushed_copy c = record c { lsa = lsa_aged 3600 c.lsa; stored = moment }
-
-  pub whole_flushed : (k : Key) (c : DatabaseCopy) (db : Database) → finite.get db k ≡ Some c
+  whole_flushed : (k : Key) (c : DatabaseCopy) (db : Database) → finite.get db k ≡ Some c
       → Whole db → Whole (age_out moment k db)
   whole_flushed k c db at h =
-      subst (λ (x : Option DatabaseCopy). Whole (changed_by k flushed_copy db x)) (sym at)
-      (whole_put k (flushed_copy c) db
+      subst Whole (sym (aged_out moment k c db at))
+      (whole_put k (flushed_copy moment c) db
       (aged old event k (copy_now moment c) (age_at 3600 moment moment)
       (h k (copy_now moment c) (ap (instance_at moment) at))) h)
 
-  pub whole_originated : (k : Key) (c : Option DatabaseCopy) (says : LsaBody) (db : Database)
+  whole_originated : (k : Key) (c : Option DatabaseCopy) (says : LsaBody) (db : Database)
       → lsa_key (new_instance k c says) ≡ k → k.advertising_router ≡ old.id → Whole db
       → Whole (install_originated moment (new_instance k c says) db)
   whole_originated k c says db its_key own h =
-      whole_put (lsa_key (new_instance k c says)) (record {
-        lsa = new_instance k c says;
-        stored = moment;
-        installed = None;
-        sent = None;
-      }) db
-      (HasHad.Own (ap (λ (q : Key). q.advertising_router) its_key ∙ own)) h
+      whole_put (lsa_key (new_instance k c says)) (originated_copy moment (new_instance k c says))
+      db (HasHad.Own (ap (λ (q : Key). q.advertising_router) its_key ∙ own)) h
 
   whole_installed : (lsa : Lsa) (db : Database) → BringsLsa event lsa → Whole db
       → Whole (install_flooded moment lsa db)
   whole_installed lsa db brings h =
-      whole_put (lsa_key lsa) (record {
-        lsa = lsa;
-        stored = moment;
-        installed = Some moment;
-        sent = None;
-      }) db
+      whole_put (lsa_key lsa) (installed_copy moment lsa) db
       (HasHad.Brought lsa brings refl (record { sequence = refl; checksum = refl })) h
 
-  -- ---- the parts of an event
+  pub whole : IsKept old.id moment Whole
+  whole = record {
+    marks = whole_sent;
+    flushes = whole_flushed;
+    originates = λ k says db own its_key h. whole_originated k (finite.get db k) says db its_key own
+        h;
+  }
 
-  pub whole_each : (f : Stepping) (o : Outcome) → Whole o.area.database
-      → Whole (fold (λ (d : Database) (s : Send). marked_database moment d s.content)
-      o.area.database (stepping_sends f o.area.links))
-  whole_each f o h = whole_sent (stepping_sends f o.area.links) o.area.database h
-
-  copy_sent : (place : ℕ) (c : Option DatabaseCopy) (o : Outcome) → Whole o.area.database
-      → Whole (send_copy moment place c o).area.database
-  copy_sent place None o h = h
-  copy_sent place (Some c) o h = whole_sent (sends_at place (Updates (lsa_now moment c) ∷ []))
-      o.area.database h
-
-  pub whole_cases : (case : Case) (place : ℕ) (lsa : Lsa) (o : Outcome) → BringsLsa event lsa
-      → Whole o.area.database → Whole (after_case case moment place lsa o).area.database
-  whole_cases Case.Unreadable place lsa o brings h = h
-  whole_cases Case.NothingToFlush place lsa o brings h =
-      whole_sent (sends_at place (Content.Acknowledges lsa.header ∷ [])) o.area.database h
-  whole_cases Case.TooSoon place lsa o brings h = h
-  whole_cases Case.Newer place lsa o brings h =
-      whole_sent (stepping_sends (flood_to moment (Some place) lsa) o.area.links)
-      (install_flooded moment lsa o.area.database)
-      (whole_installed lsa o.area.database brings h)
-  whole_cases Case.BadRequest place lsa o brings h =
-      whole_each (only_at place (adjacencies.mismatch_step moment)) o h
-  whole_cases Case.ImpliedAcknowledgment place lsa o brings h =
-      whole_each (only_at place (λ n. no_sends (remove_retransmission (lsa_key lsa) n))) o h
-  whole_cases Case.Duplicate place lsa o brings h =
-      whole_sent (sends_at place (Content.Acknowledges lsa.header ∷ [])) o.area.database h
-  whole_cases Case.SequenceWraps place lsa o brings h = h
-  whole_cases Case.SentJustNow place lsa o brings h = h
-  whole_cases Case.Older place lsa o brings h = copy_sent place (copy_of lsa o.area) o h
-
-  whole_hellos : (own place from : ℕ) (hello : Hello) (link : Option Link) (o : Outcome)
-      → Whole o.area.database → Whole (heard_on own moment place from hello link o).area.database
-  whole_hellos own place from hello None o h = h
-  whole_hellos own place from hello (Some link) o h =
-      let s : Step = adjacencies.after_hello moment from (names own hello) link.neighbor in
-      chosen (λ (p : Outcome). Whole p.area.database) (accepts own from hello link)
-      (hear moment place s o) o (λ e. whole_sent (sends_at place s.sends) o.area.database h)
-      (λ e. h)
-
-  whole_ages : (before : ℕ) (es : List (Key × DatabaseCopy)) (o : Outcome) → Whole o.area.database
-      → Whole (fold (with_age before moment) o es).area.database
-  whole_ages before [] o h = h
-  whole_ages before (e ∷ es) o h =
-      whole_ages before es (with_age before moment o e)
-      (chosen (λ (p : Outcome). Whole p.area.database) (has_just_aged_out before moment e.1)
-      (flood_from_nobody moment (lsa_now moment e.1) o) o
-      (λ is. whole_each (flood_to moment None (lsa_now moment e.1)) o h) (λ is. h))
+  -- ---- the event
 
   at_first : Whole old.area.database
   at_first key i at = by_copy (finite.get old.area.database key) refl
@@ -227,10 +160,11 @@ module _ (old : Router) (event : Occurrence) (moment : ℕ) where
           })
 
   pub whole_begun : Whole (start_event moment old).router.area.database
-  whole_begun = whole_ages old.moment (finite.entries old.area.database) (record {
-    area = old.area;
-    sends = [];
-  }) at_first
+  whole_begun =
+      ages old.id moment Whole whole old.moment (finite.entries old.area.database) (record {
+        area = old.area;
+        sends = [];
+      }) at_first
 
   abbrev start : EventState
   start = start_event moment old
@@ -248,42 +182,7 @@ module _ (old : Router) (event : Occurrence) (moment : ℕ) where
 
   pub whole_kept : IsKeptToo (in_order old.id) (λ o t. Whole o.area.database) (λ o t. Unit {0})
       start moment event
-  whole_kept = record {
-    flushes = λ k c o t at young area h.
-        whole_sent (stepping_sends (flood_to moment None (lsa_aged 3600 c.lsa)) o.area.links)
-        (age_out moment k o.area.database) (whole_flushed k c o.area.database at h);
-    originates = λ k says p of_key goes may wants so h.
-        whole_sent (stepping_sends (flood_to moment None
-        (new_instance k (finite.get p.router.area.database k) says)) p.router.area.links)
-        (install_originated moment (new_instance k (finite.get p.router.area.database k) says)
-        p.router.area.database)
-        (whole_originated k (finite.get p.router.area.database k) says p.router.area.database
-        (new_key k (finite.get p.router.area.database k) says
-        (wanted_type p.router k says so.announced.1 wants)) of_key h);
-    case = λ place packet heard case lsa o t among other is area h. whole_cases case place lsa o
-        (came place packet heard lsa among) h;
-    hello = λ place packet hello heard is so h. whole_hellos start.router.id place packet.router
-        hello (link_at place start.router.area.links) (outcome start) h;
-    description = λ place packet d heard is so h. whole_each
-        (only_at place (after_description start.router.id moment start.router.area.database d))
-        (outcome start) h;
-    acknowledgment = λ place packet headers heard is so h. whole_each
-        (only_at place (λ n. no_sends (after_acknowledgment moment headers n))) (outcome start) h;
-    requested = λ place keys o t area h. whole_sent
-        (sends_at place (map Content.Updates (requested_lsas moment o.area.database keys)))
-        o.area.database h;
-    mismatch = λ place o t area h. whole_each (only_at place (adjacencies.mismatch_step moment)) o
-        h;
-    forgets = λ r o area h. h;
-    inactive = λ o t area h. h;
-    again = λ o t area h. whole_each (again moment o) o h;
-    acknowledges = λ o t area h. whole_sent (sends_of acknowledgments_on o.area.links)
-        o.area.database h;
-    hellos = λ o t area h. whole_sent (sends_of (hello_sent_on moment) o.area.links) o.area.database
-        h;
-    link_down = λ place o t area h. h;
-    loaded = λ o t area h. h;
-    requests = λ o t area h. whole_each (λ place link n. request_next moment n) o h;
-    removes = λ o t area h. tt;
-    stays = λ o t area h. tt;
-  }
+  whole_kept =
+      kept_too old moment event Whole whole
+      (λ place packet heard lsa among db newer h. whole_installed lsa db
+      (came place packet heard lsa among) h)

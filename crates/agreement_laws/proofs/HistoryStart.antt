@@ -3,10 +3,8 @@
 use Rattle.std.proofs.Common.{◌≡◌, ℕ, Bool, true, false, cond, not, ◌&&◌, ◌||◌, List, [], ◌∷◌}
 use Rattle.std.proofs.Common.{length, Option, None, Some, is_some, refl, sym, ap, subst, ◌∙◌, arith}
 use Rattle.std.specs.Prelude.{◌==◌, nat_lt}
-use Rattle.std.specs.Cmp.{tied_itself}
 use Rattle.std.specs.FinMap as finite
 use Rattle.std.specs.FinSet as set
-use Rattle.std.specs.Ordering.{is_eq}
 use Rattle.words.specs.declared.key.Key.{Key}
 use Rattle.lsa.specs.Origination.{sealed_lsa}
 use Rattle.lsdb.specs.Copies.{Database, DatabaseCopy, is_aged_out}
@@ -24,9 +22,10 @@ use Rattle.events.specs.Originations.{as_originated, flush, has_max_sequence, ha
 use Rattle.events.specs.Originations.{install_and_flood, interval_is_over, new_instance}
 use Rattle.events.specs.Originations.{originate_body, router_body, router_key, wait}
 use Rattle.events.specs.Routers.{Router, fresh_link, unannounced_router}
-use Rattle.conversations.proofs.WorkedOwn.{wanted}
 use Rattle.flood_laws.proofs.Limits.{new_key, tied_key}
 use Rattle.flood_laws.proofs.Owing.{put_other, put_same}
+use Rattle.flood_laws.proofs.Leaving.{itself}
+use Rattle.conversations.proofs.WorkedOwn.{wanted}
 
 abbrev pub interface : ℕ → Interface
 interface address = record {
@@ -125,9 +124,6 @@ entries_of id address =
     finite.entries-insert keys_total finite.empty (lsa_key (lsa id address)) (copy id address)
     ∙ ap (finite.put key_cmp (lsa_key (lsa id address)) (copy id address))
     (no_entries DatabaseCopy)
-
-itself : (k : Key) → same_key k k ≡ true
-itself k = ap is_eq (tied_itself keys_total k)
 
 pub found : (id address : ℕ) → finite.get (database id address) (router_key id)
     ≡ Some (copy id address)

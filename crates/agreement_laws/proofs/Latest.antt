@@ -1,46 +1,32 @@
--- The last header of a key among those of a Description; whether an LSA of a key was there in an
--- event; and which instance is as new as another, whatever their ages.
+-- The last header of a key among those of a Description; and whether an LSA of a key was there in
+-- an event.
 use Rattle.std.proofs.Common.{◌≡◌, ℕ, Bool, true, false, ◌⊎◌, inl, inr, List, [], ◌∷◌}
 use Rattle.std.proofs.Common.{Option, None, Some, refl, sym, ap, subst, ◌∙◌}
 use Rattle.std.specs.Prelude.{◌==◌}
-use Rattle.std.specs.Cmp.{tied_itself, upto}
 use Rattle.std.specs.FinMap as finite
 use Rattle.std.specs.List.{AllByRecursion, Contains}
-use Rattle.std.specs.Ordering.{bool_cmp, int_cmp, is_eq, is_ge, is_gt, nat_cmp, ordering_reverse}
-use Rattle.std.specs.Ordering.{ordering_then}
-use Rattle.std.specs.declared.cmp.Ordering.{Ordering}
-use Rattle.std.specs.declared.cmp.Ordering.TheVariants.{Less, Equal, Greater}
 use Rattle.std.proofs.lemmas.Bool.{eq-eqb, eqb-true}
 use Rattle.words.specs.declared.key.Key.{Key}
 use Rattle.lsdb.specs.Copies.{DatabaseCopy}
 use Rattle.lsdb.specs.Headers.{Header, Lsa, key_of, lsa_key}
 use Rattle.lsdb.specs.Keys.{same_key}
-use Rattle.lsdb.specs.Order.{is_max_age}
-use Rattle.lsdb.specs.declared.order.Instance.{Instance}
-use Rattle.lsdb.proofs.Keys.{keys_total}
 use Rattle.packet.specs.declared.model.Packet.{Packet}
 use Rattle.packet.specs.Text.{PacketText}
 use Rattle.packet.proofs.Whole.{one_packet}
 use Rattle.events.specs.Events.{OwnPart}
 use Rattle.events.specs.EventState.{EventState}
-use Rattle.events.specs.LsaInstances.{LsaInstance}
 use Rattle.events.specs.Routers.{Occurrence, Router}
 use Rattle.flood_laws.specs.NewInstances.{lsas_brought}
 use Rattle.flood_laws.proofs.Known.{of_member}
 use Rattle.flood_laws.proofs.Limits.{tied_key}
 use Rattle.flood_laws.proofs.Lists.{later_is}
 use Rattle.flood_laws.proofs.Taken.{named_first}
-use Rattle.agreement_laws.specs.NeighborsAgree.{is_as_new}
-use Rattle.agreement_laws.specs.Ranks.{RanksFollowTheComparison, compare_ranks, is_at_least}
-use Rattle.agreement_laws.specs.SaidIsHeld.{young}
+use Rattle.flood_laws.proofs.Leaving.{itself}
 use Rattle.agreement_laws.specs.Accepted.{IsLastOfItsKey}
 use Rattle.agreement_laws.specs.Stays.{BringsNone, IsForeignAndAbsent}
 use Rattle.agreement_laws.specs.Held.{WasThere}
 
 -- ---- the last of a key
-
-itself : (key : Key) → same_key key key ≡ true
-itself key = ap is_eq (tied_itself keys_total key)
 
 pub record LastOf (key : Key) (hs : List Header) : Type 0 where
   pub header : Header
@@ -188,46 +174,3 @@ module _ (old : Router) (moment : ℕ) (start after : EventState) (key : Key) wh
           → WasThere old event key ⊎ (IsForeignAndAbsent old key × BringsNone event key)
       by_copy (Some c) at = inl (WasThere.Before c at)
       by_copy None at = by_owner at (key.advertising_router == old.id) refl
-
--- ---- instances, whatever their ages
-
-without_flags : (r s : Ordering) (p q : Bool)
-    → is_ge (ordering_then r (ordering_then s (bool_cmp p q))) ≡ true
-    → is_ge (ordering_then r (ordering_then s (bool_cmp false false))) ≡ true
-without_flags Less s p q e = absurd cc
-without_flags Greater s p q e = refl
-without_flags Equal Less p q e = absurd cc
-without_flags Equal Greater p q e = refl
-without_flags Equal Equal p q e = refl
-
-pub at_any_age : (a b : Instance) → is_at_least a b ≡ true
-    → is_at_least (record a { age = 0 }) (record b { age = 0 }) ≡ true
-at_any_age a b e =
-    without_flags (int_cmp a.sequence b.sequence) (nat_cmp a.checksum b.checksum)
-    (is_max_age a.age) (is_max_age b.age) e
-
-module _ (ranks : RanksFollowTheComparison) where
-  not_greater : (a b : Instance) → is_at_least a b ≡ true → is_gt (compare_ranks b a) ≡ false
-  not_greater a b e =
-      ap (λ (o : Ordering). is_gt o) (ranks.total.antisymm b a) ∙ by_order (compare_ranks a b) e
-    where
-      by_order : (o : Ordering) → is_ge o ≡ true → is_gt (ordering_reverse o) ≡ false
-      by_order Less is = absurd cc
-      by_order Equal is = refl
-      by_order Greater is = refl
-
-  at_least_back : (a b : Instance) → is_gt (compare_ranks b a) ≡ false → is_at_least a b ≡ true
-  at_least_back a b e =
-      ap (λ (o : Ordering). is_ge o) (ranks.total.antisymm a b) ∙ by_order (compare_ranks b a) e
-    where
-      by_order : (o : Ordering) → is_gt o ≡ false → is_ge (ordering_reverse o) ≡ true
-      by_order Less is = refl
-      by_order Equal is = refl
-      by_order Greater is = absurd cc
-
-  pub as_new_on : (a b c : LsaInstance) → is_as_new a b ≡ true → is_as_new b c ≡ true
-      → is_as_new a c ≡ true
-  as_new_on a b c more less =
-      at_least_back (young a) (young c)
-      (upto ranks.total (young c) (young b) (young a) (not_greater (young b) (young c) less)
-      (not_greater (young a) (young b) more))

@@ -1,8 +1,12 @@
 mod Ranks
 mod Lists
 mod Ages
+mod Accepting
 mod Settling
 mod Verdicts
+mod Cases
+mod Databases
+mod Ending
 mod Describing
 mod Parts
 mod Sent

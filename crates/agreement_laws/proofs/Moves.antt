@@ -12,12 +12,16 @@ use Rattle.lsdb.specs.Copies.{install_originated, lsa_now}
 use Rattle.lsdb.specs.Headers.{Lsa, lsa_aged, lsa_key}
 use Rattle.lsdb.specs.Keys.{ByKey}
 use Rattle.packet.specs.declared.model.Hello.{Hello}
+use Rattle.packet.specs.declared.model.PacketBody.TheVariants as body
+use Rattle.packet.specs.declared.model.Description.{Description}
+use Rattle.packet.specs.declared.model.Packet.{Packet}
 use Rattle.adjacency.specs.Adjacencies as adjacencies
 use Rattle.adjacency.specs.Contents.{Step, no_sends}
-use Rattle.adjacency.specs.Neighbors.{Neighbor}
+use Rattle.adjacency.specs.Neighbors.{Neighbor, is_exchange_or_later}
 use Rattle.adjacency.specs.Requests.{request_next}
 use Rattle.adjacency.specs.Retransmissions.{after_acknowledgment, remove_retransmission}
 use Rattle.adjacency.proofs.Kept.{chosen}
+use Rattle.adjacency.specs.Descriptions.{after_description}
 use Rattle.received.specs.Cases.{Case}
 use Rattle.received.specs.Flooding.{flood, flood_to, is_sender}
 use Rattle.received.specs.Holds.{Holds}
@@ -27,38 +31,28 @@ use Rattle.received.specs.Outcomes.{Outcome, Stepping, each_neighbor, on_databas
 use Rattle.received.specs.Outcomes.{one_neighbor, only_at, step_on, stepped_links}
 use Rattle.received.specs.Updates.{after_case, copy_of, send_copy}
 use Rattle.events.specs.Commands.{taken_down}
-use Rattle.events.specs.Endings.{link_loading_done, loading_done_on, stays, with_age}
-use Rattle.events.specs.EventState.{flood_from_nobody}
+use Rattle.events.specs.Endings.{link_loading_done, loading_done_on, start_event, stays, with_age}
+use Rattle.events.specs.EventState.{EventState, flood_from_nobody}
 use Rattle.events.specs.Hellos.{accepts, names}
 use Rattle.events.specs.Originations.{new_instance}
 use Rattle.events.specs.Packets.{after_hello, hear, heard_on, with_neighbor}
+use Rattle.events.specs.Packets.{describe_to, is_from, is_hello}
 use Rattle.events.specs.Ticks.{again, run_out, settled_exchange, with_hello_sent}
 use Rattle.events.specs.Ticks.{without_acknowledgments}
-use Rattle.flood_laws.proofs.Leaving.{each_kept_at, numbered_kept, stepped_kept}
-use Rattle.agreement_laws.specs.Exchanged.{Conversation}
-use Rattle.packet.specs.declared.model.PacketBody.TheVariants as body
-use Rattle.packet.specs.declared.model.Description.{Description}
-use Rattle.packet.specs.declared.model.Packet.{Packet}
-use Rattle.adjacency.specs.Descriptions.{after_description}
-use Rattle.adjacency.specs.Neighbors.{is_exchange_or_later}
 use Rattle.events.specs.declared.model.Out.{Out}
-use Rattle.events.specs.Endings.{start_event}
-use Rattle.events.specs.EventState.{EventState}
 use Rattle.events.specs.Events.{Happens}
-use Rattle.events.specs.Packets.{describe_to, is_from, is_hello}
 use Rattle.events.specs.Routers.{Occurrence, Router}
 use Rattle.events.proofs.Walk.{outcome}
+use Rattle.flood_laws.proofs.Leaving.{each_kept_at, numbered_kept, stepped_kept}
 use Rattle.flood_laws.specs.InOrder.{IsInOrder}
 use Rattle.flood_laws.proofs.Acknowledged.{in_order, order_begun, order_brings, order_kept}
 use Rattle.flood_laws.proofs.EventWalk.{IsHeard, IsKeptToo, event_kept_too}
-use Rattle.agreement_laws.specs.Exchanged.{conversation_with}
+use Rattle.agreement_laws.specs.Exchanged.{Conversation, conversation_with}
 use Rattle.agreement_laws.specs.Moves.{BecameOfExchange, BringsDescription}
 use Rattle.agreement_laws.specs.Moves.{OnlyDescriptionsMoveAnExchange}
 use Rattle.agreement_laws.proofs.ExchangeSteps.{IsSame, Standing}
 use Rattle.agreement_laws.proofs.ExchangeSteps as steps
-
-some_same : {X : Type 0} {x y : X} → Some x ≡ Some y → x ≡ y
-some_same e = cc
+use Rattle.agreement_laws.proofs.Lists.{some_same}
 
 module _ (old : Router) (moment : ℕ) (event : Occurrence) (number : ℕ) (n : Neighbor)
     (was : neighbor_at number old.area.links ≡ Some n) where

@@ -30,7 +30,7 @@ at_any_age a b e = without_flags (int_cmp a.sequence b.sequence) (nat_cmp a.chec
 
 pub as_new_on : (a b c : LsaInstance) → is_as_new a b ≡ true → is_as_new b c ≡ true → is_as_new a c
     ≡ true
-as_new_on a b c more less = at_least_on (young a) (young b) (young c) more less
+as_new_on a b c more less = at_least_on follow.total (young a) (young b) (young c) more less
 
 -- two with one key that are each at least as new as the other are the same
 pub same_instance : (a b : LsaInstance) → a.key ≡ b.key → is_as_new a b ≡ true → is_as_new b a

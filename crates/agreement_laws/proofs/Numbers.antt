@@ -4,19 +4,12 @@ use Rattle.std.proofs.Common.{inl, inr, List, [], Option, None, Some, refl, sym,
 use Rattle.std.specs.Prelude.{◌==◌, nat_lt}
 use Rattle.std.specs.FinMap as finite
 use Rattle.std.proofs.lemmas.Bool.{eq-eqb, eqb-true}
-use Rattle.words.specs.declared.key.Key.{Key}
-use Rattle.lsa.specs.declared.body.LsaBody.{LsaBody}
-use Rattle.lsdb.specs.Copies.{Database, DatabaseCopy, age_out, install_originated, is_aged_out}
+use Rattle.lsdb.specs.Copies.{Database, age_out, install_originated}
 use Rattle.lsdb.specs.Headers.{Lsa, lsa_aged}
-use Rattle.packet.specs.declared.model.PacketBody.{PacketBody}
-use Rattle.packet.specs.declared.model.PacketBody.TheVariants as body
 use Rattle.packet.specs.declared.model.Description.{Description}
-use Rattle.packet.specs.declared.model.Packet.{Packet}
-use Rattle.packet.specs.Text.{PacketText}
-use Rattle.packet.proofs.Whole.{one_packet}
 use Rattle.adjacency.specs.declared.state.NeighborState.{NeighborState}
 use Rattle.adjacency.specs.declared.state.NeighborState.TheVariants.{Exchange}
-use Rattle.adjacency.specs.Adjacencies.{mismatch_step, two_way_received, two_way_received_in}
+use Rattle.adjacency.specs.Adjacencies.{mismatch_step, two_way_received_in}
 use Rattle.adjacency.specs.Contents.{Step, no_sends}
 use Rattle.adjacency.specs.Descriptions.{Verdict, accept, act, after_description, announced_more}
 use Rattle.adjacency.specs.Descriptions.{as_received, changes_options, describe, exchange_done}
@@ -27,30 +20,25 @@ use Rattle.adjacency.specs.Neighbors.{Neighbor}
 use Rattle.adjacency.specs.Requests.{request_next}
 use Rattle.adjacency.proofs.Kept.{chosen}
 use Rattle.received.specs.Flooding.{flood_to, is_sender}
-use Rattle.received.specs.Links.{Link, any_exchange_or_loading, neighbor_at}
+use Rattle.received.specs.Links.{Link, neighbor_at}
 use Rattle.received.specs.Outcomes.{Outcome, Stepping, on_database, only_at, step_on, stepped_links}
 use Rattle.events.specs.declared.model.Out.{Out}
-use Rattle.events.specs.Endings.{describe_router, describe_router_later, end_event, is_current}
-use Rattle.events.specs.Endings.{link_loading_done, links_differ, loading_done, loading_done_on}
-use Rattle.events.specs.Endings.{request_all, start_event, stays}
-use Rattle.events.specs.EventState.{EventState, flood_from_nobody, on_area, on_router}
-use Rattle.events.specs.Events.{Happens, OwnPart}
-use Rattle.events.specs.Hellos.{is_foreign}
-use Rattle.events.specs.Originations.{flush, flush_copy, has_max_sequence, has_room, may_originate}
-use Rattle.events.specs.Originations.{new_instance, originate, originate_body, originate_or_wait}
-use Rattle.events.specs.Originations.{router_key, wait, wanted_body}
-use Rattle.events.specs.Packets.{after_packet, describe_to, from_neighbor, is_from, is_hello}
-use Rattle.events.specs.Packets.{is_in_exchange}
+use Rattle.events.specs.Endings.{end_event, link_loading_done, loading_done_on, start_event}
+use Rattle.events.specs.EventState.{EventState, flood_from_nobody, on_area}
+use Rattle.events.specs.Events.{Happens}
+use Rattle.events.specs.Originations.{new_instance}
+use Rattle.events.specs.Packets.{describe_to}
 use Rattle.events.specs.Routers.{Occurrence, Router}
-use Rattle.events.proofs.Walk.{MayGrow, OfEvent, outcome}
+use Rattle.events.proofs.Walk.{OfEvent, outcome}
 use Rattle.flood_laws.specs.InOrder.{IsInOrder}
 use Rattle.flood_laws.proofs.Acknowledged.{in_order, order_begun, order_kept}
 use Rattle.flood_laws.proofs.Leaving.{each_kept_at, stepped_kept}
-use Rattle.flood_laws.proofs.Retransmitted.{IsItsOwn}
 use Rattle.agreement_laws.specs.Exchanged.{conversation_with}
 use Rattle.agreement_laws.specs.Accepted.{AcceptsDescription, accepts_description, is_accepting}
 use Rattle.agreement_laws.specs.Numbers.{AcceptedDescriptionsMoveNumbers, HasMoved, NumbersMove}
 use Rattle.agreement_laws.proofs.ExchangeSteps.{IsSame, same_asked, same_filled, same_flooded}
+use Rattle.agreement_laws.proofs.Accepting.{Passes, is_taken, its_tests}
+use Rattle.agreement_laws.proofs.Ending.{Going, IsKeptToEnd, ended}
 
 -- ---- the step
 
@@ -71,21 +59,13 @@ accepting false false false false true g is = absurd cc
 accepting false false false false false true is = (refl, refl)
 accepting false false false false false false is = absurd cc
 
-three : (a b c : Bool) → (not a && b && c) ≡ true → (a ≡ false) × (b ≡ true) × (c ≡ true)
-three false true true e = (refl, refl, refl)
-three false true false e = absurd cc
-three false false c e = absurd cc
-three true b c e = absurd cc
-
 module _ (own moment : ℕ) (db : Database) (d : Description) (n : Neighbor) (is : n.state ≡ Exchange)
     (accepts : accepts_description own moment n d ≡ true) where
   abbrev Moves : Step → Type 0
   Moves s = NumbersMove n d s.neighbor × (conversation_with s.neighbor ≡ conversation_with n)
 
-  passes : (nat_lt 8192 d.mtu ≡ false) × (knows_types d ≡ true)
-      × (is_accepting (verdict own (two_way_received moment n).neighbor d) ≡ true)
-  passes = three (nat_lt 8192 d.mtu) (knows_types d)
-      (is_accepting (verdict own (two_way_received moment n).neighbor d)) accepts
+  passes : Passes own moment n d
+  passes = its_tests own moment n d accepts
 
   tests : ((d.sequence == expected_sequence n) ≡ true) × (exchanging n d ≡ Verdict.Accepted)
   tests =
@@ -198,99 +178,25 @@ module _ (own moment number : ℕ) (x : Neighbor) where
   floods lsa o h = each_step (flood_to moment None lsa) o.area.links
       (λ link m at. same_flooded x moment (is_sender None number) lsa m at) h
 
-  pub record Going (p : EventState) : Type 0 where
-    pub so : OfEvent (in_order own) p
-    pub same : StaysSame (outcome p)
-
-  flushed : (k : Key) (c : Option DatabaseCopy) (o : Outcome) → finite.get o.area.database k ≡ c
-      → IsItsOwn o.area → StaysSame o → IsItsOwn (flush_copy moment k c o).area
-      × StaysSame (flush_copy moment k c o)
-  flushed k None o at its h = (its, h)
-  flushed k (Some c) o at its h =
-      chosen (λ (q : Outcome). IsItsOwn q.area × StaysSame q) (is_aged_out moment c) o
-      (flood_from_nobody moment (lsa_aged 3600 c.lsa) (on_database (age_out moment k) o))
-      (λ aged. (its, h))
-      (λ young_one. (
-        (order_kept own).flushes moment k c o at young_one its,
-        floods (lsa_aged 3600 c.lsa) (on_database (age_out moment k) o) h,
-      ))
-
-  flush_goes : (k : Key) (p : EventState) → Going p → Going (flush moment k p)
-  flush_goes k p h =
-      let q = flushed k (finite.get p.router.area.database k) (outcome p) refl h.so.area h.same in
-      record { so = record { area = q.0; announced = h.so.announced }; same = q.1 }
-
-  waits : (k : Key) (p : EventState) → Going p → Going (on_router (wait k) p)
-  waits k p h = record {
-    so = record { area = h.so.area; announced = h.so.announced };
-    same = h.same;
-  }
-
-  body_goes : (may_now : Bool) (k : Key) (says : Option LsaBody) (p : EventState)
-      → k.advertising_router ≡ own → wanted_body p.router k ≡ says → Going p
-      → Going (originate_body may_now moment k says p)
-  body_goes may_now k None p its wants h = h
-  body_goes may_now k (Some says) p its wants h =
-      chosen Going (has_max_sequence (finite.get p.router.area.database k)) (flush moment k p)
-      (cond (may_now && may_originate moment k p.router) (originate moment k says p)
-      (on_router (wait k) p)) (λ is. flush_goes k p h)
-      (λ is. chosen Going (may_now && may_originate moment k p.router) (originate moment k says p)
-      (on_router (wait k) p)
-      (λ may. record {
-        so = record {
-          area = (order_kept own).originates moment k says p its is wants (MayGrow.Anyway tt)
-              h.so;
-          announced = h.so.announced;
-        };
-        same = floods (new_instance k (finite.get p.router.area.database k) says)
-            (on_database (install_originated moment
-            (new_instance k (finite.get p.router.area.database k) says)) (outcome p)) h.same;
-      }) (λ may. waits k p h))
-
   loaded_one : (o : Option Neighbor) → SameThere o → SameThere (loading_done_on o)
   loaded_one None k = k
   loaded_one (Some m) k = same_filled x m k
 
-  loads : (p : EventState) → Going p → Going (loading_done p)
-  loads p h = record {
-    so = record {
-      area = (order_kept own).loaded (outcome p) h.so.area;
-      announced = h.so.announced;
-    };
-    same = each_kept_at SameThere SameThere (λ k. k) link_loading_done number
-        (λ link at. loaded_one link.neighbor at) p.router.area.links h.same;
+  kept : IsKeptToEnd own moment StaysSame
+  kept = record {
+    flushes = λ k c o at its h. floods (lsa_aged 3600 c.lsa) (on_database (age_out moment k) o) h;
+    originates = λ k says p its wants so h.
+        let lsa : Lsa = new_instance k (finite.get p.router.area.database k) says in
+        floods lsa (on_database (install_originated moment lsa) (outcome p)) h;
+    loaded = λ o h. each_kept_at SameThere SameThere (λ k. k) link_loading_done number
+        (λ link at. loaded_one link.neighbor at) o.area.links h;
+    requests = λ o h. each_step (λ place link m. request_next moment m) o.area.links
+        (λ link m at. same_asked x moment m at) h;
   }
 
-  describes : (before : List Link) (p : EventState) → Going p
-      → Going (describe_router before moment p)
-  describes before p h =
-      chosen Going (links_differ before p.router.area.links && not (is_current moment p.router))
-      (originate_or_wait moment (router_key p.router.id) p) p
-      (λ is. body_goes (has_room (router_key p.router.id) p.router) (router_key p.router.id)
-      (wanted_body p.router (router_key p.router.id)) p
-      ((order_kept own).own_router p.router h.so.announced) refl h) (λ is. h)
-
-  describes_later : (before : List Link) (p : EventState) → Going p
-      → Going (describe_router_later before p)
-  describes_later before p h =
-      chosen Going (links_differ before p.router.area.links)
-      (on_router (wait (router_key p.router.id)) p) p (λ is. waits (router_key p.router.id) p h)
-      (λ is. h)
-
-  pub ended : (old : Router) (after : EventState) → Going after
+  pub stays_same : (old : Router) (after : EventState) → Going own moment StaysSame after
       → StaysSame (outcome (end_event old moment after))
-  ended old after h =
-      let said : EventState = describe_router old.area.links moment (loading_done after) in
-      let refilled : EventState = describe_router_later said.router.area.links (loading_done said)
-      in
-      let q : Going refilled = describes_later said.router.area.links (loading_done said)
-      (loads said (describes old.area.links (loading_done after) (loads after h))) in
-      let o : Outcome = request_all moment (outcome refilled) in
-      let asks : StaysSame o = each_step (λ place link m. request_next moment m)
-      refilled.router.area.links (λ link m at. same_asked x moment m at) q.same in
-      chosen StaysSame (any_exchange_or_loading o.area.links) o
-      (on_database (λ db. finite.retain_keys db (stays moment o.area)) o) (λ is. asks)
-      (λ is. asks)
+  stays_same = ended own moment StaysSame kept StaysSame (λ o h. h) (λ o h. h)
 
 -- ---- the event
 
@@ -306,32 +212,6 @@ module _ (old : Router) (moment : ℕ) (event : Occurrence) (order : IsInOrder o
   abbrev x : Neighbor
   x = (takes n).neighbor
 
-  -- the packet is heard
-  is_taken : (after : EventState) → OwnPart moment event begins after → after
-      ≡ on_area (describe_to old.id moment number d) begins
-  is_taken after own = by_packet (subst (λ (e : Occurrence). OwnPart moment e begins after) a.is
-      own)
-    where
-      of_body : (says : PacketBody) → says ≡ body.Description d → (o : Option Neighbor) → o ≡ Some n
-          → cond (is_foreign old.id a.packet.router && (is_hello says || is_from a.packet.router o))
-          (from_neighbor moment number a.packet.router (is_in_exchange o) says begins) begins
-          ≡ on_area (describe_to old.id moment number d) begins
-      of_body says its o at =
-          (λ i. cond (is_foreign old.id a.packet.router &&
-          (is_hello (its i) || is_from a.packet.router (at i)))
-          (from_neighbor moment number a.packet.router (is_in_exchange (at i)) (its i)
-          begins) begins)
-          ∙ (λ i. cond (a.other i && (false || eq-eqb n.router a.packet.router a.from i))
-          (on_area (describe_to old.id moment number d) begins) begins)
-
-      by_packet : (packet : Packet) × PacketText a.bytes packet
-          × (after ≡ after_packet moment number packet begins) → after
-          ≡ on_area (describe_to old.id moment number d) begins
-      by_packet k =
-          k.2 ∙ ap (λ (p : Packet). after_packet moment number p begins)
-          (one_packet a.bytes k.0 a.packet k.1 a.text)
-          ∙ of_body a.packet.body a.says (neighbor_at number begins.router.area.links) a.there
-
   one_taken : (link : Link) (o : Option Neighbor) → o ≡ Some n
       → SameThere old.id moment number x (step_on (only_at number takes number link) o)
   one_taken link o at =
@@ -343,7 +223,10 @@ module _ (old : Router) (moment : ℕ) (event : Occurrence) (order : IsInOrder o
       })).neighbor) (sym (eq-eqb number number refl))
       (refl, refl, refl, refl, refl))
 
-  goes : Going old.id moment number x (on_area (describe_to old.id moment number d) begins)
+  abbrev Stays : Outcome → Type 0
+  Stays o = SameThere old.id moment number x (neighbor_at number o.area.links)
+
+  goes : Going old.id moment Stays (on_area (describe_to old.id moment number d) begins)
   goes =
       let so : OfEvent (in_order old.id) begins = order_begun old moment order in
       record {
@@ -351,8 +234,8 @@ module _ (old : Router) (moment : ℕ) (event : Occurrence) (order : IsInOrder o
           area = (order_kept old.id).description old.id moment number d (outcome begins) so.area;
           announced = so.announced;
         };
-        same = stepped_kept (λ (o : Option Neighbor). o ≡ Some n) (SameThere old.id moment number x)
-            (λ e. absurd cc) (only_at number takes) number
+        still = stepped_kept (λ (o : Option Neighbor). o ≡ Some n)
+            (SameThere old.id moment number x) (λ e. absurd cc) (only_at number takes) number
             (λ link at. one_taken link link.neighbor at) begins.router.area.links a.there;
       }
 
@@ -388,8 +271,9 @@ module _ (old : Router) (moment : ℕ) (event : Occurrence) (order : IsInOrder o
       in_law new (neighbor_at number new.area.links) refl
       (subst (λ (r : Router). SameThere old.id moment number x (neighbor_at number r.area.links))
       (sym happens.router)
-      (ended old.id moment number x old happens.after
-      (subst (Going old.id moment number x) (sym (is_taken happens.after happens.own)) goes)))
+      (stays_same old.id moment number x old happens.after
+      (subst (Going old.id moment Stays)
+      (sym (is_taken old moment event number n d a happens.after happens.own)) goes)))
 
 pub numbers_move : AcceptedDescriptionsMoveNumbers
 numbers_move old moment event outs new happens order number n d a is =

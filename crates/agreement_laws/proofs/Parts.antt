@@ -1,9 +1,9 @@
 -- A copy that is settled with the neighbor at an interface, in each part of an event: it stays
 -- settled, or the copy that replaces it is.
-use Rattle.std.proofs.Common.{◌≡◌, ℕ, zero, suc, ◌≤◌, Bool, true, false, cond, not, ◌&&◌, ◌⊎◌, inl}
-use Rattle.std.proofs.Common.{inr, List, [], ◌∷◌, ◌++◌, map, Option, None, Some, is_some, refl, sym}
+use Rattle.std.proofs.Common.{◌≡◌, ℕ, zero, suc, ◌≤◌, Bool, true, false, cond, ◌⊎◌, inl}
+use Rattle.std.proofs.Common.{inr, List, [], ◌∷◌, ◌++◌, map, Option, None, Some, refl, sym}
 use Rattle.std.proofs.Common.{ap, subst, ◌∙◌, arith}
-use Rattle.std.specs.Prelude.{◌==◌, ◌+◌, is_none, slice_get}
+use Rattle.std.specs.Prelude.{◌==◌, ◌+◌, slice_get}
 use Rattle.std.specs.FinMap as finite
 use Rattle.std.specs.List.{Contains, enumerate_from, flat_map, fold}
 use Rattle.std.specs.Ordering.{eq_by_cmp}
@@ -11,12 +11,11 @@ use Rattle.std.proofs.lemmas.Bool.{eq-eqb, eqb-true}
 use Rattle.std.proofs.lemmas.List.Elements.{Contains-append_left, Contains-append_right}
 use Rattle.words.specs.declared.key.Key.{Key}
 use Rattle.lsdb.specs.Copies.{Database, DatabaseCopy, age_out, copy_now, install_flooded}
-use Rattle.lsdb.specs.Copies.{install_originated, installed_just_now, lsa_now, newer_than_copy}
-use Rattle.lsdb.specs.Copies.{same_as_copy, sent_just_now}
+use Rattle.lsdb.specs.Copies.{install_originated, lsa_now, same_as_copy}
 use Rattle.lsdb.specs.Headers.{Header, Lsa, key_of, lsa_aged, lsa_key}
 use Rattle.lsdb.specs.Instances.{ListEntry, instance_of, listed_now}
 use Rattle.lsdb.specs.Keys.{ByKey, key_cmp, same_key}
-use Rattle.lsdb.specs.Order.{age_at, is_max_age}
+use Rattle.lsdb.specs.Order.{age_at}
 use Rattle.lsdb.specs.declared.order.Instance.{Instance}
 use Rattle.lsdb.proofs.Keys.{keys_exact, keys_total}
 use Rattle.packet.specs.declared.model.Description.{Description}
@@ -29,11 +28,10 @@ use Rattle.adjacency.specs.Neighbors.{Neighbor, is_exchange_or_later}
 use Rattle.adjacency.specs.Requests.{request_next}
 use Rattle.adjacency.specs.Retransmissions.{after_acknowledgment, remove_retransmission}
 use Rattle.adjacency.proofs.Kept.{chosen}
-use Rattle.received.specs.Cases.{Case, case_of_readable, first_case, is_on_senders_list}
-use Rattle.received.specs.Cases.{is_wrapping, was_requested}
+use Rattle.received.specs.Cases.{Case}
 use Rattle.received.specs.Flooding.{flood, flood_to, is_sender}
 use Rattle.received.specs.Holds.{Holds}
-use Rattle.received.specs.Links.{Link, acknowledge_later, any_exchange_or_loading, change_link}
+use Rattle.received.specs.Links.{Link, acknowledge_later, change_link}
 use Rattle.received.specs.Links.{link_at, neighbor_at, neighbor_on}
 use Rattle.received.specs.Outcomes.{Outcome, Send, Stepping, each_neighbor, marked_database}
 use Rattle.received.specs.Outcomes.{sends_at, on_database, on_links, one_neighbor, only_at, sending}
@@ -58,12 +56,14 @@ use Rattle.flood_laws.proofs.Worlds.{mapped}
 use Rattle.agreement_laws.specs.Exchanged.{Conversation, conversation_with}
 use Rattle.agreement_laws.specs.Ranks.{is_at_least}
 use Rattle.agreement_laws.proofs.Ages.{age_at_once, entry_at_least, noted_at_least}
-use Rattle.agreement_laws.proofs.Describing.{IsDescribed, held, instance_at}
+use Rattle.agreement_laws.proofs.Describing.{held, instance_at}
 use Rattle.agreement_laws.proofs.Describing as describing
 use Rattle.agreement_laws.proofs.Lists.{some_same}
 use Rattle.agreement_laws.proofs.Ranks.{itself_at_least, same_at_least}
 use Rattle.agreement_laws.proofs.Settling.{Known, Saying, Settling, settling_more}
 use Rattle.agreement_laws.proofs.Settling as settling
+use Rattle.agreement_laws.proofs.Cases.{same_where_implied}
+use Rattle.agreement_laws.proofs.Databases.{flushed_copy, installed_copy, originated_copy}
 
 -- ---- what is held when the database changes
 
@@ -151,38 +151,6 @@ module _ (f : Stepping) (content : Content) (n : Neighbor) where
       subst (λ m. Contains (stepping_sends f xs) (at_place m)) (sym e)
       (sent_from 1 i xs at (λ link is. subst (λ m. Contains (f m link n).sends content) e
       (so link is)))
-
--- ---- the case of an LSA
-
-same_found : (a b c d e f g h : Bool)
-    → first_case ((a, Case.NothingToFlush) ∷ (b, Case.TooSoon) ∷ (c, Case.Newer)
-    ∷ (d, Case.BadRequest) ∷ (e && f, Case.ImpliedAcknowledgment) ∷ (e, Case.Duplicate)
-    ∷ (g, Case.SequenceWraps) ∷ (h, Case.SentJustNow) ∷ []) Case.Older
-    ≡ Case.ImpliedAcknowledgment → e ≡ true
-same_found true b c d e f g h is = absurd (cc)
-same_found false true c d e f g h is = absurd (cc)
-same_found false false true d e f g h is = absurd (cc)
-same_found false false false true e f g h is = absurd (cc)
-same_found false false false false true f g h is = refl
-same_found false false false false false f true h is = absurd (cc)
-same_found false false false false false f false true is = absurd (cc)
-same_found false false false false false f false false is = absurd (cc)
-
--- an acknowledged copy is the same instance
-pub same_where_implied : (moment : ℕ) (copy : Option DatabaseCopy) (sender : Option Neighbor)
-    (synchronizing : Bool) (lsa : Lsa) → case_of_readable moment copy sender synchronizing lsa
-    ≡ Case.ImpliedAcknowledgment → same_as_copy moment lsa.header copy ≡ true
-same_where_implied moment copy sender synchronizing lsa is =
-    same_found
-    (is_max_age lsa.header.age && is_none copy && not synchronizing)
-    (is_some copy && newer_than_copy moment lsa.header copy && installed_just_now moment copy)
-    (newer_than_copy moment lsa.header copy)
-    (was_requested sender lsa)
-    (same_as_copy moment lsa.header copy)
-    (is_on_senders_list moment sender lsa)
-    (is_wrapping moment copy)
-    (sent_just_now moment copy)
-    is
 
 -- ---- the neighbor at one interface, and one key
 
@@ -356,9 +324,6 @@ module _ (key : Key) (moment : ℕ) (number : ℕ) (There : Type 0) (Of : ℕ �
 
     -- ---- self-originated LSAs
 
-    abbrev flushed_copy : DatabaseCopy → DatabaseCopy
-    flushed_copy c = record c { lsa = lsa_aged 3600 c.lsa; stored = moment }
-
     of_age : (l : Lsa) (age : ℕ) → age ≡ l.header.age
         → Some (instance_of (record l.header { age = age })) ≡ Some (instance_of l.header)
     of_age l age is = ap (λ (a : ℕ). Some (instance_of (record l.header { age = a }))) is
@@ -369,61 +334,49 @@ module _ (key : Key) (moment : ℕ) (number : ℕ) (There : Type 0) (Of : ℕ �
     flushes k c o at own h =
         subst (λ (x : Option DatabaseCopy). Stands
         (flood_from_nobody moment (lsa_aged 3600 c.lsa)
-        (on_database (λ db. changed_by k flushed_copy o.area.database x) o))) (sym at)
+        (on_database (λ db. changed_by k (flushed_copy moment) o.area.database x) o))) (sym at)
         (by_key (same_key key k) refl)
       where
         aged : Outcome
-        aged = on_database (λ db. finite.insert db k (flushed_copy c)) o
+        aged = on_database (λ db. finite.insert db k (flushed_copy moment c)) o
 
         max_age : age_at 3600 moment moment ≡ 3600
         max_age = omega arith
 
         by_key : (b : Bool) → same_key key k ≡ b
             → Stands (flood_from_nobody moment (lsa_aged 3600 c.lsa)
-            (on_database (λ db. finite.insert db k (flushed_copy c)) o))
+            (on_database (λ db. finite.insert db k (flushed_copy moment c)) o))
         by_key true same =
             flood_same (lsa_aged 3600 c.lsa)
-            (on_database (λ db. finite.insert db k (flushed_copy c)) o)
+            (on_database (λ db. finite.insert db k (flushed_copy moment c)) o)
             (held moment key o.area.database)
             (subst (λ (q : Key). same_key key q ≡ true) (sym own) same)
-            (held_put moment key k (flushed_copy c) o.area.database same
+            (held_put moment key k (flushed_copy moment c) o.area.database same
             ∙ of_age (lsa_aged 3600 c.lsa) (age_at 3600 moment moment) max_age) h
         by_key false other =
             flood_other None (lsa_aged 3600 c.lsa)
-            (on_database (λ db. finite.insert db k (flushed_copy c)) o)
+            (on_database (λ db. finite.insert db k (flushed_copy moment c)) o)
             (subst (λ (q : Key). same_key key q ≡ false) (sym own) other)
             (subst (λ (x : Option Instance). HoldsThere o.sends x (neighbor_at number o.area.links))
-            (sym (held_other moment key k (flushed_copy c) o.area.database other)) h)
+            (sym (held_other moment key k (flushed_copy moment c) o.area.database other)) h)
 
     pub originates : (lsa : Lsa) (o : Outcome) → lsa.header.age ≤ 3600 → Stands o
         → Stands (install_and_flood moment lsa o)
     originates lsa o most h = by_key (same_key key (lsa_key lsa)) refl
       where
-        copy : DatabaseCopy
-        copy = record { lsa = lsa; stored = moment; installed = None; sent = None }
-
         by_key : (b : Bool) → same_key key (lsa_key lsa) ≡ b
             → Stands (install_and_flood moment lsa o)
         by_key true same =
             flood_same lsa (on_database (install_originated moment lsa) o)
             (held moment key o.area.database) same
-            (held_put moment key (lsa_key lsa) (record {
-              lsa = lsa;
-              stored = moment;
-              installed = None;
-              sent = None;
-            }) o.area.database same
+            (held_put moment key (lsa_key lsa) (originated_copy moment lsa) o.area.database same
             ∙ of_age lsa (age_at lsa.header.age moment moment)
             (age_at_once lsa.header.age moment most)) h
         by_key false other =
             flood_other None lsa (on_database (install_originated moment lsa) o) other
             (subst (λ (x : Option Instance). HoldsThere o.sends x (neighbor_at number o.area.links))
-            (sym (held_other moment key (lsa_key lsa) (record {
-              lsa = lsa;
-              stored = moment;
-              installed = None;
-              sent = None;
-            }) o.area.database other))
+            (sym (held_other moment key (lsa_key lsa) (originated_copy moment lsa) o.area.database
+            other))
             h)
 
     -- ---- received LSAs
@@ -459,12 +412,7 @@ module _ (key : Key) (moment : ℕ) (number : ℕ) (There : Type 0) (Of : ℕ �
         by_key true same =
             flood_back place lsa (on_database (install_flooded moment lsa) o)
             (held moment key o.area.database) (instance_of lsa.header) same
-            (held_put moment key (lsa_key lsa) (record {
-              lsa = lsa;
-              stored = moment;
-              installed = Some moment;
-              sent = None;
-            }) o.area.database
+            (held_put moment key (lsa_key lsa) (installed_copy moment lsa) o.area.database
             same
             ∙ of_age lsa (age_at lsa.header.age moment moment)
             (age_at_once lsa.header.age moment most)) refl
@@ -472,12 +420,7 @@ module _ (key : Key) (moment : ℕ) (number : ℕ) (There : Type 0) (Of : ℕ �
         by_key false other =
             flood_other (Some place) lsa (on_database (install_flooded moment lsa) o) other
             (subst (λ (x : Option Instance). HoldsThere o.sends x (neighbor_at number o.area.links))
-            (sym (held_other moment key (lsa_key lsa) (record {
-              lsa = lsa;
-              stored = moment;
-              installed = Some moment;
-              sent = None;
-            }) o.area.database
+            (sym (held_other moment key (lsa_key lsa) (installed_copy moment lsa) o.area.database
             other)) h)
 
     copy_sent : (place : ℕ) (c : Option DatabaseCopy) (o : Outcome) → Stands o
@@ -530,8 +473,7 @@ module _ (key : Key) (moment : ℕ) (number : ℕ) (There : Type 0) (Of : ℕ �
     cases Case.Newer place lsa o is most says h = installs place lsa o most says h
     cases Case.BadRequest place lsa o is most says h = mismatches place o h
     cases Case.ImpliedAcknowledgment place lsa o is most says h =
-        implies place lsa o (same_where_implied moment (copy_of lsa o.area)
-        (neighbor_at place o.area.links) (any_exchange_or_loading o.area.links) lsa is) says h
+        implies place lsa o (same_where_implied moment place lsa o.area is) says h
     cases Case.Duplicate place lsa o is most says h =
         sent (sends_at place (Content.Acknowledges lsa.header ∷ [])) o h
     cases Case.SequenceWraps place lsa o is most says h = h

@@ -143,33 +143,34 @@ total =
     (then_total (on_total (λ (i : Instance). i.checksum) nat_cmp_total)
     (on_total (λ (i : Instance). is_max_age i.age) bool_cmp_total))
 
-not_greater : (a b : Instance) → is_at_least a b ≡ true → is_gt (compare_ranks b a) ≡ false
-not_greater a b e = ap (λ (o : Ordering). is_gt o) (total.antisymm b a)
-    ∙ by_order (compare_ranks a b) e
-  where
-    by_order : (o : Ordering) → is_ge o ≡ true → is_gt (ordering_reverse o) ≡ false
-    by_order Less is = absurd cc
-    by_order Equal is = refl
-    by_order Greater is = refl
+module _ (order : IsTotalOrder compare_ranks) where
+  not_greater : (a b : Instance) → is_at_least a b ≡ true → is_gt (compare_ranks b a) ≡ false
+  not_greater a b e = ap (λ (o : Ordering). is_gt o) (order.antisymm b a)
+      ∙ by_order (compare_ranks a b) e
+    where
+      by_order : (o : Ordering) → is_ge o ≡ true → is_gt (ordering_reverse o) ≡ false
+      by_order Less is = absurd cc
+      by_order Equal is = refl
+      by_order Greater is = refl
 
-at_least_back : (a b : Instance) → is_gt (compare_ranks b a) ≡ false → is_at_least a b ≡ true
-at_least_back a b e = ap (λ (o : Ordering). is_ge o) (total.antisymm a b)
-    ∙ by_order (compare_ranks b a) e
-  where
-    by_order : (o : Ordering) → is_gt o ≡ false → is_ge (ordering_reverse o) ≡ true
-    by_order Less is = refl
-    by_order Equal is = refl
-    by_order Greater is = absurd cc
+  at_least_back : (a b : Instance) → is_gt (compare_ranks b a) ≡ false → is_at_least a b ≡ true
+  at_least_back a b e = ap (λ (o : Ordering). is_ge o) (order.antisymm a b)
+      ∙ by_order (compare_ranks b a) e
+    where
+      by_order : (o : Ordering) → is_gt o ≡ false → is_ge (ordering_reverse o) ≡ true
+      by_order Less is = refl
+      by_order Equal is = refl
+      by_order Greater is = absurd cc
+
+  -- transitivity
+  pub at_least_on : (a b c : Instance) → is_at_least a b ≡ true → is_at_least b c ≡ true
+      → is_at_least a c ≡ true
+  at_least_on a b c more less = at_least_back a c
+      (upto order c b a (not_greater b c less) (not_greater a b more))
 
 -- of two that are the same, each is at least as new as the other
 pub same_back : (a b : Instance) → is_same a b ≡ true → is_at_least b a ≡ true
-same_back a b e = at_least_back b a (ap (λ (o : Ordering). is_gt o) (same a b e))
-
--- transitivity
-pub at_least_on : (a b c : Instance) → is_at_least a b ≡ true → is_at_least b c ≡ true
-    → is_at_least a c ≡ true
-at_least_on a b c more less = at_least_back a c
-    (upto total c b a (not_greater b c less) (not_greater a b more))
+same_back a b e = at_least_back total b a (ap (λ (o : Ordering). is_gt o) (same a b e))
 
 pub follow : RanksFollowTheComparison
 follow = record { total = total; newer = newer; not_newer = not_newer; same = same }

@@ -26,13 +26,13 @@ use Rattle.adjacency.proofs.Maps.{OfEntry}
 use Rattle.received.specs.Cases.{Case}
 use Rattle.received.specs.Flooding.{flood, flood_to, is_sender}
 use Rattle.received.specs.Holds.{Holds}
-use Rattle.received.specs.Links.{Link, acknowledge_later, any_exchange_or_loading, change_link}
+use Rattle.received.specs.Links.{Link, acknowledge_later, change_link}
 use Rattle.received.specs.Links.{link_at, neighbor_at, neighbor_on}
 use Rattle.received.specs.Outcomes.{Outcome, Send, Stepping, each_neighbor, on_database, on_links}
 use Rattle.received.specs.Outcomes.{one_neighbor, only_at, sending, sends_at, step_on}
 use Rattle.received.specs.Outcomes.{stepped_links, stepping_sends}
 use Rattle.received.specs.Updates.{after_case, case_at, copy_of, install, send_copy}
-use Rattle.received.proofs.Marks.{IsStill, changed_by, mark_all}
+use Rattle.received.proofs.Marks.{IsStill, mark_all}
 use Rattle.events.specs.Commands.{taken_down}
 use Rattle.events.specs.Endings.{link_loading_done, loading_done_on, stays, with_age}
 use Rattle.events.specs.EventState.{flood_from_nobody}
@@ -48,11 +48,13 @@ use Rattle.flood_laws.proofs.Owing.{put_same}
 use Rattle.flood_laws.proofs.Retransmitted.{OwnKeys, There, own_at}
 use Rattle.agreement_laws.specs.Exchanged.{Conversation}
 use Rattle.agreement_laws.specs.Ranks.{RanksFollowTheComparison, is_at_least}
-use Rattle.agreement_laws.proofs.Holding.{HasEnded, IsHeldAsNew, at_least_on, flushed_copy}
-use Rattle.agreement_laws.proofs.Holding.{held_flushed, held_installed, held_originated}
-use Rattle.agreement_laws.proofs.Holding.{held_removed, held_sent, is_newer_case, stored_at_least}
+use Rattle.agreement_laws.proofs.Holding.{HasEnded, IsHeldAsNew, held_flushed, held_installed}
+use Rattle.agreement_laws.proofs.Holding.{held_originated, held_removed, held_sent, stored_at_least}
 use Rattle.agreement_laws.proofs.Asking.{Asking, IsMet, flooded}
 use Rattle.agreement_laws.proofs.Asking as asking
+use Rattle.agreement_laws.proofs.Cases.{is_newer_case}
+use Rattle.agreement_laws.proofs.Databases.{aged_out, flushed_copy, installed_copy, originated_copy}
+use Rattle.agreement_laws.proofs.Ranks.{at_least_on}
 
 module _ (ranks : RanksFollowTheComparison) (key : Key) (moment : ℕ) (first : Instance)
     (entry : ListEntry) (low : is_at_least (listed_now moment entry) first ≡ true)
@@ -177,7 +179,7 @@ module _ (ranks : RanksFollowTheComparison) (key : Key) (moment : ℕ) (first : 
   held_by c lsa db at new met = (
     c,
     at met.0,
-    at_least_on ranks (copy_now moment c) (instance_of lsa.header) first new met.1,
+    at_least_on ranks.total (copy_now moment c) (instance_of lsa.header) first new met.1,
   )
 
   -- one that is put there
@@ -234,21 +236,18 @@ module _ (ranks : RanksFollowTheComparison) (key : Key) (moment : ℕ) (first : 
       (flood_from_nobody moment (lsa_aged 3600 c.lsa) (on_database (age_out moment k) o))
   flushes k c o at own h =
       floods None (lsa_aged 3600 c.lsa) (on_database (age_out moment k) o)
-      (held_by (flushed_copy ranks key moment first c) (lsa_aged 3600 c.lsa)
-      (age_out moment k o.area.database) there
-      (stored_at_least ranks key moment first (lsa_aged 3600 c.lsa)
-      (flushed_copy ranks key moment first c) refl))
+      (held_by (flushed_copy moment c) (lsa_aged 3600 c.lsa) (age_out moment k o.area.database)
+      there
+      (stored_at_least ranks key moment first (lsa_aged 3600 c.lsa) (flushed_copy moment c) refl))
       (on_db (age_out moment k) o (λ x. held_flushed ranks key moment first k c o.area.database at
       x) h)
     where
       there : same_key key (lsa_key c.lsa) ≡ true
-          → finite.get (age_out moment k o.area.database) key
-          ≡ Some (flushed_copy ranks key moment first c)
+          → finite.get (age_out moment k o.area.database) key ≡ Some (flushed_copy moment c)
       there same =
-          subst (λ (x : Option DatabaseCopy). finite.get
-          (changed_by k (flushed_copy ranks key moment first) o.area.database x) key
-          ≡ Some (flushed_copy ranks key moment first c)) (sym at)
-          (put_same o.area.database k key (flushed_copy ranks key moment first c)
+          subst (λ (db : Database). finite.get db key ≡ Some (flushed_copy moment c))
+          (sym (aged_out moment k c o.area.database at))
+          (put_same o.area.database k key (flushed_copy moment c)
           (subst (λ (q : Key). same_key key q ≡ true) own same))
 
   pub originates : (k : Key) (says : LsaBody) (o : Outcome)
@@ -256,12 +255,8 @@ module _ (ranks : RanksFollowTheComparison) (key : Key) (moment : ℕ) (first : 
       → Stands (install_and_flood moment (new_instance k (finite.get o.area.database k) says) o)
   originates k says o its h =
       let lsa : Lsa = new_instance k (finite.get o.area.database k) says in
-      floods None lsa (on_database (install_originated moment lsa) o) (held_put lsa (record {
-        lsa = lsa;
-        stored = moment;
-        installed = None;
-        sent = None;
-      }) o.area.database refl)
+      floods None lsa (on_database (install_originated moment lsa) o)
+      (held_put lsa (originated_copy moment lsa) o.area.database refl)
       (on_db (install_originated moment lsa) o
       (λ x. held_originated ranks key moment first k says o.area.database its x) h)
 
@@ -274,12 +269,8 @@ module _ (ranks : RanksFollowTheComparison) (key : Key) (moment : ℕ) (first : 
       change_at place (acknowledge_later lsa.header)
       (flood moment (Some place) lsa (on_database (install_flooded moment lsa) o))
       (λ link at. at)
-      (floods (Some place) lsa (on_database (install_flooded moment lsa) o) (held_put lsa (record {
-        lsa = lsa;
-        stored = moment;
-        installed = Some moment;
-        sent = None;
-      }) o.area.database refl)
+      (floods (Some place) lsa (on_database (install_flooded moment lsa) o)
+      (held_put lsa (installed_copy moment lsa) o.area.database refl)
       (on_db (install_flooded moment lsa) o
       (λ x. held_installed ranks key moment first lsa o.area.database is x) h))
 
@@ -301,8 +292,7 @@ module _ (ranks : RanksFollowTheComparison) (key : Key) (moment : ℕ) (first : 
       sent (sends_at place (Content.Acknowledges lsa.header ∷ [])) o h
   cases may Case.TooSoon place lsa o is h = h
   cases may Case.Newer place lsa o is h =
-      installs place lsa o (is_newer_case moment (copy_of lsa o.area)
-      (neighbor_at place o.area.links) (any_exchange_or_loading o.area.links) lsa is) h
+      installs place lsa o (is_newer_case moment place lsa o.area is) h
   cases may Case.BadRequest place lsa o is h = mismatches may place o h
   cases may Case.ImpliedAcknowledgment place lsa o is h =
       one_step place (λ n. no_sends (remove_retransmission (lsa_key lsa) n)) o (λ m at. at) h

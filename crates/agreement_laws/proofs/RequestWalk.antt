@@ -1,57 +1,40 @@
 -- What a whole event makes of a request, and of the headers of a Description that is accepted in
 -- it.
-use Rattle.std.proofs.Common.{◌≡◌, ℕ, Bool, true, false, cond, not, ◌&&◌, ◌||◌, ◌⊎◌, inl, inr, List}
-use Rattle.std.proofs.Common.{[], ◌∷◌, map, Option, None, Some, refl, sym, ap, subst, ◌∙◌}
+use Rattle.std.proofs.Common.{◌≡◌, ℕ, Bool, true, false, cond, ◌⊎◌, inl, inr, List}
+use Rattle.std.proofs.Common.{[], map, Option, None, Some, refl, sym, ap, subst, ◌∙◌}
 use Rattle.std.specs.Prelude.{◌==◌}
 use Rattle.std.specs.FinMap as finite
 use Rattle.std.specs.List.{Contains}
 use Rattle.std.proofs.lemmas.Bool.{eq-eqb, eqb-true}
 use Rattle.words.specs.declared.key.Key.{Key}
-use Rattle.lsa.specs.declared.body.LsaBody.{LsaBody}
-use Rattle.lsdb.specs.Copies.{DatabaseCopy, age_out, copy_now, install_flooded, install_originated}
-use Rattle.lsdb.specs.Copies.{is_aged_out, lsa_now, newer_than_copy}
-use Rattle.lsdb.specs.Headers.{Header, Lsa, key_of, lsa_aged, lsa_key}
+use Rattle.lsdb.specs.Copies.{Database, DatabaseCopy, copy_now, newer_than_copy}
+use Rattle.lsdb.specs.Headers.{Header, Lsa, key_of, lsa_key}
 use Rattle.lsdb.specs.Instances.{ListEntry, instance_of, listed_now}
 use Rattle.lsdb.specs.Keys.{ByKey, key_cmp, same_key}
 use Rattle.lsdb.specs.declared.order.Instance.{Instance}
-use Rattle.packet.specs.declared.model.PacketBody.{PacketBody}
 use Rattle.packet.specs.declared.model.PacketBody.TheVariants as body
 use Rattle.packet.specs.declared.model.Description.{Description}
-use Rattle.packet.specs.declared.model.Hello.{Hello}
 use Rattle.packet.specs.declared.model.Packet.{Packet}
-use Rattle.packet.specs.Text.{PacketText}
-use Rattle.packet.proofs.Whole.{one_packet}
-use Rattle.adjacency.specs.Adjacencies.{mismatch_step, two_way_received}
-use Rattle.adjacency.specs.Adjacencies as adjacencies
-use Rattle.adjacency.specs.Contents.{Content, Step, no_sends}
+use Rattle.adjacency.specs.Adjacencies.{two_way_received}
+use Rattle.adjacency.specs.Contents.{Content, Step}
 use Rattle.adjacency.specs.Descriptions.{after_description, is_wanted}
 use Rattle.adjacency.specs.Lists.{HasSoundLists}
 use Rattle.adjacency.specs.Neighbors.{Neighbor, is_exchange_or_later}
 use Rattle.adjacency.specs.Requests.{request_next}
-use Rattle.adjacency.specs.Retransmissions.{after_acknowledgment, remove_retransmission}
-use Rattle.adjacency.proofs.Kept.{chosen}
-use Rattle.received.specs.Cases.{Case}
-use Rattle.received.specs.Flooding.{flood_to}
 use Rattle.received.specs.Holds.{Holds}
-use Rattle.received.specs.Links.{Link, any_exchange_or_loading, link_at, neighbor_at}
-use Rattle.received.specs.Outcomes.{Outcome, on_database, on_links, only_at, sends_at, step_on}
+use Rattle.received.specs.Links.{Link, neighbor_at}
+use Rattle.received.specs.Outcomes.{Outcome, on_links, only_at, sends_at, step_on}
 use Rattle.received.specs.Outcomes.{stepped_links, stepping_sends}
-use Rattle.received.specs.Updates.{after_case, copy_of, send_copy}
 use Rattle.received.proofs.Holding.{one_holds}
 use Rattle.events.specs.declared.model.Out.{Out}
-use Rattle.events.specs.Endings.{describe_router, describe_router_later, end_event, is_current}
-use Rattle.events.specs.Endings.{links_differ, loading_done, request_all, start_event, stays}
-use Rattle.events.specs.EventState.{EventState, flood_from_nobody, on_area, on_router}
+use Rattle.events.specs.Endings.{end_event, start_event, stays}
+use Rattle.events.specs.EventState.{EventState}
 use Rattle.events.specs.Events.{Happens, OwnPart}
-use Rattle.events.specs.Hellos.{accepts, is_foreign, names}
-use Rattle.events.specs.Originations.{flush, flush_copy, has_max_sequence, has_room, may_originate}
-use Rattle.events.specs.Originations.{new_instance, originate, originate_body, originate_or_wait}
-use Rattle.events.specs.Originations.{router_key, wait, wanted_body}
-use Rattle.events.specs.Packets.{after_hello, after_packet, describe_to, from_neighbor, hear}
-use Rattle.events.specs.Packets.{heard_on, is_from, is_hello, is_in_exchange, requested_lsas}
+use Rattle.events.specs.Hellos.{accepts}
+use Rattle.events.specs.Packets.{describe_to, is_from, is_hello, requested_lsas}
 use Rattle.events.specs.Routers.{Occurrence, Router}
-use Rattle.events.specs.Ticks.{acknowledgments_on, again, hello_sent_on, sends_of}
-use Rattle.events.proofs.Walk.{MayGrow, OfEvent, outcome}
+use Rattle.events.specs.Ticks.{again}
+use Rattle.events.proofs.Walk.{OfEvent, outcome}
 use Rattle.flood_laws.specs.InOrder.{IsInOrder}
 use Rattle.flood_laws.specs.NewInstances.{lsas_brought}
 use Rattle.flood_laws.proofs.Acknowledged.{in_order, order_begun, order_brings, order_kept}
@@ -63,19 +46,23 @@ use Rattle.flood_laws.proofs.Retransmitted as retransmitted
 use Rattle.agreement_laws.specs.Exchanged.{Conversation, conversation_with}
 use Rattle.agreement_laws.specs.Ranks.{RanksFollowTheComparison, is_at_least}
 use Rattle.agreement_laws.specs.CopiesClimb.{HasHad}
-use Rattle.agreement_laws.proofs.Having.{Whole, joined, whole_at, whole_begun, whole_each}
-use Rattle.agreement_laws.proofs.Having.{whole_flushed, whole_kept, whole_originated, whole_sent}
 use Rattle.agreement_laws.specs.Accepted.{AcceptsDescription, IsLastOfItsKey, accepts_description}
 use Rattle.agreement_laws.specs.Requests.{AcceptsKey, BecameOfRequest, IsRequestedOrHeld}
 use Rattle.agreement_laws.specs.Requests.{RequestsAreMet, WhatIsAcceptedIsRequested}
 use Rattle.agreement_laws.specs.Stays.{BringsNone, IsForeignAndAbsent, IsRequested, RequestsStay}
 use Rattle.agreement_laws.specs.Stays.{StaysRequested}
-use Rattle.agreement_laws.proofs.Absent.{Lacks, none_aged, none_changed, none_marked, none_put}
-use Rattle.agreement_laws.proofs.Absent.{none_stepped}
+use Rattle.agreement_laws.proofs.Having.{Whole, joined, whole, whole_at, whole_begun, whole_kept}
+use Rattle.agreement_laws.proofs.Absent.{IsNone, Lacks, none_kept, none_put}
+use Rattle.agreement_laws.proofs.Databases.{IsKept, ages, each, flushed, installed_copy, kept_too}
+use Rattle.agreement_laws.proofs.Databases.{originated}
+use Rattle.agreement_laws.proofs.Ending.{Going, IsKeptToEnd, ended}
 use Rattle.agreement_laws.proofs.Asking.{Asking}
 use Rattle.agreement_laws.proofs.Requesting.{HasKey, accepted_one, any_described}
-use Rattle.agreement_laws.proofs.Holding.{entry_as_new, in_words, itself_at_least, some_same}
+use Rattle.agreement_laws.proofs.Holding.{entry_as_new, in_words}
 use Rattle.agreement_laws.proofs.RequestParts as parts
+use Rattle.agreement_laws.proofs.Lists.{some_same}
+use Rattle.agreement_laws.proofs.Accepting.{is_taken}
+use Rattle.agreement_laws.proofs.Ranks.{itself_at_least}
 
 -- ---- what becomes of a request
 
@@ -87,7 +74,7 @@ module _ (ranks : RanksFollowTheComparison) (old : Router) (moment : ℕ) (event
   first = listed_now moment entry
 
   low : is_at_least (listed_now moment entry) first ≡ true
-  low = itself_at_least ranks first
+  low = itself_at_least first
 
   abbrev with_it : Conversation
   with_it = conversation_with n
@@ -358,145 +345,27 @@ module _ (ranks : RanksFollowTheComparison) (old : Router) (moment : ℕ) (event
         let no : None ≡ Some has.0 = sym none ∙ has.1 in absurd cc
     left_of o t (none, inr (inr k)) = inr k
 
-    -- the key isn't the router's own
-    not_own : (k : Key) → k.advertising_router ≡ old.id → same_key key k ≡ false
-    not_own k own = by_key (same_key key k) refl
-      where
-        by_key : (b : Bool) → same_key key k ≡ b → same_key key k ≡ false
-        by_key true same =
-            absurd (foreign.others (ap (λ (q : Key). q.advertising_router) (tied_key key k same)
-            ∙ own))
-        by_key false other = other
+    lacks_kept : IsKept old.id moment (IsNone key)
+    lacks_kept = none_kept key old.id moment foreign.others
 
-    lacks_case : (case : Case) (place : ℕ) (packet : Packet) → IsHeard start event place packet
-        → (lsa : Lsa) (o : Outcome) → Contains (lsas_brought packet.body) lsa → Lacks key o
-        → Lacks key (after_case case moment place lsa o)
-    lacks_case Case.Unreadable place packet heard lsa o among none = none
-    lacks_case Case.NothingToFlush place packet heard lsa o among none = none
-    lacks_case Case.TooSoon place packet heard lsa o among none = none
-    lacks_case Case.Newer place packet heard lsa o among none =
-        by_key (same_key key (lsa_key lsa)) refl
+    not_brought : (place : ℕ) (packet : Packet) → IsHeard start event place packet → (lsa : Lsa)
+        → Contains (lsas_brought packet.body) lsa → same_key key (lsa_key lsa) ≡ false
+    not_brought place packet heard lsa among = by_key (same_key key (lsa_key lsa)) refl
       where
-        by_key : (b : Bool) → same_key key (lsa_key lsa) ≡ b
-            → Lacks key (after_case Case.Newer moment place lsa o)
+        by_key : (b : Bool) → same_key key (lsa_key lsa) ≡ b → same_key key (lsa_key lsa) ≡ false
         by_key true same =
             absurd (brings place heard.bytes packet heard.is heard.text lsa among
             (sym (tied_key key (lsa_key lsa) same)))
-        by_key false other =
-            none_stepped key moment (flood_to moment (Some place) lsa)
-            (on_database (install_flooded moment lsa) o)
-            (none_put key (lsa_key lsa)
-            (record { lsa = lsa; stored = moment; installed = Some moment; sent = None })
-            o.area.database other none)
-    lacks_case Case.BadRequest place packet heard lsa o among none =
-        none_stepped key moment (only_at place (mismatch_step moment)) o none
-    lacks_case Case.ImpliedAcknowledgment place packet heard lsa o among none =
-        none_stepped key moment
-        (only_at place (λ (m : Neighbor). no_sends (remove_retransmission (lsa_key lsa) m))) o none
-    lacks_case Case.Duplicate place packet heard lsa o among none = none
-    lacks_case Case.SequenceWraps place packet heard lsa o among none = none
-    lacks_case Case.SentJustNow place packet heard lsa o among none = none
-    lacks_case Case.Older place packet heard lsa o among none = by_copy (copy_of lsa o.area)
-      where
-        by_copy : (c : Option DatabaseCopy) → Lacks key (send_copy moment place c o)
-        by_copy None = none
-        by_copy (Some c) =
-            none_marked key moment (sends_at place (Content.Updates (lsa_now moment c) ∷ []))
-            o.area.database none
-
-    lacks_hello : (place from : ℕ) (hello : Hello) (o : Outcome) → Lacks key o
-        → Lacks key (after_hello start.router.id moment place from hello o)
-    lacks_hello place from hello o none = by_link (link_at place o.area.links)
-      where
-        by_link : (link : Option Link) → Lacks key
-            (heard_on start.router.id moment place from hello link o)
-        by_link None = none
-        by_link (Some link) =
-            let s : Step = adjacencies.after_hello moment from (names start.router.id hello)
-            link.neighbor in
-            chosen (Lacks key) (accepts start.router.id from hello link) (hear moment place s o) o
-            (λ e. none_marked key moment (sends_at place s.sends) o.area.database none) (λ e. none)
+        by_key false other = other
 
     each_too : IsKeptToo (in_order old.id) Both Left start moment event
-    each_too = record {
-      flushes = λ k c o t at young area h. (
-        none_stepped key moment (flood_to moment None (lsa_aged 3600 c.lsa))
-            (on_database (age_out moment k) o)
-            (none_changed key k (λ x. record x {
-              lsa = lsa_aged 3600 x.lsa;
-              stored = moment;
-            }) o.area.database
-            (finite.get o.area.database k) refl h.0),
-        stands_kept.flushes k c o t at young area h.1,
-      );
-      originates = λ k says p of_key goes may wants so h.
-          let lsa : Lsa = new_instance k (finite.get p.router.area.database k) says in
-          let its : lsa_key lsa ≡ k = new_key k (finite.get p.router.area.database k) says
-          (wanted_type p.router k says so.announced.1 wants) in (
-            none_stepped key moment (flood_to moment None lsa)
-                (on_database (install_originated moment lsa) (outcome p))
-                (none_put key (lsa_key lsa) (record {
-                  lsa = lsa;
-                  stored = moment;
-                  installed = None;
-                  sent = None;
-                })
-                p.router.area.database
-                (subst (λ (q : Key). same_key key q ≡ false) (sym its) (not_own k of_key)) h.0),
-            stands_kept.originates k says p of_key goes may wants so h.1,
-          );
-      case = λ place packet heard case lsa o t among other is area h. (
-        lacks_case case place packet heard lsa o among h.0,
-        stands_kept.case place packet heard case lsa o t among other is area h.1,
-      );
-      hello = λ place packet hello heard is so h. (
-        lacks_hello place packet.router hello (outcome start) h.0,
-        stands_kept.hello place packet hello heard is so h.1,
-      );
-      description = λ place packet d heard is so h. (
-        none_stepped key moment (only_at place
-            (after_description start.router.id moment start.router.area.database d)) (outcome start)
-            h.0,
-        stands_kept.description place packet d heard is so h.1,
-      );
-      acknowledgment = λ place packet headers heard is so h. (
-        none_stepped key moment (only_at place
-            (λ (m : Neighbor). no_sends (after_acknowledgment moment headers m))) (outcome start)
-            h.0,
-        stands_kept.acknowledgment place packet headers heard is so h.1,
-      );
-      requested = λ place keys o t area h. (
-        none_marked key moment (sends_at place
-            (map Content.Updates (requested_lsas moment o.area.database keys))) o.area.database h.0,
-        stands_kept.requested place keys o t area h.1,
-      );
-      mismatch = λ place o t area h. (
-        none_stepped key moment (only_at place (mismatch_step moment)) o h.0,
-        stands_kept.mismatch place o t area h.1,
-      );
-      forgets = λ r o area h. (h.0, stands_kept.forgets r o area h.1);
-      inactive = λ o t area h. (h.0, stands_kept.inactive o t area h.1);
-      again = λ o t area h. (
-        none_stepped key moment (again moment o) o h.0,
-        stands_kept.again o t area h.1,
-      );
-      acknowledges = λ o t area h. (
-        none_marked key moment (sends_of acknowledgments_on o.area.links) o.area.database h.0,
-        stands_kept.acknowledges o t area h.1,
-      );
-      hellos = λ o t area h. (
-        none_marked key moment (sends_of (hello_sent_on moment) o.area.links) o.area.database h.0,
-        stands_kept.hellos o t area h.1,
-      );
-      link_down = λ place o t area h. (h.0, stands_kept.link_down place o t area h.1);
-      loaded = λ o t area h. (h.0, stands_kept.loaded o t area h.1);
-      requests = λ o t area h. (
-        none_stepped key moment (λ place link m. request_next moment m) o h.0,
-        stands_kept.requests o t area h.1,
-      );
-      removes = λ o t area h. left_of o t h;
-      stays = λ o t area h. left_of o t h;
-    }
+    each_too =
+        joined (in_order old.id) (λ o t. Lacks key o) Lately Anything Anything Left start moment
+        event
+        (kept_too old moment event (IsNone key) lacks_kept
+        (λ place packet heard lsa among db newer none. none_put key (lsa_key lsa)
+        (installed_copy moment lsa) db (not_brought place packet heard lsa among) none))
+        stands_kept (λ o t none h. left_of o t (none, h)) (λ o t none h. left_of o t (none, h))
 
     in_stay : (new : Router) (o : Option Neighbor) → neighbor_at number new.area.links ≡ o
         → AsksThere o → StaysRequested old moment event number n key entry new
@@ -525,10 +394,11 @@ module _ (ranks : RanksFollowTheComparison) (old : Router) (moment : ℕ) (event
         })) finite.empty) (sym happens.router)
         (event_kept_too (in_order old.id) (order_kept old.id) Both Left old moment event each_too
         happens.after (order_brings old event) happens.own (order_begun old moment order) (
-          none_aged key old.moment moment (finite.entries old.area.database) (record {
-            area = old.area;
-            sends = [];
-          }) foreign.absent,
+          ages old.id moment (IsNone key) lacks_kept old.moment
+              (finite.entries old.area.database) (record {
+                area = old.area;
+                sends = [];
+              }) foreign.absent,
           more (outcome start) begun,
         )))
 
@@ -553,187 +423,59 @@ module _ (ranks : RanksFollowTheComparison) (was : Router) (event : Occurrence) 
   Finally o = parts.Ends ranks key moment first entry low with_it ⊥ ⊥ number (HasHad was event key)
       o
 
-  record Going (p : EventState) : Type 0 where
-    so : OfEvent (in_order own) p
-    remains : Remains (outcome p)
-    -- what was absent still is
-    lacks : Absent → Lacks key (outcome p)
-    -- and what is held has been had
-    whole : Whole was event moment p.router.area.database
+  -- what was absent still is, and what is held has been had
+  abbrev Still : Outcome → Type 0
+  Still o = Remains o × (Absent → Lacks key o) × Whole was event moment o.area.database
 
-  not_its : Absent → (k : Key) → k.advertising_router ≡ own → same_key key k ≡ false
-  not_its a k its = by_key (same_key key k) refl
-    where
-      by_key : (b : Bool) → same_key key k ≡ b → same_key key k ≡ false
-      by_key true same = absurd (others a
-          (ap (λ (q : Key). q.advertising_router) (tied_key key k same) ∙ its))
-      by_key false other = other
+  still_absent : Absent → IsKept own moment (IsNone key)
+  still_absent a = none_kept key own moment (others a)
 
-  flushed : (k : Key) (c : Option DatabaseCopy) (o : Outcome) → finite.get o.area.database k ≡ c
-      → IsItsOwn o.area → Remains o → (Absent → Lacks key o)
-      → Whole was event moment o.area.database → IsItsOwn (flush_copy moment k c o).area
-      × Remains (flush_copy moment k c o) × (Absent → Lacks key (flush_copy moment k c o))
-      × Whole was event moment (flush_copy moment k c o).area.database
-  flushed k None o at its h none whole = (its, h, none, whole)
-  flushed k (Some c) o at its h none whole =
-      chosen (λ (q : Outcome). IsItsOwn q.area × Remains q × (Absent → Lacks key q)
-      × Whole was event moment q.area.database) (is_aged_out moment c) o
-      (flood_from_nobody moment (lsa_aged 3600 c.lsa) (on_database (age_out moment k) o))
-      (λ aged. (its, h, none, whole))
-      (λ young. (
-        (order_kept own).flushes moment k c o at young its,
-        parts.flushes ranks key moment first entry low with_it ⊥ ⊥ number k c o at
-            (own_at o.area.database k c its.keys at) h,
-        λ a. none_stepped key moment (flood_to moment None (lsa_aged 3600 c.lsa))
-            (on_database (age_out moment k) o)
-            (none_changed key k (λ x. record x {
-              lsa = lsa_aged 3600 x.lsa;
-              stored = moment;
-            }) o.area.database
-            (finite.get o.area.database k) refl (none a)),
-        whole_sent was event moment (stepping_sends (flood_to moment None (lsa_aged 3600 c.lsa))
-            o.area.links) (age_out moment k o.area.database)
-            (whole_flushed was event moment k c o.area.database at whole),
-      ))
+  abbrev HasBeenHad : Database → Type 0
+  HasBeenHad db = Whole was event moment db
 
-  flush_goes : (k : Key) (p : EventState) → Going p → Going (flush moment k p)
-  flush_goes k p h =
-      let q = flushed k (finite.get p.router.area.database k) (outcome p) refl h.so.area h.remains
-      h.lacks h.whole in
-      record {
-        so = record {
-          area = q.0;
-          announced = h.so.announced;
-        };
-        remains = q.1;
-        lacks = q.2;
-        whole = q.3;
-      }
-
-  waits : (k : Key) (p : EventState) → Going p → Going (on_router (wait k) p)
-  waits k p h = record {
-    so = record {
-      area = h.so.area;
-      announced = h.so.announced;
-    };
-    remains = h.remains;
-    lacks = h.lacks;
-    whole = h.whole;
+  still_kept : IsKeptToEnd own moment Still
+  still_kept = record {
+    flushes = λ k c o at its h. (
+      parts.flushes ranks key moment first entry low with_it ⊥ ⊥ number k c o at
+          (own_at o.area.database k c its.keys at) h.0,
+      λ a. flushed own moment (IsNone key) (still_absent a) k c o at (h.1 a),
+      flushed own moment HasBeenHad (whole was event moment) k c o at h.2,
+    );
+    originates = λ k says p its wants so h. (
+      parts.originates ranks key moment first entry low with_it ⊥ ⊥ number k says (outcome p)
+          (new_key k (finite.get p.router.area.database k) says
+          (wanted_type p.router k says so.announced.1 wants)) h.0,
+      λ a. originated own moment (IsNone key) (still_absent a) k says p its wants so (h.1 a),
+      originated own moment HasBeenHad (whole was event moment) k says p its wants so h.2,
+    );
+    loaded = λ o h.
+        (parts.loaded ranks key moment first entry low with_it ⊥ ⊥ number o h.0, h.1, h.2);
+    requests = λ o h. (
+      parts.requests ranks key moment first entry low with_it ⊥ ⊥ number o h.0,
+      λ a. each own moment (IsNone key) (still_absent a) (λ place link m. request_next moment m) o
+          (h.1 a),
+      each own moment HasBeenHad (whole was event moment) (λ place link m. request_next moment m) o
+          h.2,
+    );
   }
 
-  body_goes : (may_now : Bool) (k : Key) (says : Option LsaBody) (p : EventState)
-      → k.advertising_router ≡ own → wanted_body p.router k ≡ says → Going p
-      → Going (originate_body may_now moment k says p)
-  body_goes may_now k None p its wants h = h
-  body_goes may_now k (Some says) p its wants h =
-      chosen Going (has_max_sequence (finite.get p.router.area.database k)) (flush moment k p)
-      (cond (may_now && may_originate moment k p.router) (originate moment k says p)
-      (on_router (wait k) p)) (λ is. flush_goes k p h)
-      (λ is. chosen Going (may_now && may_originate moment k p.router) (originate moment k says p)
-      (on_router (wait k) p)
-      (λ may. record {
-        so = record {
-          area = (order_kept own).originates moment k says p its is wants (MayGrow.Anyway tt)
-              h.so;
-          announced = h.so.announced;
-        };
-        remains = parts.originates ranks key moment first entry low with_it ⊥ ⊥ number k says
-            (outcome p)
-            (new_key k (finite.get p.router.area.database k) says
-            (wanted_type p.router k says h.so.announced.1 wants)) h.remains;
-        lacks = λ a.
-            let lsa : Lsa = new_instance k (finite.get p.router.area.database k) says in
-            let its_key : lsa_key lsa ≡ k =
-            new_key k (finite.get p.router.area.database k) says
-            (wanted_type p.router k says h.so.announced.1 wants) in
-            none_stepped key moment (flood_to moment None lsa)
-            (on_database (install_originated moment lsa) (outcome p))
-            (none_put key (lsa_key lsa) (record {
-              lsa = lsa;
-              stored = moment;
-              installed = None;
-              sent = None;
-            }) p.router.area.database
-            (subst (λ (q : Key). same_key key q ≡ false) (sym its_key) (not_its a k its))
-            (h.lacks a));
-        whole =
-            let lsa : Lsa = new_instance k (finite.get p.router.area.database k) says in
-            whole_sent was event moment (stepping_sends (flood_to moment None lsa)
-            p.router.area.links) (install_originated moment lsa p.router.area.database)
-            (whole_originated was event moment k (finite.get p.router.area.database k) says
-            p.router.area.database
-            (new_key k (finite.get p.router.area.database k) says
-            (wanted_type p.router k says h.so.announced.1 wants)) its h.whole);
-      }) (λ may. waits k p h))
-
-  loads : (p : EventState) → Going p → Going (loading_done p)
-  loads p h = record {
-    so = record {
-      area = (order_kept own).loaded (outcome p) h.so.area;
-      announced = h.so.announced;
-    };
-    remains = parts.loaded ranks key moment first entry low with_it ⊥ ⊥ number (outcome p)
-        h.remains;
-    lacks = h.lacks;
-    whole = h.whole;
-  }
-
-  describes : (before : List Link) (p : EventState) → Going p
-      → Going (describe_router before moment p)
-  describes before p h =
-      chosen Going (links_differ before p.router.area.links && not (is_current moment p.router))
-      (originate_or_wait moment (router_key p.router.id) p) p
-      (λ is. body_goes (has_room (router_key p.router.id) p.router) (router_key p.router.id)
-      (wanted_body p.router (router_key p.router.id)) p
-      ((order_kept own).own_router p.router h.so.announced) refl h) (λ is. h)
-
-  describes_later : (before : List Link) (p : EventState) → Going p
-      → Going (describe_router_later before p)
-  describes_later before p h =
-      chosen Going (links_differ before p.router.area.links)
-      (on_router (wait (router_key p.router.id)) p) p (λ is. waits (router_key p.router.id) p h)
-      (λ is. h)
-
-  ended : (old : Router) (after : EventState) → Going after
+  met_or_asked : (old : Router) (after : EventState) → Going own moment Still after
       → Finally (outcome (end_event old moment after))
-  ended old after h =
-      let said : EventState = describe_router old.area.links moment (loading_done after) in
-      let refilled : EventState = describe_router_later said.router.area.links (loading_done said)
-      in
-      let q : Going refilled = describes_later said.router.area.links (loading_done said)
-      (loads said (describes old.area.links (loading_done after) (loads after h))) in
-      let o : Outcome = request_all moment (outcome refilled) in
-      let asks : Remains o = parts.requests ranks key moment first entry low with_it ⊥ ⊥ number
-      (outcome refilled) q.remains in
-      chosen Finally (any_exchange_or_loading o.area.links) o
-      (on_database (λ db. finite.retain_keys db (stays moment o.area)) o)
-      (λ is. parts.remain ranks key moment first entry low with_it ⊥ ⊥ number (HasHad was event key)
-      o asks)
-      (λ is. parts.removes ranks key moment first entry low with_it ⊥ ⊥ number
-      (HasHad was event key) o
-      (λ c at. whole_at was event moment o.area.database key c
-      (whole_each was event moment (λ place link m. request_next moment m) (outcome refilled)
-      q.whole) at) asks)
+  met_or_asked =
+      ended own moment Still still_kept Finally
+      (λ o h. parts.remain ranks key moment first entry low with_it ⊥ ⊥ number
+      (HasHad was event key) o h.0)
+      (λ o h. parts.removes ranks key moment first entry low with_it ⊥ ⊥ number
+      (HasHad was event key) o (λ c at. whole_at was event moment o.area.database key c h.2 at)
+      h.0)
 
   -- where nothing was there, it stands on the list
-  ended_absent : (old : Router) (after : EventState) → Absent → Going after
+  asked_still : Absent → (old : Router) (after : EventState) → Going own moment Still after
       → parts.AsksThere ranks key moment first entry low with_it ⊥ ⊥ number
       (neighbor_at number (end_event old moment after).router.area.links)
-  ended_absent old after a h =
-      let said : EventState = describe_router old.area.links moment (loading_done after) in
-      let refilled : EventState = describe_router_later said.router.area.links (loading_done said)
-      in
-      let q : Going refilled = describes_later said.router.area.links (loading_done said)
-      (loads said (describes old.area.links (loading_done after) (loads after h))) in
-      let o : Outcome = request_all moment (outcome refilled) in
-      let none : Lacks key o = none_stepped key moment (λ place link m. request_next moment m)
-      (outcome refilled) (q.lacks a) in
-      let asks : Remains o = parts.requests ranks key moment first entry low with_it ⊥ ⊥ number
-      (outcome refilled) q.remains in
-      let there : There o = asked_there o none asks in
-      chosen There (any_exchange_or_loading o.area.links) o
-      (on_database (λ db. finite.retain_keys db (stays moment o.area)) o) (λ is. there)
-      (λ is. there)
+  asked_still a =
+      ended own moment Still still_kept There (λ o h. asked_there o (h.1 a) h.0)
+      (λ o h. asked_there o (h.1 a) h.0)
     where
       There : Outcome → Type 0
       There o = parts.AsksThere ranks key moment first entry low with_it ⊥ ⊥ number
@@ -768,32 +510,6 @@ module _ (ranks : RanksFollowTheComparison) (old : Router) (moment : ℕ) (event
 
   abbrev takes : Neighbor → Step
   takes = after_description old.id moment begins.router.area.database d
-
-  -- the packet is heard
-  is_taken : (after : EventState) → OwnPart moment event begins after → after
-      ≡ on_area (describe_to old.id moment number d) begins
-  is_taken after own = by_packet (subst (λ (e : Occurrence). OwnPart moment e begins after) a.is
-      own)
-    where
-      of_body : (b : PacketBody) → b ≡ body.Description d → (o : Option Neighbor) → o ≡ Some n
-          → cond (is_foreign old.id a.packet.router && (is_hello b || is_from a.packet.router o))
-          (from_neighbor moment number a.packet.router (is_in_exchange o) b begins) begins
-          ≡ on_area (describe_to old.id moment number d) begins
-      of_body b is o at =
-          (λ i. cond (is_foreign old.id a.packet.router &&
-          (is_hello (is i) || is_from a.packet.router (at i)))
-          (from_neighbor moment number a.packet.router (is_in_exchange (at i)) (is i)
-          begins) begins)
-          ∙ (λ i. cond (a.other i && (false || eq-eqb n.router a.packet.router a.from i))
-          (on_area (describe_to old.id moment number d) begins) begins)
-
-      by_packet : (packet : Packet) × PacketText a.bytes packet
-          × (after ≡ after_packet moment number packet begins) → after
-          ≡ on_area (describe_to old.id moment number d) begins
-      by_packet k =
-          k.2 ∙ ap (λ (p : Packet). after_packet moment number p begins)
-          (one_packet a.bytes k.0 a.packet k.1 a.text)
-          ∙ of_body a.packet.body a.says (neighbor_at number begins.router.area.links) a.there
 
   abbrev Asked : Outcome → Type 0
   Asked o = parts.Stands ranks (key_of h) moment told entered as_new conversation ⊥ ⊥ number o
@@ -868,26 +584,34 @@ module _ (ranks : RanksFollowTheComparison) (old : Router) (moment : ℕ) (event
       by_neighbor (Some m) at (inl over) = absurd over.0
       by_neighbor (Some m) at (inr it) = IsRequestedOrHeld.Requested m at it.0 it.1
 
+  abbrev StillSo : Outcome → Type 0
+  StillSo o = Still ranks old event moment (key_of h) told entered as_new conversation number
+      (IsForeignAndAbsent old (key_of h)) (λ f e. f.others e) o
+
   going : (after : EventState) → OwnPart moment event begins after
-      → Going ranks old event moment (key_of h) told entered as_new conversation number
-      (IsForeignAndAbsent old (key_of h)) (λ f e. f.others e) after
+      → Going old.id moment StillSo after
   going after own =
-      subst (Going ranks old event moment (key_of h) told entered as_new conversation number
-      (IsForeignAndAbsent old (key_of h)) (λ f e. f.others e)) (sym (is_taken after own))
+      subst (Going old.id moment StillSo)
+      (sym (is_taken old moment event number n d a after own))
       (record {
         so = record {
           area = (order_kept old.id).description old.id moment number d (outcome begins) so.area;
           announced = so.announced;
         };
-        remains = taken;
-        lacks = λ foreign.
-            none_stepped (key_of h) moment (only_at number takes) (outcome begins)
-            (none_aged (key_of h) old.moment moment (finite.entries old.area.database) (record {
-              area = old.area;
-              sends = [];
-            }) foreign.absent);
-        whole = whole_each old event moment (only_at number takes) (outcome begins)
-            (whole_begun old event moment);
+        still = (
+          taken,
+          λ foreign.
+              let lacks : IsKept old.id moment (IsNone (key_of h)) =
+              none_kept (key_of h) old.id moment foreign.others in
+              each old.id moment (IsNone (key_of h)) lacks (only_at number takes) (outcome begins)
+              (ages old.id moment (IsNone (key_of h)) lacks old.moment
+              (finite.entries old.area.database) (record {
+                area = old.area;
+                sends = [];
+              }) foreign.absent),
+          each old.id moment (λ db. Whole old event moment db) (whole old event moment)
+              (only_at number takes) (outcome begins) (whole_begun old event moment),
+        );
       })
     where
       so : OfEvent (in_order old.id) begins
@@ -900,7 +624,7 @@ module _ (ranks : RanksFollowTheComparison) (old : Router) (moment : ℕ) (event
       (subst (λ (r : Router). Finally ranks old event moment (key_of h) told entered as_new
       conversation number (IsForeignAndAbsent old (key_of h)) (λ f e. f.others e)
       (outcome (record { router = r; sends = [] }))) (sym happens.router)
-      (ended ranks old event moment (key_of h) told entered as_new conversation number
+      (met_or_asked ranks old event moment (key_of h) told entered as_new conversation number
       (IsForeignAndAbsent old (key_of h)) (λ f e. f.others e) old happens.after
       (going happens.after happens.own)))
 
@@ -911,8 +635,8 @@ module _ (ranks : RanksFollowTheComparison) (old : Router) (moment : ℕ) (event
       by_neighbor (neighbor_at number new.area.links) refl
       (subst (λ (r : Router). parts.AsksThere ranks (key_of h) moment told entered as_new
       conversation ⊥ ⊥ number (neighbor_at number r.area.links)) (sym happens.router)
-      (ended_absent ranks old event moment (key_of h) told entered as_new conversation number
-      (IsForeignAndAbsent old (key_of h)) (λ f e. f.others e) old happens.after foreign
+      (asked_still ranks old event moment (key_of h) told entered as_new conversation number
+      (IsForeignAndAbsent old (key_of h)) (λ f e. f.others e) foreign old happens.after
       (going happens.after happens.own)))
     where
       by_neighbor : (o : Option Neighbor) → neighbor_at number new.area.links ≡ o

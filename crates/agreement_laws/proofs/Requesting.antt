@@ -1,20 +1,17 @@
 -- What a Description makes of a request list: an entry stays, unless a header of its key is
 -- described; and what is accepted is requested, or
 -- isn't newer than the copy.
-use Rattle.std.proofs.Common.{◌≡◌, ℕ, ◌%◌, ◌^◌, ◌+◌, Bool, true, false, cond, not, ◌&&◌, ◌||◌, ◌⊎◌}
+use Rattle.std.proofs.Common.{◌≡◌, ℕ, ◌%◌, ◌^◌, ◌+◌, Bool, true, false, cond, ◌||◌, ◌⊎◌}
 use Rattle.std.proofs.Common.{inl, inr, List, [], ◌∷◌, ◌++◌, Some, refl, sym, ap, subst, ◌∙◌}
 use Rattle.std.specs.Prelude.{nat_lt}
-use Rattle.std.specs.Cmp.{tied_itself}
 use Rattle.std.specs.FinMap as finite
 use Rattle.std.specs.List.{AllByRecursion, Contains, fold}
-use Rattle.std.specs.Ordering.{is_eq}
 use Rattle.words.specs.declared.key.Key.{Key}
 use Rattle.lsdb.specs.Copies.{Database}
 use Rattle.lsdb.specs.Headers.{Header, key_of}
 use Rattle.lsdb.specs.Instances.{ListEntry, listed_now}
 use Rattle.lsdb.specs.Keys.{ByKey, same_key}
 use Rattle.lsdb.specs.declared.order.Instance.{Instance}
-use Rattle.lsdb.proofs.Keys.{keys_total}
 use Rattle.packet.specs.declared.model.Description.{Description}
 use Rattle.adjacency.specs.declared.state.NeighborState.{NeighborState}
 use Rattle.adjacency.specs.declared.state.NeighborState.TheVariants.{Init, ExStart, Exchange}
@@ -31,10 +28,12 @@ use Rattle.flood_laws.proofs.Limits.{tied_key}
 use Rattle.flood_laws.proofs.Lists.{later_is}
 use Rattle.flood_laws.proofs.Owing.{put_other, put_same}
 use Rattle.flood_laws.proofs.Taken.{named_first}
+use Rattle.flood_laws.proofs.Leaving.{itself}
 use Rattle.agreement_laws.specs.Exchanged.{Conversation, conversation_with}
 use Rattle.agreement_laws.specs.Ranks.{RanksFollowTheComparison, is_at_least}
 use Rattle.agreement_laws.specs.Accepted.{IsLastOfItsKey, accepts_description, is_accepting}
 use Rattle.agreement_laws.proofs.Asking.{Asking, IsAsked, mismatched, repeated}
+use Rattle.agreement_laws.proofs.Accepting.{by_tests, its_tests}
 
 -- ---- the request list
 
@@ -79,9 +78,6 @@ module _ (moment : ℕ) (db : Database) (key : Key) (entry : ListEntry) where
           ≡ Some entry) ⊎ HasKey (g ∷ hs) key
       by_key rest true same = inr (g, named_first g hs g refl, sym (tied_key key (key_of g) same))
       by_key rest false other = more (rest (one_kept g r other at))
-
-pub itself : (key : Key) → same_key key key ≡ true
-itself key = ap is_eq (tied_itself keys_total key)
 
 -- the last header of its key is requested, unless it isn't wanted
 last_requested : (moment : ℕ) (db : Database) (h : Header) (before rest : List Header)
@@ -180,17 +176,10 @@ module _ (own moment : ℕ) (db : Database) (d : Description) where
       in_it known m Loading is (judged known m (as_it_is m Loading is e))
   in_its_state known m Full is e = in_it known m Full is (judged known m (as_it_is m Full is e))
 
-  three : (a b c : Bool) → (not a && b && c) ≡ true → (a ≡ false) × (b ≡ true) × (c ≡ true)
-  three false true true e = (refl, refl, refl)
-  three false true false e = absurd cc
-  three false false c e = absurd cc
-  three true b c e = absurd cc
-
   has_requested : (m : Neighbor) → accepts_description own moment m d ≡ true
       → HasRequested (two_way_received moment m).neighbor (after_description own moment db d m)
   has_requested m e =
-      let all = three (nat_lt 8192 d.mtu) (knows_types d)
-      (is_accepting (verdict own (two_way_received moment m).neighbor d)) e in
+      let all = its_tests own moment m d e in
       chosen (HasRequested (two_way_received moment m).neighbor) (nat_lt 8192 d.mtu) (no_sends m)
       (in_state m.state own moment db d m)
       (λ big. let no : true ≡ false = sym big ∙ all.0 in absurd cc)
@@ -321,12 +310,6 @@ module _ (ranks : RanksFollowTheComparison) (key : Key) (moment : ℕ) (first : 
     stays_put Loading m on = refl
     stays_put Full m on = refl
 
-    all_three : (a b c : Bool) → a ≡ false → b ≡ true → c ≡ true → (not a && b && c) ≡ true
-    all_three false true true e f g = refl
-    all_three true b c e f g = absurd cc
-    all_three false false c e f g = absurd cc
-    all_three false true false e f g = absurd cc
-
     -- it is asked still, or the Description is accepted, with a header of the key
     abbrev pub Accepts : Neighbor → Neighbor → Type 0
     Accepts m x = Asking ranks key moment first entry low with_it May x
@@ -345,9 +328,11 @@ module _ (ranks : RanksFollowTheComparison) (key : Key) (moment : ℕ) (first : 
         taken fits (inl k) = inl k
         taken fits (inr k) =
             inr (
-              all_three (nat_lt 8192 d.mtu) (knows_types d)
-                  (is_accepting (verdict own (two_way_received moment m).neighbor d)) fits k.1.0
-                  (ap (λ (x : Neighbor). is_accepting (verdict own x d)) (stays_put m.state m on)
-                  ∙ k.0),
+              by_tests own moment m d (
+                fits,
+                k.1.0,
+                ap (λ (x : Neighbor). is_accepting (verdict own x d)) (stays_put m.state m on)
+                    ∙ k.0,
+              ),
               k.1.1,
             )

@@ -1,26 +1,20 @@
 -- What each part of an event says about LSAs is held then: the LSAs of its Link State Updates, and
 -- what its acknowledgments identify when they arise.
-use Rattle.std.proofs.Common.{◌≡◌, ℕ, zero, suc, ◌+◌, Bool, true, false, cond, not, ◌&&◌, inl, inr}
-use Rattle.std.proofs.Common.{List, [], ◌∷◌, ◌++◌, map, Option, None, Some, is_some, refl, sym, ap}
-use Rattle.std.proofs.Common.{subst, ◌∙◌, arith}
-use Rattle.std.specs.Prelude.{◌==◌, is_none, nat_le, slice_get}
-use Rattle.std.specs.Cmp.{tied_itself}
+use Rattle.std.proofs.Common.{◌≡◌, ℕ, zero, suc, ◌+◌, true, cond, not, ◌&&◌, inl, inr, List, []}
+use Rattle.std.proofs.Common.{◌∷◌, ◌++◌, map, Option, None, Some, refl, sym, ap, subst, ◌∙◌, arith}
+use Rattle.std.specs.Prelude.{◌==◌, nat_le, slice_get}
 use Rattle.std.specs.FinMap as finite
 use Rattle.std.specs.List.{AllByRecursion, cons_option, enumerate_from, filter_map, flat_map, fold}
-use Rattle.std.specs.Ordering.{is_eq}
 use Rattle.std.proofs.lemmas.Bool.{eqb-true}
-use Rattle.std.specs.declared.cmp.Ordering.{Ordering}
 use Rattle.words.specs.declared.key.Key.{Key}
 use Rattle.lsa.specs.declared.body.LsaBody.{LsaBody}
 use Rattle.lsdb.specs.Copies.{Database, DatabaseCopy, age_out, copy_now, has_just_aged_out}
-use Rattle.lsdb.specs.Copies.{install_flooded, install_originated, installed_just_now, lsa_now}
-use Rattle.lsdb.specs.Copies.{newer_than_copy, same_as_copy, sent_just_now}
+use Rattle.lsdb.specs.Copies.{install_flooded, install_originated, lsa_now}
+use Rattle.lsdb.specs.Copies.{newer_than_copy, same_as_copy}
 use Rattle.lsdb.specs.Headers.{Header, Lsa, key_of, lsa_aged, lsa_key}
 use Rattle.lsdb.specs.Instances.{instance_of}
 use Rattle.lsdb.specs.Keys.{same_key}
-use Rattle.lsdb.specs.Order.{is_max_age}
 use Rattle.lsdb.specs.declared.order.Instance.{Instance}
-use Rattle.lsdb.proofs.Keys.{keys_total}
 use Rattle.packet.specs.declared.model.Description.{Description}
 use Rattle.packet.specs.declared.model.Hello.{Hello}
 use Rattle.adjacency.specs.Adjacencies as adjacencies
@@ -35,17 +29,14 @@ use Rattle.adjacency.specs.Retransmissions.{request_again, retransmission_lsas, 
 use Rattle.adjacency.specs.Retransmissions.{that_fit, update_again}
 use Rattle.adjacency.proofs.Kept.{chosen}
 use Rattle.adjacency.proofs.Maps.{IfThere, OfEntry, entries_in, inserted_in, none_in}
-use Rattle.received.specs.Cases.{Case, case_of_readable, first_case, is_on_senders_list}
-use Rattle.received.specs.Cases.{is_wrapping, was_requested}
+use Rattle.received.specs.Cases.{Case}
 use Rattle.received.specs.Flooding.{flood, flood_to, is_sender}
 use Rattle.received.specs.Holds.{Holds}
-use Rattle.received.specs.Links.{Area, Link, acknowledge_later, any_exchange_or_loading}
-use Rattle.received.specs.Links.{change_link, link_at, neighbor_at}
+use Rattle.received.specs.Links.{Area, Link, acknowledge_later, change_link, link_at}
 use Rattle.received.specs.Outcomes.{Outcome, Send, Stepping, each_neighbor, marked_database}
 use Rattle.received.specs.Outcomes.{on_database, on_links, one_neighbor, only_at, sending, sends_at}
 use Rattle.received.specs.Outcomes.{sent_on, step_on, stepped_links, stepping_sends}
 use Rattle.received.specs.Updates.{after_case, case_at, copy_of, send_copy}
-use Rattle.received.proofs.Marks.{changed_by}
 use Rattle.received.proofs.Told.{joined}
 use Rattle.events.specs.Commands.{taken_down}
 use Rattle.events.specs.Endings.{link_loading_done, stays, with_age}
@@ -59,96 +50,20 @@ use Rattle.events.specs.Ticks.{acknowledge_all, acknowledgments_on, again, hello
 use Rattle.events.specs.Ticks.{send_hellos, sends_of, with_hello_sent, without_acknowledgments}
 use Rattle.flood_laws.proofs.Known.{each_all}
 use Rattle.flood_laws.proofs.Retransmitted.{OwnKeys, There, own_at}
+use Rattle.flood_laws.proofs.Leaving.{itself}
 use Rattle.agreement_laws.specs.SaidIsHeld.{young}
+use Rattle.agreement_laws.specs.CopiesClimb.{HasHad}
 use Rattle.agreement_laws.proofs.Ages.{noted_at_least}
-use Rattle.agreement_laws.proofs.Climbing.{Climbs, Ended, flushed_copy, flushed_there}
-use Rattle.agreement_laws.proofs.Climbing.{installed_there, is_newer_case, originated_there}
-use Rattle.agreement_laws.proofs.Climbing as climbing
-use Rattle.agreement_laws.proofs.Describing.{instance_at}
-use Rattle.agreement_laws.proofs.Having.{Whole}
-use Rattle.agreement_laws.proofs.Ranks.{itself_at_least, older_at_least, same_back}
+use Rattle.agreement_laws.proofs.Having.{Whole, whole_at}
+use Rattle.agreement_laws.proofs.Ranks.{follow, itself_at_least, older_at_least, same_back}
 use Rattle.agreement_laws.proofs.Sayings.{OfContent, OfCopies, OfLink, OfNamed, OfNeighbor, OfSend}
 use Rattle.agreement_laws.proofs.Sayings.{OfStep, OfWaiting, Truth, acknowledged, after_one, asked}
 use Rattle.agreement_laws.proofs.Sayings.{both_again, content_more, filled, flooded_so, helloed}
 use Rattle.agreement_laws.proofs.Sayings.{link_more, mismatched, quiet_step, run_out_so}
-
--- ---- the case of an LSA
-
-nothing_found : (a b c d e f g h : Bool)
-    → first_case ((a, Case.NothingToFlush) ∷ (b, Case.TooSoon) ∷ (c, Case.Newer)
-    ∷ (d, Case.BadRequest) ∷ (e, Case.ImpliedAcknowledgment) ∷ (f, Case.Duplicate)
-    ∷ (g, Case.SequenceWraps) ∷ (h, Case.SentJustNow) ∷ []) Case.Older
-    ≡ Case.NothingToFlush → a ≡ true
-nothing_found true b c d e f g h is = refl
-nothing_found false true c d e f g h is = absurd (cc)
-nothing_found false false true d e f g h is = absurd (cc)
-nothing_found false false false true e f g h is = absurd (cc)
-nothing_found false false false false true f g h is = absurd (cc)
-nothing_found false false false false false true g h is = absurd (cc)
-nothing_found false false false false false false true h is = absurd (cc)
-nothing_found false false false false false false false true is = absurd (cc)
-nothing_found false false false false false false false false is = absurd (cc)
-
-duplicate_found : (a b c d e f g h : Bool)
-    → first_case ((a, Case.NothingToFlush) ∷ (b, Case.TooSoon) ∷ (c, Case.Newer)
-    ∷ (d, Case.BadRequest) ∷ (e, Case.ImpliedAcknowledgment) ∷ (f, Case.Duplicate)
-    ∷ (g, Case.SequenceWraps) ∷ (h, Case.SentJustNow) ∷ []) Case.Older
-    ≡ Case.Duplicate → f ≡ true
-duplicate_found true b c d e f g h is = absurd (cc)
-duplicate_found false true c d e f g h is = absurd (cc)
-duplicate_found false false true d e f g h is = absurd (cc)
-duplicate_found false false false true e f g h is = absurd (cc)
-duplicate_found false false false false true f g h is = absurd (cc)
-duplicate_found false false false false false true g h is = refl
-duplicate_found false false false false false false true h is = absurd (cc)
-duplicate_found false false false false false false false true is = absurd (cc)
-duplicate_found false false false false false false false false is = absurd (cc)
-
-first_true : (a b c : Bool) → (a && b && c) ≡ true → (a ≡ true) × (b ≡ true)
-first_true true true c is = (refl, refl)
-first_true true false c is = absurd cc
-first_true false b c is = absurd cc
-
-nothing_there : (o : Option DatabaseCopy) → is_none o ≡ true → o ≡ None
-nothing_there None is = refl
-nothing_there (Some c) is = absurd cc
-
--- at MaxAge, and without a copy
-nothing_case : (moment : ℕ) (copy : Option DatabaseCopy) (sender : Option Neighbor)
-    (synchronizing : Bool) (lsa : Lsa) → case_of_readable moment copy sender synchronizing lsa
-    ≡ Case.NothingToFlush → (is_max_age lsa.header.age ≡ true) × (copy ≡ None)
-nothing_case moment copy sender synchronizing lsa is =
-    let both = first_true (is_max_age lsa.header.age) (is_none copy) (not synchronizing)
-    (nothing_found
-    (is_max_age lsa.header.age && is_none copy && not synchronizing)
-    (is_some copy && newer_than_copy moment lsa.header copy && installed_just_now moment copy)
-    (newer_than_copy moment lsa.header copy)
-    (was_requested sender lsa)
-    (same_as_copy moment lsa.header copy && is_on_senders_list moment sender lsa)
-    (same_as_copy moment lsa.header copy)
-    (is_wrapping moment copy)
-    (sent_just_now moment copy)
-    is) in
-    (both.0, nothing_there copy both.1)
-
--- the same instance as the copy
-duplicate_case : (moment : ℕ) (copy : Option DatabaseCopy) (sender : Option Neighbor)
-    (synchronizing : Bool) (lsa : Lsa) → case_of_readable moment copy sender synchronizing lsa
-    ≡ Case.Duplicate → same_as_copy moment lsa.header copy ≡ true
-duplicate_case moment copy sender synchronizing lsa is =
-    duplicate_found
-    (is_max_age lsa.header.age && is_none copy && not synchronizing)
-    (is_some copy && newer_than_copy moment lsa.header copy && installed_just_now moment copy)
-    (newer_than_copy moment lsa.header copy)
-    (was_requested sender lsa)
-    (same_as_copy moment lsa.header copy && is_on_senders_list moment sender lsa)
-    (same_as_copy moment lsa.header copy)
-    (is_wrapping moment copy)
-    (sent_just_now moment copy)
-    is
-
-itself_tied : (key : Key) → same_key key key ≡ true
-itself_tied key = ap (λ (o : Ordering). is_eq o) (tied_itself keys_total key)
+use Rattle.agreement_laws.proofs.Cases.{is_newer_case, nothing_to_flush, same_where_duplicate}
+use Rattle.agreement_laws.proofs.Databases.{aged_out}
+use Rattle.agreement_laws.proofs.Holding.{HasEnded, IsHeldAsNew, held_flushed, held_installed}
+use Rattle.agreement_laws.proofs.Holding.{held_originated, held_removed, held_same, held_sent}
 
 -- ---- links
 
@@ -242,7 +157,7 @@ module _ (old : Router) (moment : ℕ) where
 
   -- one that is at least as new is held
   abbrev pub AsNew : Database → Truth
-  AsNew db key i = Climbs key moment i db
+  AsNew db key i = IsHeldAsNew follow key moment i db
 
   abbrev pub Grows : Database → Database → Type 0
   Grows db new = (key : Key) (i : Instance) → AsNew db key i → AsNew new key i
@@ -290,7 +205,7 @@ module _ (old : Router) (moment : ℕ) where
   marked more db = fold (λ (d : Database) (s : Send). marked_database moment d s.content) db more
 
   mark_grows : (more : List Send) (db : Database) → Grows db (marked more db)
-  mark_grows more db key i h = climbing.sent key moment i more db h
+  mark_grows more db key i h = held_sent follow key moment i more db h
 
   sent_so : (more : List Send) (o : Outcome)
       → AllByRecursion (OfSend old (AsNew o.area.database)) more → IsSo o
@@ -412,7 +327,7 @@ module _ (old : Router) (moment : ℕ) where
       → AsNew db (lsa_key (lsa_now moment c)) (instance_of (lsa_now moment c).header)
   of_copy db key c own at =
       subst (λ (k : Key). AsNew db k (copy_now moment c)) (sym (own_at db key c own at))
-      (copy_now moment c, ap (instance_at moment) at, itself_at_least (copy_now moment c))
+      (c, at, itself_at_least (copy_now moment c))
 
   -- a copy that is stored at this moment
   put_so : (lsa : Lsa) (installed sent : Option ℕ) (db : Database) (key : Key) → lsa_key lsa ≡ key
@@ -424,13 +339,13 @@ module _ (old : Router) (moment : ℕ) where
       })) (lsa_key lsa)
       (instance_of lsa.header)
   put_so lsa installed sent db key is =
-      climbing.same (lsa_key lsa) moment (instance_of lsa.header) key (record {
+      held_same follow (lsa_key lsa) moment (instance_of lsa.header) key (record {
         lsa = lsa;
         stored = moment;
         installed = installed;
         sent = sent;
       }) db
-      (ap (same_key (lsa_key lsa)) (sym is) ∙ itself_tied (lsa_key lsa))
+      (ap (same_key (lsa_key lsa)) (sym is) ∙ itself (lsa_key lsa))
       (noted_at_least lsa.header moment (instance_of lsa.header)
       (itself_at_least (instance_of lsa.header)))
 
@@ -457,24 +372,14 @@ module _ (old : Router) (moment : ℕ) where
       → IsSo (flood_from_nobody moment (lsa_aged 3600 c.lsa)
       (on_database (age_out moment key) o))
   flushes key c o own at h =
-      subst (λ (x : Option DatabaseCopy). IsSo
-      (flood_from_nobody moment (lsa_aged 3600 c.lsa)
-      (on_database (λ db. changed_by key (λ d. record d {
-        lsa = lsa_aged 3600 d.lsa;
-        stored = moment;
-      }) o.area.database x) o))) (sym at)
-      (flooded None (lsa_aged 3600 c.lsa)
-      (on_database (λ db. finite.insert o.area.database key (record c {
-        lsa = lsa_aged 3600 c.lsa;
-        stored = moment;
-      })) o)
+      flooded None (lsa_aged 3600 c.lsa) (on_database (age_out moment key) o)
+      (subst (λ (db : Database). AsNew db (lsa_key c.lsa)
+      (instance_of (lsa_aged 3600 c.lsa).header))
+      (sym (aged_out moment key c o.area.database at))
       (put_so (lsa_aged 3600 c.lsa) c.installed c.sent o.area.database key
-      (own_at o.area.database key c own at))
-      (on_copies o (finite.insert o.area.database key (record c {
-        lsa = lsa_aged 3600 c.lsa;
-        stored = moment;
-      }))
-      (λ k i so. flushed_there k moment i key c o.area.database at so) h))
+      (own_at o.area.database key c own at)))
+      (on_copies o (age_out moment key o.area.database)
+      (λ k i so. held_flushed follow k moment i key c o.area.database at so) h)
 
   pub originates : (key : Key) (says : LsaBody) (o : Outcome)
       → lsa_key (new_instance key (finite.get o.area.database key) says) ≡ key → IsSo o
@@ -485,7 +390,7 @@ module _ (old : Router) (moment : ℕ) where
       flooded None lsa (on_database (install_originated moment lsa) o)
       (put_so lsa None None o.area.database (lsa_key lsa) refl)
       (on_copies o (install_originated moment lsa o.area.database)
-      (λ k i so. originated_there k moment i key says o.area.database its_key so) h)
+      (λ k i so. held_originated follow k moment i key says o.area.database its_key so) h)
 
   -- ---- a received LSA
 
@@ -508,7 +413,7 @@ module _ (old : Router) (moment : ℕ) where
       })
       (flooded (Some place) lsa p there
       (on_copies o (install_flooded moment lsa o.area.database)
-      (λ k i so. installed_there k moment i lsa o.area.database newer so) h))
+      (λ k i so. held_installed follow k moment i lsa o.area.database newer so) h))
 
   -- there was none before if there is none now
   none_before : (key : Key) (o : Outcome) → finite.get o.area.database key ≡ None → IsSo o
@@ -519,18 +424,15 @@ module _ (old : Router) (moment : ℕ) where
       by_copy None at = refl
       by_copy (Some c) at =
           let has = h.had key c at in
-          let no : None ≡ Some has.0 = sym (ap (instance_at moment) none) ∙ has.1 in absurd cc
+          let no : None ≡ Some has.0 = sym none ∙ has.1 in absurd cc
 
   -- the copy is the same instance
   same_held : (lsa : Lsa) (o : Outcome) (c : Option DatabaseCopy)
       → finite.get o.area.database (lsa_key lsa) ≡ c → same_as_copy moment lsa.header c ≡ true
       → AsNew o.area.database (lsa_key lsa) (instance_of lsa.header)
   same_held lsa o None at same = absurd cc
-  same_held lsa o (Some c) at same = (
-    copy_now moment c,
-    ap (instance_at moment) at,
-    same_back (instance_of lsa.header) (copy_now moment c) same,
-  )
+  same_held lsa o (Some c) at same =
+      (c, at, same_back (instance_of lsa.header) (copy_now moment c) same)
 
   copy_sent : (place : ℕ) (key : Key) (c : Option DatabaseCopy) (o : Outcome)
       → OwnKeys o.area.database → finite.get o.area.database key ≡ c → IsSo o
@@ -543,14 +445,12 @@ module _ (old : Router) (moment : ℕ) where
       → case_at moment place lsa o.area ≡ case → IsSo o → IsSo (after_case case moment place lsa o)
   cases Case.Unreadable place lsa o own is h = h
   cases Case.NothingToFlush place lsa o own is h =
-      let both = nothing_case moment (copy_of lsa o.area) (neighbor_at place o.area.links)
-      (any_exchange_or_loading o.area.links) lsa is in
+      let both = nothing_to_flush moment place lsa o.area is in
       sent_at place (Content.Acknowledges lsa.header ∷ []) o
       (inr (none_before (lsa_key lsa) o both.1 h, both.0), tt) h
   cases Case.TooSoon place lsa o own is h = h
   cases Case.Newer place lsa o own is h =
-      installs place lsa o (is_newer_case moment (copy_of lsa o.area)
-      (neighbor_at place o.area.links) (any_exchange_or_loading o.area.links) lsa is) h
+      installs place lsa o (is_newer_case moment place lsa o.area is) h
   cases Case.BadRequest place lsa o own is h =
       one_so place (adjacencies.mismatch_step moment) o
       (λ number n so. mismatched old (AsNew o.area.database) number moment n so) h
@@ -562,8 +462,7 @@ module _ (old : Router) (moment : ℕ) where
         last = so.last;
       })) h
   cases Case.Duplicate place lsa o own is h =
-      let same = duplicate_case moment (copy_of lsa o.area) (neighbor_at place o.area.links)
-      (any_exchange_or_loading o.area.links) lsa is in
+      let same = same_where_duplicate moment place lsa o.area is in
       sent_at place (Content.Acknowledges lsa.header ∷ []) o
       (inl (inr (same_held lsa o (copy_of lsa o.area) refl same)), tt) h
   cases Case.SequenceWraps place lsa o own is h = h
@@ -607,7 +506,7 @@ module _ (old : Router) (moment : ℕ) where
       by_copy (Some c) at =
           inr (subst (λ (k : Key). AsNew db k (young (instance_of_lsa c.lsa)))
           (sym (own_at db key c own at))
-          (copy_now moment c, ap (instance_at moment) at, older_at_least (copy_now moment c)))
+          (c, at, older_at_least (copy_now moment c)))
 
   pub descriptions : (own place : ℕ) (d : Description) (o : Outcome) → OwnKeys o.area.database
       → IsSo o → IsSo (one_neighbor moment place (after_description own moment o.area.database d) o)
@@ -794,19 +693,23 @@ module _ (old : Router) (moment : ℕ) where
 
   -- ---- the end
 
+  -- it is held as new, or has left at MaxAge
+  abbrev pub Ended : Occurrence → Outcome → Truth
+  Ended event o key i = HasEnded follow key moment i (HasHad old event key) o.area
+
   abbrev pub AtEnd : Occurrence → Outcome → Type 0
-  AtEnd event o = IsSaid (λ (key : Key) (i : Instance). Ended old event key moment i o) o
+  AtEnd event o = IsSaid (Ended event o) o
 
   pub stays_so : (event : Occurrence) (o : Outcome) → IsSo o → AtEnd event o
-  stays_so event o h = said_more (AsNew o.area.database)
-      (λ (key : Key) (i : Instance). Ended old event key moment i o) (λ key i so. inl so) o h.said
+  stays_so event o h = said_more (AsNew o.area.database) (Ended event o) (λ key i so. inl so) o
+      h.said
 
   pub removes : (event : Occurrence) (o : Outcome) → IsSo o → Whole old event moment o.area.database
       → AtEnd event (on_database (λ db. finite.retain_keys db (stays moment o.area)) o)
   removes event o h whole =
       let left : Outcome = on_database (λ db. finite.retain_keys db (stays moment o.area)) o in
-      let more : IsSaid (λ (key : Key) (i : Instance). Ended old event key moment i left) o =
-      said_more (AsNew o.area.database)
-      (λ (key : Key) (i : Instance). Ended old event key moment i left)
-      (λ key i so. climbing.removes old event key moment i o so whole) o h.said in
+      let more : IsSaid (Ended event left) o =
+      said_more (AsNew o.area.database) (Ended event left)
+      (λ key i so. held_removed follow key moment i (HasHad old event key) o.area
+      (λ c at. whole_at old event moment o.area.database key c whole at) so) o h.said in
       record { sends = more.sends; left = more.left }

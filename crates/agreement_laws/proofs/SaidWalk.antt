@@ -2,30 +2,29 @@
 use Rattle.std.proofs.Common.{◌≡◌, ℕ, List, [], ◌∷◌, inl, inr, Option, None, Some, refl, sym, ap}
 use Rattle.std.proofs.Common.{subst}
 use Rattle.std.specs.FinMap as finite
+use Rattle.std.specs.List.{AllByRecursion, Contains}
 use Rattle.words.specs.declared.key.Key.{Key}
 use Rattle.lsdb.specs.Copies.{copy_now}
 use Rattle.lsdb.specs.Headers.{Header, key_of, lsa_key}
-use Rattle.lsdb.specs.Instances.{instance_of}
+use Rattle.lsdb.specs.Instances.{ListEntry, instance_of}
 use Rattle.lsdb.specs.Keys.{ByKey}
 use Rattle.lsdb.specs.declared.order.Instance.{Instance}
+use Rattle.packet.specs.declared.model.Description.{Description}
 use Rattle.adjacency.specs.Contents.{Content}
 use Rattle.adjacency.specs.Neighbors.{Neighbor}
 use Rattle.adjacency.proofs.Maps.{AllIn, IfThere}
-use Rattle.packet.specs.declared.model.Description.{Description}
 use Rattle.received.specs.Holds.{Holds}
-use Rattle.std.specs.List.{AllByRecursion, Contains}
-use Rattle.lsdb.specs.Instances.{ListEntry}
-use Rattle.events.specs.LsaInstances.{LsaInstance, instance_of_header}
-use Rattle.flood_laws.proofs.Lists.{later_is}
-use Rattle.flood_laws.proofs.Taken.{named_first}
 use Rattle.received.specs.Links.{Link, link_at, neighbor_at, neighbor_on}
 use Rattle.received.specs.Outcomes.{Outcome}
+use Rattle.events.specs.LsaInstances.{LsaInstance, instance_of_header}
 use Rattle.events.specs.declared.model.Out.{Out}
 use Rattle.events.specs.Endings.{end_event, start_event}
 use Rattle.events.specs.EventState.{EventState}
 use Rattle.events.specs.Events.{Happens}
 use Rattle.events.specs.Routers.{Occurrence, Router}
 use Rattle.events.proofs.Walk.{outcome}
+use Rattle.flood_laws.proofs.Lists.{later_is}
+use Rattle.flood_laws.proofs.Taken.{named_first}
 use Rattle.flood_laws.specs.InOrder.{IsInOrder}
 use Rattle.flood_laws.proofs.Acknowledged.{in_order, order_begun, order_brings, order_kept}
 use Rattle.flood_laws.proofs.EventWalk.{IsKeptToo, event_kept_too}
@@ -34,14 +33,13 @@ use Rattle.flood_laws.proofs.Limits.{new_key, wanted_type}
 use Rattle.flood_laws.proofs.Retransmitted.{all_there, read}
 use Rattle.agreement_laws.specs.SaidIsHeld.{IsAcknowledged, IsOfDatabase, IsReceived, IsToDescribe}
 use Rattle.agreement_laws.specs.SaidIsHeld.{SaysWhatIsHeld, WhatIsSaidIsHeld, young}
-use Rattle.agreement_laws.proofs.Climbing.{Ended, in_words}
-use Rattle.agreement_laws.proofs.Describing.{instance_at}
 use Rattle.agreement_laws.proofs.Having.{Whole, joined, whole_begun, whole_kept}
-use Rattle.agreement_laws.proofs.Ranks.{itself_at_least}
+use Rattle.agreement_laws.proofs.Ranks.{follow, itself_at_least}
 use Rattle.agreement_laws.proofs.Said as said
 use Rattle.agreement_laws.proofs.Said.{AtEnd, IsSo, OnLink}
 use Rattle.agreement_laws.proofs.Sayings.{OfAcknowledged, OfDescription, OfLast, OfLink, OfListed}
 use Rattle.agreement_laws.proofs.Sayings.{OfNamed, OfNeighbor, OfReceived, OfSend, OfWaiting}
+use Rattle.agreement_laws.proofs.Holding.{in_words}
 
 module _ (old : Router) (moment : ℕ) (event : Occurrence) where
   abbrev X : Outcome → ByKey ℕ → Type 0
@@ -150,11 +148,7 @@ module _ (old : Router) (moment : ℕ) (event : Occurrence) where
 
   starts : IsSo old moment (record { area = old.area; sends = [] })
   starts = record {
-    had = λ key c at. (
-      copy_now moment c,
-      ap (instance_at moment) at,
-      itself_at_least (copy_now moment c),
-    );
+    had = λ key c at. (c, at, itself_at_least (copy_now moment c));
     said = record {
       sends = tt;
       left = λ number. it_stands number (link_at number old.area.links) refl;
@@ -175,7 +169,7 @@ module _ (old : Router) (moment : ℕ) (event : Occurrence) where
     ended = end_event old moment happens.after
 
     abbrev Held : Key → Instance → Type 0
-    Held key i = Ended old event key moment i (outcome ended)
+    Held key i = said.Ended old moment event (outcome ended) key i
 
     so : AtEnd old moment event (outcome ended)
     so =
@@ -187,7 +181,7 @@ module _ (old : Router) (moment : ℕ) (event : Occurrence) where
         → IsReceived old moment event ended.router number h
     received number h (inl waited) = IsReceived.Waited waited
     received number h (inr held) = IsReceived.Held
-        (in_words old event (key_of h) moment (instance_of h) ended.router held)
+        (in_words follow (key_of h) moment (instance_of h) old event ended.router held)
 
     why : (number : ℕ) (h : Header) → OfAcknowledged old Held number h
         → IsAcknowledged old moment event ended.router number h
@@ -198,7 +192,7 @@ module _ (old : Router) (moment : ℕ) (event : Occurrence) where
         → IsOfDatabase old moment event ended.router number name
     of_database number name (inl left) = IsOfDatabase.ToDescribe left
     of_database number name (inr held) =
-        IsOfDatabase.Held (in_words old event name.key moment (young name) ended.router held)
+        IsOfDatabase.Held (in_words follow name.key moment (young name) old event ended.router held)
 
     of_left : (number : ℕ) (n : Neighbor) → neighbor_at number ended.router.area.links ≡ Some n
         → OfNeighbor old Held number n
@@ -224,7 +218,7 @@ module _ (old : Router) (moment : ℕ) (event : Occurrence) where
     at_end : SaysWhatIsHeld old moment event ended.sends ended.router
     at_end = record {
       updates = λ number lsa c.
-          in_words old event (lsa_key lsa) moment (instance_of lsa.header) ended.router
+          in_words follow (lsa_key lsa) moment (instance_of lsa.header) old event ended.router
           (of_member (OfSend old Held) ended.sends so.sends (record {
             number = number;
             content = Content.Updates lsa;

@@ -24,7 +24,8 @@ use Rattle.agreement_laws.specs.Requests.{AcceptsKey, BecameOfRequest, IsRequest
 use Rattle.agreement_laws.specs.TakenIn.{AcceptsNoMore, WasTakenIn}
 use Rattle.agreement_laws.specs.TakenIn.{WhatAFullNeighborDescribedWasTakenIn}
 use Rattle.agreement_laws.proofs.RequestWalk.{accepted_is_requested, requests_are_met}
-use Rattle.agreement_laws.proofs.Holding.{became_less, entry_as_new, some_same}
+use Rattle.agreement_laws.proofs.Holding.{became_less, entry_as_new}
+use Rattle.agreement_laws.proofs.Lists.{some_same}
 
 module _ (number : ℕ) (with_it : Conversation) where
   -- a run in which the conversation goes on is a run

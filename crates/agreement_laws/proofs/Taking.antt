@@ -39,12 +39,13 @@ use Rattle.agreement_laws.specs.Stays.{StaysRequested}
 use Rattle.agreement_laws.specs.Answers.{IsAccepted, sends_of}
 use Rattle.agreement_laws.specs.Held.{AreAsNew, HasAccepted, WasLost, WasThere}
 use Rattle.agreement_laws.specs.Held.{WhatWasAcceptedIsHeld}
+use Rattle.agreement_laws.specs.SaidIsHeld.{young}
 use Rattle.agreement_laws.proofs.AnswerHistories.{Turns, foreigners, kept, step_taken, turn_of}
-use Rattle.agreement_laws.proofs.Latest.{LastOf, as_new_on, at_any_age, last_of, there_or_not}
+use Rattle.agreement_laws.proofs.Latest.{LastOf, last_of, there_or_not}
 use Rattle.agreement_laws.proofs.StartAlone.{begins_alone}
-
-some_same : {X : Type 0} {x y : X} → Some x ≡ Some y → x ≡ y
-some_same e = cc
+use Rattle.agreement_laws.proofs.Lists.{some_same}
+use Rattle.agreement_laws.proofs.Names.{at_any_age}
+use Rattle.agreement_laws.proofs.Ranks.{at_least_on}
 
 -- what was accepted counts while the conversation stands
 accepted_stands : (ends : Ends) (side : Side) (with_it : Conversation) (d : Description)
@@ -140,7 +141,8 @@ module _ (laws : Laws) (ends : Ends) (side : Side) (name : LsaInstance) where
         inr (inl (record {
           copy = copy;
           there = there;
-          as_new = as_new_on laws.ranks (instance_of_lsa copy.lsa) i name more new;
+          as_new = at_least_on laws.ranks.total (young (instance_of_lsa copy.lsa)) (young i)
+              (young name) more new;
         }))
 
     became : (g : Header) → is_as_new (instance_of_header g) name ≡ true

@@ -8,7 +8,7 @@ use Rattle.lsdb.specs.Order.{is_max_age}
 use Rattle.lsdb.specs.declared.order.Instance.{Instance}
 use Rattle.events.specs.Routers.{Occurrence, Router}
 use Rattle.flood_laws.specs.NewInstances.{BringsLsa}
-use Rattle.agreement_laws.specs.CopiesClimb.{BecameOf, HasHad, IsOfInstance}
+use Rattle.agreement_laws.specs.CopiesClimb.{BecameOf, HasHad}
 use Rattle.agreement_laws.specs.Ranks.{is_at_least}
 use Rattle.agreement_laws.specs.WorkedCopies.{Holds, HoldsAtMaxAge, WorkedCopies}
 

@@ -1,6 +1,6 @@
 -- Worked examples of what was exchanged in a conversation.
 use Rattle.std.proofs.Common.{◌≡◌, ℕ, true, nat_lt, List, [], ◌∷◌, Option, None, Some, refl, sym}
-use Rattle.std.proofs.Common.{ap, subst, ◌∙◌}
+use Rattle.std.proofs.Common.{subst}
 use Rattle.std.specs.List.{Contains}
 use Rattle.lsdb.specs.Headers.{Header}
 use Rattle.lsdb.specs.Instances.{ListEntry}

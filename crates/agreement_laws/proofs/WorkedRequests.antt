@@ -18,10 +18,10 @@ use Rattle.adjacency.specs.Neighbors.{Neighbor}
 use Rattle.events.specs.Events.{Step}
 use Rattle.events.specs.Routers.{Router}
 use Rattle.flood_laws.proofs.Owing.{put_same}
+use Rattle.flood_laws.proofs.Leaving.{itself}
 use Rattle.agreement_laws.specs.Accepted.{is_accepting}
 use Rattle.agreement_laws.specs.TakenIn.{WasTakenIn}
 use Rattle.agreement_laws.specs.WorkedRequests.{WorkedRequests}
-use Rattle.agreement_laws.proofs.Requesting.{itself}
 
 abbrev entry : ℕ → Header → ListEntry
 entry moment h = record { header = h; at = moment }

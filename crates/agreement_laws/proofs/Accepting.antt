@@ -1,0 +1,88 @@
+-- A Description that is accepted: the three tests that it passes, and what its event does first.
+use Rattle.std.proofs.Common.{◌≡◌, ℕ, Bool, true, false, cond, not, ◌&&◌, ◌||◌, Option, Some, refl}
+use Rattle.std.proofs.Common.{ap, subst, ◌∙◌}
+use Rattle.std.specs.Prelude.{nat_lt}
+use Rattle.std.proofs.lemmas.Bool.{eq-eqb}
+use Rattle.packet.specs.declared.model.PacketBody.{PacketBody}
+use Rattle.packet.specs.declared.model.PacketBody.TheVariants as body
+use Rattle.packet.specs.declared.model.Description.{Description}
+use Rattle.packet.specs.declared.model.Packet.{Packet}
+use Rattle.packet.specs.Text.{PacketText}
+use Rattle.packet.proofs.Whole.{one_packet}
+use Rattle.adjacency.specs.Adjacencies.{two_way_received}
+use Rattle.adjacency.specs.Descriptions.{knows_types, verdict}
+use Rattle.adjacency.specs.Neighbors.{Neighbor}
+use Rattle.received.specs.Links.{neighbor_at}
+use Rattle.events.specs.Endings.{start_event}
+use Rattle.events.specs.EventState.{EventState, on_area}
+use Rattle.events.specs.Events.{OwnPart}
+use Rattle.events.specs.Hellos.{is_foreign}
+use Rattle.events.specs.Packets.{after_packet, describe_to, from_neighbor, is_from, is_hello}
+use Rattle.events.specs.Packets.{is_in_exchange}
+use Rattle.events.specs.Routers.{Occurrence, Router}
+use Rattle.agreement_laws.specs.Accepted.{AcceptsDescription, accepts_description, is_accepting}
+
+-- ---- the tests
+
+three : (a b c : Bool) → (not a && b && c) ≡ true → (a ≡ false) × (b ≡ true) × (c ≡ true)
+three false true true e = (refl, refl, refl)
+three false true false e = absurd cc
+three false false c e = absurd cc
+three true b c e = absurd cc
+
+all_three : (a b c : Bool) → a ≡ false → b ≡ true → c ≡ true → (not a && b && c) ≡ true
+all_three false true true e f g = refl
+all_three true b c e f g = absurd cc
+all_three false false c e f g = absurd cc
+all_three false true false e f g = absurd cc
+
+-- it fits into a packet, knows all types, and has a verdict that accepts it
+abbrev pub Passes : ℕ → ℕ → Neighbor → Description → Type 0
+Passes own moment m d =
+    (nat_lt 8192 d.mtu ≡ false) × (knows_types d ≡ true)
+    × (is_accepting (verdict own (two_way_received moment m).neighbor d) ≡ true)
+
+pub its_tests : (own moment : ℕ) (m : Neighbor) (d : Description)
+    → accepts_description own moment m d ≡ true → Passes own moment m d
+its_tests own moment m d e =
+    three (nat_lt 8192 d.mtu) (knows_types d)
+    (is_accepting (verdict own (two_way_received moment m).neighbor d)) e
+
+pub by_tests : (own moment : ℕ) (m : Neighbor) (d : Description) → Passes own moment m d
+    → accepts_description own moment m d ≡ true
+by_tests own moment m d p =
+    all_three (nat_lt 8192 d.mtu) (knows_types d)
+    (is_accepting (verdict own (two_way_received moment m).neighbor d)) p.0 p.1 p.2
+
+-- ---- the event
+
+-- its packet is heard
+pub is_taken : (old : Router) (moment : ℕ) (event : Occurrence) (number : ℕ) (n : Neighbor)
+    (d : Description) → AcceptsDescription old moment event number n d → (after : EventState)
+    → OwnPart moment event (start_event moment old) after
+    → after ≡ on_area (describe_to old.id moment number d) (start_event moment old)
+is_taken old moment event number n d a after own =
+    by_packet (subst (λ (e : Occurrence). OwnPart moment e begins after) a.is own)
+  where
+    begins : EventState
+    begins = start_event moment old
+
+    of_body : (says : PacketBody) → says ≡ body.Description d → (o : Option Neighbor) → o ≡ Some n
+        → cond (is_foreign old.id a.packet.router && (is_hello says || is_from a.packet.router o))
+        (from_neighbor moment number a.packet.router (is_in_exchange o) says begins) begins
+        ≡ on_area (describe_to old.id moment number d) begins
+    of_body says its o at =
+        (λ i. cond (is_foreign old.id a.packet.router &&
+        (is_hello (its i) || is_from a.packet.router (at i)))
+        (from_neighbor moment number a.packet.router (is_in_exchange (at i)) (its i)
+        begins) begins)
+        ∙ (λ i. cond (a.other i && (false || eq-eqb n.router a.packet.router a.from i))
+        (on_area (describe_to old.id moment number d) begins) begins)
+
+    by_packet : (packet : Packet) × PacketText a.bytes packet
+        × (after ≡ after_packet moment number packet begins) → after
+        ≡ on_area (describe_to old.id moment number d) begins
+    by_packet k =
+        k.2 ∙ ap (λ (p : Packet). after_packet moment number p begins)
+        (one_packet a.bytes k.0 a.packet k.1 a.text)
+        ∙ of_body a.packet.body a.says (neighbor_at number begins.router.area.links) a.there
