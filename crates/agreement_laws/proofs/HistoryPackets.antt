@@ -1,106 +1,77 @@
 -- The packets of the history, and that their encodings are valid.
-use Rattle.std.proofs.Common.{[], ◌∷◌, None, Some, refl, arith, rules}
+use Rattle.std.proofs.Common.{ℕ, ◌^◌, ◌≤◌, ◌<◌, [], ◌∷◌, length, None, Some, arith, rules}
 use Rattle.lsa.specs.Origination.{sealed_lsa}
 use Rattle.lsdb.specs.Headers.{key_of}
 use Rattle.lsdb.specs.Instances.{aged_header}
+use Rattle.packet.specs.declared.model.PacketBody.{PacketBody}
 use Rattle.packet.specs.declared.model.PacketBody.TheVariants as body
-use Rattle.packet.specs.Text.{canonical, closed_fields}
+use Rattle.packet.specs.declared.model.Description.{Description}
+use Rattle.packet.specs.Text.{IsBody, closed_fields, text}
+use Rattle.packet.proofs.Patch.{canonical_is_text}
 use Rattle.adjacency.specs.Adjacencies.{initial_description}
 use Rattle.events.specs.Hellos.{hello_on}
+use Rattle.events.specs.Packing.{packet_of}
 use Rattle.flood_laws.specs.Keeping.{IsText}
 use Rattle.agreement_laws.proofs.HistoryStart.{link_with}
 use Rattle.agreement_laws.proofs.HistoryLeft.{a, answer, b, init, last_one, listed, reply}
 
+encoded : (own : ℕ) (says : PacketBody) → own < 2 ^ 32 → IsBody says
+    → length (text closed_fields 0 (packet_of own says)) ≤ 8192 → IsText own says
+encoded own says router is size =
+    canonical_is_text (packet_of own says) (record { router = router; body = is }) size
+
+-- ---- Hellos
+
 pub first_hello : IsText 2 (body.Hello (hello_on (link_with b None None)))
-unfolding canonical
-first_hello = record {
-  is_packet = record {
-    router = omega arith;
-    body = record {
+first_hello =
+    encoded 2 (body.Hello (hello_on (link_with b None None))) (omega arith) (record {
       mask = omega arith;
       hello_interval = omega arith;
       options = omega arith;
       priority = omega arith;
       dead_interval = omega arith;
       neighbors = tt;
-    };
-  };
-  size = omega arith;
-  filler = closed_fields;
-  authentication = omega arith;
-  designated = omega arith;
-  backup = omega arith;
-  spelled = refl;
-}
+    }) (omega arith)
 
 pub second_hello : IsText 1 (body.Hello (hello_on (link_with a (Some init) None)))
-unfolding canonical
-second_hello = record {
-  is_packet = record {
-    router = omega arith;
-    body = record {
+second_hello =
+    encoded 1 (body.Hello (hello_on (link_with a (Some init) None))) (omega arith) (record {
       mask = omega arith;
       hello_interval = omega arith;
       options = omega arith;
       priority = omega arith;
       dead_interval = omega arith;
       neighbors = (omega arith, tt);
-    };
-  };
-  size = omega arith;
-  filler = closed_fields;
-  authentication = omega arith;
-  designated = omega arith;
-  backup = omega arith;
-  spelled = refl;
-}
+    }) (omega arith)
+
+-- ---- Descriptions
+
+without_headers : (own : ℕ) (d : Description) → own < 2 ^ 32 → d.mtu < 2 ^ 16
+    → d.options < 2 ^ 8 → d.sequence < 2 ^ 32 → IsText own (body.Description (record d {
+      headers = [];
+    }))
+without_headers own d router mtu options sequence =
+    encoded own (body.Description (record d { headers = [] })) router (record {
+      mtu = mtu;
+      options = options;
+      sequence = sequence;
+      headers = tt;
+    }) (omega arith)
 
 pub opening : IsText 2 (body.Description (initial_description 3600))
-unfolding canonical
-opening = record {
-  is_packet = record {
-    router = omega arith;
-    body = record {
-      mtu = omega arith;
-      options = omega arith;
-      sequence = omega arith;
-      headers = tt;
-    };
-  };
-  size = omega arith;
-  filler = closed_fields;
-  authentication = omega arith;
-  designated = omega arith;
-  backup = omega arith;
-  spelled = refl;
-}
+opening =
+    without_headers 2 (initial_description 3600) (omega arith) (omega arith) (omega arith)
+    (omega arith)
 
 pub own_opening : IsText 1 (body.Description (initial_description 0))
-unfolding canonical
-own_opening = record {
-  is_packet = record {
-    router = omega arith;
-    body = record {
-      mtu = omega arith;
-      options = omega arith;
-      sequence = omega arith;
-      headers = tt;
-    };
-  };
-  size = omega arith;
-  filler = closed_fields;
-  authentication = omega arith;
-  designated = omega arith;
-  backup = omega arith;
-  spelled = refl;
-}
+own_opening =
+    without_headers 1 (initial_description 0) (omega arith) (omega arith) (omega arith)
+    (omega arith)
 
 pub replying : IsText 1 (body.Description reply)
-unfolding canonical sealed_lsa
-replying = record {
-  is_packet = record {
-    router = omega arith;
-    body = record {
+unfolding sealed_lsa
+replying =
+    encoded 1 (body.Description reply) (omega arith) (record {
       mtu = omega arith;
       options = omega arith;
       sequence = omega arith;
@@ -117,74 +88,24 @@ replying = record {
         },
         tt,
       );
-    };
-  };
-  size = omega arith;
-  filler = closed_fields;
-  authentication = omega arith;
-  designated = omega arith;
-  backup = omega arith;
-  spelled = refl;
-}
+    }) (omega arith)
 
 pub ending : IsText 2 (body.Description last_one)
-unfolding canonical
-ending = record {
-  is_packet = record {
-    router = omega arith;
-    body = record {
-      mtu = omega arith;
-      options = omega arith;
-      sequence = omega arith;
-      headers = tt;
-    };
-  };
-  size = omega arith;
-  filler = closed_fields;
-  authentication = omega arith;
-  designated = omega arith;
-  backup = omega arith;
-  spelled = refl;
-}
+ending = without_headers 2 last_one (omega arith) (omega arith) (omega arith) (omega arith)
+
+pub answering : IsText 1 (body.Description answer)
+answering = without_headers 1 answer (omega arith) (omega arith) (omega arith) (omega arith)
+
+-- ---- a Link State Request
 
 pub requesting : IsText 2 (body.Request (key_of (aged_header 0 listed) ∷ []))
-unfolding canonical sealed_lsa
-requesting = record {
-  is_packet = record {
-    router = omega arith;
-    body = (
+unfolding sealed_lsa
+requesting =
+    encoded 2 (body.Request (key_of (aged_header 0 listed) ∷ [])) (omega arith) (
       record {
         ls_type = omega arith;
         link_state_id = omega arith;
         advertising_router = omega arith;
       },
       tt,
-    );
-  };
-  size = omega arith;
-  filler = closed_fields;
-  authentication = omega arith;
-  designated = omega arith;
-  backup = omega arith;
-  spelled = refl;
-}
-
-pub answering : IsText 1 (body.Description answer)
-unfolding canonical
-answering = record {
-  is_packet = record {
-    router = omega arith;
-    body = record {
-      mtu = omega arith;
-      options = omega arith;
-      sequence = omega arith;
-      headers = tt;
-    };
-  };
-  size = omega arith;
-  filler = closed_fields;
-  authentication = omega arith;
-  designated = omega arith;
-  backup = omega arith;
-  spelled = refl;
-}
+    ) (omega arith)
