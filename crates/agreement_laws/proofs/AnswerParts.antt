@@ -49,6 +49,7 @@ use Rattle.agreement_laws.proofs.AnswerSteps.{AreOther, OfStep, Sound, With, few
 use Rattle.agreement_laws.proofs.AnswerSteps.{one_other}
 use Rattle.agreement_laws.proofs.AnswerSteps as steps
 use Rattle.agreement_laws.proofs.Lists.{some_same}
+use Rattle.agreement_laws.proofs.Steps as neighbor_steps
 
 first_true : (a b : Bool) → (a && b) ≡ true → a ≡ true
 first_true true b e = refl
@@ -326,21 +327,8 @@ module _ (own : ℕ) (Acc : Description → Type 0) (Began : Conversation → Ty
 
   new_flooded : (lsa : Lsa) (m : Neighbor) → IsNew m → IsNew (flooding moment false lsa m).neighbor
   new_flooded lsa m h =
-      let w : Neighbor = without_met_request moment lsa m in
-      let got : Step = record {
-        neighbor = add_retransmission moment lsa.header w;
-        sends = Updates lsa ∷ [];
-      } in
-      let not_got : Step = no_sends (remove_retransmission (lsa_key lsa) w) in
-      let so : IsNew w = chosen IsNew (meets moment lsa (request_of m lsa))
-      (without_request (lsa_key lsa) m) m (λ e. h) (λ e. h) in
-      chosen New (is_exchange_or_later m.state) (flooded_in_exchange moment false lsa m)
-      (no_sends m)
-      (λ part. chosen New (not false && passes moment lsa (request_of m lsa)) got not_got
-      (λ e. so) (λ e. so)) (λ before. h)
-    where
-      New : Step → Type 0
-      New s = IsNew s.neighbor
+      let met : IsNew (without_met_request moment lsa m) = neighbor_steps.met IsNew moment lsa m h h
+      in neighbor_steps.flooded IsNew moment false lsa m met met h
 
   aged_one : (lsa : Lsa) (o : Outcome) → Aged o → Aged (flood_from_nobody moment lsa o)
   aged_one lsa o h = record {

@@ -23,7 +23,7 @@ use Rattle.adjacency.specs.Contents.{Requests, Step, Updates, no_sends}
 use Rattle.adjacency.specs.Descriptions.{is_over_for, repeat, without_old_description}
 use Rattle.adjacency.specs.Floods.{flooded_in_exchange, flooding, meets, passes, request_of}
 use Rattle.adjacency.specs.Floods.{without_met_request}
-use Rattle.adjacency.specs.Neighbors.{Neighbor, is_exchange_or_later, is_exchange_or_loading}
+use Rattle.adjacency.specs.Neighbors.{Neighbor, fresh, is_exchange_or_later, is_exchange_or_loading}
 use Rattle.adjacency.specs.Requests.{may_request, next_request, request_next, requested_entry}
 use Rattle.adjacency.specs.Requests.{still_outstanding, without_request}
 use Rattle.adjacency.specs.Retransmissions.{acknowledged_neighbor, add_retransmission}
@@ -38,6 +38,7 @@ use Rattle.flood_laws.proofs.Owing.{removed_other}
 use Rattle.agreement_laws.specs.Exchanged.{Conversation, conversation_with}
 use Rattle.agreement_laws.specs.Ranks.{RanksFollowTheComparison, is_at_least}
 use Rattle.agreement_laws.proofs.Ranks.{at_least_on}
+use Rattle.agreement_laws.proofs.Steps as steps
 
 module _ (ranks : RanksFollowTheComparison) (key : Key) (moment : ℕ) (first : Instance)
     (entry : ListEntry) (low : is_at_least (listed_now moment entry) first ≡ true)
@@ -51,9 +52,6 @@ module _ (ranks : RanksFollowTheComparison) (key : Key) (moment : ℕ) (first : 
 
   abbrev pub Asking : Neighbor → Type 0
   Asking m = IsOver m ⊎ IsAsked m
-
-  abbrev OfStep : Step → Type 0
-  OfStep s = Asking s.neighbor
 
   -- ---- flooding
 
@@ -106,133 +104,48 @@ module _ (ranks : RanksFollowTheComparison) (key : Key) (moment : ℕ) (first : 
   pub flooded : (from : Bool) (lsa : Lsa) (m : Neighbor) → Asking m
       → Asking (flooding moment from lsa m).neighbor ⊎ IsMet lsa
   flooded from lsa m h =
-      let w : Neighbor = without_met_request moment lsa m in
-      let got : Step = record {
-        neighbor = add_retransmission moment lsa.header w;
-        sends = Updates lsa ∷ [];
-      } in
-      let not_got : Step = no_sends (remove_retransmission (lsa_key lsa) w) in
-      let so : Asking w ⊎ IsMet lsa = met_where lsa m h in
-      chosen (λ (s : Step). Asking s.neighbor ⊎ IsMet lsa) (is_exchange_or_later m.state)
-      (flooded_in_exchange moment from lsa m) (no_sends m)
-      (λ part. chosen (λ (s : Step). Asking s.neighbor ⊎ IsMet lsa)
-      (not from && passes moment lsa (request_of m lsa)) got not_got (λ e. so) (λ e. so))
-      (λ before. inl h)
+      let met : Asking (without_met_request moment lsa m) ⊎ IsMet lsa = met_where lsa m h in
+      steps.flooded (λ (x : Neighbor). Asking x ⊎ IsMet lsa) moment from lsa m met met (inl h)
 
   -- ---- attempts and Hellos
 
+  begins : May → (router : ℕ) (attempt : Option ℕ) (heard : ℕ) → Asking (fresh router attempt heard)
+  begins may router attempt heard = inl (may, λ on same. absurd cc)
+
+  restarts : May → (m : Neighbor) → Asking (enter_exstart moment m).neighbor
+  restarts may m = inl (may, λ on same. absurd cc)
+
   pub mismatched : May → (m : Neighbor) → Asking m → Asking (mismatch_step moment m).neighbor
-  mismatched may m h = chosen OfStep (is_exchange_or_later m.state) (enter_exstart moment m)
-      (no_sends m) (λ e. inl (may, λ on same. absurd cc)) (λ e. h)
-
-  two_way : May → (s : NeighborState) (m : Neighbor) → Asking m
-      → Asking (two_way_received_in s moment m).neighbor
-  two_way may Init m h = inl (may, λ on same. absurd cc)
-  two_way may ExStart m h = h
-  two_way may Exchange m h = h
-  two_way may Loading m h = h
-  two_way may Full m h = h
-
-  heard : May → (from : ℕ) (o : Option Neighbor) → Holds Asking o
-      → Asking (with_hello_heard from moment o)
-  heard may from None h = inl (may, λ on same. absurd cc)
-  heard may from (Some m) h = h
+  mismatched may m h = steps.mismatched Asking moment m (restarts may m) h
 
   pub helloed : May → (from : ℕ) (names : Bool) (o : Option Neighbor) → Holds Asking o
       → Asking (after_hello moment from names o).neighbor
-  helloed may from true o h =
-      let m : Neighbor = with_hello_heard from moment o in
-      two_way may m.state m (heard may from o h)
-  helloed may from false o h = inl (may, λ on same. absurd cc)
+  helloed may from names o h =
+      steps.helloed Asking (begins may) moment (restarts may) from names o h
 
   -- ---- acknowledgments, Loading, Requests and the old Description
 
-  acknowledged_one : (x : Header) (m : Neighbor) → Asking m
-      → Asking (acknowledged_neighbor moment m x)
-  acknowledged_one x m h = chosen Asking
-      (is_entry moment x (finite.get m.retransmissions (key_of x)))
-      (remove_retransmission (key_of x) m) m (λ e. h) (λ e. h)
-
   pub acknowledged : (xs : List Header) (m : Neighbor) → Asking m
       → Asking (after_acknowledgment moment xs m)
-  acknowledged [] m h = h
-  acknowledged (x ∷ xs) m h = acknowledged xs (acknowledged_neighbor moment m x)
-      (acknowledged_one x m h)
+  acknowledged xs m h = steps.acknowledged Asking (λ k n so. so) moment xs m h
 
-  filled_in : (s : NeighborState) (m : Neighbor) → Asking (record m {
-    state = s;
-  }) → Asking (loading_done_in s (record m { state = s }))
-  filled_in Init m h = h
-  filled_in ExStart m h = h
-  filled_in Exchange m h = h
-  filled_in Loading m h = chosen Asking (requests_nothing m) (record m {
-    state = Full;
-  }) (record m { state = Loading }) (λ e. still h) (λ e. h)
+  pub filled : (m : Neighbor) → Asking m → Asking (loading_done m)
+  filled m h = steps.filled Asking m still h
     where
       still : Asking (record m { state = Loading }) → Asking (record m { state = Full })
       still (inl over) = inl (over.0, λ on same. over.1 refl same)
       still (inr at) = inr at
-  filled_in Full m h = h
-
-  pub filled : (m : Neighbor) → Asking m → Asking (loading_done m)
-  filled m h = filled_in m.state m h
 
   pub asked : (m : Neighbor) → Asking m → Asking (request_next moment m).neighbor
-  asked m h =
-      chosen OfStep (may_request m) (record {
-        neighbor = record m {
-          outstanding = set.from_list (next_request m);
-          requested_at = moment;
-        };
-        sends = Requests (next_request m) ∷ [];
-      }) (no_sends m)
-      (λ e. h) (λ e. h)
-
-  repeated_of : (o : Option Description) (m : Neighbor) → Asking m
-      → Asking (repeat moment (record m { described = o })).neighbor
-  repeated_of None m h = h
-  repeated_of (Some d) m h = h
+  asked m h = steps.asked Asking moment m h
 
   pub repeated : (m : Neighbor) → Asking m → Asking (repeat moment m).neighbor
-  repeated m h = repeated_of m.described m h
+  repeated m h = steps.repeated Asking moment m h
 
   pub again : (interval : ℕ) (db : Database) (m : Neighbor) → Asking m
       → Asking (send_again moment interval db m).neighbor
-  again interval db m h = updated (request_again moment interval
-      (describe_again moment interval m).neighbor).neighbor
-      (asked_so (describe_again moment interval m).neighbor (described_so m h))
-    where
-      described_so : (n : Neighbor) → Asking n → Asking (describe_again moment interval n).neighbor
-      described_so n k =
-          chosen OfStep (repeats_description n.state n.is_master && has_passed n.described_at
-          interval moment) (repeat moment n) (no_sends n) (λ e. repeated n k) (λ e. k)
-
-      asked_so : (n : Neighbor) → Asking n → Asking (request_again moment interval n).neighbor
-      asked_so n k =
-          chosen OfStep (not (set.len n.outstanding == 0) && has_passed n.requested_at interval
-          moment)
-          (record {
-            neighbor = record n {
-              requested_at = moment;
-            };
-            sends = Requests (still_outstanding n) ∷ [];
-          })
-          (no_sends n) (λ e. k) (λ e. k)
-
-      updated : (n : Neighbor) → Asking n → Asking (update_again moment interval db n).neighbor
-      updated n k =
-          chosen OfStep (not (finite.len n.retransmissions == 0) && has_passed n.retransmitted_at
-          interval moment)
-          (record {
-            neighbor = record n {
-              retransmitted_at = moment;
-            };
-            sends = map Updates (next_retransmissions moment db n);
-          }) (no_sends n) (λ e. k)
-          (λ e. k)
+  again interval db m h = steps.again Asking moment interval db m h
 
   pub old_description : (dead : ℕ) (m : Neighbor) → Asking m
       → Asking (without_old_description moment dead m)
-  old_description dead m h = chosen Asking (is_over_for moment dead m.exchanged) (record m {
-    described = None;
-  }) m (λ e. h) (λ e. h)
+  old_description dead m h = steps.old_description Asking moment dead m (λ e. h) h

@@ -71,6 +71,7 @@ use Rattle.events.proofs.Walk.{originate_or_wait_kept}
 use Rattle.events.proofs.Walk as walk
 use Rattle.agreement_laws.specs.HeldWasTold.{NothingIsLeftToDescribe, is_exchange_done}
 use Rattle.agreement_laws.proofs.Verdicts.{as_slave_or_master, first_two, mismatch_or_accepted}
+use Rattle.agreement_laws.proofs.Steps as steps
 
 -- ---- all entries fit
 
@@ -104,69 +105,25 @@ IsDone m = Done m.state m.described m.exchanged m.summary
 abbrev OfStep : Step → Type 0
 OfStep s = IsDone s.neighbor
 
--- ---- flooding
-
 flooded : (moment : ℕ) (from : Bool) (lsa : Lsa) (m : Neighbor) → IsDone m
     → IsDone (flooding moment from lsa m).neighbor
 flooded moment from lsa m h =
-    let w : Neighbor = without_met_request moment lsa m in
-    let met : IsDone w = chosen IsDone (meets moment lsa (request_of m lsa))
-    (without_request (lsa_key lsa) m) m (λ e. h) (λ e. h) in
-    let got : Step = record {
-      neighbor = add_retransmission moment lsa.header w;
-      sends = Updates lsa ∷ [];
-    } in
-    chosen OfStep (is_exchange_or_later m.state) (flooded_in_exchange moment from lsa m)
-    (no_sends m)
-    (λ part. chosen OfStep (not from && passes moment lsa (request_of m lsa)) got
-    (no_sends (remove_retransmission (lsa_key lsa) w)) (λ e. met) (λ e. met)) (λ e. h)
-
--- ---- attempts and Hellos
+    let met : IsDone (without_met_request moment lsa m) = steps.met IsDone moment lsa m h h in
+    steps.flooded IsDone moment from lsa m met met h
 
 mismatched : (moment : ℕ) (m : Neighbor) → IsDone m → IsDone (mismatch_step moment m).neighbor
-mismatched moment m h = chosen OfStep (is_exchange_or_later m.state) (enter_exstart moment m)
-    (no_sends m) (λ e. (refl, refl)) (λ e. h)
-
-two_way : (s : NeighborState) (moment : ℕ) (m : Neighbor) → IsDone m
-    → IsDone (two_way_received_in s moment m).neighbor
-two_way Init moment m h = (refl, refl)
-two_way ExStart moment m h = h
-two_way Exchange moment m h = h
-two_way Loading moment m h = h
-two_way Full moment m h = h
-
-heard : (from moment : ℕ) (o : Option Neighbor) → Holds IsDone o
-    → IsDone (with_hello_heard from moment o)
-heard from moment None h = refl
-heard from moment (Some m) h = h
+mismatched moment m h = steps.mismatched IsDone moment m (refl, refl) h
 
 helloed : (moment from : ℕ) (names : Bool) (o : Option Neighbor) → Holds IsDone o
     → IsDone (adjacencies.after_hello moment from names o).neighbor
-helloed moment from true o h =
-    let m : Neighbor = with_hello_heard from moment o in
-    two_way m.state moment m (heard from moment o h)
-helloed moment from false o h = refl
-
--- ---- acknowledgments
+helloed moment from names o h =
+    steps.helloed IsDone (λ router attempt heard. refl) moment (λ m. (refl, refl)) from names o h
 
 acknowledged : (moment : ℕ) (hs : List Header) (m : Neighbor) → IsDone m
     → IsDone (after_acknowledgment moment hs m)
-acknowledged moment [] m h = h
-acknowledged moment (x ∷ hs) m h =
-    acknowledged moment hs (acknowledged_neighbor moment m x)
-    (chosen IsDone (is_entry moment x (finite.get m.retransmissions (key_of x)))
-    (remove_retransmission (key_of x) m) m (λ e. h) (λ e. h))
+acknowledged moment hs m h = steps.acknowledged IsDone (λ k n so. so) moment hs m h
 
 -- ---- Database Descriptions
-
-repeat_of : (o : Option Description) (moment : ℕ) (m : Neighbor) → IsDone (record m {
-  described = o;
-}) → IsDone (repeat moment (record m { described = o })).neighbor
-repeat_of None moment m h = h
-repeat_of (Some d) moment m h = h
-
-repeated : (moment : ℕ) (m : Neighbor) → IsDone m → IsDone (repeat moment m).neighbor
-repeated moment m h = repeat_of m.described moment m h
 
 -- a neighbor in Exchange
 abbrev Exchanging : Neighbor → Type 0
@@ -257,7 +214,7 @@ module _ (own moment : ℕ) (db : Database) (d : Description) where
   over m h =
       first_two (Does m) (is_duplicate m.received d && m.is_master)
       (is_duplicate m.received d && is_kept m.described) Verdict.Mismatch
-      h (repeated moment m h) (mismatched moment m h)
+      h (steps.repeated IsDone moment m h) (mismatched moment m h)
 
   stated : (s : NeighborState) (m : Neighbor) → IsDone (record m {
     state = s;
@@ -269,7 +226,7 @@ module _ (own moment : ℕ) (db : Database) (d : Description) where
   stated Exchange m h =
       let n : Neighbor = record m { state = Exchange } in
       first_two (Does n) (is_duplicate m.received d && m.is_master) (is_duplicate m.received d) _ h
-      (repeated moment n h)
+      (steps.repeated IsDone moment n h)
       (mismatch_or_accepted (Does n) (mismatched moment n h) (accepted moment db d n refl h h)
       (same_flag d.master m.is_master) d.init (changes_options m.received d)
       (not (d.sequence == expected_sequence n)))
@@ -280,66 +237,11 @@ module _ (own moment : ℕ) (db : Database) (d : Description) where
   after m h = chosen OfStep (nat_lt 8192 d.mtu) (no_sends m) (in_state m.state own moment db d m)
       (λ e. h) (λ e. stated m.state m h)
 
--- ---- Loading, Link State Requests and a Tick
-
-filled_in : (s : NeighborState) (m : Neighbor) → IsDone (record m {
-  state = s;
-}) → IsDone (loading_done_in s (record m { state = s }))
-filled_in Init m h = h
-filled_in ExStart m h = h
-filled_in Exchange m h = h
-filled_in Loading m h = chosen IsDone (requests_nothing m) (record m {
-  state = Full;
-}) (record m { state = Loading }) (λ e. h) (λ e. h)
-filled_in Full m h = h
+-- ---- Loading and a Tick
 
 filled_on : (n : Option Neighbor) → Holds IsDone n → Holds IsDone (loading_done_on n)
 filled_on None h = tt
-filled_on (Some m) h = filled_in m.state m h
-
-asked : (moment : ℕ) (m : Neighbor) → IsDone m → IsDone (request_next moment m).neighbor
-asked moment m h =
-    chosen OfStep (may_request m) (record {
-      neighbor = record m {
-        outstanding = set.from_list (next_request m);
-        requested_at = moment;
-      };
-      sends = Requests (next_request m) ∷ [];
-    }) (no_sends m) (λ e. h) (λ e. h)
-
-sent_again : (moment interval : ℕ) (db : Database) (m : Neighbor) → IsDone m
-    → IsDone (send_again moment interval db m).neighbor
-sent_again moment interval db m h =
-    updated (request_again moment interval (describe_again moment interval m).neighbor).neighbor
-    (asked_so (describe_again moment interval m).neighbor (described_so m h))
-  where
-    described_so : (n : Neighbor) → IsDone n → IsDone (describe_again moment interval n).neighbor
-    described_so n k =
-        chosen OfStep (repeats_description n.state n.is_master && has_passed n.described_at interval
-        moment) (repeat moment n) (no_sends n) (λ e. repeated moment n k) (λ e. k)
-
-    asked_so : (n : Neighbor) → IsDone n → IsDone (request_again moment interval n).neighbor
-    asked_so n k =
-        chosen OfStep (not (set.len n.outstanding == 0) && has_passed n.requested_at interval
-        moment)
-        (record {
-          neighbor = record n {
-            requested_at = moment;
-          };
-          sends = Requests (still_outstanding n) ∷ [];
-        }) (no_sends n)
-        (λ e. k) (λ e. k)
-
-    updated : (n : Neighbor) → IsDone n → IsDone (update_again moment interval db n).neighbor
-    updated n k =
-        chosen OfStep (not (finite.len n.retransmissions == 0) && has_passed n.retransmitted_at
-        interval moment)
-        (record {
-          neighbor = record n {
-            retransmitted_at = moment;
-          };
-          sends = map Updates (next_retransmissions moment db n);
-        }) (no_sends n) (λ e. k) (λ e. k)
+filled_on (Some m) h = steps.filled IsDone m (λ so. so) h
 
 -- the last Database Description is discarded only after the exchange was completed
 given_up : (s : NeighborState) (moment dead : ℕ) (d : Option Description) (at : Option ℕ)
@@ -355,10 +257,8 @@ given_up Full moment dead d at l e h = h
 old_description : (moment dead : ℕ) (m : Neighbor) → IsDone m
     → IsDone (without_old_description moment dead m)
 old_description moment dead m h =
-    chosen IsDone (is_over_for moment dead m.exchanged) (record m {
-      described = None;
-    }) m (λ e. given_up m.state moment dead m.described m.exchanged m.summary e
-    h) (λ e. h)
+    steps.old_description IsDone moment dead m
+    (λ e. given_up m.state moment dead m.described m.exchanged m.summary e h) h
 
 inactive : (moment dead : ℕ) (n : Option Neighbor) → Holds IsDone n
     → Holds IsDone (settled_exchange moment dead (adjacencies.after_inactivity_timer moment dead n))
@@ -465,7 +365,7 @@ parts_keep = record {
       (λ link at. inactive moment link.interface.dead_interval link.neighbor at) o.area.links h;
   again = λ moment o h.
       each_keeps IsDone moment (again moment o)
-      (λ number link n at. sent_again moment link.interface.retransmit_interval o.area.database
+      (λ number link n at. steps.again IsDone moment link.interface.retransmit_interval o.area.database
       n at) o h;
   acknowledges = λ moment o h. each_link_keeps IsDone without_acknowledgments (λ link at. at)
       o.area.links h;
@@ -477,7 +377,7 @@ parts_keep = record {
   loaded = λ o h. each_link_keeps IsDone link_loading_done (λ link at. filled_on link.neighbor at)
       o.area.links h;
   requests = λ moment o h. each_keeps IsDone moment (λ number link n. request_next moment n)
-      (λ number link n at. asked moment n at) o h;
+      (λ number link n at. steps.asked IsDone moment n at) o h;
   removes = λ moment o h. h;
 }
 

@@ -1,5 +1,6 @@
 mod Ranks
 mod Lists
+mod Steps
 mod Ages
 mod Accepting
 mod Settling

@@ -53,6 +53,7 @@ use Rattle.agreement_laws.specs.Moves.{OnlyDescriptionsMoveAnExchange}
 use Rattle.agreement_laws.proofs.ExchangeSteps.{IsSame, Standing}
 use Rattle.agreement_laws.proofs.ExchangeSteps as steps
 use Rattle.agreement_laws.proofs.Lists.{some_same}
+use Rattle.agreement_laws.proofs.Steps as kept
 
 module _ (old : Router) (moment : ℕ) (event : Occurrence) (number : ℕ) (n : Neighbor)
     (was : neighbor_at number old.area.links ≡ Some n) where
@@ -311,14 +312,14 @@ module _ (old : Router) (moment : ℕ) (event : Occurrence) (number : ℕ) (n : 
     inactive = λ o t area h. each_link (run_out moment) o
         (λ link at. inactive_one link.interface.dead_interval link.neighbor at) h;
     again = λ o t area h. each_step (again moment o) o
-        (λ link m at. steps.again n moment link.interface.retransmit_interval o.area.database m at)
+        (λ link m at. kept.again (Standing n) moment link.interface.retransmit_interval o.area.database m at)
         h;
     acknowledges = λ o t area h. each_link without_acknowledgments o (λ link at. at) h;
     hellos = λ o t area h. each_link (with_hello_sent moment) o (λ link at. at) h;
     link_down = λ place o t area h. change_at place taken_down o (λ link at. tt) h;
     loaded = λ o t area h. each_link link_loading_done o (λ link at. loaded_one link.neighbor at) h;
     requests = λ o t area h. each_step (λ place link m. request_next moment m) o
-        (λ link m at. steps.asked n moment m at) h;
+        (λ link m at. kept.asked (Standing n) moment m at) h;
     removes = λ o t area h. h;
     stays = λ o t area h. h;
   }

@@ -36,9 +36,10 @@ use Rattle.flood_laws.proofs.Leaving.{each_kept_at, stepped_kept}
 use Rattle.agreement_laws.specs.Exchanged.{conversation_with}
 use Rattle.agreement_laws.specs.Accepted.{AcceptsDescription, accepts_description, is_accepting}
 use Rattle.agreement_laws.specs.Numbers.{AcceptedDescriptionsMoveNumbers, HasMoved, NumbersMove}
-use Rattle.agreement_laws.proofs.ExchangeSteps.{IsSame, same_asked, same_filled, same_flooded}
+use Rattle.agreement_laws.proofs.ExchangeSteps.{IsSame, same_filled, same_flooded}
 use Rattle.agreement_laws.proofs.Accepting.{Passes, is_taken, its_tests}
 use Rattle.agreement_laws.proofs.Ending.{Going, IsKeptToEnd, ended}
+use Rattle.agreement_laws.proofs.Steps.{asked}
 
 -- ---- the step
 
@@ -191,7 +192,7 @@ module _ (own moment number : ℕ) (x : Neighbor) where
     loaded = λ o h. each_kept_at SameThere SameThere (λ k. k) link_loading_done number
         (λ link at. loaded_one link.neighbor at) o.area.links h;
     requests = λ o h. each_step (λ place link m. request_next moment m) o.area.links
-        (λ link m at. same_asked x moment m at) h;
+        (λ link m at. asked (IsSame x) moment m at) h;
   }
 
   pub stays_same : (old : Router) (after : EventState) → Going own moment StaysSame after

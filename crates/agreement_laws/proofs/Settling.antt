@@ -43,6 +43,7 @@ use Rattle.agreement_laws.specs.Ranks.{is_at_least}
 use Rattle.agreement_laws.proofs.Ages.{noted_at_least}
 use Rattle.agreement_laws.proofs.Lists.{left_there}
 use Rattle.agreement_laws.proofs.Ranks.{not_newer, same_as_new}
+use Rattle.agreement_laws.proofs.Steps as steps
 
 -- what was said in a conversation: headers with the moments at which they had their ages
 abbrev pub Saying : Type 1
@@ -128,33 +129,26 @@ module _ (key : Key) (now : ℕ) (Of : ℕ → Type 0) (Said : Saying) where
       (λ part. let no : true ≡ false = sym part ∙ before in absurd cc) (λ e. inl before)
   flooded_other x moment from lsa m other (inr h) =
       let w : Neighbor = without_met_request moment lsa m in
-      let got : Step = record {
-        neighbor = add_retransmission moment lsa.header w;
-        sends = Updates lsa ∷ [];
-      } in
-      let not_got : Step = no_sends (remove_retransmission (lsa_key lsa) w) in
+      let added : Neighbor = add_retransmission moment lsa.header w in
+      let removed : Neighbor = remove_retransmission (lsa_key lsa) w in
       let so : Settled x w = met_where x moment lsa m h in
-      chosen (λ (s : Step). Settling x s.neighbor) (is_exchange_or_later m.state)
-      (flooded_in_exchange moment from lsa m) (no_sends m)
-      (λ part. chosen (λ (s : Step). Settling x s.neighbor)
-      (not from && passes moment lsa (request_of m lsa)) got not_got
-      (λ e. inr (
+      steps.flooded (Settling x) moment from lsa m
+      (inr (
         so.0,
         so.1,
-        has_by x w.retransmissions w.summary got.neighbor.retransmissions w.summary
-            (conversation_with w) (conversation_with w)
+        has_by x w.retransmissions w.summary added.retransmissions w.summary (conversation_with w)
+            (conversation_with w)
             (λ i is k. added_other moment lsa.header w.retransmissions w.summary
             (conversation_with w) i other k) so.2,
       ))
-      (λ e. inr (
+      (inr (
         so.0,
         so.1,
-        has_by x w.retransmissions w.summary not_got.neighbor.retransmissions w.summary
+        has_by x w.retransmissions w.summary removed.retransmissions w.summary
             (conversation_with w) (conversation_with w)
             (λ i is k. released_other (lsa_key lsa) w.retransmissions w.summary
             (conversation_with w) i other k) so.2,
-      )))
-      (λ before. inr h)
+      )) (inr h)
 
   -- if an LSA isn't newer than the request, one at least as new is requested, and so was said
   requested : (lsa : Lsa) (m : Neighbor) → key ≡ lsa_key lsa
@@ -244,28 +238,13 @@ module _ (key : Key) (now : ℕ) (Of : ℕ → Type 0) (Said : Saying) where
 
   pub mismatched : (x : Option Instance) (moment : ℕ) (m : Neighbor) → Settling x m
       → Settling x (mismatch_step moment m).neighbor
-  mismatched x moment m h = chosen (λ (s : Step). Settling x s.neighbor)
-      (is_exchange_or_later m.state) (enter_exstart moment m) (no_sends m) (λ e. inl refl) (λ e. h)
-
-  two_way : (x : Option Instance) (s : NeighborState) (moment : ℕ) (m : Neighbor) → Settling x m
-      → Settling x (two_way_received_in s moment m).neighbor
-  two_way x Init moment m h = inl refl
-  two_way x ExStart moment m h = h
-  two_way x Exchange moment m h = h
-  two_way x Loading moment m h = h
-  two_way x Full moment m h = h
-
-  heard : (x : Option Instance) (from moment : ℕ) (o : Option Neighbor) → Holds (Settling x) o
-      → Settling x (with_hello_heard from moment o)
-  heard x from moment None h = inl refl
-  heard x from moment (Some m) h = h
+  mismatched x moment m h = steps.mismatched (Settling x) moment m (inl refl) h
 
   pub helloed : (x : Option Instance) (moment from : ℕ) (names : Bool) (o : Option Neighbor)
       → Holds (Settling x) o → Settling x (after_hello moment from names o).neighbor
-  helloed x moment from true o h =
-      let m : Neighbor = with_hello_heard from moment o in
-      two_way x m.state moment m (heard x from moment o h)
-  helloed x moment from false o h = inl refl
+  helloed x moment from names o h =
+      steps.helloed (Settling x) (λ router attempt heard. inl refl) moment (λ m. inl refl) from
+      names o h
 
   -- ---- acknowledgments: what removes the entry settles it from then on
 
@@ -399,97 +378,27 @@ module _ (key : Key) (now : ℕ) (Of : ℕ → Type 0) (Said : Saying) where
       by_key false other i is k = released_other (lsa_key lsa) m.retransmissions m.summary
           (conversation_with m) i other k
 
-  -- ---- Loading, Link State Requests and the last Database Description
+  -- ---- Loading, Link State Requests and what is sent again
 
-  filled_in : (x : Option Instance) (s : NeighborState) (m : Neighbor) → Settling x (record m {
-    state = s;
-  }) → Settling x (loading_done_in s (record m { state = s }))
-  filled_in x Init m h = h
-  filled_in x ExStart m h = h
-  filled_in x Exchange m h = h
-  filled_in x Loading m h = chosen (Settling x) (requests_nothing m) (record m {
-    state = Full;
-  }) (record m { state = Loading }) (λ e. still h) (λ e. h)
+  pub filled : (x : Option Instance) (m : Neighbor) → Settling x m → Settling x (loading_done m)
+  filled x m h = steps.filled (Settling x) m still h
     where
       still : Settling x (record m { state = Loading }) → Settling x (record m { state = Full })
       still (inl e) = absurd cc
       still (inr k) = inr k
-  filled_in x Full m h = h
-
-  pub filled : (x : Option Instance) (m : Neighbor) → Settling x m → Settling x (loading_done m)
-  filled x m h = filled_in x m.state m h
 
   pub asked : (x : Option Instance) (moment : ℕ) (m : Neighbor) → Settling x m
       → Settling x (request_next moment m).neighbor
-  asked x moment m h =
-      chosen (λ (s : Step). Settling x s.neighbor) (may_request m)
-      (record {
-        neighbor = record m {
-          outstanding = set.from_list (next_request m);
-          requested_at = moment;
-        };
-        sends = Requests (next_request m) ∷ [];
-      }) (no_sends m) (λ e. h) (λ e. h)
-
-  -- ---- a Tick
-
-  repeated_of : (x : Option Instance) (o : Option Description) (moment : ℕ) (m : Neighbor)
-      → Settling x m → Settling x (repeat moment (record m { described = o })).neighbor
-  repeated_of x None moment m h = h
-  repeated_of x (Some d) moment m h = h
+  asked x moment m h = steps.asked (Settling x) moment m h
 
   pub again : (x : Option Instance) (moment interval : ℕ) (db : Database) (m : Neighbor)
       → Settling x m → Settling x (send_again moment interval db m).neighbor
-  again x moment interval db m h = updated asked_again (asked_so described (described_so m h))
-    where
-      described : Neighbor
-      described = (describe_again moment interval m).neighbor
-
-      asked_again : Neighbor
-      asked_again = (request_again moment interval
-          (describe_again moment interval m).neighbor).neighbor
-
-      described_so : (n : Neighbor) → Settling x n
-          → Settling x (describe_again moment interval n).neighbor
-      described_so n k =
-          chosen (λ (s : Step). Settling x s.neighbor)
-          (repeats_description n.state n.is_master && has_passed n.described_at interval moment)
-          (repeat moment n) (no_sends n)
-          (λ e. repeated_of x n.described moment n k) (λ e. k)
-
-      asked_so : (n : Neighbor) → Settling x n
-          → Settling x (request_again moment interval n).neighbor
-      asked_so n k =
-          chosen (λ (s : Step). Settling x s.neighbor)
-          (not (set.len n.outstanding == 0) && has_passed n.requested_at interval moment)
-          (record {
-            neighbor = record n {
-              requested_at = moment;
-            };
-            sends = Requests (still_outstanding n) ∷ [];
-          })
-          (no_sends n) (λ e. k) (λ e. k)
-
-      updated : (n : Neighbor) → Settling x n
-          → Settling x (update_again moment interval db n).neighbor
-      updated n k =
-          chosen (λ (s : Step). Settling x s.neighbor)
-          (not (finite.len n.retransmissions == 0) && has_passed n.retransmitted_at interval
-          moment)
-          (record {
-            neighbor = record n {
-              retransmitted_at = moment;
-            };
-            sends = map Updates (next_retransmissions moment db n);
-          }) (no_sends n) (λ e. k)
-          (λ e. k)
+  again x moment interval db m h = steps.again (Settling x) moment interval db m h
 
   pub old_description : (x : Option Instance) (moment dead : ℕ) (m : Neighbor) → Settling x m
       → Settling x (without_old_description moment dead m)
   old_description x moment dead m h =
-      chosen (Settling x) (is_over_for moment dead m.exchanged) (record m {
-        described = None;
-      }) m (λ e. h) (λ e. h)
+      steps.old_description (Settling x) moment dead m (λ e. h) h
 
 -- ---- more that was said, and more that is known about the neighbor
 
