@@ -16,10 +16,10 @@ use Rattle.packet.specs.declared.model.Hello.{Hello}
 use Rattle.adjacency.specs.Adjacencies as adjacencies
 use Rattle.adjacency.specs.Contents.{Content, Step, Updates, no_sends}
 use Rattle.adjacency.specs.Descriptions.{after_description}
-use Rattle.adjacency.specs.Floods.{flooded_in_exchange, flooding, meets, passes, request_of}
+use Rattle.adjacency.specs.Floods.{flooded_in_exchange, flooding, passes, request_of}
 use Rattle.adjacency.specs.Floods.{without_met_request}
 use Rattle.adjacency.specs.Neighbors.{Neighbor, is_exchange_or_later}
-use Rattle.adjacency.specs.Requests.{request_next, without_request}
+use Rattle.adjacency.specs.Requests.{request_next}
 use Rattle.adjacency.specs.Retransmissions.{add_retransmission, after_acknowledgment}
 use Rattle.adjacency.specs.Retransmissions.{remove_retransmission}
 use Rattle.adjacency.proofs.Kept.{chosen}
@@ -33,13 +33,12 @@ use Rattle.received.specs.Outcomes.{one_neighbor, only_at, sending, sends_at, se
 use Rattle.received.specs.Outcomes.{stepped_links, stepping_sends}
 use Rattle.received.specs.Updates.{after_case, copy_of, send_copy}
 use Rattle.events.specs.Commands.{taken_down}
-use Rattle.events.specs.Endings.{link_loading_done, loading_done_on, with_age}
+use Rattle.events.specs.Endings.{link_loading_done, with_age}
 use Rattle.events.specs.EventState.{flood_from_nobody}
 use Rattle.events.specs.Hellos.{accepts, agrees, hello_is_due, hello_on, is_foreign, may_be, names}
 use Rattle.events.specs.Packets.{after_hello, describe_to, hear, heard_on, with_neighbor}
 use Rattle.events.specs.Ticks.{acknowledge_all, acknowledgments_on, again, hello_sent_on, run_out}
-use Rattle.events.specs.Ticks.{send_hellos, sends_of, settled_exchange, with_hello_sent}
-use Rattle.events.specs.Ticks.{without_acknowledgments}
+use Rattle.events.specs.Ticks.{send_hellos, sends_of, with_hello_sent, without_acknowledgments}
 use Rattle.flood_laws.proofs.Leaving.{each_kept_at, numbered_kept, stepped_kept}
 use Rattle.flood_laws.proofs.Lists.{later_is, of_cons, of_empty}
 use Rattle.flood_laws.proofs.Taken.{named_first}
@@ -50,6 +49,7 @@ use Rattle.agreement_laws.proofs.AnswerSteps.{one_other}
 use Rattle.agreement_laws.proofs.AnswerSteps as steps
 use Rattle.agreement_laws.proofs.Lists.{some_same}
 use Rattle.agreement_laws.proofs.Steps as neighbor_steps
+use Rattle.agreement_laws.proofs.AtInterface as interface
 
 first_true : (a b : Bool) → (a && b) ≡ true → a ≡ true
 first_true true b e = refl
@@ -230,10 +230,7 @@ module _ (own : ℕ) (Acc : Description → Type 0) (Began : Conversation → Ty
       → ((link : Link) → There o.sends link.neighbor → There o.sends (change link).neighbor)
       → Stands o → Stands (on_links (change_link place change) o)
   change_at place change o keeps h =
-      numbered_kept (There o.sends) (There o.sends) (λ n. n)
-      (λ (e : ℕ × Link). cond (e.0 == place) (change e.1) e.1) number
-      (λ link at. chosen (λ (l : Link). There o.sends l.neighbor) (number == place) (change link)
-      link (λ e. keeps link at) (λ e. at)) o.area.links h
+      interface.changed (There o.sends) number place change o.area.links keeps h
 
   -- a step of each neighbor, with what it sends at its interface
   module _ (f : Stepping) (o : Outcome) (link : Link)
@@ -334,17 +331,12 @@ module _ (own : ℕ) (Acc : Description → Type 0) (Began : Conversation → Ty
   aged_one lsa o h = record {
     stands = floods None lsa o h.stands;
     none = none_here;
-    new = stepped_kept (Holds IsNew) (Holds IsNew) (λ n. n) f number
-        (λ link at. by_neighbor link link.neighbor at) o.area.links h.new;
+    new = interface.stepped (Holds IsNew) number f o.area.links (λ link m k. new_flooded lsa m k)
+        h.new;
   }
     where
       f : Stepping
       f = flood_to moment None lsa
-
-      by_neighbor : (link : Link) (n : Option Neighbor) → Holds IsNew n
-          → Holds IsNew (step_on (f number link) n)
-      by_neighbor link None k = tt
-      by_neighbor link (Some m) k = new_flooded lsa m k
 
       other_on : (link : Link) (n : Option Neighbor) → AreOther (sent_on (f number link) n)
       other_on link None = none_sent
@@ -525,19 +517,12 @@ module _ (own : ℕ) (Acc : Description → Type 0) (Began : Conversation → Ty
 
   -- ---- a Tick, a command, and the end
 
-  inactive_one : (sends : List Send) (dead : ℕ) (n : Option Neighbor) → There sends n
-      → There sends
-      (settled_exchange moment dead (adjacencies.after_inactivity_timer moment dead n))
-  inactive_one sends dead None h = tt
-  inactive_one sends dead (Some m) h =
-      chosen (λ (o : Option Neighbor). There sends (settled_exchange moment dead o))
-      (adjacencies.has_passed m.last_heard dead moment) None (Some m) (λ e. tt)
-      (λ e. steps.old_description own Acc Began moment dead (Said sends) m h)
-
   pub inactive : (o : Outcome) → Stands o → Stands (on_links (map (run_out moment)) o)
   inactive o h =
       each_link (run_out moment) o
-      (λ link at. inactive_one o.sends link.interface.dead_interval link.neighbor at) h
+      (λ link at. interface.inactive (There o.sends) tt moment link.interface.dead_interval
+      (λ m k. steps.old_description own Acc Began moment link.interface.dead_interval
+      (Said o.sends) m k) link.neighbor at) h
 
   pub agains : (o : Outcome) → Stands o → Stands (each_neighbor moment (again moment o) o)
   agains o h =
@@ -567,14 +552,11 @@ module _ (own : ℕ) (Acc : Description → Type 0) (Began : Conversation → Ty
       → Stands (on_links (change_link place taken_down) o)
   down place o h = change_at place taken_down o (λ link at. tt) h
 
-  loaded_one : (sends : List Send) (n : Option Neighbor) → There sends n
-      → There sends (loading_done_on n)
-  loaded_one sends None h = tt
-  loaded_one sends (Some m) h = steps.filled own Acc Began (Said sends) m h
-
   pub loaded : (o : Outcome) → Stands o → Stands (on_links (map link_loading_done) o)
   loaded o h =
-      each_link link_loading_done o (λ link at. loaded_one o.sends link.neighbor at) h
+      each_link link_loading_done o
+      (λ link at. interface.loaded (There o.sends) (steps.filled own Acc Began (Said o.sends))
+      link.neighbor at) h
 
   pub requests : (o : Outcome) → Stands o
       → Stands (each_neighbor moment (λ place link m. request_next moment m) o)

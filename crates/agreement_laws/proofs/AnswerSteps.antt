@@ -10,33 +10,30 @@ use Rattle.std.specs.List.{Contains}
 use Rattle.std.proofs.lemmas.Bool.{eqb-true}
 use Rattle.std.proofs.lemmas.List.Elements.{Contains-append_cases}
 use Rattle.lsdb.specs.Copies.{Database}
-use Rattle.lsdb.specs.Headers.{Header, Lsa, key_of, lsa_key}
+use Rattle.lsdb.specs.Headers.{Header, Lsa, lsa_key}
 use Rattle.packet.specs.declared.model.Description.{Description}
 use Rattle.adjacency.specs.declared.state.NeighborState.{NeighborState}
 use Rattle.adjacency.specs.declared.state.NeighborState.TheVariants.{ExStart, Exchange, Full, Init}
 use Rattle.adjacency.specs.declared.state.NeighborState.TheVariants.{Loading}
 use Rattle.adjacency.specs.Adjacencies.{after_hello, enter_exstart, has_passed, initial_description}
-use Rattle.adjacency.specs.Adjacencies.{loading_done, loading_done_in, mismatch_step}
-use Rattle.adjacency.specs.Adjacencies.{requests_nothing, two_way_received}
-use Rattle.adjacency.specs.Adjacencies.{two_way_received_in, with_hello_heard}
+use Rattle.adjacency.specs.Adjacencies.{loading_done, mismatch_step, requests_nothing}
+use Rattle.adjacency.specs.Adjacencies.{two_way_received, two_way_received_in, with_hello_heard}
 use Rattle.adjacency.specs.Contents.{Content, Describes, Requests, Step, Updates, no_sends, then_}
 use Rattle.adjacency.specs.Descriptions.{Verdict, accept, act, after_description, announced_more}
 use Rattle.adjacency.specs.Descriptions.{as_received, changes_options, describe, exchange_done}
 use Rattle.adjacency.specs.Descriptions.{exchange_over, expected_sequence, in_state, is_duplicate}
-use Rattle.adjacency.specs.Descriptions.{is_empty, is_initial_description, is_kept, is_over_for}
+use Rattle.adjacency.specs.Descriptions.{is_empty, is_initial_description, is_kept}
 use Rattle.adjacency.specs.Descriptions.{judge, knows_types, master_goes_on, negotiated_neighbor}
 use Rattle.adjacency.specs.Descriptions.{next_description, repeat, same_flag, slave_replies}
 use Rattle.adjacency.specs.Descriptions.{verdict, with_requests, without_old_description}
-use Rattle.adjacency.specs.Floods.{flooded_in_exchange, flooding, meets, passes, request_of}
+use Rattle.adjacency.specs.Floods.{flooded_in_exchange, flooding, passes, request_of}
 use Rattle.adjacency.specs.Floods.{without_met_request}
 use Rattle.adjacency.specs.Neighbors.{Neighbor, is_exchange_or_later}
 use Rattle.adjacency.specs.Requests.{may_request, next_request, request_next, still_outstanding}
-use Rattle.adjacency.specs.Requests.{without_request}
-use Rattle.adjacency.specs.Retransmissions.{acknowledged_neighbor, add_retransmission}
-use Rattle.adjacency.specs.Retransmissions.{after_acknowledgment, describe_again, is_entry}
-use Rattle.adjacency.specs.Retransmissions.{next_retransmissions, remove_retransmission}
-use Rattle.adjacency.specs.Retransmissions.{repeats_description, request_again, send_again}
-use Rattle.adjacency.specs.Retransmissions.{update_again}
+use Rattle.adjacency.specs.Retransmissions.{add_retransmission, after_acknowledgment}
+use Rattle.adjacency.specs.Retransmissions.{describe_again, next_retransmissions}
+use Rattle.adjacency.specs.Retransmissions.{remove_retransmission, repeats_description}
+use Rattle.adjacency.specs.Retransmissions.{request_again, send_again, update_again}
 use Rattle.adjacency.proofs.Kept.{chosen}
 use Rattle.received.specs.Holds.{Holds}
 use Rattle.events.specs.Hellos.{is_foreign}
@@ -47,6 +44,7 @@ use Rattle.agreement_laws.specs.Answers.{HasRole, IsOpening}
 use Rattle.agreement_laws.specs.Accepted.{accepts_description, is_accepting}
 use Rattle.agreement_laws.proofs.Lists.{some_same}
 use Rattle.agreement_laws.proofs.Accepting.{by_tests}
+use Rattle.agreement_laws.proofs.Steps as neighbor_steps
 
 -- ---- flags
 
@@ -227,9 +225,7 @@ module _ (own : ℕ) (Acc : Description → Type 0) (Began : Conversation → Ty
 
   met : (moment : ℕ) (lsa : Lsa) (S : Description → Type 0) (m : Neighbor) → Sound S m
       → Sound S (without_met_request moment lsa m)
-  met moment lsa S m h =
-      chosen (Sound S) (meets moment lsa (request_of m lsa)) (without_request (lsa_key lsa) m) m
-      (λ e. h) (λ e. h)
+  met moment lsa S m h = neighbor_steps.met (Sound S) moment lsa m h h
 
   pub flooded : (moment : ℕ) (from : Bool) (lsa : Lsa) (S : Description → Type 0) (m : Neighbor)
       → Sound S m → OfStep S (flooding moment from lsa m)
@@ -285,34 +281,17 @@ module _ (own : ℕ) (Acc : Description → Type 0) (Began : Conversation → Ty
 
   -- ---- acknowledgments, Loading, Requests and the old Description
 
-  acknowledged_one : (moment : ℕ) (x : Header) (S : Description → Type 0) (m : Neighbor)
-      → Sound S m → Sound S (acknowledged_neighbor moment m x)
-  acknowledged_one moment x S m h =
-      chosen (Sound S) (is_entry moment x (finite.get m.retransmissions (key_of x)))
-      (remove_retransmission (key_of x) m) m (λ e. h) (λ e. h)
-
   pub acknowledged : (moment : ℕ) (xs : List Header) (S : Description → Type 0) (m : Neighbor)
       → Sound S m → Sound S (after_acknowledgment moment xs m)
-  acknowledged moment [] S m h = h
-  acknowledged moment (x ∷ xs) S m h =
-      acknowledged moment xs S (acknowledged_neighbor moment m x) (acknowledged_one moment x S m h)
+  acknowledged moment xs S m h =
+      neighbor_steps.acknowledged (Sound S) (λ k n so. so) moment xs m h
 
-  filled_in : (s : NeighborState) (S : Description → Type 0) (m : Neighbor)
-      → Sound S (record m { state = s }) → Sound S (loading_done_in s (record m { state = s }))
-  filled_in Init S m h = h
-  filled_in ExStart S m h = h
-  filled_in Exchange S m h = h
-  filled_in Loading S m h =
-      chosen (Sound S) (requests_nothing m) (record m { state = Full })
-      (record m { state = Loading }) (λ e. still h) (λ e. h)
+  pub filled : (S : Description → Type 0) (m : Neighbor) → Sound S m → Sound S (loading_done m)
+  filled S m h = neighbor_steps.filled (Sound S) m still h
     where
       still : Sound S (record m { state = Loading }) → Sound S (record m { state = Full })
       still (f, inl e) = absurd cc
       still (f, inr g) = (f, inr (refl, g.1, g.2, g.3, g.4, g.5))
-  filled_in Full S m h = h
-
-  pub filled : (S : Description → Type 0) (m : Neighbor) → Sound S m → Sound S (loading_done m)
-  filled S m h = filled_in m.state S m h
 
   pub asked : (moment : ℕ) (S : Description → Type 0) (m : Neighbor) → Sound S m
       → OfStep S (request_next moment m)
@@ -387,8 +366,7 @@ module _ (own : ℕ) (Acc : Description → Type 0) (Began : Conversation → Ty
   pub old_description : (moment dead : ℕ) (S : Description → Type 0) (m : Neighbor) → Sound S m
       → Sound S (without_old_description moment dead m)
   old_description moment dead S m h =
-      chosen (Sound S) (is_over_for moment dead m.exchanged) (record m { described = None }) m
-      (λ e. given_up h) (λ e. h)
+      neighbor_steps.old_description (Sound S) moment dead m (λ e. given_up h) h
     where
       given_up : Sound S m → Sound S (record m { described = None })
       given_up (f, inl e) = (f, inl (e.0, λ is. ((e.1 is).0, λ d at. absurd cc)))

@@ -5,7 +5,6 @@ use Rattle.std.proofs.Common.{◌&&◌, ◌||◌, List, [], ◌∷◌, length, m
 use Rattle.std.proofs.Common.{refl, sym, ap, subst, ◌∙◌, arith}
 use Rattle.std.specs.Prelude.{◌==◌, nat_lt}
 use Rattle.std.specs.FinMap as finite
-use Rattle.std.specs.FinSet as set
 use Rattle.std.specs.List.{AllByRecursion, fold}
 use Rattle.std.proofs.lemmas.Bool.{ltb-false}
 use Rattle.words.specs.Constants.{most_headers_described}
@@ -13,7 +12,7 @@ use Rattle.words.specs.declared.key.Key.{Key}
 use Rattle.lsa.specs.Reading.{lsa_in}
 use Rattle.lsdb.specs.Copies.{Database, DatabaseCopy, age_out, has_just_aged_out, install_flooded}
 use Rattle.lsdb.specs.Copies.{install_originated, lsa_now}
-use Rattle.lsdb.specs.Headers.{Header, Lsa, key_of, lsa_aged, lsa_key}
+use Rattle.lsdb.specs.Headers.{Header, Lsa, lsa_aged, lsa_key}
 use Rattle.lsdb.specs.Instances.{ListEntry}
 use Rattle.lsdb.specs.Keys.{ByKey, key_cmp}
 use Rattle.packet.specs.declared.model.PacketBody.{PacketBody}
@@ -25,26 +24,19 @@ use Rattle.adjacency.specs.declared.state.NeighborState.{NeighborState}
 use Rattle.adjacency.specs.declared.state.NeighborState.TheVariants.{Init, ExStart, Exchange}
 use Rattle.adjacency.specs.declared.state.NeighborState.TheVariants.{Loading, Full}
 use Rattle.adjacency.specs.Adjacencies as adjacencies
-use Rattle.adjacency.specs.Adjacencies.{enter_exstart, has_passed, loading_done_in, mismatch_step}
-use Rattle.adjacency.specs.Adjacencies.{requests_nothing, two_way_received_in, with_hello_heard}
-use Rattle.adjacency.specs.Contents.{Requests, Step, Updates, no_sends}
+use Rattle.adjacency.specs.Adjacencies.{enter_exstart, mismatch_step, requests_nothing}
+use Rattle.adjacency.specs.Contents.{Step, no_sends}
 use Rattle.adjacency.specs.Descriptions.{Verdict, accept, act, after_description, announced_more}
 use Rattle.adjacency.specs.Descriptions.{as_received, changes_options, describe, exchange_done}
 use Rattle.adjacency.specs.Descriptions.{exchange_over, expected_sequence, in_state, is_duplicate}
 use Rattle.adjacency.specs.Descriptions.{is_initial_description, is_kept, is_over_for, judge}
-use Rattle.adjacency.specs.Descriptions.{knows_types, master_goes_on, negotiated_neighbor, repeat}
+use Rattle.adjacency.specs.Descriptions.{knows_types, master_goes_on, negotiated_neighbor}
 use Rattle.adjacency.specs.Descriptions.{same_flag, slave_replies, with_requests}
 use Rattle.adjacency.specs.Descriptions.{without_old_description}
-use Rattle.adjacency.specs.Floods.{flooded_in_exchange, flooding, meets, passes, request_of}
-use Rattle.adjacency.specs.Floods.{without_met_request}
-use Rattle.adjacency.specs.Neighbors.{Neighbor, is_exchange_or_later}
-use Rattle.adjacency.specs.Requests.{may_request, next_request, request_next, still_outstanding}
-use Rattle.adjacency.specs.Requests.{without_request}
-use Rattle.adjacency.specs.Retransmissions.{acknowledged_neighbor, add_retransmission}
-use Rattle.adjacency.specs.Retransmissions.{after_acknowledgment, describe_again, is_entry}
-use Rattle.adjacency.specs.Retransmissions.{next_retransmissions, remove_retransmission}
-use Rattle.adjacency.specs.Retransmissions.{repeats_description, request_again, send_again}
-use Rattle.adjacency.specs.Retransmissions.{update_again}
+use Rattle.adjacency.specs.Floods.{flooding, without_met_request}
+use Rattle.adjacency.specs.Neighbors.{Neighbor}
+use Rattle.adjacency.specs.Requests.{request_next}
+use Rattle.adjacency.specs.Retransmissions.{after_acknowledgment, remove_retransmission}
 use Rattle.adjacency.proofs.Kept.{chosen}
 use Rattle.received.specs.Cases.{Case}
 use Rattle.received.specs.Flooding.{flood, flood_to, is_sender}
@@ -57,21 +49,21 @@ use Rattle.received.proofs.Holding.{one_keeps}
 use Rattle.events.specs.declared.model.Config.{Config}
 use Rattle.events.specs.declared.model.Out.{Out}
 use Rattle.events.specs.Commands.{taken_down}
-use Rattle.events.specs.Endings.{link_loading_done, loading_done_on, with_age}
+use Rattle.events.specs.Endings.{link_loading_done, with_age}
 use Rattle.events.specs.EventState.{flood_from_nobody}
 use Rattle.events.specs.Events.{Happens, Run, Step as RunStep, initial}
 use Rattle.events.specs.Hellos.{accepts, names}
 use Rattle.events.specs.Originations.{due_keys, new_instance, router_key}
 use Rattle.events.specs.Packets.{hear, heard_on, with_neighbor}
 use Rattle.events.specs.Routers.{Occurrence, Router, fresh_link, unannounced_router}
-use Rattle.events.specs.Ticks.{again, run_out, settled_exchange, with_hello_sent}
-use Rattle.events.specs.Ticks.{without_acknowledgments}
+use Rattle.events.specs.Ticks.{again, run_out, with_hello_sent, without_acknowledgments}
 use Rattle.events.proofs.Walk.{Brings, IfRead, Invariant, IsKeptByParts, OfBrought, OfBytes}
 use Rattle.events.proofs.Walk.{originate_or_wait_kept}
 use Rattle.events.proofs.Walk as walk
 use Rattle.agreement_laws.specs.HeldWasTold.{NothingIsLeftToDescribe, is_exchange_done}
 use Rattle.agreement_laws.proofs.Verdicts.{as_slave_or_master, first_two, mismatch_or_accepted}
 use Rattle.agreement_laws.proofs.Steps as steps
+use Rattle.agreement_laws.proofs.AtInterface as interface
 
 -- ---- all entries fit
 
@@ -237,11 +229,7 @@ module _ (own moment : ℕ) (db : Database) (d : Description) where
   after m h = chosen OfStep (nat_lt 8192 d.mtu) (no_sends m) (in_state m.state own moment db d m)
       (λ e. h) (λ e. stated m.state m h)
 
--- ---- Loading and a Tick
-
-filled_on : (n : Option Neighbor) → Holds IsDone n → Holds IsDone (loading_done_on n)
-filled_on None h = tt
-filled_on (Some m) h = steps.filled IsDone m (λ so. so) h
+-- ---- a Tick
 
 -- the last Database Description is discarded only after the exchange was completed
 given_up : (s : NeighborState) (moment dead : ℕ) (d : Option Description) (at : Option ℕ)
@@ -259,14 +247,6 @@ old_description : (moment dead : ℕ) (m : Neighbor) → IsDone m
 old_description moment dead m h =
     steps.old_description IsDone moment dead m
     (λ e. given_up m.state moment dead m.described m.exchanged m.summary e h) h
-
-inactive : (moment dead : ℕ) (n : Option Neighbor) → Holds IsDone n
-    → Holds IsDone (settled_exchange moment dead (adjacencies.after_inactivity_timer moment dead n))
-inactive moment dead None h = tt
-inactive moment dead (Some m) h =
-    chosen (λ (o : Option Neighbor). Holds IsDone (settled_exchange moment dead o))
-    (has_passed m.last_heard dead moment) None (Some m) (λ e. tt)
-    (λ e. old_description moment dead m h)
 
 -- ---- every neighbor
 
@@ -362,10 +342,12 @@ parts_keep = record {
       (λ n. no_sends (after_acknowledgment moment headers n)) (acknowledged moment headers) o h;
   due = λ moment r own. keys_any (due_keys moment r);
   inactive = λ moment o h. each_link_keeps IsDone (run_out moment)
-      (λ link at. inactive moment link.interface.dead_interval link.neighbor at) o.area.links h;
+      (λ link at. interface.inactive (Holds IsDone) tt moment link.interface.dead_interval
+      (old_description moment link.interface.dead_interval) link.neighbor at) o.area.links h;
   again = λ moment o h.
       each_keeps IsDone moment (again moment o)
-      (λ number link n at. steps.again IsDone moment link.interface.retransmit_interval o.area.database
+      (λ number link n at. steps.again IsDone moment link.interface.retransmit_interval
+      o.area.database
       n at) o h;
   acknowledges = λ moment o h. each_link_keeps IsDone without_acknowledgments (λ link at. at)
       o.area.links h;
@@ -374,8 +356,9 @@ parts_keep = record {
   announces = λ r e own h. tt;
   unannounces = λ r key h. tt;
   link_down = λ number o h. changed_keeps IsDone number taken_down (λ link at. tt) o.area.links h;
-  loaded = λ o h. each_link_keeps IsDone link_loading_done (λ link at. filled_on link.neighbor at)
-      o.area.links h;
+  loaded = λ o h. each_link_keeps IsDone link_loading_done
+      (λ link at. interface.loaded (Holds IsDone) (λ m k. steps.filled IsDone m (λ so. so) k)
+      link.neighbor at) o.area.links h;
   requests = λ moment o h. each_keeps IsDone moment (λ number link n. request_next moment n)
       (λ number link n at. steps.asked IsDone moment n at) o h;
   removes = λ moment o h. h;

@@ -1,32 +1,13 @@
 -- What each step of a neighbor, but for Descriptions, makes of its exchange: it stays as it is,
 -- or the conversation is over.
-use Rattle.std.proofs.Common.{◌≡◌, ℕ, Bool, true, false, not, ◌&&◌, ◌⊎◌, inl, inr, List, [], ◌∷◌}
-use Rattle.std.proofs.Common.{map, Option, None, Some, refl}
-use Rattle.std.specs.Prelude.{◌==◌}
-use Rattle.std.specs.FinMap as finite
-use Rattle.std.specs.FinSet as set
-use Rattle.lsdb.specs.Copies.{Database}
-use Rattle.lsdb.specs.Headers.{Header, Lsa, key_of, lsa_key}
-use Rattle.packet.specs.declared.model.Description.{Description}
-use Rattle.adjacency.specs.declared.state.NeighborState.{NeighborState}
-use Rattle.adjacency.specs.declared.state.NeighborState.TheVariants.{Init, ExStart, Exchange}
+use Rattle.std.proofs.Common.{◌≡◌, ℕ, Bool, true, ◌⊎◌, inl, inr, List, Option, refl}
+use Rattle.lsdb.specs.Headers.{Header, Lsa}
 use Rattle.adjacency.specs.declared.state.NeighborState.TheVariants.{Loading, Full}
-use Rattle.adjacency.specs.Adjacencies.{after_hello, enter_exstart, has_passed, loading_done}
-use Rattle.adjacency.specs.Adjacencies.{loading_done_in, mismatch_step, requests_nothing}
-use Rattle.adjacency.specs.Adjacencies.{two_way_received_in, with_hello_heard}
-use Rattle.adjacency.specs.Contents.{Requests, Step, Updates, no_sends}
-use Rattle.adjacency.specs.Descriptions.{is_over_for, repeat, without_old_description}
-use Rattle.adjacency.specs.Floods.{flooded_in_exchange, flooding, meets, passes, request_of}
-use Rattle.adjacency.specs.Floods.{without_met_request}
+use Rattle.adjacency.specs.Adjacencies.{after_hello, enter_exstart, loading_done, mismatch_step}
+use Rattle.adjacency.specs.Descriptions.{without_old_description}
+use Rattle.adjacency.specs.Floods.{flooding, without_met_request}
 use Rattle.adjacency.specs.Neighbors.{Neighbor, fresh, is_exchange_or_later}
-use Rattle.adjacency.specs.Requests.{may_request, next_request, request_next, still_outstanding}
-use Rattle.adjacency.specs.Requests.{without_request}
-use Rattle.adjacency.specs.Retransmissions.{acknowledged_neighbor, add_retransmission}
-use Rattle.adjacency.specs.Retransmissions.{after_acknowledgment, describe_again, is_entry}
-use Rattle.adjacency.specs.Retransmissions.{next_retransmissions, remove_retransmission}
-use Rattle.adjacency.specs.Retransmissions.{repeats_description, request_again, send_again}
-use Rattle.adjacency.specs.Retransmissions.{update_again}
-use Rattle.adjacency.proofs.Kept.{chosen}
+use Rattle.adjacency.specs.Retransmissions.{after_acknowledgment}
 use Rattle.received.specs.Holds.{Holds}
 use Rattle.agreement_laws.specs.Exchanged.{conversation_with}
 use Rattle.agreement_laws.proofs.Steps as steps

@@ -1,6 +1,7 @@
 mod Ranks
 mod Lists
 mod Steps
+mod AtInterface
 mod Ages
 mod Accepting
 mod Settling

@@ -26,24 +26,22 @@ use Rattle.received.specs.Cases.{Case}
 use Rattle.received.specs.Flooding.{flood, flood_to, is_sender}
 use Rattle.received.specs.Holds.{Holds}
 use Rattle.received.specs.Links.{Link, acknowledge_later, change_link, link_at, neighbor_at}
-use Rattle.received.specs.Links.{neighbor_on}
 use Rattle.received.specs.Outcomes.{Outcome, Stepping, each_neighbor, on_database, on_links}
 use Rattle.received.specs.Outcomes.{one_neighbor, only_at, step_on, stepped_links}
 use Rattle.received.specs.Updates.{after_case, copy_of, send_copy}
 use Rattle.events.specs.Commands.{taken_down}
-use Rattle.events.specs.Endings.{link_loading_done, loading_done_on, start_event, stays, with_age}
+use Rattle.events.specs.Endings.{link_loading_done, start_event, stays, with_age}
 use Rattle.events.specs.EventState.{EventState, flood_from_nobody}
 use Rattle.events.specs.Hellos.{accepts, names}
 use Rattle.events.specs.Originations.{new_instance}
 use Rattle.events.specs.Packets.{after_hello, hear, heard_on, with_neighbor}
 use Rattle.events.specs.Packets.{describe_to, is_from, is_hello}
-use Rattle.events.specs.Ticks.{again, run_out, settled_exchange, with_hello_sent}
-use Rattle.events.specs.Ticks.{without_acknowledgments}
+use Rattle.events.specs.Ticks.{again, run_out, with_hello_sent, without_acknowledgments}
 use Rattle.events.specs.declared.model.Out.{Out}
 use Rattle.events.specs.Events.{Happens}
 use Rattle.events.specs.Routers.{Occurrence, Router}
 use Rattle.events.proofs.Walk.{outcome}
-use Rattle.flood_laws.proofs.Leaving.{each_kept_at, numbered_kept, stepped_kept}
+use Rattle.flood_laws.proofs.Leaving.{each_kept_at, stepped_kept}
 use Rattle.flood_laws.specs.InOrder.{IsInOrder}
 use Rattle.flood_laws.proofs.Acknowledged.{in_order, order_begun, order_brings, order_kept}
 use Rattle.flood_laws.proofs.EventWalk.{IsHeard, IsKeptToo, event_kept_too}
@@ -54,6 +52,7 @@ use Rattle.agreement_laws.proofs.ExchangeSteps.{IsSame, Standing}
 use Rattle.agreement_laws.proofs.ExchangeSteps as steps
 use Rattle.agreement_laws.proofs.Lists.{some_same}
 use Rattle.agreement_laws.proofs.Steps as kept
+use Rattle.agreement_laws.proofs.AtInterface as interface
 
 module _ (old : Router) (moment : ℕ) (event : Occurrence) (number : ℕ) (n : Neighbor)
     (was : neighbor_at number old.area.links ≡ Some n) where
@@ -89,32 +88,21 @@ module _ (old : Router) (moment : ℕ) (event : Occurrence) (number : ℕ) (n : 
       → Stands (on_links (change_link place change) o)
   change_at place change o keeps h =
       on_all (change_link place change) o
-      (λ k. numbered_kept StandsThere StandsThere (λ k. k)
-      (λ (e : ℕ × Link). cond (e.0 == place) (change e.1) e.1) number
-      (λ link at. chosen (λ (l : Link). StandsThere l.neighbor) (number == place) (change link) link
-      (λ e. keeps link at) (λ e. at)) o.area.links k) h
-
-  stepped : (f : Neighbor → Step) → ((m : Neighbor) → Standing n m → Standing n (f m).neighbor)
-      → (o : Option Neighbor) → StandsThere o → StandsThere (step_on f o)
-  stepped f keeps None k = k
-  stepped f keeps (Some m) k = keeps m k
+      (λ k. interface.changed StandsThere number place change o.area.links keeps k) h
 
   each_step : (f : Stepping) (o : Outcome)
       → ((link : Link) (m : Neighbor) → Standing n m → Standing n (f number link m).neighbor)
       → Stands o → Stands (each_neighbor moment f o)
   each_step f o keeps h =
-      on_all (stepped_links f) o (λ k. stepped_kept StandsThere StandsThere (λ k. k) f number
-      (λ link at. stepped (f number link) (keeps link) link.neighbor at) o.area.links k) h
+      on_all (stepped_links f) o
+      (λ k. interface.stepped StandsThere number f o.area.links keeps k) h
 
   one_step : (place : ℕ) (f : Neighbor → Step) (o : Outcome)
       → ((m : Neighbor) → Standing n m → Standing n (f m).neighbor) → Stands o
       → Stands (one_neighbor moment place f o)
   one_step place f o keeps h =
       each_step (only_at place f) o
-      (λ link m at. chosen (λ (s : Step). Standing n s.neighbor) (number == place) (f m) (record {
-        neighbor = m;
-        sends = [];
-      }) (λ e. keeps m at) (λ e. at)) h
+      (λ link m at. interface.stepped_at StandsThere number place f link m (λ e k. keeps m k) at) h
 
   floods : (sender : Option ℕ) (lsa : Lsa) (o : Outcome) → Stands o
       → Stands (flood moment sender lsa o)
@@ -127,11 +115,6 @@ module _ (old : Router) (moment : ℕ) (event : Occurrence) (number : ℕ) (n : 
   SameThere None = ⊥
   SameThere (Some m) = IsSame n m
 
-  aged_one : (lsa : Lsa) (link : Link) (o : Option Neighbor) → SameThere o
-      → SameThere (step_on (flood_to moment None lsa number link) o)
-  aged_one lsa link None k = k
-  aged_one lsa link (Some m) k = steps.same_flooded n moment (is_sender None number) lsa m k
-
   ages : (es : List (Key × DatabaseCopy)) (o : Outcome)
       → SameThere (neighbor_at number o.area.links)
       → SameThere (neighbor_at number (fold (with_age old.moment moment) o es).area.links)
@@ -141,8 +124,9 @@ module _ (old : Router) (moment : ℕ) (event : Occurrence) (number : ℕ) (n : 
       (chosen (λ (p : Outcome). SameThere (neighbor_at number p.area.links))
       (has_just_aged_out old.moment moment e.1)
       (flood_from_nobody moment (lsa_now moment e.1) o) o
-      (λ just. stepped_kept SameThere SameThere (λ k. k) (flood_to moment None (lsa_now moment e.1))
-      number (λ link at. aged_one (lsa_now moment e.1) link link.neighbor at) o.area.links h)
+      (λ just. interface.stepped SameThere number (flood_to moment None (lsa_now moment e.1))
+      o.area.links
+      (λ link m k. steps.same_flooded n moment (is_sender None number) (lsa_now moment e.1) m k) h)
       (λ young. h))
 
   same_begun : SameThere (neighbor_at number start.router.area.links)
@@ -202,25 +186,13 @@ module _ (old : Router) (moment : ℕ) (event : Occurrence) (number : ℕ) (n : 
           let s : Step = adjacencies.after_hello moment from (names own hello) link.neighbor in
           chosen Stands (accepts own from hello link) (hear moment place s o) o
           (λ e. on_all (change_link place (with_neighbor s.neighbor)) o
-          (λ k. numbered_kept (λ (m : Option Neighbor). StandsThere m
-          × ((number == place) ≡ true → StandsThere link.neighbor)) StandsThere (λ k. k.0)
-          (λ (f : ℕ × Link). cond (f.0 == place) (with_neighbor s.neighbor f.1) f.1) number
-          (λ l at. chosen (λ (m : Link). StandsThere m.neighbor) (number == place)
-          (with_neighbor s.neighbor l) l
-          (λ here. steps.helloed n moment from (names own hello) link.neighbor
-          (heard_of link.neighbor (at.1 here))) (λ away. at.0))
-          o.area.links (k, λ here. at_place k here)) h) (λ e. h)
+          (λ k. interface.heard StandsThere number place s.neighbor link o.area.links is
+          (λ at. steps.helloed n moment from (names own hello) link.neighbor
+          (heard_of link.neighbor at)) k) h) (λ e. h)
         where
           heard_of : (m : Option Neighbor) → StandsThere m → Holds (Standing n) m
           heard_of None k = tt
           heard_of (Some m) k = k
-
-          at_place : StandsThere (neighbor_at number o.area.links) → (number == place) ≡ true
-              → StandsThere link.neighbor
-          at_place k e =
-              subst (λ (l : Option Link). StandsThere (neighbor_on l)) is
-              (subst (λ i. StandsThere (neighbor_at i o.area.links)) (eqb-true number place e)
-              k)
 
   -- the neighbor's Description, or another one's
   descriptions : (place : ℕ) (packet : Packet) (d : Description) → IsHeard start event place packet
@@ -275,19 +247,6 @@ module _ (old : Router) (moment : ℕ) (event : Occurrence) (number : ℕ) (n : 
 
   -- ---- every part
 
-  inactive_one : (dead : ℕ) (o : Option Neighbor) → StandsThere o
-      → StandsThere (settled_exchange moment dead
-      (adjacencies.after_inactivity_timer moment dead o))
-  inactive_one dead None h = tt
-  inactive_one dead (Some m) h =
-      chosen (λ (o : Option Neighbor). StandsThere (settled_exchange moment dead o))
-      (adjacencies.has_passed m.last_heard dead moment) None (Some m) (λ e. tt)
-      (λ e. steps.old_description n moment dead m h)
-
-  loaded_one : (o : Option Neighbor) → StandsThere o → StandsThere (loading_done_on o)
-  loaded_one None h = tt
-  loaded_one (Some m) h = steps.filled n m h
-
   abbrev Lately : Outcome → ByKey ℕ → Type 0
   Lately o t = Stands o
 
@@ -310,14 +269,18 @@ module _ (old : Router) (moment : ℕ) (event : Occurrence) (number : ℕ) (n : 
     mismatch = λ place o t area h. mismatches place o h;
     forgets = λ r o area h. h;
     inactive = λ o t area h. each_link (run_out moment) o
-        (λ link at. inactive_one link.interface.dead_interval link.neighbor at) h;
+        (λ link at. interface.inactive StandsThere tt moment link.interface.dead_interval
+        (λ m k. steps.old_description n moment link.interface.dead_interval m k) link.neighbor at)
+        h;
     again = λ o t area h. each_step (again moment o) o
-        (λ link m at. kept.again (Standing n) moment link.interface.retransmit_interval o.area.database m at)
+        (λ link m at. kept.again (Standing n) moment link.interface.retransmit_interval
+        o.area.database m at)
         h;
     acknowledges = λ o t area h. each_link without_acknowledgments o (λ link at. at) h;
     hellos = λ o t area h. each_link (with_hello_sent moment) o (λ link at. at) h;
     link_down = λ place o t area h. change_at place taken_down o (λ link at. tt) h;
-    loaded = λ o t area h. each_link link_loading_done o (λ link at. loaded_one link.neighbor at) h;
+    loaded = λ o t area h. each_link link_loading_done o
+        (λ link at. interface.loaded StandsThere (steps.filled n) link.neighbor at) h;
     requests = λ o t area h. each_step (λ place link m. request_next moment m) o
         (λ link m at. kept.asked (Standing n) moment m at) h;
     removes = λ o t area h. h;

@@ -21,9 +21,9 @@ use Rattle.adjacency.specs.Requests.{request_next}
 use Rattle.adjacency.proofs.Kept.{chosen}
 use Rattle.received.specs.Flooding.{flood_to, is_sender}
 use Rattle.received.specs.Links.{Link, neighbor_at}
-use Rattle.received.specs.Outcomes.{Outcome, Stepping, on_database, only_at, step_on, stepped_links}
+use Rattle.received.specs.Outcomes.{Outcome, on_database, only_at, step_on}
 use Rattle.events.specs.declared.model.Out.{Out}
-use Rattle.events.specs.Endings.{end_event, link_loading_done, loading_done_on, start_event}
+use Rattle.events.specs.Endings.{end_event, link_loading_done, start_event}
 use Rattle.events.specs.EventState.{EventState, flood_from_nobody, on_area}
 use Rattle.events.specs.Events.{Happens}
 use Rattle.events.specs.Originations.{new_instance}
@@ -40,6 +40,7 @@ use Rattle.agreement_laws.proofs.ExchangeSteps.{IsSame, same_filled, same_floode
 use Rattle.agreement_laws.proofs.Accepting.{Passes, is_taken, its_tests}
 use Rattle.agreement_laws.proofs.Ending.{Going, IsKeptToEnd, ended}
 use Rattle.agreement_laws.proofs.Steps.{asked}
+use Rattle.agreement_laws.proofs.AtInterface as interface
 
 -- ---- the step
 
@@ -163,25 +164,9 @@ module _ (own moment number : ℕ) (x : Neighbor) where
   abbrev StaysSame : Outcome → Type 0
   StaysSame o = SameThere (neighbor_at number o.area.links)
 
-  stepped : (f : Neighbor → Step) → ((m : Neighbor) → IsSame x m → IsSame x (f m).neighbor)
-      → (o : Option Neighbor) → SameThere o → SameThere (step_on f o)
-  stepped f keeps None k = k
-  stepped f keeps (Some m) k = keeps m k
-
-  each_step : (f : Stepping) (links : List Link)
-      → ((link : Link) (m : Neighbor) → IsSame x m → IsSame x (f number link m).neighbor)
-      → SameThere (neighbor_at number links)
-      → SameThere (neighbor_at number (stepped_links f links))
-  each_step f links keeps h = stepped_kept SameThere SameThere (λ k. k) f number
-      (λ link at. stepped (f number link) (keeps link) link.neighbor at) links h
-
   floods : (lsa : Lsa) (o : Outcome) → StaysSame o → StaysSame (flood_from_nobody moment lsa o)
-  floods lsa o h = each_step (flood_to moment None lsa) o.area.links
+  floods lsa o h = interface.stepped SameThere number (flood_to moment None lsa) o.area.links
       (λ link m at. same_flooded x moment (is_sender None number) lsa m at) h
-
-  loaded_one : (o : Option Neighbor) → SameThere o → SameThere (loading_done_on o)
-  loaded_one None k = k
-  loaded_one (Some m) k = same_filled x m k
 
   kept : IsKeptToEnd own moment StaysSame
   kept = record {
@@ -190,8 +175,9 @@ module _ (own moment number : ℕ) (x : Neighbor) where
         let lsa : Lsa = new_instance k (finite.get p.router.area.database k) says in
         floods lsa (on_database (install_originated moment lsa) (outcome p)) h;
     loaded = λ o h. each_kept_at SameThere SameThere (λ k. k) link_loading_done number
-        (λ link at. loaded_one link.neighbor at) o.area.links h;
-    requests = λ o h. each_step (λ place link m. request_next moment m) o.area.links
+        (λ link at. interface.loaded SameThere (same_filled x) link.neighbor at) o.area.links h;
+    requests = λ o h. interface.stepped SameThere number (λ place link m. request_next moment m)
+        o.area.links
         (λ link m at. asked (IsSame x) moment m at) h;
   }
 

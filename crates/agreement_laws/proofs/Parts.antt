@@ -39,17 +39,16 @@ use Rattle.received.specs.Outcomes.{sent_on, step_on, stepped_links, stepping_se
 use Rattle.received.specs.Updates.{after_case, case_at, copy_of, install, send_copy}
 use Rattle.received.proofs.Marks.{changed_by, tied}
 use Rattle.events.specs.Commands.{taken_down}
-use Rattle.events.specs.Endings.{link_loading_done, loading_done_on, stays}
+use Rattle.events.specs.Endings.{link_loading_done, stays}
 use Rattle.events.specs.EventState.{flood_from_nobody}
 use Rattle.events.specs.Hellos.{accepts, names}
 use Rattle.events.specs.Originations.{install_and_flood}
 use Rattle.events.specs.Packets.{acknowledged_by, after_hello, describe_to, hear, heard_on}
 use Rattle.events.specs.Packets.{with_neighbor}
 use Rattle.events.specs.Ticks.{acknowledge_all, acknowledgments_on, again, hello_sent_on, run_out}
-use Rattle.events.specs.Ticks.{send_hellos, sends_of, settled_exchange, with_hello_sent}
-use Rattle.events.specs.Ticks.{without_acknowledgments}
+use Rattle.events.specs.Ticks.{send_hellos, sends_of, with_hello_sent, without_acknowledgments}
 use Rattle.flood_laws.specs.Retransmissions.{AreOfTheDatabase}
-use Rattle.flood_laws.proofs.Leaving.{each_kept_at, numbered_kept, stepped_kept}
+use Rattle.flood_laws.proofs.Leaving.{each_kept_at, stepped_kept}
 use Rattle.flood_laws.proofs.Limits.{tied_key}
 use Rattle.flood_laws.proofs.Owing.{put_other, put_same}
 use Rattle.flood_laws.proofs.Worlds.{mapped}
@@ -64,6 +63,7 @@ use Rattle.agreement_laws.proofs.Settling.{Known, Saying, Settling, settling_mor
 use Rattle.agreement_laws.proofs.Settling as settling
 use Rattle.agreement_laws.proofs.Cases.{same_where_implied}
 use Rattle.agreement_laws.proofs.Databases.{flushed_copy, installed_copy, originated_copy}
+use Rattle.agreement_laws.proofs.AtInterface as interface
 
 -- ---- what is held when the database changes
 
@@ -229,10 +229,8 @@ module _ (key : Key) (moment : ℕ) (number : ℕ) (There : Type 0) (Of : ℕ �
         → HoldsThere o.sends (held moment key o.area.database) (change link).neighbor) → Stands o
         → Stands (on_links (change_link place change) o)
     change_at place change o keeps h =
-        let P : Option Neighbor → Type 0 = HoldsThere o.sends (held moment key o.area.database) in
-        numbered_kept P P (λ n. n) (λ (e : ℕ × Link). cond (e.0 == place) (change e.1) e.1) number
-        (λ link at. chosen (λ (l : Link). P l.neighbor) (number == place) (change link) link
-        (λ e. keeps link at) (λ e. at)) o.area.links h
+        interface.changed (HoldsThere o.sends (held moment key o.area.database)) number place change
+        o.area.links keeps h
 
     -- a step of each neighbor: for the instance x before it, and y after it
     pub each_step : (f : Stepping) (o : Outcome) (x : Option Instance)
@@ -257,9 +255,8 @@ module _ (key : Key) (moment : ℕ) (number : ℕ) (There : Type 0) (Of : ℕ �
         → Stands (one_neighbor moment place f o)
     one_step place f o keeps h =
         each_step (only_at place f) o (held moment key o.area.database)
-        (λ link m at. chosen (λ (s : Step). SettlingBy o.sends (held moment key o.area.database)
-        s.neighbor) (number == place) (f m) (record { neighbor = m; sends = [] })
-        (λ e. keeps m e at) (λ e. at)) h
+        (λ link m at. interface.stepped_at (HoldsThere o.sends (held moment key o.area.database))
+        number place f link m (λ e k. keeps m e k) at) h
 
     -- ---- flooding
 
@@ -279,14 +276,9 @@ module _ (key : Key) (moment : ℕ) (number : ℕ) (There : Type 0) (Of : ℕ �
     flood_any sender lsa o x other h =
         more_sent o.sends (stepping_sends (flood_to moment sender lsa) o.area.links) x
         (neighbor_at number (stepped_links (flood_to moment sender lsa) o.area.links))
-        (stepped_kept (HoldsThere o.sends x) (HoldsThere o.sends x) (λ n. n)
-        (flood_to moment sender lsa) number (λ link at. one link link.neighbor at) o.area.links h)
-      where
-        one : (link : Link) (n : Option Neighbor) → HoldsThere o.sends x n
-            → HoldsThere o.sends x (step_on (flood_to moment sender lsa number link) n)
-        one link None k = tt
-        one link (Some m) k = settling.flooded_other key moment Of (SaidBy o.sends) x moment
-            (is_sender sender number) lsa m other k
+        (interface.stepped (HoldsThere o.sends x) number (flood_to moment sender lsa) o.area.links
+        (λ link m k. settling.flooded_other key moment Of (SaidBy o.sends) x moment
+        (is_sender sender number) lsa m other k) h)
 
     -- an LSA of this key that wasn't received from a neighbor; what was held before doesn't matter
     pub flood_same : (lsa : Lsa) (o : Outcome) (x : Option Instance) → same_key key (lsa_key lsa)
@@ -486,17 +478,6 @@ module _ (key : Key) (moment : ℕ) (number : ℕ) (There : Type 0) (Of : ℕ �
         → Stands (after_hello own moment place from hello o)
     hellos own place from hello o h = by_link (link_at place o.area.links) refl
       where
-        P : Option Neighbor → Type 0
-        P = HoldsThere o.sends (held moment key o.area.database)
-
-        at_place : (link : Option Link) → link_at place o.area.links ≡ link → (number == place)
-            ≡ true → HoldsThere o.sends (held moment key o.area.database) (neighbor_on link)
-        at_place link is e =
-            subst (λ (l : Option Link). HoldsThere o.sends (held moment key o.area.database)
-            (neighbor_on l)) is
-            (subst (λ n. HoldsThere o.sends (held moment key o.area.database)
-            (neighbor_at n o.area.links)) (eqb-true number place e) h)
-
         by_link : (link : Option Link) → link_at place o.area.links ≡ link
             → Stands (heard_on own moment place from hello link o)
         by_link None is = h
@@ -505,16 +486,10 @@ module _ (key : Key) (moment : ℕ) (number : ℕ) (There : Type 0) (Of : ℕ �
             chosen Stands (accepts own from hello link) (hear moment place s o) o
             (λ e. sent (sends_at place s.sends)
             (on_links (change_link place (with_neighbor s.neighbor)) o)
-            (numbered_kept (HoldsThere o.sends (held moment key o.area.database))
-            (HoldsThere o.sends (held moment key o.area.database)) (λ n. n)
-            (λ (f : ℕ × Link). cond (f.0 == place) (with_neighbor s.neighbor f.1) f.1) number
-            (λ l at. chosen (λ (m : Link). HoldsThere o.sends (held moment key o.area.database)
-            m.neighbor) (number == place) (with_neighbor s.neighbor l) l
-            (λ here. settling.helloed key moment Of (SaidBy o.sends)
-            (held moment key o.area.database)
-            moment from (names own hello) link.neighbor (at_place (Some link) is here))
-            (λ away. at))
-            o.area.links h)) (λ e. h)
+            (interface.heard (HoldsThere o.sends (held moment key o.area.database)) number place
+            s.neighbor link o.area.links is
+            (λ at. settling.helloed key moment Of (SaidBy o.sends) (held moment key o.area.database)
+            moment from (names own hello) link.neighbor at) h)) (λ e. h)
 
     -- a step of only this neighbor, with what it sends
     step_here : (f : Stepping) (o : Outcome)
@@ -665,19 +640,14 @@ module _ (key : Key) (moment : ℕ) (number : ℕ) (There : Type 0) (Of : ℕ �
 
     -- ---- a Tick, a command, and the end
 
-    inactive_one : (sends : List Send) (x : Option Instance) (dead : ℕ) (n : Option Neighbor)
-        → HoldsThere sends x n → HoldsThere sends x
-        (settled_exchange moment dead (adjacencies.after_inactivity_timer moment dead n))
-    inactive_one sends x dead None h = tt
-    inactive_one sends x dead (Some m) h =
-        chosen (λ (o : Option Neighbor). HoldsThere sends x (settled_exchange moment dead o))
-        (adjacencies.has_passed m.last_heard dead moment) None (Some m) (λ e. tt)
-        (λ e. settling.old_description key moment Of (SaidBy sends) x moment dead m h)
-
     pub inactive : (o : Outcome) → Stands o → Stands (on_links (map (run_out moment)) o)
     inactive o h =
-        each_link (run_out moment) o (λ link at. inactive_one o.sends
-        (held moment key o.area.database) link.interface.dead_interval link.neighbor at) h
+        each_link (run_out moment) o
+        (λ link at. interface.inactive (HoldsThere o.sends (held moment key o.area.database)) tt
+        moment link.interface.dead_interval
+        (λ m k. settling.old_description key moment Of (SaidBy o.sends)
+        (held moment key o.area.database) moment link.interface.dead_interval m k)
+        link.neighbor at) h
 
     pub agains : (o : Outcome) → Stands o → Stands (each_neighbor moment (again moment o) o)
     agains o h =
@@ -701,14 +671,11 @@ module _ (key : Key) (moment : ℕ) (number : ℕ) (There : Type 0) (Of : ℕ �
         → Stands (on_links (change_link place taken_down) o)
     down place o h = change_at place taken_down o (λ link at. tt) h
 
-    loaded_one : (sends : List Send) (x : Option Instance) (n : Option Neighbor)
-        → HoldsThere sends x n → HoldsThere sends x (loading_done_on n)
-    loaded_one sends x None h = tt
-    loaded_one sends x (Some m) h = settling.filled key moment Of (SaidBy sends) x m h
-
     pub loaded : (o : Outcome) → Stands o → Stands (on_links (map link_loading_done) o)
     loaded o h = each_link link_loading_done o
-        (λ link at. loaded_one o.sends (held moment key o.area.database) link.neighbor at) h
+        (λ link at. interface.loaded (HoldsThere o.sends (held moment key o.area.database))
+        (settling.filled key moment Of (SaidBy o.sends) (held moment key o.area.database))
+        link.neighbor at) h
 
     pub requests : (o : Outcome) → Stands o
         → Stands (each_neighbor moment (λ place link m. request_next moment m) o)

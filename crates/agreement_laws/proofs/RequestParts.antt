@@ -1,12 +1,10 @@
 -- What each part of an event makes of a request: it stays on the neighbor's list, or an instance
 -- that is as new is held, or the conversation
 -- is over.
-use Rattle.std.proofs.Common.{◌≡◌, ℕ, true, cond, ◌⊎◌, inl, inr, List, [], ◌∷◌, map, Option, None}
+use Rattle.std.proofs.Common.{◌≡◌, ℕ, true, ◌⊎◌, inl, inr, List, [], ◌∷◌, map, Option, None}
 use Rattle.std.proofs.Common.{Some, refl, sym, subst, ◌∙◌}
-use Rattle.std.specs.Prelude.{◌==◌}
 use Rattle.std.specs.FinMap as finite
 use Rattle.std.specs.List.{AllByRecursion, fold}
-use Rattle.std.proofs.lemmas.Bool.{eqb-true}
 use Rattle.words.specs.declared.key.Key.{Key}
 use Rattle.lsa.specs.declared.body.LsaBody.{LsaBody}
 use Rattle.lsdb.specs.Copies.{Database, DatabaseCopy, age_out, copy_now, has_just_aged_out}
@@ -26,23 +24,21 @@ use Rattle.adjacency.proofs.Maps.{OfEntry}
 use Rattle.received.specs.Cases.{Case}
 use Rattle.received.specs.Flooding.{flood, flood_to, is_sender}
 use Rattle.received.specs.Holds.{Holds}
-use Rattle.received.specs.Links.{Link, acknowledge_later, change_link}
-use Rattle.received.specs.Links.{link_at, neighbor_at, neighbor_on}
+use Rattle.received.specs.Links.{Link, acknowledge_later, change_link, link_at, neighbor_at}
 use Rattle.received.specs.Outcomes.{Outcome, Send, Stepping, each_neighbor, on_database, on_links}
 use Rattle.received.specs.Outcomes.{one_neighbor, only_at, sending, sends_at, step_on}
 use Rattle.received.specs.Outcomes.{stepped_links, stepping_sends}
 use Rattle.received.specs.Updates.{after_case, case_at, copy_of, install, send_copy}
 use Rattle.received.proofs.Marks.{IsStill, mark_all}
 use Rattle.events.specs.Commands.{taken_down}
-use Rattle.events.specs.Endings.{link_loading_done, loading_done_on, stays, with_age}
+use Rattle.events.specs.Endings.{link_loading_done, stays, with_age}
 use Rattle.events.specs.EventState.{flood_from_nobody}
 use Rattle.events.specs.Hellos.{accepts, names}
 use Rattle.events.specs.Originations.{install_and_flood, new_instance}
 use Rattle.events.specs.Packets.{acknowledged_by, after_hello, hear, heard_on, with_neighbor}
 use Rattle.events.specs.Ticks.{acknowledge_all, acknowledgments_on, again, hello_sent_on, run_out}
-use Rattle.events.specs.Ticks.{send_hellos, sends_of, settled_exchange, with_hello_sent}
-use Rattle.events.specs.Ticks.{without_acknowledgments}
-use Rattle.flood_laws.proofs.Leaving.{each_kept_at, numbered_kept, stepped_kept}
+use Rattle.events.specs.Ticks.{send_hellos, sends_of, with_hello_sent, without_acknowledgments}
+use Rattle.flood_laws.proofs.Leaving.{each_kept_at, stepped_kept}
 use Rattle.flood_laws.proofs.Limits.{tied_key}
 use Rattle.flood_laws.proofs.Owing.{put_same}
 use Rattle.flood_laws.proofs.Retransmitted.{OwnKeys, There, own_at}
@@ -55,6 +51,7 @@ use Rattle.agreement_laws.proofs.Asking as asking
 use Rattle.agreement_laws.proofs.Cases.{is_newer_case}
 use Rattle.agreement_laws.proofs.Databases.{aged_out, flushed_copy, installed_copy, originated_copy}
 use Rattle.agreement_laws.proofs.Ranks.{at_least_on}
+use Rattle.agreement_laws.proofs.AtInterface as interface
 
 module _ (ranks : RanksFollowTheComparison) (key : Key) (moment : ℕ) (first : Instance)
     (entry : ListEntry) (low : is_at_least (listed_now moment entry) first ≡ true)
@@ -110,33 +107,22 @@ module _ (ranks : RanksFollowTheComparison) (key : Key) (moment : ℕ) (first : 
       → Stands (on_links (change_link place change) o)
   change_at place change o keeps h =
       on_all (change_link place change) o
-      (λ k. numbered_kept AsksThere AsksThere (λ n. n)
-      (λ (e : ℕ × Link). cond (e.0 == place) (change e.1) e.1) number
-      (λ link at. chosen (λ (l : Link). AsksThere l.neighbor) (number == place) (change link) link
-      (λ e. keeps link at) (λ e. at)) o.area.links k) h
-
-  stepped : (f : Neighbor → Step) → ((m : Neighbor) → Asks m → Asks (f m).neighbor)
-      → (n : Option Neighbor) → AsksThere n → AsksThere (step_on f n)
-  stepped f keeps None k = k
-  stepped f keeps (Some m) k = keeps m k
+      (λ k. interface.changed AsksThere number place change o.area.links keeps k) h
 
   pub each_step : (f : Stepping) (o : Outcome)
       → ((link : Link) (m : Neighbor) → Asks m → Asks (f number link m).neighbor) → Stands o
       → Stands (each_neighbor moment f o)
   each_step f o keeps h =
       sent (stepping_sends f o.area.links) (on_links (stepped_links f) o)
-      (on_all (stepped_links f) o (λ k. stepped_kept AsksThere AsksThere (λ n. n) f number
-      (λ link at. stepped (f number link) (keeps link) link.neighbor at) o.area.links k) h)
+      (on_all (stepped_links f) o (λ k. interface.stepped AsksThere number f o.area.links keeps k)
+      h)
 
   pub one_step : (place : ℕ) (f : Neighbor → Step) (o : Outcome)
       → ((m : Neighbor) → Asks m → Asks (f m).neighbor) → Stands o
       → Stands (one_neighbor moment place f o)
   one_step place f o keeps h =
       each_step (only_at place f) o
-      (λ link m at. chosen (λ (s : Step). Asks s.neighbor) (number == place) (f m) (record {
-        neighbor = m;
-        sends = [];
-      }) (λ e. keeps m at) (λ e. at)) h
+      (λ link m at. interface.stepped_at AsksThere number place f link m (λ e k. keeps m k) at) h
 
   -- ---- flooding
 
@@ -317,24 +303,13 @@ module _ (ranks : RanksFollowTheComparison) (key : Key) (moment : ℕ) (first : 
           (λ e. sent (sends_at place s.sends)
           (on_links (change_link place (with_neighbor s.neighbor)) o)
           (on_all (change_link place (with_neighbor s.neighbor)) o
-          (λ k. numbered_kept (λ (n : Option Neighbor). AsksThere n
-          × ((number == place) ≡ true → AsksThere link.neighbor)) AsksThere (λ n. n.0)
-          (λ (f : ℕ × Link). cond (f.0 == place) (with_neighbor s.neighbor f.1) f.1) number
-          (λ l at. chosen (λ (m : Link). AsksThere m.neighbor) (number == place)
-          (with_neighbor s.neighbor l) l
-          (λ here. asking.helloed ranks key moment first entry low with_it May may from
-          (names own hello) link.neighbor (heard_of link.neighbor (at.1 here))) (λ away. at.0))
-          o.area.links (k, λ here. at_place k here)) h)) (λ e. h)
+          (λ k. interface.heard AsksThere number place s.neighbor link o.area.links is
+          (λ at. asking.helloed ranks key moment first entry low with_it May may from
+          (names own hello) link.neighbor (heard_of link.neighbor at)) k) h)) (λ e. h)
         where
           heard_of : (n : Option Neighbor) → AsksThere n → Holds Asks n
           heard_of None k = tt
           heard_of (Some m) k = k
-
-          at_place : AsksThere (neighbor_at number o.area.links) → (number == place) ≡ true
-              → AsksThere link.neighbor
-          at_place k e =
-              subst (λ (l : Option Link). AsksThere (neighbor_on l)) is
-              (subst (λ n. AsksThere (neighbor_at n o.area.links)) (eqb-true number place e) k)
 
   pub acknowledgments : (place : ℕ) (headers : List Header) (o : Outcome) → Stands o
       → Stands (acknowledged_by moment place headers o)
@@ -344,17 +319,11 @@ module _ (ranks : RanksFollowTheComparison) (key : Key) (moment : ℕ) (first : 
 
   -- ---- a Tick, a command, and the end
 
-  inactive_one : May → (dead : ℕ) (n : Option Neighbor) → AsksThere n
-      → AsksThere (settled_exchange moment dead (adjacencies.after_inactivity_timer moment dead n))
-  inactive_one may dead None h = h
-  inactive_one may dead (Some m) h =
-      chosen (λ (o : Option Neighbor). AsksThere (settled_exchange moment dead o))
-      (adjacencies.has_passed m.last_heard dead moment) None (Some m) (λ e. may)
-      (λ e. asking.old_description ranks key moment first entry low with_it May dead m h)
-
   pub inactive : May → (o : Outcome) → Stands o → Stands (on_links (map (run_out moment)) o)
   inactive may o h = each_link (run_out moment) o
-      (λ link at. inactive_one may link.interface.dead_interval link.neighbor at) h
+      (λ link at. interface.inactive AsksThere may moment link.interface.dead_interval
+      (λ m k. asking.old_description ranks key moment first entry low with_it May
+      link.interface.dead_interval m k) link.neighbor at) h
 
   pub agains : (o : Outcome) → Stands o → Stands (each_neighbor moment (again moment o) o)
   agains o h =
@@ -376,12 +345,10 @@ module _ (ranks : RanksFollowTheComparison) (key : Key) (moment : ℕ) (first : 
       → Stands (on_links (change_link place taken_down) o)
   down may place o h = change_at place taken_down o (λ link at. may) h
 
-  loaded_one : (n : Option Neighbor) → AsksThere n → AsksThere (loading_done_on n)
-  loaded_one None h = h
-  loaded_one (Some m) h = asking.filled ranks key moment first entry low with_it May m h
-
   pub loaded : (o : Outcome) → Stands o → Stands (on_links (map link_loading_done) o)
-  loaded o h = each_link link_loading_done o (λ link at. loaded_one link.neighbor at) h
+  loaded o h = each_link link_loading_done o
+      (λ link at. interface.loaded AsksThere
+      (asking.filled ranks key moment first entry low with_it May) link.neighbor at) h
 
   pub requests : (o : Outcome) → Stands o
       → Stands (each_neighbor moment (λ place link m. request_next moment m) o)

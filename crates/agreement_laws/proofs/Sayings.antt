@@ -51,6 +51,7 @@ use Rattle.events.specs.Ticks.{settled_exchange}
 use Rattle.flood_laws.proofs.Known.{each_all}
 use Rattle.flood_laws.proofs.Retransmitted.{if_so}
 use Rattle.agreement_laws.specs.SaidIsHeld.{IsToDescribe, Waits, young}
+use Rattle.agreement_laws.proofs.AtInterface as interface
 
 -- a property of instances and their keys
 abbrev pub Truth : Type 1
@@ -480,17 +481,13 @@ module _ (old : Router) where
 
     pub filled : (o : Option Neighbor) → Holds (OfNeighbor T number) o
         → Holds (OfNeighbor T number) (loading_done_on o)
-    filled None h = tt
-    filled (Some n) h = filled_in n.state n h
+    filled o h = interface.loaded (Holds (OfNeighbor T number)) (λ n so. filled_in n.state n so) o h
 
     pub run_out_so : (moment dead : ℕ) (o : Option Neighbor) → Holds (OfNeighbor T number) o
         → Holds (OfNeighbor T number) (settled_exchange moment dead
         (after_inactivity_timer moment dead o))
-    run_out_so moment dead None h = tt
-    run_out_so moment dead (Some n) h =
-        chosen (λ (o : Option Neighbor). Holds (OfNeighbor T number)
-        (settled_exchange moment dead o)) (has_passed n.last_heard dead moment) None (Some n)
-        (λ e. tt)
-        (λ e. chosen (OfNeighbor T number) (is_over_for moment dead n.exchanged) (record n {
+    run_out_so moment dead o h =
+        interface.inactive (Holds (OfNeighbor T number)) tt moment dead
+        (λ n so. chosen (OfNeighbor T number) (is_over_for moment dead n.exchanged) (record n {
           described = None;
-        }) n (λ e. record { summary = h.summary; last = tt }) (λ e. h))
+        }) n (λ e. record { summary = so.summary; last = tt }) (λ e. so)) o h

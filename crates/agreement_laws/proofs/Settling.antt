@@ -2,10 +2,8 @@
 -- Descriptions: it stays settled, unless the adjacency is given up, or what removes it from a list
 -- settles it from then on.
 use Rattle.std.proofs.Common.{◌≡◌, ℕ, Bool, true, false, cond, not, ◌&&◌, ◌⊎◌, inl, inr, List, []}
-use Rattle.std.proofs.Common.{◌∷◌, map, Option, None, Some, is_some, refl, sym, ap, subst, ◌∙◌}
-use Rattle.std.specs.Prelude.{◌==◌}
+use Rattle.std.proofs.Common.{◌∷◌, Option, None, Some, is_some, refl, sym, ap, subst, ◌∙◌}
 use Rattle.std.specs.FinMap as finite
-use Rattle.std.specs.FinSet as set
 use Rattle.std.specs.List.{Contains}
 use Rattle.words.specs.declared.key.Key.{Key}
 use Rattle.lsdb.specs.Copies.{Database}
@@ -13,25 +11,17 @@ use Rattle.lsdb.specs.Headers.{Header, Lsa, key_of, lsa_key}
 use Rattle.lsdb.specs.Instances.{ListEntry, instance_of, listed_now}
 use Rattle.lsdb.specs.Keys.{ByKey, same_key}
 use Rattle.lsdb.specs.declared.order.Instance.{Instance}
-use Rattle.packet.specs.declared.model.Description.{Description}
-use Rattle.adjacency.specs.declared.state.NeighborState.{NeighborState}
-use Rattle.adjacency.specs.declared.state.NeighborState.TheVariants.{Init, ExStart, Exchange}
 use Rattle.adjacency.specs.declared.state.NeighborState.TheVariants.{Loading, Full}
-use Rattle.adjacency.specs.Adjacencies.{after_hello, enter_exstart, has_passed, loading_done}
-use Rattle.adjacency.specs.Adjacencies.{loading_done_in, mismatch_step, requests_nothing}
-use Rattle.adjacency.specs.Adjacencies.{two_way_received_in, with_hello_heard}
-use Rattle.adjacency.specs.Contents.{Requests, Step, Updates, no_sends}
-use Rattle.adjacency.specs.Descriptions.{is_over_for, repeat, without_old_description}
+use Rattle.adjacency.specs.Adjacencies.{after_hello, loading_done, mismatch_step}
+use Rattle.adjacency.specs.Contents.{Step, Updates, no_sends}
+use Rattle.adjacency.specs.Descriptions.{without_old_description}
 use Rattle.adjacency.specs.Floods.{flooded_in_exchange, flooding, meets, passes, request_of}
 use Rattle.adjacency.specs.Floods.{without_met_request}
 use Rattle.adjacency.specs.Neighbors.{Neighbor, is_exchange_or_later, is_exchange_or_loading}
-use Rattle.adjacency.specs.Requests.{may_request, next_request, request_next, requested_entry}
-use Rattle.adjacency.specs.Requests.{still_outstanding, without_request}
+use Rattle.adjacency.specs.Requests.{request_next, requested_entry, without_request}
 use Rattle.adjacency.specs.Retransmissions.{acknowledged_neighbor, add_retransmission}
-use Rattle.adjacency.specs.Retransmissions.{after_acknowledgment, describe_again, is_entry}
-use Rattle.adjacency.specs.Retransmissions.{next_retransmissions, remove_retransmission}
-use Rattle.adjacency.specs.Retransmissions.{repeats_description, request_again, send_again}
-use Rattle.adjacency.specs.Retransmissions.{update_again}
+use Rattle.adjacency.specs.Retransmissions.{after_acknowledgment, is_entry, remove_retransmission}
+use Rattle.adjacency.specs.Retransmissions.{send_again}
 use Rattle.adjacency.proofs.Kept.{chosen}
 use Rattle.received.specs.Holds.{Holds}
 use Rattle.flood_laws.proofs.Limits.{tied_key}

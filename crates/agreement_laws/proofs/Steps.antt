@@ -1,5 +1,5 @@
--- A property of a neighbor in each of its steps but Descriptions: it stays, where it doesn't speak of
--- timers and of what is outstanding, and holds of a neighbor in Init and in a new attempt.
+-- A property of a neighbor in each of its steps but Descriptions: it stays, where it isn't about
+-- timers and what is outstanding, and holds of a neighbor in Init and in a new attempt.
 use Rattle.std.proofs.Common.{◌≡◌, ℕ, Bool, true, false, not, ◌&&◌, List, [], ◌∷◌, map, Option}
 use Rattle.std.proofs.Common.{None, Some}
 use Rattle.std.specs.Prelude.{◌==◌}
@@ -102,7 +102,8 @@ module _ (P : Neighbor → Type 0) where
   -- ---- acknowledgments
 
   pub acknowledged : ((k : Key) (m : Neighbor) → Of m → Of (remove_retransmission k m))
-      → (moment : ℕ) (xs : List Header) (m : Neighbor) → Of m → Of (after_acknowledgment moment xs m)
+      → (moment : ℕ) (xs : List Header) (m : Neighbor) → Of m
+      → Of (after_acknowledgment moment xs m)
   acknowledged removes moment [] m h = h
   acknowledged removes moment (x ∷ xs) m h =
       acknowledged removes moment xs (acknowledged_neighbor moment m x)
