@@ -1,11 +1,8 @@
 -- In every history of two neighbors the Descriptions that were sent in a conversation are right by
 -- the neighbor's role: the slave's are answers, and the master's are answered.
 use Rattle.std.proofs.Common.{◌≡◌, ℕ, Bool, true, false, cond, ◌⊎◌, inl, inr, List, [], ◌∷◌}
-use Rattle.std.proofs.Common.{Option, None, Some, refl, sym, ap, subst, ◌∙◌}
+use Rattle.std.proofs.Common.{Option, None, Some, refl, sym, subst, ◌∙◌}
 use Rattle.packet.specs.declared.model.Description.{Description}
-use Rattle.adjacency.specs.declared.state.NeighborState.{NeighborState}
-use Rattle.adjacency.specs.declared.state.NeighborState.TheVariants.{ExStart, Exchange, Full, Init}
-use Rattle.adjacency.specs.declared.state.NeighborState.TheVariants.{Loading}
 use Rattle.adjacency.specs.Neighbors.{Neighbor, is_exchange_or_later}
 use Rattle.received.specs.Holds.{Holds}
 use Rattle.received.specs.Links.{neighbor_at}
@@ -33,10 +30,11 @@ use Rattle.agreement_laws.specs.Answers.{DescriptionsAreAnswered, HasRole, InCon
 use Rattle.agreement_laws.specs.Answers.{IsAccepted, IsAnswered, IsOf, IsOpening, sends_of}
 use Rattle.agreement_laws.specs.Answers.{sends_taken}
 use Rattle.agreement_laws.proofs.AnswerParts.{IsNew, Said, Stands, at_place}
-use Rattle.agreement_laws.proofs.StartAlone.{begins_alone}
+use Rattle.agreement_laws.proofs.Runs.{begins_alone}
 use Rattle.agreement_laws.proofs.AnswerSteps.{Answered, IsRight, Right, Sound}
 use Rattle.agreement_laws.proofs.AnswerWalk.{at_end}
-use Rattle.agreement_laws.proofs.Lists.{some_same}
+use Rattle.agreement_laws.proofs.Conversing.{its_conversation, its_state}
+use Rattle.agreement_laws.proofs.Done.{exchange_then}
 
 -- ---- what is right stays right
 
@@ -84,11 +82,6 @@ module _ (number : ℕ) (heard : List (List ℕ)) (p q : Party) (t : TakesEvent 
 
   -- ---- before it
 
-  its_conversation : (n : Neighbor) → neighbor_at number p.router.area.links ≡ Some n
-      → (w : Conversation) → Began w → conversation_with n ≡ w
-  its_conversation n at w c =
-      ap (λ (x : Neighbor). conversation_with x) (some_same (sym at ∙ c.there)) ∙ c.is
-
   was_there : (o : Option Neighbor) → neighbor_at number p.router.area.links ≡ o
       → Holds (λ (n : Neighbor). Sound p.router.id (AccB (conversation_with n)) Nothing
       (SentB (conversation_with n)) n) o
@@ -100,7 +93,7 @@ module _ (number : ℕ) (heard : List (List ℕ)) (p q : Party) (t : TakesEvent 
     inr (
       g.0,
       g.1,
-      its_conversation n at,
+      λ w c. its_conversation number w p.router n at c,
       λ d k. more d (g.3 d k),
       by_said,
       λ d k. more d (g.5 d k),
@@ -125,7 +118,8 @@ module _ (number : ℕ) (heard : List (List ℕ)) (p q : Party) (t : TakesEvent 
           → IsRight p.router.id Acc Began n d
       by_said d (inl k) =
           more d (g.4 d
-          (subst (λ (w : Conversation). SentB w d) (sym (its_conversation n at k.0 k.1)) k.2))
+          (subst (λ (w : Conversation). SentB w d) (sym (its_conversation number k.0 p.router n at
+          k.1)) k.2))
       by_said d (inr c) = absurd (of_empty (at_place number _) c)
 
   is_new : (o : Option Neighbor) → neighbor_at number p.router.area.links ≡ o
@@ -134,12 +128,8 @@ module _ (number : ℕ) (heard : List (List ℕ)) (p q : Party) (t : TakesEvent 
   is_new (Some n) at = λ early. (λ w c. not_yet early c, λ d k. not_yet early k.1)
     where
       not_yet : {w : Conversation} → is_exchange_or_later n.state ≡ false → Began w → ⊥
-      not_yet early c =
-          let same : n ≡ c.neighbor = some_same (sym at ∙ c.there) in
-          let no : true ≡ false =
-          sym c.exchanging ∙ ap (λ (x : Neighbor). is_exchange_or_later x.state) (sym same)
-          ∙ early in
-          absurd cc
+      not_yet {w} early c =
+          let no : true ≡ false = sym (its_state number w p.router n at c) ∙ early in absurd cc
 
   -- ---- after it
 
@@ -230,7 +220,7 @@ alone : (number : ℕ) (Accepts Sends : Of) (c : Config) (r : Router) → r ≡ 
     → Stored number Accepts Sends r
 alone number Accepts Sends c r is =
     subst (Stored number Accepts Sends) (sym is)
-    (by_neighbor (neighbor_at number (initial c).area.links) (begins_alone c number))
+    (by_neighbor (neighbor_at number (initial c).area.links) (begins_alone c number).0)
   where
     by_neighbor : (o : Option Neighbor) → o ≡ None
         → Holds (λ (n : Neighbor). Sound (initial c).id (Accepts (conversation_with n)) Nothing
@@ -445,13 +435,6 @@ foreigners ends side now earlier h =
     by_neighbor (Some n) k = k.0
 
 -- ---- the law
-
-exchange_then : (s : NeighborState) → is_exchange_done s ≡ true → is_exchange_or_later s ≡ true
-exchange_then Init e = absurd cc
-exchange_then ExStart e = absurd cc
-exchange_then Exchange e = absurd cc
-exchange_then Loading e = refl
-exchange_then Full e = refl
 
 module _ (ends : Ends) (side : Side) (now : Pair) (earlier : List Pair)
     (h : IsHistory ends now earlier) (n : Neighbor)

@@ -1,6 +1,6 @@
 -- What each part of an event keeps of the Descriptions that were sent at an interface, and of its
 -- neighbor: each is right by the neighbor's role.
-use Rattle.std.proofs.Common.{◌≡◌, ℕ, zero, suc, ◌+◌, Bool, true, false, cond, not, ◌&&◌, ◌⊎◌}
+use Rattle.std.proofs.Common.{◌≡◌, ℕ, zero, suc, ◌+◌, Bool, true, false, cond, ◌&&◌, ◌⊎◌}
 use Rattle.std.proofs.Common.{inl, inr, List, [], ◌∷◌, ◌++◌, map, Option, None, Some, refl, sym}
 use Rattle.std.proofs.Common.{ap, subst, ◌∙◌, arith}
 use Rattle.std.specs.Prelude.{◌==◌, slice_get}
@@ -16,12 +16,10 @@ use Rattle.packet.specs.declared.model.Hello.{Hello}
 use Rattle.adjacency.specs.Adjacencies as adjacencies
 use Rattle.adjacency.specs.Contents.{Content, Step, Updates, no_sends}
 use Rattle.adjacency.specs.Descriptions.{after_description}
-use Rattle.adjacency.specs.Floods.{flooded_in_exchange, flooding, passes, request_of}
-use Rattle.adjacency.specs.Floods.{without_met_request}
+use Rattle.adjacency.specs.Floods.{flooding, without_met_request}
 use Rattle.adjacency.specs.Neighbors.{Neighbor, is_exchange_or_later}
 use Rattle.adjacency.specs.Requests.{request_next}
-use Rattle.adjacency.specs.Retransmissions.{add_retransmission, after_acknowledgment}
-use Rattle.adjacency.specs.Retransmissions.{remove_retransmission}
+use Rattle.adjacency.specs.Retransmissions.{after_acknowledgment, remove_retransmission}
 use Rattle.adjacency.proofs.Kept.{chosen}
 use Rattle.received.specs.Cases.{Case}
 use Rattle.received.specs.Flooding.{flood, flood_to, is_sender}
@@ -151,20 +149,8 @@ module _ (f : Stepping) where
 flood_other : (moment : ℕ) (from : Bool) (lsa : Lsa) (m : Neighbor)
     → AreOther (flooding moment from lsa m).sends
 flood_other moment from lsa m =
-    let w : Neighbor = without_met_request moment lsa m in
-    let got : Step = record {
-      neighbor = add_retransmission moment lsa.header w;
-      sends = Updates lsa ∷ [];
-    } in
-    let not_got : Step = no_sends (remove_retransmission (lsa_key lsa) w) in
-    chosen Quiet (is_exchange_or_later m.state) (flooded_in_exchange moment from lsa m)
-    (no_sends m)
-    (λ part. chosen Quiet (not from && passes moment lsa (request_of m lsa)) got not_got
-    (λ e. one_other (Updates lsa) tt) (λ e. none_sent))
-    (λ before. none_sent)
-  where
-    Quiet : Step → Type 0
-    Quiet s = AreOther s.sends
+    neighbor_steps.flooding_so (λ (s : Step). AreOther s.sends) moment m from lsa
+    (one_other (Updates lsa) tt) none_sent none_sent
 
 -- ---- the parts
 

@@ -4,18 +4,17 @@ use Rattle.std.proofs.Common.{◌≡◌, ℕ, ◌+◌, ◌%◌, ◌^◌, Bool, t
 use Rattle.std.proofs.Common.{◌⊎◌, inl, inr, List, [], ◌∷◌, ◌++◌, map, Option, None, Some, refl}
 use Rattle.std.proofs.Common.{sym, ap, subst, ◌∙◌}
 use Rattle.std.specs.Prelude.{◌==◌, nat_lt}
-use Rattle.std.specs.FinMap as finite
-use Rattle.std.specs.FinSet as set
 use Rattle.std.specs.List.{Contains}
 use Rattle.std.proofs.lemmas.Bool.{eqb-true}
 use Rattle.std.proofs.lemmas.List.Elements.{Contains-append_cases}
+use Rattle.words.specs.declared.key.Key.{Key}
 use Rattle.lsdb.specs.Copies.{Database}
-use Rattle.lsdb.specs.Headers.{Header, Lsa, lsa_key}
+use Rattle.lsdb.specs.Headers.{Header, Lsa}
 use Rattle.packet.specs.declared.model.Description.{Description}
 use Rattle.adjacency.specs.declared.state.NeighborState.{NeighborState}
 use Rattle.adjacency.specs.declared.state.NeighborState.TheVariants.{ExStart, Exchange, Full, Init}
 use Rattle.adjacency.specs.declared.state.NeighborState.TheVariants.{Loading}
-use Rattle.adjacency.specs.Adjacencies.{after_hello, enter_exstart, has_passed, initial_description}
+use Rattle.adjacency.specs.Adjacencies.{after_hello, enter_exstart, initial_description}
 use Rattle.adjacency.specs.Adjacencies.{loading_done, mismatch_step, requests_nothing}
 use Rattle.adjacency.specs.Adjacencies.{two_way_received, two_way_received_in, with_hello_heard}
 use Rattle.adjacency.specs.Contents.{Content, Describes, Requests, Step, Updates, no_sends, then_}
@@ -26,13 +25,11 @@ use Rattle.adjacency.specs.Descriptions.{is_empty, is_initial_description, is_ke
 use Rattle.adjacency.specs.Descriptions.{judge, knows_types, master_goes_on, negotiated_neighbor}
 use Rattle.adjacency.specs.Descriptions.{next_description, repeat, same_flag, slave_replies}
 use Rattle.adjacency.specs.Descriptions.{verdict, with_requests, without_old_description}
-use Rattle.adjacency.specs.Floods.{flooded_in_exchange, flooding, passes, request_of}
-use Rattle.adjacency.specs.Floods.{without_met_request}
+use Rattle.adjacency.specs.Floods.{flooding, without_met_request}
 use Rattle.adjacency.specs.Neighbors.{Neighbor, is_exchange_or_later}
-use Rattle.adjacency.specs.Requests.{may_request, next_request, request_next, still_outstanding}
-use Rattle.adjacency.specs.Retransmissions.{add_retransmission, after_acknowledgment}
+use Rattle.adjacency.specs.Requests.{next_request, request_next, still_outstanding}
+use Rattle.adjacency.specs.Retransmissions.{after_acknowledgment}
 use Rattle.adjacency.specs.Retransmissions.{describe_again, next_retransmissions}
-use Rattle.adjacency.specs.Retransmissions.{remove_retransmission, repeats_description}
 use Rattle.adjacency.specs.Retransmissions.{request_again, send_again, update_again}
 use Rattle.adjacency.proofs.Kept.{chosen}
 use Rattle.received.specs.Holds.{Holds}
@@ -223,26 +220,14 @@ module _ (own : ℕ) (Acc : Description → Type 0) (Began : Conversation → Ty
 
   -- ---- flooding
 
-  met : (moment : ℕ) (lsa : Lsa) (S : Description → Type 0) (m : Neighbor) → Sound S m
-      → Sound S (without_met_request moment lsa m)
-  met moment lsa S m h = neighbor_steps.met (Sound S) moment lsa m h h
-
   pub flooded : (moment : ℕ) (from : Bool) (lsa : Lsa) (S : Description → Type 0) (m : Neighbor)
       → Sound S m → OfStep S (flooding moment from lsa m)
   flooded moment from lsa S m h =
       let w : Neighbor = without_met_request moment lsa m in
-      let got : Step = record {
-        neighbor = add_retransmission moment lsa.header w;
-        sends = Updates lsa ∷ [];
-      } in
-      let not_got : Step = no_sends (remove_retransmission (lsa_key lsa) w) in
-      let so : Sound S w = met moment lsa S m h in
-      chosen (OfStep S) (is_exchange_or_later m.state) (flooded_in_exchange moment from lsa m)
-      (no_sends m)
-      (λ part. chosen (OfStep S) (not from && passes moment lsa (request_of m lsa)) got not_got
-      (λ e. quiet S (Updates lsa ∷ []) (one_other (Updates lsa) tt) got.neighbor so)
-      (λ e. nothing S not_got.neighbor so))
-      (λ before. nothing S m h)
+      let so : Sound S w = neighbor_steps.met (Sound S) moment lsa m h h in
+      neighbor_steps.flooding_so (OfStep S) moment m from lsa
+      (quiet S (Updates lsa ∷ []) (one_other (Updates lsa) tt) w so) (nothing S w so)
+      (nothing S m h)
 
   -- ---- attempts and Hellos
 
@@ -296,16 +281,9 @@ module _ (own : ℕ) (Acc : Description → Type 0) (Began : Conversation → Ty
   pub asked : (moment : ℕ) (S : Description → Type 0) (m : Neighbor) → Sound S m
       → OfStep S (request_next moment m)
   asked moment S m h =
-      let asks : Step = record {
-        neighbor = record m {
-          outstanding = set.from_list (next_request m);
-          requested_at = moment;
-        };
-        sends = Requests (next_request m) ∷ [];
-      } in
-      chosen (OfStep S) (may_request m) asks (no_sends m)
-      (λ e. quiet S asks.sends (one_other (Requests (next_request m)) tt) asks.neighbor h)
-      (λ e. nothing S m h)
+      neighbor_steps.request_so (OfStep S) moment m
+      (quiet S (Requests (next_request m) ∷ []) (one_other (Requests (next_request m)) tt) m h)
+      (nothing S m h)
 
   repeated_of : (moment : ℕ) (o : Option Description) (S : Description → Type 0) (m : Neighbor)
       → Sound S (record m { described = o }) → OfStep S (repeat moment (record m { described = o }))
@@ -324,35 +302,22 @@ module _ (own : ℕ) (Acc : Description → Type 0) (Began : Conversation → Ty
   described_so : (moment interval : ℕ) (S : Description → Type 0) (m : Neighbor) → Sound S m
       → OfStep S (describe_again moment interval m)
   described_so moment interval S m h =
-      chosen (OfStep S)
-      (repeats_description m.state m.is_master && has_passed m.described_at interval moment)
-      (repeat moment m) (no_sends m) (λ e. repeated moment S m h) (λ e. nothing S m h)
+      neighbor_steps.describe_again_so (OfStep S) moment m interval (repeated moment S m h)
+      (nothing S m h)
 
   asked_so : (moment interval : ℕ) (S : Description → Type 0) (m : Neighbor) → Sound S m
       → OfStep S (request_again moment interval m)
   asked_so moment interval S m h =
-      let asks : Step = record {
-        neighbor = record m { requested_at = moment };
-        sends = Requests (still_outstanding m) ∷ [];
-      } in
-      chosen (OfStep S)
-      (not (set.len m.outstanding == 0) && has_passed m.requested_at interval moment)
-      asks (no_sends m)
-      (λ e. quiet S asks.sends (one_other (Requests (still_outstanding m)) tt) asks.neighbor h)
-      (λ e. nothing S m h)
+      let keys : List Key = still_outstanding m in
+      neighbor_steps.request_again_so (OfStep S) moment m interval
+      (quiet S (Requests keys ∷ []) (one_other (Requests keys) tt) m h) (nothing S m h)
 
   updated : (moment interval : ℕ) (db : Database) (S : Description → Type 0) (m : Neighbor)
       → Sound S m → OfStep S (update_again moment interval db m)
   updated moment interval db S m h =
-      let says : Step = record {
-        neighbor = record m { retransmitted_at = moment };
-        sends = map Updates (next_retransmissions moment db m);
-      } in
-      chosen (OfStep S) (not (finite.len m.retransmissions == 0)
-      && has_passed m.retransmitted_at interval moment) says (no_sends m)
-      (λ e. quiet S says.sends
-      (mapped_other Updates (λ lsa. tt) (next_retransmissions moment db m)) says.neighbor h)
-      (λ e. nothing S m h)
+      let lsas : List Lsa = next_retransmissions moment db m in
+      neighbor_steps.update_again_so (OfStep S) moment m interval db
+      (quiet S (map Updates lsas) (mapped_other Updates (λ lsa. tt) lsas) m h) (nothing S m h)
 
   pub again : (moment interval : ℕ) (db : Database) (S : Description → Type 0) (m : Neighbor)
       → Sound S m → OfStep S (send_again moment interval db m)

@@ -34,7 +34,7 @@ use Rattle.adjacency.specs.Descriptions.{knows_types, master_goes_on, negotiated
 use Rattle.adjacency.specs.Descriptions.{same_flag, slave_replies, with_requests}
 use Rattle.adjacency.specs.Descriptions.{without_old_description}
 use Rattle.adjacency.specs.Floods.{flooding, without_met_request}
-use Rattle.adjacency.specs.Neighbors.{Neighbor}
+use Rattle.adjacency.specs.Neighbors.{Neighbor, is_exchange_or_later}
 use Rattle.adjacency.specs.Requests.{request_next}
 use Rattle.adjacency.specs.Retransmissions.{after_acknowledgment, remove_retransmission}
 use Rattle.adjacency.proofs.Kept.{chosen}
@@ -419,6 +419,14 @@ pub always_done : (c : Config) (steps : List RunStep) (r : Router) → Run (init
 always_done c steps r run number n at =
     subst (Holds IsDone) at (one_holds IsDone number r.area.links
     (run_kept steps (initial c) r run (first_so c)))
+
+-- who is done is in Exchange or later
+pub exchange_then : (s : NeighborState) → is_exchange_done s ≡ true → is_exchange_or_later s ≡ true
+exchange_then Init e = absurd cc
+exchange_then ExStart e = absurd cc
+exchange_then Exchange e = absurd cc
+exchange_then Loading e = refl
+exchange_then Full e = refl
 
 emptied : (s : NeighborState) (d : Option Description) (at : Option ℕ) (l : ByKey ListEntry)
     → is_exchange_done s ≡ true → Done s d at l → l ≡ finite.empty

@@ -1,7 +1,7 @@
 -- The events of the left router, with the Router ID 1: it receives a Hello, sends one, and
 -- exchanges Database Descriptions as the slave.
 use Rattle.std.proofs.Common.{◌≡◌, ℕ, Bool, true, false, cond, not, ◌&&◌, ◌||◌, List, [], ◌∷◌}
-use Rattle.std.proofs.Common.{length, map, take, drop, None, Some, is_some, refl, sym, ap, ◌∙◌}
+use Rattle.std.proofs.Common.{length, map, drop, None, Some, is_some, refl, sym, ap, ◌∙◌}
 use Rattle.std.specs.Prelude.{◌==◌, nat_lt}
 use Rattle.std.specs.FinMap as finite
 use Rattle.std.specs.FinSet as set
@@ -10,7 +10,7 @@ use Rattle.words.specs.declared.key.Key.{Key}
 use Rattle.lsa.specs.Origination.{sealed_lsa}
 use Rattle.lsdb.specs.Copies.{Database, DatabaseCopy, is_aged_out, list_entry_of}
 use Rattle.lsdb.specs.Headers.{lsa_key}
-use Rattle.lsdb.specs.Instances.{ListEntry, aged_header}
+use Rattle.lsdb.specs.Instances.{ListEntry}
 use Rattle.lsdb.specs.Keys.{ByKey, key_cmp}
 use Rattle.lsdb.proofs.Keys.{keys_exact, keys_total}
 use Rattle.packet.specs.declared.model.PacketBody.TheVariants as body
@@ -42,10 +42,10 @@ use Rattle.flood_laws.proofs.Owing.{put_same}
 use Rattle.conversations.proofs.WorkedEnds.{begins, describes_not_later, differ_not, describes_not}
 use Rattle.conversations.proofs.WorkedEnds.{ends_by, last, no_time_passes}
 use Rattle.conversations.proofs.WorkedOwn.{wanted}
-use Rattle.agreement_laws.proofs.HistoryStart.{begun, copy, database, entries_of, first_times}
-use Rattle.agreement_laws.proofs.HistoryStart.{found}
-use Rattle.agreement_laws.proofs.HistoryStart.{link_with, lsa, no_entries, nothing_in, retained}
-use Rattle.agreement_laws.proofs.HistoryStart.{router_with, stays_young, young}
+use Rattle.agreement_laws.proofs.HistoryStart.{begun, copy, database, description_of, entries_of}
+use Rattle.agreement_laws.proofs.HistoryStart.{first_times, found, link_with, lsa, no_entries}
+use Rattle.agreement_laws.proofs.HistoryStart.{nothing_in, retained, router_with, stays_young}
+use Rattle.agreement_laws.proofs.HistoryStart.{young}
 use Rattle.agreement_laws.proofs.HistoryTicks.{tick, ticked, times}
 
 abbrev pub a : ℕ
@@ -186,15 +186,7 @@ described_by s =
 
 -- the reply, with these entries
 abbrev pub reply_of : List (Key × ListEntry) → ℕ → Description
-reply_of es count = record {
-  mtu = 8192;
-  options = 2;
-  init = false;
-  more = nat_lt 408 count;
-  master = false;
-  sequence = 3600;
-  headers = map (λ (e : Key × ListEntry). aged_header 0 e.1) (take 408 es);
-}
+reply_of es count = description_of false 3600 0 es count
 
 abbrev replying : List (Key × ListEntry) → ℕ → Step
 replying es count = record {
@@ -276,15 +268,7 @@ abbrev pub ends_it : Packet
 ends_it = record { router = 2; body = body.Description last_one }
 
 abbrev pub answer_of : List (Key × ListEntry) → ℕ → Description
-answer_of es count = record {
-  mtu = 8192;
-  options = 2;
-  init = false;
-  more = nat_lt 408 count;
-  master = false;
-  sequence = 3601;
-  headers = map (λ (e : Key × ListEntry). aged_header 0 e.1) (take 408 es);
-}
+answer_of es count = description_of false 3601 0 es count
 
 abbrev answering : List (Key × ListEntry) → ℕ → Step
 answering es count = record {

@@ -3,7 +3,7 @@
 -- the master.
 use Rattle.std.proofs.Common.{◌≡◌, ℕ, Bool, true, false, cond, not, ◌&&◌, ◌||◌, List, [], ◌∷◌}
 use Rattle.std.proofs.Common.{length, map, take, drop, None, Some, is_some, refl, sym, ap, ◌∙◌}
-use Rattle.std.specs.Prelude.{◌==◌, nat_lt}
+use Rattle.std.specs.Prelude.{◌==◌}
 use Rattle.std.specs.FinMap as finite
 use Rattle.std.specs.FinSet as set
 use Rattle.std.specs.List.{filter, fold}
@@ -35,10 +35,9 @@ use Rattle.events.specs.Routers.{Router}
 use Rattle.events.specs.Ticks.{after_tick}
 use Rattle.conversations.proofs.WorkedEnds.{begins, describes_not, describes_not_later, differ_not}
 use Rattle.conversations.proofs.WorkedEnds.{ends_by, last, no_time_passes}
-use Rattle.agreement_laws.proofs.HistoryStart.{begun, copy, database, entries_of, left, leaves_old}
-use Rattle.agreement_laws.proofs.HistoryStart.{link_with, lsa, no_entries, old, retained}
-use Rattle.agreement_laws.proofs.HistoryStart.{router_with}
-use Rattle.agreement_laws.proofs.HistoryStart.{stays_young, young}
+use Rattle.agreement_laws.proofs.HistoryStart.{begun, copy, database, description_of, entries_of}
+use Rattle.agreement_laws.proofs.HistoryStart.{leaves_old, left, link_with, lsa, no_entries, old}
+use Rattle.agreement_laws.proofs.HistoryStart.{retained, router_with, stays_young, young}
 use Rattle.agreement_laws.proofs.HistoryTicks.{tick, ticked, times}
 use Rattle.agreement_laws.proofs.HistoryLeft.{a, b, init, last_one, listed, reply}
 
@@ -131,15 +130,7 @@ asked wanted = cond wanted (finite.insert finite.empty (key_of its_header) (reco
 })) finite.empty
 
 abbrev next_one : List (Key × ListEntry) → ℕ → Description
-next_one es count = record {
-  mtu = 8192;
-  options = 2;
-  init = false;
-  more = nat_lt 408 count;
-  master = true;
-  sequence = 3601;
-  headers = map (λ (e : Key × ListEntry). aged_header 3600 e.1) (take 408 es);
-}
+next_one es count = description_of true 3601 3600 es count
 
 -- as the master, with these lists, by whether the LSA is wanted, and with these entries
 abbrev leads_with : ByKey ListEntry → Bool → List (Key × ListEntry) → ℕ → Step

@@ -1,7 +1,8 @@
 -- Two routers with one interface each at their start, and what becomes of the one copy that each
 -- holds.
 use Rattle.std.proofs.Common.{◌≡◌, ℕ, Bool, true, false, cond, not, ◌&&◌, ◌||◌, List, [], ◌∷◌}
-use Rattle.std.proofs.Common.{length, Option, None, Some, is_some, refl, sym, ap, subst, ◌∙◌, arith}
+use Rattle.std.proofs.Common.{length, map, take, Option, None, Some, is_some, refl, sym, ap, subst}
+use Rattle.std.proofs.Common.{◌∙◌, arith}
 use Rattle.std.specs.Prelude.{◌==◌, nat_lt}
 use Rattle.std.specs.FinMap as finite
 use Rattle.std.specs.FinSet as set
@@ -11,6 +12,8 @@ use Rattle.lsdb.specs.Copies.{Database, DatabaseCopy, is_aged_out}
 use Rattle.lsdb.specs.Headers.{Lsa, lsa_key}
 use Rattle.lsdb.specs.Keys.{ByKey, key_cmp, same_key}
 use Rattle.lsdb.proofs.Keys.{keys_exact, keys_total}
+use Rattle.lsdb.specs.Instances.{ListEntry, aged_header}
+use Rattle.packet.specs.declared.model.Description.{Description}
 use Rattle.adjacency.specs.declared.interface.Interface.{Interface}
 use Rattle.adjacency.specs.Neighbors.{Neighbor}
 use Rattle.received.specs.Links.{Link, any_has_retransmission}
@@ -51,6 +54,18 @@ copy id address = record { lsa = lsa id address; stored = 0; installed = None; s
 
 abbrev pub database : ℕ → ℕ → Database
 database id address = finite.insert finite.empty (lsa_key (lsa id address)) (copy id address)
+
+-- a Description after the opening ones, with these entries
+abbrev pub description_of : Bool → ℕ → ℕ → List (Key × ListEntry) → ℕ → Description
+description_of master sequence at es count = record {
+  mtu = 8192;
+  options = 2;
+  init = false;
+  more = nat_lt 408 count;
+  master = master;
+  sequence = sequence;
+  headers = map (λ (e : Key × ListEntry). aged_header at e.1) (take 408 es);
+}
 
 abbrev pub link_with : ℕ → Option Neighbor → Option ℕ → Link
 link_with address n hello = record {

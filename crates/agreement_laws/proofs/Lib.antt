@@ -44,7 +44,7 @@ mod Numbers
 mod AnswerSteps
 mod AnswerParts
 mod AnswerWalk
-mod StartAlone
+mod Conversing
 mod AnswerHistories
 mod Together
 mod Latest

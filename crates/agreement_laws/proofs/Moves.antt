@@ -17,7 +17,7 @@ use Rattle.packet.specs.declared.model.Description.{Description}
 use Rattle.packet.specs.declared.model.Packet.{Packet}
 use Rattle.adjacency.specs.Adjacencies as adjacencies
 use Rattle.adjacency.specs.Contents.{Step, no_sends}
-use Rattle.adjacency.specs.Neighbors.{Neighbor, is_exchange_or_later}
+use Rattle.adjacency.specs.Neighbors.{Neighbor}
 use Rattle.adjacency.specs.Requests.{request_next}
 use Rattle.adjacency.specs.Retransmissions.{after_acknowledgment, remove_retransmission}
 use Rattle.adjacency.proofs.Kept.{chosen}
@@ -50,9 +50,9 @@ use Rattle.agreement_laws.specs.Moves.{BecameOfExchange, BringsDescription}
 use Rattle.agreement_laws.specs.Moves.{OnlyDescriptionsMoveAnExchange}
 use Rattle.agreement_laws.proofs.ExchangeSteps.{IsSame, Standing}
 use Rattle.agreement_laws.proofs.ExchangeSteps as steps
-use Rattle.agreement_laws.proofs.Lists.{some_same}
 use Rattle.agreement_laws.proofs.Steps as kept
 use Rattle.agreement_laws.proofs.AtInterface as interface
+use Rattle.agreement_laws.proofs.Conversing.{is_over, with_nobody}
 
 module _ (old : Router) (moment : ℕ) (event : Occurrence) (number : ℕ) (n : Neighbor)
     (was : neighbor_at number old.area.links ≡ Some n) where
@@ -291,13 +291,10 @@ module _ (old : Router) (moment : ℕ) (event : Occurrence) (number : ℕ) (n : 
 
   in_law : (new : Router) (o : Option Neighbor) → neighbor_at number new.area.links ≡ o
       → StandsThere o → BecameOfExchange event number n new
-  in_law new None at k = BecameOfExchange.Over
-      (λ c. let no : None ≡ Some c.neighbor = sym at ∙ c.there in absurd cc)
+  in_law new None at k =
+      BecameOfExchange.Over (with_nobody number (conversation_with n) new at)
   in_law new (Some m) at (inl over) =
-      BecameOfExchange.Over (λ c.
-      let same : m ≡ c.neighbor = some_same (sym at ∙ c.there) in
-      over (ap (λ (x : Neighbor). is_exchange_or_later x.state) same ∙ c.exchanging)
-      (ap (λ (x : Neighbor). conversation_with x) same ∙ c.is))
+      BecameOfExchange.Over (is_over number (conversation_with n) new m at over)
   in_law new (Some m) at (inr k) = BecameOfExchange.Stands m at k.0 (record {
     is_master = k.1;
     sequence = k.2;

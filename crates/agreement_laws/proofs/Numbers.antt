@@ -80,6 +80,17 @@ module _ (own moment : ℕ) (db : Database) (d : Description) (n : Neighbor) (is
   expected : d.sequence ≡ expected_sequence n
   expected = eqb-true d.sequence (expected_sequence n) tests.0
 
+  as_master : n.is_master ≡ true → (m : Neighbor) → m.is_master ≡ n.is_master
+      → m.received ≡ Some (as_received d)
+      → (m.sequence ≡ (n.sequence + 1) % 2 ^ 32) ⊎ (m.sequence ≡ n.sequence) → NumbersMove n d m
+  as_master e m role received number = record {
+    expected = expected;
+    same_role = role;
+    received = received;
+    slave = λ f. let no : true ≡ false = sym e ∙ f in absurd cc;
+    master = λ t. number;
+  }
+
   master : n.is_master ≡ true → (w : Neighbor) → w.is_master ≡ n.is_master → w.sequence ≡ n.sequence
       → w.received ≡ Some (as_received d) → conversation_with w ≡ conversation_with n
       → Moves (master_goes_on moment d w)
@@ -87,53 +98,31 @@ module _ (own moment : ℕ) (db : Database) (d : Description) (n : Neighbor) (is
       let more : Step = describe moment (record w { sequence = (w.sequence + 1) % 2 ^ 32 }) in
       chosen Moves (announced_more w.described || d.more) more (no_sends (exchange_done moment w))
       (λ c. (
-        record {
-          expected = expected;
-          same_role = role;
-          received = received;
-          slave = λ f. let no : true ≡ false = sym e ∙ f in absurd cc;
-          master = λ t. inl (ap (λ (k : ℕ). (k + 1) % 2 ^ 32) number);
-        },
+        as_master e more.neighbor role received (inl (ap (λ (k : ℕ). (k + 1) % 2 ^ 32) number)),
         same,
       ))
-      (λ c. (
-        record {
-          expected = expected;
-          same_role = role;
-          received = received;
-          slave = λ f. let no : true
-              ≡ false = sym e ∙ f in absurd cc;
-          master = λ t. inr number;
-        },
-        same,
-      ))
+      (λ c. (as_master e (exchange_done moment w) role received (inr number), same))
+
+  as_slave : n.is_master ≡ false → (m : Neighbor) → m.is_master ≡ n.is_master
+      → m.received ≡ Some (as_received d) → m.sequence ≡ d.sequence → NumbersMove n d m
+  as_slave e m role received number = record {
+    expected = expected;
+    same_role = role;
+    received = received;
+    slave = λ f. number;
+    master = λ t. let no : true ≡ false = sym t ∙ e in absurd cc;
+  }
 
   slave : n.is_master ≡ false → (w : Neighbor) → w.is_master ≡ n.is_master → w.received
       ≡ Some (as_received d) → conversation_with w ≡ conversation_with n
       → Moves (slave_replies moment d w)
   slave e w role received same =
       let replied : Step = describe moment (record w { sequence = d.sequence }) in
-      let moved : NumbersMove n d replied.neighbor =
-      record {
-        expected = expected;
-        same_role = role;
-        received = received;
-        slave = λ f. refl;
-        master = λ t. let no : true ≡ false = sym t ∙ e in absurd cc;
-      } in
       chosen Moves (announced_more replied.neighbor.described || d.more) replied (record replied {
         neighbor = exchange_done moment replied.neighbor;
-      }) (λ c. (moved, same))
-      (λ c. (
-        record {
-          expected = expected;
-          same_role = role;
-          received = received;
-          slave = λ f. refl;
-          master = λ t. let no : true ≡ false = sym t ∙ e in absurd cc;
-        },
-        same,
-      ))
+      })
+      (λ c. (as_slave e replied.neighbor role received refl, same))
+      (λ c. (as_slave e (exchange_done moment replied.neighbor) role received refl, same))
 
   is_accepted : Moves (accept moment db d n)
   is_accepted =

@@ -340,29 +340,22 @@ module _ (number : ℕ) (Old : LsaInstance → ℕ → Type 0) where
           (or_forgotten (instance_of_lsa lsa) text (within text bytes at)
           (became lsa.header so.0))
 
+      by_reason : (x : Header)
+          → (HoldsAsNew q.router (instance_of_header x) ⊎ IsWithout (key_of x) q.router)
+          ⊎ ((text : ℕ) → Old (instance_of_header x) text)
+          → HoldsAsNew q.router (instance_of_header x) ⊎ With p q (instance_of_header x) text
+      by_reason x (inl so) = or_forgotten (instance_of_header x) text (within text bytes at) so
+      by_reason x (inr old) = inr (inr (old text))
+
       of_sent : (name : LsaInstance) → IsOfSent OfSent (λ lsa so. so.1) packet.body name
           → HoldsAsNew q.router name ⊎ With p q name text
       of_sent name (IsOfSent.OfUpdate lsa so is) = of_update lsa so name is
       of_sent name (IsOfSent.OfDescription d x among so is) =
           subst (λ (n : LsaInstance). HoldsAsNew q.router n ⊎ With p q n text) is
-          (by_reason (of_database (instance_of_header x) (so x among)))
-        where
-          by_reason : (HoldsAsNew q.router (instance_of_header x) ⊎ IsWithout (key_of x) q.router)
-              ⊎ ((text : ℕ) → Old (instance_of_header x) text)
-              → HoldsAsNew q.router (instance_of_header x)
-              ⊎ With p q (instance_of_header x) text
-          by_reason (inl so) = or_forgotten (instance_of_header x) text (within text bytes at) so
-          by_reason (inr old) = inr (inr (old text))
+          (by_reason x (of_database (instance_of_header x) (so x among)))
       of_sent name (IsOfSent.OfAcknowledgment headers x body among (IsAcknowledged.Received r) is) =
           subst (λ (n : LsaInstance). HoldsAsNew q.router n ⊎ With p q n text) is
-          (by_reason (received x r))
-        where
-          by_reason : (HoldsAsNew q.router (instance_of_header x) ⊎ IsWithout (key_of x) q.router)
-              ⊎ ((text : ℕ) → Old (instance_of_header x) text)
-              → HoldsAsNew q.router (instance_of_header x)
-              ⊎ With p q (instance_of_header x) text
-          by_reason (inl so) = or_forgotten (instance_of_header x) text (within text bytes at) so
-          by_reason (inr old) = inr (inr (old text))
+          (by_reason x (received x r))
       of_sent name (IsOfSent.OfAcknowledgment headers x body among
           (IsAcknowledged.NothingToFlush none aged) is) =
           inr (inl (Forgets.NothingToFlush

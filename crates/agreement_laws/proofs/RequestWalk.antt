@@ -60,9 +60,9 @@ use Rattle.agreement_laws.proofs.Asking.{Asking}
 use Rattle.agreement_laws.proofs.Requesting.{HasKey, accepted_one, any_described}
 use Rattle.agreement_laws.proofs.Holding.{entry_as_new, in_words}
 use Rattle.agreement_laws.proofs.RequestParts as parts
-use Rattle.agreement_laws.proofs.Lists.{some_same}
 use Rattle.agreement_laws.proofs.Accepting.{is_taken}
 use Rattle.agreement_laws.proofs.Ranks.{itself_at_least}
+use Rattle.agreement_laws.proofs.Conversing.{is_over, with_nobody}
 
 -- ---- what becomes of a request
 
@@ -298,13 +298,9 @@ module _ (ranks : RanksFollowTheComparison) (old : Router) (moment : ℕ) (event
 
   in_conversation : (new : Router) (o : Option Neighbor) → neighbor_at number new.area.links ≡ o
       → AsksThere o → BecameOfRequest old moment event number n key entry new
-  in_conversation new None at k =
-      BecameOfRequest.Over (λ c. let no : None ≡ Some c.neighbor = sym at ∙ c.there in absurd cc)
+  in_conversation new None at k = BecameOfRequest.Over (with_nobody number with_it new at)
   in_conversation new (Some m) at (inl over) =
-      BecameOfRequest.Over (λ c.
-      let same : m ≡ c.neighbor = some_same (sym at ∙ c.there) in
-      over.1 (ap (λ (x : Neighbor). is_exchange_or_later x.state) same ∙ c.exchanging)
-      (ap (λ (x : Neighbor). conversation_with x) same ∙ c.is))
+      BecameOfRequest.Over (is_over number with_it new m at over.1)
   in_conversation new (Some m) at (inr it) =
       BecameOfRequest.Stays (IsRequestedOrHeld.Requested m at it.0 it.1)
 
@@ -369,13 +365,9 @@ module _ (ranks : RanksFollowTheComparison) (old : Router) (moment : ℕ) (event
 
     in_stay : (new : Router) (o : Option Neighbor) → neighbor_at number new.area.links ≡ o
         → AsksThere o → StaysRequested old moment event number n key entry new
-    in_stay new None at k =
-        StaysRequested.Over (λ c. let no : None ≡ Some c.neighbor = sym at ∙ c.there in absurd cc)
+    in_stay new None at k = StaysRequested.Over (with_nobody number with_it new at)
     in_stay new (Some m) at (inl over) =
-        StaysRequested.Over (λ c.
-        let same : m ≡ c.neighbor = some_same (sym at ∙ c.there) in
-        over.1 (ap (λ (x : Neighbor). is_exchange_or_later x.state) same ∙ c.exchanging)
-        (ap (λ (x : Neighbor). conversation_with x) same ∙ c.is))
+        StaysRequested.Over (is_over number with_it new m at over.1)
     in_stay new (Some m) at (inr it) =
         StaysRequested.Stays (record { neighbor = m; there = at; is = it.0; asked = it.1 })
 

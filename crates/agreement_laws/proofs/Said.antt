@@ -1,6 +1,6 @@
 -- What each part of an event says about LSAs is held then: the LSAs of its Link State Updates, and
 -- what its acknowledgments identify when they arise.
-use Rattle.std.proofs.Common.{◌≡◌, ℕ, zero, suc, ◌+◌, true, cond, not, ◌&&◌, inl, inr, List, []}
+use Rattle.std.proofs.Common.{◌≡◌, ℕ, zero, suc, ◌+◌, true, cond, inl, inr, List, []}
 use Rattle.std.proofs.Common.{◌∷◌, ◌++◌, map, Option, None, Some, refl, sym, ap, subst, ◌∙◌, arith}
 use Rattle.std.specs.Prelude.{◌==◌, nat_le, slice_get}
 use Rattle.std.specs.FinMap as finite
@@ -18,7 +18,6 @@ use Rattle.lsdb.specs.declared.order.Instance.{Instance}
 use Rattle.packet.specs.declared.model.Description.{Description}
 use Rattle.packet.specs.declared.model.Hello.{Hello}
 use Rattle.adjacency.specs.Adjacencies as adjacencies
-use Rattle.adjacency.specs.Adjacencies.{has_passed}
 use Rattle.adjacency.specs.Contents.{Content, Step, Updates, no_sends, then_}
 use Rattle.adjacency.specs.Descriptions.{after_description}
 use Rattle.adjacency.specs.Neighbors.{Neighbor}
@@ -64,6 +63,7 @@ use Rattle.agreement_laws.proofs.Cases.{is_newer_case, nothing_to_flush, same_wh
 use Rattle.agreement_laws.proofs.Databases.{aged_out}
 use Rattle.agreement_laws.proofs.Holding.{HasEnded, IsHeldAsNew, held_flushed, held_installed}
 use Rattle.agreement_laws.proofs.Holding.{held_originated, held_removed, held_same, held_sent}
+use Rattle.agreement_laws.proofs.Steps as steps
 
 -- ---- links
 
@@ -576,21 +576,12 @@ module _ (old : Router) (moment : ℕ) where
       → OfNeighbor old (AsNew db) number n
       → OfStep old (AsNew db) number (update_again moment interval db n)
   update_again_so db number interval n own h =
-      chosen (OfStep old (AsNew db) number)
-      (not (finite.len n.retransmissions == 0) && has_passed n.retransmitted_at interval moment)
-      (record {
-        neighbor = record n {
-          retransmitted_at = moment;
-        };
-        sends = map Updates (next_retransmissions moment db n);
-      })
-      (no_sends n)
-      (λ e. record {
+      steps.update_again_so (OfStep old (AsNew db) number) moment n interval db (record {
         neighbor = record { summary = h.summary; last = h.last };
         sends = updates_so (AsNew db) number (next_retransmissions moment db n)
             (fitting_so (AsNew db) number 28 (retransmission_lsas moment db n)
             (copies_so db own (finite.keys n.retransmissions)));
-      }) (λ e. quiet_step old (AsNew db) number n h)
+      }) (quiet_step old (AsNew db) number n h)
 
   again_so : (db : Database) (number interval : ℕ) (n : Neighbor) → OwnKeys db
       → OfNeighbor old (AsNew db) number n

@@ -1,12 +1,10 @@
 -- What a router says about LSAs at an interface, and still has to say: what is sent there, delayed
 -- acknowledgments, what is to be described, and the last Database Description, which may be sent
 -- again. Each step of the neighbor keeps a property of it.
-use Rattle.std.proofs.Common.{◌≡◌, ℕ, zero, suc, ◌+◌, ◌%◌, ◌^◌, Bool, true, false, cond, not, ◌&&◌}
-use Rattle.std.proofs.Common.{◌||◌, ◌⊎◌, inl, inr, List, [], ◌∷◌, map, take, drop, Option, None}
-use Rattle.std.proofs.Common.{Some}
-use Rattle.std.specs.Prelude.{◌==◌, nat_lt}
+use Rattle.std.proofs.Common.{◌≡◌, ℕ, zero, suc, ◌+◌, ◌%◌, ◌^◌, Bool, true, false, cond, not, ◌||◌}
+use Rattle.std.proofs.Common.{◌⊎◌, inl, inr, List, [], ◌∷◌, map, take, drop, Option, None, Some}
+use Rattle.std.specs.Prelude.{nat_lt}
 use Rattle.std.specs.FinMap as finite
-use Rattle.std.specs.FinSet as set
 use Rattle.std.specs.List.{AllByRecursion, filter}
 use Rattle.words.specs.Constants.{most_headers_described}
 use Rattle.words.specs.declared.key.Key.{Key}
@@ -20,7 +18,7 @@ use Rattle.adjacency.specs.declared.state.NeighborState.{NeighborState}
 use Rattle.adjacency.specs.declared.state.NeighborState.TheVariants.{Init, ExStart, Exchange}
 use Rattle.adjacency.specs.declared.state.NeighborState.TheVariants.{Loading, Full}
 use Rattle.adjacency.specs.Adjacencies.{after_hello, after_inactivity_timer, enter_exstart}
-use Rattle.adjacency.specs.Adjacencies.{has_passed, loading_done_in, mismatch_step}
+use Rattle.adjacency.specs.Adjacencies.{loading_done_in, mismatch_step}
 use Rattle.adjacency.specs.Adjacencies.{one_way_received, requests_nothing, two_way_received}
 use Rattle.adjacency.specs.Adjacencies.{two_way_received_in, with_hello_heard}
 use Rattle.adjacency.specs.Contents.{Content, Requests, Step, Updates, no_sends, then_}
@@ -29,14 +27,11 @@ use Rattle.adjacency.specs.Descriptions.{as_received, describe, exchange_done, i
 use Rattle.adjacency.specs.Descriptions.{is_over_for, judge, knows_types, master_goes_on}
 use Rattle.adjacency.specs.Descriptions.{negotiated_neighbor, repeat, slave_replies, verdict}
 use Rattle.adjacency.specs.Descriptions.{with_requests}
-use Rattle.adjacency.specs.Floods.{flooded_in_exchange, flooding, meets, passes, request_of}
-use Rattle.adjacency.specs.Floods.{without_met_request}
+use Rattle.adjacency.specs.Floods.{flooding, meets, request_of, without_met_request}
 use Rattle.adjacency.specs.Neighbors.{Neighbor, is_exchange_or_later}
-use Rattle.adjacency.specs.Requests.{may_request, next_request, request_next, still_outstanding}
-use Rattle.adjacency.specs.Requests.{without_request}
-use Rattle.adjacency.specs.Retransmissions.{acknowledged_neighbor, add_retransmission}
-use Rattle.adjacency.specs.Retransmissions.{after_acknowledgment, describe_again, is_entry}
-use Rattle.adjacency.specs.Retransmissions.{remove_retransmission, repeats_description}
+use Rattle.adjacency.specs.Requests.{request_next, without_request}
+use Rattle.adjacency.specs.Retransmissions.{acknowledged_neighbor, after_acknowledgment}
+use Rattle.adjacency.specs.Retransmissions.{describe_again, is_entry, remove_retransmission}
 use Rattle.adjacency.specs.Retransmissions.{request_again}
 use Rattle.adjacency.proofs.Kept.{chosen}
 use Rattle.adjacency.proofs.Maps.{AllIn, OfEntry, entries_in, made_in, none_in}
@@ -52,6 +47,7 @@ use Rattle.flood_laws.proofs.Known.{each_all}
 use Rattle.flood_laws.proofs.Retransmitted.{if_so}
 use Rattle.agreement_laws.specs.SaidIsHeld.{IsToDescribe, Waits, young}
 use Rattle.agreement_laws.proofs.AtInterface as interface
+use Rattle.agreement_laws.proofs.Steps as steps
 
 -- a property of instances and their keys
 abbrev pub Truth : Type 1
@@ -380,21 +376,10 @@ module _ (old : Router) where
         → T (lsa_key lsa) (instance_of lsa.header) → OfNeighbor T number n
         → OfStep (flooding moment from lsa n)
     flooded_so moment from lsa n so h =
-        chosen OfStep (is_exchange_or_later n.state) (flooded_in_exchange moment from lsa n)
-        (no_sends n)
-        (λ e. chosen OfStep (not from && passes moment lsa (request_of n lsa))
-        (record {
-          neighbor = add_retransmission moment lsa.header (without_met_request moment lsa n);
-          sends = Updates lsa ∷ [];
-        })
-        (no_sends (remove_retransmission (lsa_key lsa) (without_met_request moment lsa n)))
-        (λ e. record {
-          neighbor = record { summary = met.summary; last = met.last };
-          sends = (so, tt);
-        })
-        (λ e. quiet_step (remove_retransmission (lsa_key lsa) (without_met_request moment lsa n))
-        (record { summary = met.summary; last = met.last })))
-        (λ e. quiet_step n h)
+        steps.flooding_so OfStep moment n from lsa
+        (record { neighbor = record { summary = met.summary; last = met.last }; sends = (so, tt) })
+        (quiet_step (remove_retransmission (lsa_key lsa) (without_met_request moment lsa n))
+        (record { summary = met.summary; last = met.last })) (quiet_step n h)
       where
         met : OfNeighbor T number (without_met_request moment lsa n)
         met =
@@ -419,47 +404,23 @@ module _ (old : Router) where
 
     pub asked : (moment : ℕ) (n : Neighbor) → OfNeighbor T number n → OfStep (request_next moment n)
     asked moment n h =
-        chosen OfStep (may_request n)
-        (record {
-          neighbor = record n {
-            outstanding = set.from_list (next_request n);
-            requested_at = moment;
-          };
-          sends = Requests (next_request n) ∷ [];
-        }) (no_sends n)
-        (λ e. record {
-          neighbor = record {
-            summary = h.summary;
-            last = h.last;
-          };
+        steps.request_so OfStep moment n (record {
+          neighbor = record { summary = h.summary; last = h.last };
           sends = (tt, tt);
-        }) (λ e. quiet_step n h)
+        }) (quiet_step n h)
 
     described_again : (moment interval : ℕ) (n : Neighbor) → OfNeighbor T number n
         → OfStep (describe_again moment interval n)
     described_again moment interval n h =
-        chosen OfStep (repeats_description n.state n.is_master && has_passed n.described_at interval
-        moment) (repeat moment n) (no_sends n)
-        (λ e. repeated moment n h) (λ e. quiet_step n h)
+        steps.describe_again_so OfStep moment n interval (repeated moment n h) (quiet_step n h)
 
     requested_again : (moment interval : ℕ) (n : Neighbor) → OfNeighbor T number n
         → OfStep (request_again moment interval n)
     requested_again moment interval n h =
-        chosen OfStep (not (set.len n.outstanding == 0) && has_passed n.requested_at interval
-        moment)
-        (record {
-          neighbor = record n {
-            requested_at = moment;
-          };
-          sends = Requests (still_outstanding n) ∷ [];
-        }) (no_sends n)
-        (λ e. record {
-          neighbor = record {
-            summary = h.summary;
-            last = h.last;
-          };
+        steps.request_again_so OfStep moment n interval (record {
+          neighbor = record { summary = h.summary; last = h.last };
           sends = (tt, tt);
-        }) (λ e. quiet_step n h)
+        }) (quiet_step n h)
 
     pub both_again : (moment interval : ℕ) (n : Neighbor) → OfNeighbor T number n
         → OfStep (then_ (describe_again moment interval n) (request_again moment interval))

@@ -57,44 +57,32 @@ renamed (l ∷ lsas) header c = by_place (λ k. renamed lsas header k)
         (instance_of_header header) (rest k)
 
 module _ (number : ℕ) (own : ℕ) (step : Step) (header : Header) where
-  heard : (bytes : List ℕ) (packet : Packet) → step.event ≡ Occurrence.Packet number bytes
-      → PacketText bytes packet → (b : PacketBody) → packet.body ≡ b
-      → Contains (headers_told b) header → Exchanged number header own step
-  heard bytes packet is text (body.Hello h) same c = absurd (of_empty header c)
-  heard bytes packet is text (body.Description d) same c =
-      inr (
-        bytes,
-        record {
-          is = is;
-          packet = packet;
-          text = text;
-          told = subst (λ (b : PacketBody). Contains (instances_told b) (instance_of_header header))
-              (sym same) (mapped instance_of_header d.headers header c);
-        },
-      )
-  heard bytes packet is text (body.Request keys) same c = absurd (of_empty header c)
-  heard bytes packet is text (body.Update lsas) same c =
-      inr (
-        bytes,
-        record {
-          is = is;
-          packet = packet;
-          text = text;
-          told = subst (λ (b : PacketBody). Contains (instances_told b) (instance_of_header header))
-              (sym same) (renamed (filter_map lsa_in lsas) header c);
-        },
-      )
-  heard bytes packet is text (body.Acknowledgment headers) same c =
-      inr (
-        bytes,
-        record {
-          is = is;
-          packet = packet;
-          text = text;
-          told = subst (λ (b : PacketBody). Contains (instances_told b) (instance_of_header header))
-              (sym same) (mapped instance_of_header headers header c);
-        },
-      )
+  module _ (bytes : List ℕ) (packet : Packet) (is : step.event ≡ Occurrence.Packet number bytes)
+      (text : PacketText bytes packet) where
+    told : (b : PacketBody) → packet.body ≡ b
+        → Contains (instances_told b) (instance_of_header header) → Exchanged number header own step
+    told b same c =
+        inr (
+          bytes,
+          record {
+            is = is;
+            packet = packet;
+            text = text;
+            told = subst (λ (x : PacketBody). Contains (instances_told x)
+                (instance_of_header header)) (sym same) c;
+          },
+        )
+
+    heard : (b : PacketBody) → packet.body ≡ b → Contains (headers_told b) header
+        → Exchanged number header own step
+    heard (body.Hello h) same c = absurd (of_empty header c)
+    heard (body.Description d) same c =
+        told (body.Description d) same (mapped instance_of_header d.headers header c)
+    heard (body.Request keys) same c = absurd (of_empty header c)
+    heard (body.Update lsas) same c =
+        told (body.Update lsas) same (renamed (filter_map lsa_in lsas) header c)
+    heard (body.Acknowledgment headers) same c =
+        told (body.Acknowledgment headers) same (mapped instance_of_header headers header c)
 
   in_turn : (router : ℕ) → IsExchanged own step number router header
       → Exchanged number header own step

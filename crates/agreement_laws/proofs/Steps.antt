@@ -30,6 +30,68 @@ use Rattle.adjacency.specs.Retransmissions.{update_again}
 use Rattle.adjacency.proofs.Kept.{chosen}
 use Rattle.received.specs.Holds.{Holds}
 
+-- ---- a step, by its cases
+
+module _ (Q : Step → Type 0) (moment : ℕ) (m : Neighbor) where
+  pub flooding_so : (from : Bool) (lsa : Lsa)
+      → Q (record {
+        neighbor = add_retransmission moment lsa.header (without_met_request moment lsa m);
+        sends = Updates lsa ∷ [];
+      })
+      → Q (no_sends (remove_retransmission (lsa_key lsa) (without_met_request moment lsa m)))
+      → Q (no_sends m) → Q (flooding moment from lsa m)
+  flooding_so from lsa added removed h =
+      let w : Neighbor = without_met_request moment lsa m in
+      let got : Step = record {
+        neighbor = add_retransmission moment lsa.header w;
+        sends = Updates lsa ∷ [];
+      } in
+      let not_got : Step = no_sends (remove_retransmission (lsa_key lsa) w) in
+      chosen Q (is_exchange_or_later m.state) (flooded_in_exchange moment from lsa m) (no_sends m)
+      (λ part. chosen Q (not from && passes moment lsa (request_of m lsa)) got not_got
+      (λ e. added) (λ e. removed)) (λ before. h)
+
+  pub request_so : Q (record {
+    neighbor = record m { outstanding = set.from_list (next_request m); requested_at = moment };
+    sends = Requests (next_request m) ∷ [];
+  }) → Q (no_sends m) → Q (request_next moment m)
+  request_so asks h =
+      chosen Q (may_request m) (record {
+        neighbor = record m { outstanding = set.from_list (next_request m); requested_at = moment };
+        sends = Requests (next_request m) ∷ [];
+      }) (no_sends m) (λ e. asks) (λ e. h)
+
+  pub describe_again_so : (interval : ℕ) → Q (repeat moment m) → Q (no_sends m)
+      → Q (describe_again moment interval m)
+  describe_again_so interval repeats h =
+      chosen Q (repeats_description m.state m.is_master && has_passed m.described_at interval
+      moment)
+      (repeat moment m) (no_sends m) (λ e. repeats) (λ e. h)
+
+  pub request_again_so : (interval : ℕ) → Q (record {
+    neighbor = record m { requested_at = moment };
+    sends = Requests (still_outstanding m) ∷ [];
+  }) → Q (no_sends m) → Q (request_again moment interval m)
+  request_again_so interval asks h =
+      chosen Q (not (set.len m.outstanding == 0) && has_passed m.requested_at interval moment)
+      (record {
+        neighbor = record m { requested_at = moment };
+        sends = Requests (still_outstanding m) ∷ [];
+      }) (no_sends m) (λ e. asks) (λ e. h)
+
+  pub update_again_so : (interval : ℕ) (db : Database) → Q (record {
+    neighbor = record m { retransmitted_at = moment };
+    sends = map Updates (next_retransmissions moment db m);
+  }) → Q (no_sends m) → Q (update_again moment interval db m)
+  update_again_so interval db updates h =
+      chosen Q (not (finite.len m.retransmissions == 0)
+      && has_passed m.retransmitted_at interval moment) (record {
+        neighbor = record m { retransmitted_at = moment };
+        sends = map Updates (next_retransmissions moment db m);
+      }) (no_sends m) (λ e. updates) (λ e. h)
+
+-- ---- a property of the neighbor
+
 module _ (P : Neighbor → Type 0) where
   abbrev pub Of : Neighbor → Type 0
   Of m = P (record m {
@@ -57,16 +119,7 @@ module _ (P : Neighbor → Type 0) where
       → Of (remove_retransmission (lsa_key lsa) (without_met_request moment lsa m)) → Of m
       → Of (flooding moment from lsa m).neighbor
   flooded moment from lsa m added removed h =
-      let w : Neighbor = without_met_request moment lsa m in
-      let got : Step = record {
-        neighbor = add_retransmission moment lsa.header w;
-        sends = Updates lsa ∷ [];
-      } in
-      let not_got : Step = no_sends (remove_retransmission (lsa_key lsa) w) in
-      chosen OfStep (is_exchange_or_later m.state) (flooded_in_exchange moment from lsa m)
-      (no_sends m)
-      (λ part. chosen OfStep (not from && passes moment lsa (request_of m lsa)) got not_got
-      (λ e. added) (λ e. removed)) (λ before. h)
+      flooding_so OfStep moment m from lsa added removed h
 
   -- ---- attempts and Hellos
 
@@ -128,14 +181,7 @@ module _ (P : Neighbor → Type 0) where
   filled m fills h = filled_in m.state m fills h
 
   pub asked : (moment : ℕ) (m : Neighbor) → Of m → Of (request_next moment m).neighbor
-  asked moment m h =
-      chosen OfStep (may_request m) (record {
-        neighbor = record m {
-          outstanding = set.from_list (next_request m);
-          requested_at = moment;
-        };
-        sends = Requests (next_request m) ∷ [];
-      }) (no_sends m) (λ e. h) (λ e. h)
+  asked moment m h = request_so OfStep moment m h h
 
   repeated_of : (moment : ℕ) (o : Option Description) (m : Neighbor)
       → Of (record m { described = o }) → Of (repeat moment (record m { described = o })).neighbor
@@ -147,32 +193,13 @@ module _ (P : Neighbor → Type 0) where
 
   pub again : (moment interval : ℕ) (db : Database) (m : Neighbor) → Of m
       → Of (send_again moment interval db m).neighbor
-  again moment interval db m h = updated
-      (request_again moment interval (describe_again moment interval m).neighbor).neighbor
-      (asked_so (describe_again moment interval m).neighbor (described_so m h))
-    where
-      described_so : (x : Neighbor) → Of x → Of (describe_again moment interval x).neighbor
-      described_so x k =
-          chosen OfStep (repeats_description x.state x.is_master && has_passed x.described_at
-          interval moment) (repeat moment x) (no_sends x) (λ e. repeated moment x k) (λ e. k)
-
-      asked_so : (x : Neighbor) → Of x → Of (request_again moment interval x).neighbor
-      asked_so x k =
-          chosen OfStep (not (set.len x.outstanding == 0) && has_passed x.requested_at interval
-          moment)
-          (record {
-            neighbor = record x { requested_at = moment };
-            sends = Requests (still_outstanding x) ∷ [];
-          }) (no_sends x) (λ e. k) (λ e. k)
-
-      updated : (x : Neighbor) → Of x → Of (update_again moment interval db x).neighbor
-      updated x k =
-          chosen OfStep (not (finite.len x.retransmissions == 0) && has_passed x.retransmitted_at
-          interval moment)
-          (record {
-            neighbor = record x { retransmitted_at = moment };
-            sends = map Updates (next_retransmissions moment db x);
-          }) (no_sends x) (λ e. k) (λ e. k)
+  again moment interval db m h =
+      let described : Neighbor = (describe_again moment interval m).neighbor in
+      let asked_again : Neighbor = (request_again moment interval described).neighbor in
+      let so : Of described =
+      describe_again_so OfStep moment m interval (repeated moment m h) h in
+      let asks : Of asked_again = request_again_so OfStep moment described interval so so in
+      update_again_so OfStep moment asked_again interval db asks asks
 
   pub old_description : (moment dead : ℕ) (m : Neighbor)
       → (is_over_for moment dead m.exchanged ≡ true → Of (record m { described = None })) → Of m

@@ -26,6 +26,7 @@ use Rattle.agreement_laws.specs.TakenIn.{WhatAFullNeighborDescribedWasTakenIn}
 use Rattle.agreement_laws.proofs.RequestWalk.{accepted_is_requested, requests_are_met}
 use Rattle.agreement_laws.proofs.Holding.{became_less, entry_as_new}
 use Rattle.agreement_laws.proofs.Lists.{some_same}
+use Rattle.agreement_laws.proofs.Conversing.{its_conversation}
 
 module _ (number : ℕ) (with_it : Conversation) where
   -- a run in which the conversation goes on is a run
@@ -38,12 +39,6 @@ module _ (number : ℕ) (with_it : Conversation) where
       → Converses number with_it old
   converses [] old new goes = goes.1
   converses (s ∷ steps) old new goes = goes.0
-
-  -- who is there is in the conversation
-  its_conversation : (r : Router) (m : Neighbor) → neighbor_at number r.area.links ≡ Some m
-      → Converses number with_it r → conversation_with m ≡ with_it
-  its_conversation r m at c = let same : m ≡ c.neighbor = some_same (sym at ∙ c.there) in
-      ap (λ (x : Neighbor). conversation_with x) same ∙ c.is
 
   module _ (ranks : RanksFollowTheComparison) (key : Key) (entry : ListEntry) (new : Router)
       (full : Neighbor) (there : neighbor_at number new.area.links ≡ Some full)
@@ -73,7 +68,7 @@ module _ (number : ℕ) (with_it : Conversation) where
         asked)
       where
         mine : conversation_with m ≡ with_it
-        mine = its_conversation r m at goes.0
+        mine = its_conversation number with_it r m at goes.0
 
         by_state : ((x : Neighbor) → neighbor_at number goes.1.area.links ≡ Some x
             → finite.get x.requests key ≡ Some entry

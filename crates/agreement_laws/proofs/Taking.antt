@@ -42,7 +42,7 @@ use Rattle.agreement_laws.specs.Held.{WhatWasAcceptedIsHeld}
 use Rattle.agreement_laws.specs.SaidIsHeld.{young}
 use Rattle.agreement_laws.proofs.AnswerHistories.{Turns, foreigners, kept, step_taken, turn_of}
 use Rattle.agreement_laws.proofs.Latest.{LastOf, last_of, there_or_not}
-use Rattle.agreement_laws.proofs.StartAlone.{begins_alone}
+use Rattle.agreement_laws.proofs.Runs.{begins_alone}
 use Rattle.agreement_laws.proofs.Lists.{some_same}
 use Rattle.agreement_laws.proofs.Names.{at_any_age}
 use Rattle.agreement_laws.proofs.Ranks.{at_least_on}
@@ -376,7 +376,8 @@ module _ (laws : Laws) (ends : Ends) (side : Side) (name : LsaInstance) where
       → Holds (Fine now earlier h) (neighbor_at number (party side now).router.area.links)
   alone now earlier h c is =
       by_neighbor (neighbor_at number (party side now).router.area.links)
-      (ap (λ (r : Router). neighbor_at number r.area.links) is ∙ begins_alone c number)
+      (ap (λ (r : Router). neighbor_at number r.area.links) is
+      ∙ (begins_alone c number).0)
     where
       by_neighbor : (o : Option Neighbor) → o ≡ None → Holds (Fine now earlier h) o
       by_neighbor None e = tt

@@ -4,26 +4,14 @@ use Rattle.std.proofs.Common.{sym, ap, subst, ◌∙◌, arith}
 use Rattle.std.specs.Prelude.{nat_lt}
 use Rattle.std.proofs.lemmas.Bool.{ltb-true}
 use Rattle.packet.specs.declared.model.Description.{Description}
-use Rattle.adjacency.specs.declared.state.NeighborState.{NeighborState}
-use Rattle.adjacency.specs.declared.state.NeighborState.TheVariants.{Init, ExStart, Exchange}
-use Rattle.adjacency.specs.declared.state.NeighborState.TheVariants.{Loading}
-use Rattle.adjacency.specs.declared.state.NeighborState.TheVariants.{Full}
-use Rattle.adjacency.specs.Neighbors.{Neighbor, is_exchange_or_later}
+use Rattle.adjacency.specs.Neighbors.{Neighbor}
 use Rattle.agreement_laws.specs.Exchanged.{conversation_with}
-use Rattle.agreement_laws.specs.HeldWasTold.{is_exchange_done}
-use Rattle.agreement_laws.specs.NeighborHistories.{Ends, IsHistory, Pair, Side}
-use Rattle.agreement_laws.specs.NeighborHistories.{other_side, party}
+use Rattle.agreement_laws.specs.NeighborHistories.{Ends, IsHistory, Pair, Side, other_side, party}
 use Rattle.agreement_laws.specs.Answers.{DescriptionsAreAnswered, HasRole, IsAccepted, IsAnswered}
 use Rattle.agreement_laws.specs.Answers.{IsOf, IsOpening}
 use Rattle.agreement_laws.specs.Together.{IsDone, NoneIsMistaken, NumbersServeOnce}
 use Rattle.agreement_laws.specs.Together.{TheExchangeEndsTogether, WasAccepted}
-
-exchange_then : (s : NeighborState) → is_exchange_done s ≡ true → is_exchange_or_later s ≡ true
-exchange_then Init e = absurd cc
-exchange_then ExStart e = absurd cc
-exchange_then Exchange e = absurd cc
-exchange_then Loading e = refl
-exchange_then Full e = refl
+use Rattle.agreement_laws.proofs.Done.{exchange_then}
 
 back : (side : Side) → other_side (other_side side) ≡ side
 back Side.Left = refl
