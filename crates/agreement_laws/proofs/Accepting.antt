@@ -1,8 +1,8 @@
 -- A Description that is accepted: the three tests that it passes, and what its event does first.
-use Rattle.std.proofs.Common.{◌≡◌, ℕ, Bool, true, false, cond, not, ◌&&◌, ◌||◌, Option, Some, refl}
+use Rattle.std.proofs.Common.{◌≡◌, ℕ, Bool, true, false, cond, not, ◌&&◌, ◌||◌, Option, Some}
 use Rattle.std.proofs.Common.{ap, subst, ◌∙◌}
 use Rattle.std.specs.Prelude.{nat_lt}
-use Rattle.std.proofs.lemmas.Bool.{eq-eqb}
+use Rattle.std.proofs.lemmas.Bool.{and_from, and_parts, eq-eqb, not-true}
 use Rattle.packet.specs.declared.model.PacketBody.{PacketBody}
 use Rattle.packet.specs.declared.model.PacketBody.TheVariants as body
 use Rattle.packet.specs.declared.model.Description.{Description}
@@ -24,18 +24,6 @@ use Rattle.agreement_laws.specs.Accepted.{AcceptsDescription, accepts_descriptio
 
 -- ---- the tests
 
-three : (a b c : Bool) → (not a && b && c) ≡ true → (a ≡ false) × (b ≡ true) × (c ≡ true)
-three false true true e = (refl, refl, refl)
-three false true false e = absurd cc
-three false false c e = absurd cc
-three true b c e = absurd cc
-
-all_three : (a b c : Bool) → a ≡ false → b ≡ true → c ≡ true → (not a && b && c) ≡ true
-all_three false true true e f g = refl
-all_three true b c e f g = absurd cc
-all_three false false c e f g = absurd cc
-all_three false true false e f g = absurd cc
-
 -- it fits into a packet, knows all types, and has a verdict that accepts it
 abbrev pub Passes : ℕ → ℕ → Neighbor → Description → Type 0
 Passes own moment m d =
@@ -45,14 +33,19 @@ Passes own moment m d =
 pub its_tests : (own moment : ℕ) (m : Neighbor) (d : Description)
     → accepts_description own moment m d ≡ true → Passes own moment m d
 its_tests own moment m d e =
-    three (nat_lt 8192 d.mtu) (knows_types d)
-    (is_accepting (verdict own (two_way_received moment m).neighbor d)) e
+    let fits : Bool = not (nat_lt 8192 d.mtu) in
+    let all = and_parts (fits && knows_types d)
+    (is_accepting (verdict own (two_way_received moment m).neighbor d)) e in
+    let both = and_parts fits (knows_types d) all.0 in
+    (not-true (nat_lt 8192 d.mtu) both.0, both.1, all.1)
 
 pub by_tests : (own moment : ℕ) (m : Neighbor) (d : Description) → Passes own moment m d
     → accepts_description own moment m d ≡ true
 by_tests own moment m d p =
-    all_three (nat_lt 8192 d.mtu) (knows_types d)
-    (is_accepting (verdict own (two_way_received moment m).neighbor d)) p.0 p.1 p.2
+    let fits : Bool = not (nat_lt 8192 d.mtu) in
+    and_from (fits && knows_types d)
+    (is_accepting (verdict own (two_way_received moment m).neighbor d))
+    (and_from fits (knows_types d) (ap not p.0) p.1) p.2
 
 -- ---- the event
 

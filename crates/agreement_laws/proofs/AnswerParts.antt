@@ -6,7 +6,7 @@ use Rattle.std.proofs.Common.{ap, subst, ◌∙◌, arith}
 use Rattle.std.specs.Prelude.{◌==◌, slice_get}
 use Rattle.std.specs.FinMap as finite
 use Rattle.std.specs.List.{Contains, enumerate_from, flat_map, fold}
-use Rattle.std.proofs.lemmas.Bool.{eq-eqb, eqb-true}
+use Rattle.std.proofs.lemmas.Bool.{and_parts, eq-eqb, eqb-true}
 use Rattle.std.proofs.lemmas.List.Elements.{Contains-append_cases}
 use Rattle.words.specs.declared.key.Key.{Key}
 use Rattle.lsdb.specs.Copies.{DatabaseCopy, has_just_aged_out, install_flooded, lsa_now}
@@ -48,10 +48,6 @@ use Rattle.agreement_laws.proofs.AnswerSteps as steps
 use Rattle.agreement_laws.proofs.Lists.{some_same}
 use Rattle.agreement_laws.proofs.Steps as neighbor_steps
 use Rattle.agreement_laws.proofs.AtInterface as interface
-
-first_true : (a b : Bool) → (a && b) ≡ true → a ≡ true
-first_true true b e = refl
-first_true false b e = absurd cc
 
 -- ---- what is sent, by interfaces
 
@@ -402,7 +398,7 @@ module _ (own : ℕ) (Acc : Description → Type 0) (Began : Conversation → Ty
       by_link (Some link) is =
           chosen Stands (accepts its from hello link) (hear moment place s o) o
           (λ e. taken (subst (λ (i : ℕ). is_foreign i from ≡ true) same
-          (first_true (is_foreign its from) (agrees link hello && may_be link.neighbor from) e))
+          (and_parts (is_foreign its from) (agrees link hello && may_be link.neighbor from) e).0)
           (number == place) refl) (λ e. h)
         where
           s : Step

@@ -1,9 +1,9 @@
 -- What each step of a neighbor, but for Descriptions, makes of an entry of its request list: it
--- stays, unless flooding meets it, or the
--- conversation is over.
-use Rattle.std.proofs.Common.{◌≡◌, ℕ, Bool, true, false, cond, not, ◌⊎◌, inl, inr, List}
+-- stays, unless flooding meets it, or the conversation is over.
+use Rattle.std.proofs.Common.{◌≡◌, ℕ, Bool, true, false, cond, ◌⊎◌, inl, inr, List}
 use Rattle.std.proofs.Common.{Option, None, Some, refl, sym, subst, ◌∙◌}
 use Rattle.std.specs.FinMap as finite
+use Rattle.std.proofs.lemmas.Bool.{not-true}
 use Rattle.words.specs.declared.key.Key.{Key}
 use Rattle.lsdb.specs.Copies.{Database}
 use Rattle.lsdb.specs.Headers.{Header, Lsa, lsa_key}
@@ -53,13 +53,9 @@ module _ (ranks : RanksFollowTheComparison) (key : Key) (moment : ℕ) (first : 
   met_entry true lsa (Some r) is e =
       at_least_on ranks.total (instance_of lsa.header) (listed_now moment r) first
       (ranks.not_newer (listed_now moment r) (instance_of lsa.header)
-      (not_so (older_than_listed moment lsa.header r) e))
+      (not-true (older_than_listed moment lsa.header r) e))
       (subst (λ (l : ListEntry). is_at_least (listed_now moment l) first ≡ true) (sym same) low)
     where
-      not_so : (b : Bool) → not b ≡ true → b ≡ false
-      not_so true k = absurd cc
-      not_so false k = refl
-
       same : r ≡ entry
       same = cc
 

@@ -2,6 +2,7 @@
 use Rattle.std.proofs.Common.{◌≡◌, ℕ, Bool, true, false, not, ◌&&◌, ◌∷◌, [], Option, None, Some}
 use Rattle.std.proofs.Common.{is_some, refl, subst}
 use Rattle.std.specs.Prelude.{is_none}
+use Rattle.std.proofs.lemmas.Bool.{and_parts}
 use Rattle.lsdb.specs.Copies.{DatabaseCopy, installed_just_now, newer_than_copy, same_as_copy}
 use Rattle.lsdb.specs.Copies.{sent_just_now}
 use Rattle.lsdb.specs.Headers.{Lsa}
@@ -36,15 +37,6 @@ by_tests false false false false false true g h = refl
 by_tests false false false false false false true h = tt
 by_tests false false false false false false false true = tt
 by_tests false false false false false false false false = tt
-
-first_of : (a b : Bool) → (a && b) ≡ true → a ≡ true
-first_of true b e = refl
-first_of false b e = absurd cc
-
-first_two : (a b c : Bool) → (a && b && c) ≡ true → (a ≡ true) × (b ≡ true)
-first_two true true c is = (refl, refl)
-first_two true false c is = absurd cc
-first_two false b c is = absurd cc
 
 nothing_there : (o : Option DatabaseCopy) → is_none o ≡ true → o ≡ None
 nothing_there None is = refl
@@ -81,7 +73,7 @@ module _ (moment place : ℕ) (lsa : Lsa) (a : Area) where
   -- exactly the copy is acknowledged
   pub same_where_implied : case_at moment place lsa a ≡ Case.ImpliedAcknowledgment
       → is_same ≡ true
-  same_where_implied is = first_of is_same is_listed (passed Case.ImpliedAcknowledgment is)
+  same_where_implied is = (and_parts is_same is_listed (passed Case.ImpliedAcknowledgment is)).0
 
   pub same_where_duplicate : case_at moment place lsa a ≡ Case.Duplicate → is_same ≡ true
   same_where_duplicate is = passed Case.Duplicate is
@@ -90,6 +82,7 @@ module _ (moment place : ℕ) (lsa : Lsa) (a : Area) where
   pub nothing_to_flush : case_at moment place lsa a ≡ Case.NothingToFlush
       → (is_max_age lsa.header.age ≡ true) × (copy_of lsa a ≡ None)
   nothing_to_flush is =
-      let both = first_two (is_max_age lsa.header.age) (is_none (copy_of lsa a))
+      let all = and_parts (is_max_age lsa.header.age && is_none (copy_of lsa a))
       (not (any_exchange_or_loading a.links)) (passed Case.NothingToFlush is) in
+      let both = and_parts (is_max_age lsa.header.age) (is_none (copy_of lsa a)) all.0 in
       (both.0, nothing_there (copy_of lsa a) both.1)

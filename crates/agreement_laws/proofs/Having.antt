@@ -18,7 +18,6 @@ use Rattle.events.specs.Endings.{start_event, stays}
 use Rattle.events.specs.EventState.{EventState}
 use Rattle.events.specs.Originations.{new_instance}
 use Rattle.events.specs.Routers.{Occurrence, Router}
-use Rattle.events.specs.Ticks.{again}
 use Rattle.events.proofs.Walk.{Invariant}
 use Rattle.flood_laws.specs.NewInstances.{BringsLsa, lsas_brought}
 use Rattle.flood_laws.proofs.Acknowledged.{in_order}

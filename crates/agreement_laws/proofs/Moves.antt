@@ -30,7 +30,7 @@ use Rattle.received.specs.Outcomes.{Outcome, Stepping, each_neighbor, on_databas
 use Rattle.received.specs.Outcomes.{one_neighbor, only_at, step_on, stepped_links}
 use Rattle.received.specs.Updates.{after_case, copy_of, send_copy}
 use Rattle.events.specs.Commands.{taken_down}
-use Rattle.events.specs.Endings.{link_loading_done, start_event, stays, with_age}
+use Rattle.events.specs.Endings.{link_loading_done, start_event, with_age}
 use Rattle.events.specs.EventState.{EventState, flood_from_nobody}
 use Rattle.events.specs.Hellos.{accepts, names}
 use Rattle.events.specs.Originations.{new_instance}

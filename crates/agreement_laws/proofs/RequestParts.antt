@@ -1,6 +1,5 @@
 -- What each part of an event makes of a request: it stays on the neighbor's list, or an instance
--- that is as new is held, or the conversation
--- is over.
+-- that is as new is held, or the conversation is over.
 use Rattle.std.proofs.Common.{◌≡◌, ℕ, true, ◌⊎◌, inl, inr, List, [], ◌∷◌, map, Option, None}
 use Rattle.std.proofs.Common.{Some, refl, sym, subst, ◌∙◌}
 use Rattle.std.specs.FinMap as finite

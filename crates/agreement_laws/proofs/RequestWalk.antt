@@ -27,13 +27,12 @@ use Rattle.received.specs.Outcomes.{Outcome, on_links, only_at, sends_at, step_o
 use Rattle.received.specs.Outcomes.{stepped_links, stepping_sends}
 use Rattle.received.proofs.Holding.{one_holds}
 use Rattle.events.specs.declared.model.Out.{Out}
-use Rattle.events.specs.Endings.{end_event, start_event, stays}
+use Rattle.events.specs.Endings.{end_event, start_event}
 use Rattle.events.specs.EventState.{EventState}
 use Rattle.events.specs.Events.{Happens, OwnPart}
 use Rattle.events.specs.Hellos.{accepts}
 use Rattle.events.specs.Packets.{describe_to, is_from, is_hello, requested_lsas}
 use Rattle.events.specs.Routers.{Occurrence, Router}
-use Rattle.events.specs.Ticks.{again}
 use Rattle.events.proofs.Walk.{OfEvent, outcome}
 use Rattle.flood_laws.specs.InOrder.{IsInOrder}
 use Rattle.flood_laws.specs.NewInstances.{lsas_brought}

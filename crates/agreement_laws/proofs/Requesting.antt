@@ -1,6 +1,5 @@
 -- What a Description makes of a request list: an entry stays, unless a header of its key is
--- described; and what is accepted is requested, or
--- isn't newer than the copy.
+-- described; and what is accepted is requested, or isn't newer than the copy.
 use Rattle.std.proofs.Common.{◌≡◌, ℕ, ◌%◌, ◌^◌, ◌+◌, Bool, true, false, cond, ◌||◌, ◌⊎◌}
 use Rattle.std.proofs.Common.{inl, inr, List, [], ◌∷◌, ◌++◌, Some, refl, sym, ap, subst, ◌∙◌}
 use Rattle.std.specs.Prelude.{nat_lt}

@@ -21,7 +21,7 @@ use Rattle.adjacency.specs.Adjacencies.{after_hello, after_inactivity_timer, ent
 use Rattle.adjacency.specs.Adjacencies.{loading_done_in, mismatch_step}
 use Rattle.adjacency.specs.Adjacencies.{one_way_received, requests_nothing, two_way_received}
 use Rattle.adjacency.specs.Adjacencies.{two_way_received_in, with_hello_heard}
-use Rattle.adjacency.specs.Contents.{Content, Requests, Step, Updates, no_sends, then_}
+use Rattle.adjacency.specs.Contents.{Content, Step, no_sends, then_}
 use Rattle.adjacency.specs.Descriptions.{Verdict, accept, act, after_description, announced_more}
 use Rattle.adjacency.specs.Descriptions.{as_received, describe, exchange_done, in_state}
 use Rattle.adjacency.specs.Descriptions.{is_over_for, judge, knows_types, master_goes_on}
