@@ -1,9 +1,25 @@
 //! `hooktool`: makes loadable objects of programs, tells what the verifier knows of them, and tries
-//! them on questions. What it does stands in `hooktool_commands`.
+//! them on questions.
 #![tactic(auto)]
 
-use hooktool_commands::program;
-use hooktool_commands::streams::{Stream, Written};
+mod annotating;
+mod answers;
+mod building;
+mod cells;
+mod explaining;
+mod fault;
+mod files;
+mod names;
+mod program;
+mod relocated;
+mod report;
+mod streams;
+mod tap;
+mod testing;
+mod traps;
+mod trying;
+
+use crate::streams::{Stream, Written};
 use std::alloc::{AllocError, Global};
 use std::process::ExitCode;
 use std::{env, io};

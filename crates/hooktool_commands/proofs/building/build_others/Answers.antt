@@ -1,6 +1,0 @@
-use Rattle.hooktool_commands.proofs.Built.{memory_built}
-use Rattle.hooktool_commands.proofs.building.build_others.Goals as goal
-
-pub returns-clause-fault : goal.returns-clause-fault
-returns-clause-fault g c = memory_built g.R.WholeFiles.known _ c.relocation_report.result
-    c.relocation_report.ensures.fault

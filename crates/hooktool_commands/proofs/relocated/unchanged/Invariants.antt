@@ -1,9 +1,0 @@
-use Rattle.std.proofs.Common.{◌≡◌, false}
-use Rattle.std.specs.List.{All}
-use Rattle.elf.specs.declared.lists.LinkedSymbol.{LinkedSymbol}
-use Rattle.hooktool_commands.specs.Linked.{is_changed}
-use Rattle.hooktool_commands.proofs.relocated.unchanged.Given as goal
-
-abbrev pub invariant-loop-function : goal.invariant-loop-function
-invariant-loop-function l =
-    All (λ (function : LinkedSymbol). is_changed l.relocations function ≡ false) l.others.items
