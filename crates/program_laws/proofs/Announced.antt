@@ -3,9 +3,6 @@ use Rattle.std.proofs.Common.{◌≡◌, ℕ, ◌<◌, ◌⊎◌, inl, inr, Bool
 use Rattle.std.proofs.Common.{[], ◌∷◌, map, Option, None, Some, refl, sym, ◌∙◌, ap, subst}
 use Rattle.std.specs.Prelude.{◌==◌, nat_le}
 use Rattle.std.specs.FinMap as finite
-use Rattle.std.specs.Ordering.{is_eq}
-use Rattle.std.specs.declared.cmp.Ordering.{Ordering}
-use Rattle.std.specs.declared.cmp.Ordering.TheVariants.{Equal, Greater, Less}
 use Rattle.routes.proofs.Lists.{first_is, later_is}
 use Rattle.std.proofs.lemmas.Bool.{leb-false}
 use Rattle.words.specs.Constants.{ls_infinity}
@@ -19,7 +16,7 @@ use Rattle.lsa.specs.declared.body.LsaBody.TheVariants as says
 use Rattle.lsa.specs.declared.body.ExternalLsa.{ExternalLsa}
 use Rattle.lsdb.specs.Headers.{Lsa, lsa_key}
 use Rattle.lsdb.specs.Keys.{ByKey, key_cmp, same_key}
-use Rattle.lsdb.proofs.Keys.{keys_exact, keys_total}
+use Rattle.lsdb.proofs.Keys.{keys_total}
 use Rattle.packet.specs.declared.model.PacketBody.{PacketBody}
 use Rattle.packet.specs.declared.model.PacketBody.TheVariants as body
 use Rattle.packet.specs.declared.model.Packet.{Packet}
@@ -47,14 +44,7 @@ use Rattle.events.specs.Ticks.{after_tick, run_out}
 use Rattle.events.specs.declared.model.Config.{Config}
 use Rattle.events.specs.declared.model.Out.{Out}
 use Rattle.program_laws.specs.Announced.{IsAskedFor, WhatIsAnnouncedWasAskedFor}
-
-tied_key : (q k : Key) → same_key q k ≡ true → q ≡ k
-tied_key q k is = keys_exact q k (equal (key_cmp q k) is)
-  where
-    equal : (r : Ordering) → is_eq r ≡ true → r ≡ Equal
-    equal Less e = absurd cc
-    equal Equal e = refl
-    equal Greater e = absurd cc
+use Rattle.program_laws.proofs.Apart.{tied_key}
 
 -- ---- parts that don't change them
 

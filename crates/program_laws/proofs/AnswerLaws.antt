@@ -1,5 +1,5 @@
 -- What an answer at a hook depends on.
-use Rattle.std.proofs.Common.{◌≡◌, ℕ, List, [], Option, Some, None, MatchOption, ◌++◌, length, sym}
+use Rattle.std.proofs.Common.{◌≡◌, ℕ, List, [], Option, Some, None, MatchOption, ◌++◌, sym}
 use Rattle.std.proofs.Common.{◌∙◌, ap, subst, append-nil}
 use Rattle.isa.specs.declared.hook.Hook.{Hook}
 use Rattle.machine.specs.Given.{Given}

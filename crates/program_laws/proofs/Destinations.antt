@@ -160,25 +160,7 @@ module _ (key : Key) where
   one_after_another f g first second p = second (f p) ∙ ap (λ (q : EventState). cut (g q)) (first p)
       ∙ sym (second (f (cut p)))
 
-  -- ---- flooding
-
-  floods : (moment : Moment) (lsa : Lsa) → OverlooksIn (flood_from_nobody moment lsa)
-  floods moment lsa o =
-      let f : Stepping = flood_to moment None lsa in
-      let overlooks : apart.Overlooks key f =
-      λ number link n. apart.flooding_alike key moment lsa n in
-      let sends = apart.sends_alike key f overlooks o.area.links in
-      let db : Database = o.area.database in (
-        apart.stepped_alike key f overlooks o.area.links,
-        apart.same_but key _ _ (apart.all_marked_agree key moment (stepping_sends f o.area.links) db
-            (finite.remove db key) (apart.turned key (finite.remove db key) db
-            (apart.removed_agrees key db)))
-            ∙ ap (λ sends. finite.remove (apart.marked_all key moment (finite.remove db key) sends)
-            key) sends,
-        sent_more o.sends (stepping_sends f o.area.links)
-            ∙ ap (λ (more : List Send). sends_without key (sends_without key o.sends ++ more))
-            sends,
-      )
+  -- ---- steps of the neighbors, and flooding
 
   each : (moment : Moment) (f : Stepping) → apart.Overlooks key f
       → OverlooksIn (each_neighbor moment f)
@@ -195,6 +177,11 @@ module _ (key : Key) where
             ∙ ap (λ (more : List Send). sends_without key (sends_without key o.sends ++ more))
             sends,
       )
+
+  floods : (moment : Moment) (lsa : Lsa) → OverlooksIn (flood_from_nobody moment lsa)
+  floods moment lsa =
+      each moment (flood_to moment None lsa)
+      (λ number link n. apart.flooding_alike key moment lsa n)
 
   -- ---- parts of an outcome
 

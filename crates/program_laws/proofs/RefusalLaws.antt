@@ -1,9 +1,8 @@
 -- Refusals of small programs.
-use Rattle.std.proofs.Common.{◌≡◌, ℕ, zero, suc, ◌+◌, ◌<◌, Bool, true, false, cond, List, [], ◌∷◌}
-use Rattle.std.proofs.Common.{Some, None, IsSome, inl, inr, ⊎_elim, refl, sym, subst, eqb-true}
+use Rattle.std.proofs.Common.{◌≡◌, ℕ, zero, suc, ◌<◌, Bool, true, false, cond, []}
+use Rattle.std.proofs.Common.{Some, None, IsSome, inl, ⊎_elim, refl, sym, subst, eqb-true}
 use Rattle.std.proofs.Common.{arith}
 use Rattle.std.specs.Prelude.{◌==◌, ℤ, pos}
-use Rattle.isa.specs.declared.code.Slot.{Slot}
 use Rattle.isa.specs.declared.code.Slot.TheVariants.{Start}
 use Rattle.isa.specs.declared.hook.Hook.{Hook}
 use Rattle.isa.specs.declared.instruction.Instruction.{Instruction}
@@ -16,7 +15,7 @@ use Rattle.transfer.specs.declared.rule.Rule.TheVariants as rules
 use Rattle.kinds.specs.Stated.{any_number}
 use Rattle.segments.specs.Places.{goes_on}
 use Rattle.segments.specs.Stated.{statement_at}
-use Rattle.segments.specs.Refusals.{FallsOff, IsBadTarget, IsFirst, IsStray, IsUnreached}
+use Rattle.segments.specs.Refusals.{FallsOff, IsBadTarget, IsStray, IsUnreached}
 use Rattle.segments.specs.Refusals.{IsUnstated, IsWellMade, JumpsNowhere, LacksHelperAt, MayRefuse}
 use Rattle.segments.proofs.Plain.{never}
 use Rattle.verifier.specs.Examples.{then_exit, says, seven, test_on}

@@ -1,5 +1,5 @@
 -- The start of runs.
-use Rattle.std.proofs.Common.{◌≡◌, ℕ, ◌<◌, true, false, List, [], ◌∷◌, Some, refl, sym, ◌∙◌, get_or}
+use Rattle.std.proofs.Common.{◌≡◌, ℕ, List, [], ◌∷◌, Some, refl}
 use Rattle.std.proofs.Common.{arith}
 use Rattle.std.specs.Prelude.{slice_get, pos, negsuc}
 use Rattle.std.proofs.lemmas.List.{get_or-replicate}
@@ -10,7 +10,6 @@ use Rattle.isa.specs.declared.instruction.Source.TheVariants.{Register}
 use Rattle.isa.specs.declared.instruction.StoreSize.TheVariants as stored
 use Rattle.isa.specs.declared.map.Map.{Map}
 use Rattle.isa.specs.declared.map.Map.TheVariants as maps
-use Rattle.machine.specs.declared.state.Content.{Content}
 use Rattle.machine.specs.declared.state.Content.TheVariants as contents
 use Rattle.machine.specs.declared.state.Pointer.TheVariants as pointers
 use Rattle.machine.specs.declared.state.StackByte.{StackByte}

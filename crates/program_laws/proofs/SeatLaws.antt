@@ -1,16 +1,16 @@
 -- Consecutive steps of a seat.
-use Rattle.std.proofs.Common.{◌≡◌, ℕ, zero, suc, ◌+◌, ◌<◌, ◌≤◌, List, [], ◌∷◌, ◌++◌, length, get_or}
-use Rattle.std.proofs.Common.{refl, sym, ap, subst, ◌∙◌, inl, inr, append_assoc, append-nil, arith}
+use Rattle.std.proofs.Common.{◌≡◌, ℕ, zero, suc, ◌+◌, ◌<◌, ◌≤◌, List, [], ◌∷◌, ◌++◌, length}
+use Rattle.std.proofs.Common.{sym, ap, subst, ◌∙◌, inl, inr, append_assoc, append-nil, arith}
 use Rattle.std.specs.Prelude.{slice_index_or}
 use Rattle.std.specs.List.{Contains}
 use Rattle.machine.specs.Label.{Label, Silent, Add, Spent, Read, Cell, SetCell}
 use Rattle.maps.specs.declared.access.Access.{Access}
 use Rattle.maps.specs.declared.access.Access.TheVariants as access
-use Rattle.maps.specs.Access.{CellsFind, ReadsSee, adds_made, floor, last_stored, one_if_add}
+use Rattle.maps.specs.Access.{adds_made, floor, last_stored, one_if_add}
 use Rattle.maps.specs.Words.{SeatView}
 use Rattle.maps.proofs.Accesses.{adds_made-snoc}
 use Rattle.maps.proofs.Lists.{snoc_split}
-use Rattle.helpers.specs.Seats.{Allows, AllowsAll, Makes, acts, grown_by}
+use Rattle.helpers.specs.Seats.{Allows, AllowsAll, Makes, acts}
 use Rattle.helpers.proofs.Seats.{acts-append}
 use Rattle.program_laws.specs.Seats.{Grows, IsLawfulList}
 

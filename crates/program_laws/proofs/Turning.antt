@@ -23,7 +23,7 @@ use Rattle.machine.specs.Label.{Label, Silent}
 use Rattle.machine.specs.State.{Setting, setting_of, held}
 use Rattle.machine.specs.Steps.{Does, Step, Exits, IsAt, Branches}
 use Rattle.machine.specs.Runs.{Leads}
-use Rattle.annotations.specs.CountedCode.{detour_at, detour, distance_between, with_number}
+use Rattle.annotations.specs.CountedCode.{detour_at, distance_between, with_number}
 use Rattle.program_laws.specs.CountedRuns.{accesses}
 use Rattle.program_laws.proofs.Codes.{Whole, all, detour_is, distance_leads}
 use Rattle.program_laws.proofs.Frames.{later}

@@ -1,7 +1,7 @@
 -- No event of a router depends on the answers of an `Install`, and an event has only one outcome.
 -- So two runs of a router, or two histories of a network, that are the same except for these
 -- answers send the same.
-use Rattle.std.proofs.Common.{◌≡◌, ℕ, zero, suc, Bool, true, false, cond, not, ◌&&◌, List, [], ◌∷◌}
+use Rattle.std.proofs.Common.{◌≡◌, ℕ, zero, suc, Bool, true, false, cond, List, [], ◌∷◌}
 use Rattle.std.proofs.Common.{◌++◌, map, Option, None, Some, refl, sym, ◌∙◌, ap, subst}
 use Rattle.std.specs.Prelude.{◌==◌, nat_le, set, slice_get}
 use Rattle.std.specs.FinMap as finite
@@ -13,7 +13,6 @@ use Rattle.words.specs.declared.route.External.{External}
 use Rattle.lsa.specs.Reading.{lsa_in}
 use Rattle.lsdb.specs.Headers.{Lsa, lsa_key}
 use Rattle.packet.proofs.Whole.{one_packet}
-use Rattle.packet.specs.Text.{PacketText}
 use Rattle.packet.specs.declared.model.PacketBody.{PacketBody}
 use Rattle.packet.specs.declared.model.PacketBody.TheVariants as body
 use Rattle.packet.specs.declared.model.Packet.{Packet}
@@ -26,7 +25,7 @@ use Rattle.events.specs.Commands.{answered_external, end_want, is_announced_as, 
 use Rattle.events.specs.Endings.{end_event, start_event}
 use Rattle.events.specs.Events.{Happens, OwnPart, Run, Step}
 use Rattle.events.specs.EventState.{EventState, on_area, on_router}
-use Rattle.events.specs.Originations.{due_keys, external_key, flush, forget_originations, has_room}
+use Rattle.events.specs.Originations.{due_keys, external_key, forget_originations, has_room}
 use Rattle.events.specs.Originations.{is_wanted, originate_anyway, originate_due}
 use Rattle.events.specs.Originations.{originate_or_flush, originate_or_wait}
 use Rattle.events.specs.Originations.{receive_self_originated, wanted_body}
