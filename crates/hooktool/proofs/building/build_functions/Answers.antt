@@ -10,14 +10,14 @@ loop-function-preserved g c =
     let n = c.loop-function.function-index in
     let within : n < length functions = c.loop-function-test.true in
     functions_more c.args.file.now (wanted_of g.R.WholeFiles.known c.args.order.now) c.args.hook
-    functions _ n c.loop-function.report c.build_function.result c.in-Ok.more
-    c.loop-function.invariant c.build_function.ensures.built
+    functions _ n c.loop-function.report c.build_function-built.result c.in-Ok.more
+    c.loop-function.invariant c.build_function-built.ensures.built
     (slice_get-get_or functions n _ within) c.in-Ok.ensures.joined
 
 pub returns-in-Err-clause-fault : goal.returns-in-Err-clause-fault
 returns-in-Err-clause-fault g c =
-    added_fault g.R.WholeFiles.known c.args.order.now.purpose c.build_function.result _
-    c.in-Err.ensures.fault c.build_function.ensures.fault
+    added_fault g.R.WholeFiles.known c.args.order.now.purpose c.build_function-built.result _
+    c.in-Err.ensures.fault c.build_function-built.ensures.fault
 
 pub returns-clause-built : goal.returns-clause-built
 returns-clause-built g c =

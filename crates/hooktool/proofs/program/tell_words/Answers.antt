@@ -1,4 +1,4 @@
-use Rattle.hooktool.proofs.Told.{tells_help, tells_memory, tells_mistake}
+use Rattle.hooktool.proofs.Told.{tells_memory, tells_mistake}
 use Rattle.hooktool.proofs.program.tell_words.Goals as goal
 
 pub returns-in-OutOfMemory : goal.returns-in-OutOfMemory
