@@ -19,12 +19,12 @@ from leafrunt_host.observing import Limiter
 log = logging.getLogger("leafrunt.announcements")
 ADDED = re.compile(r"add (\S+) (\d+) ([12]) (\d+)")
 TAKEN = ("originated", "withheld")
-"""What `routerd` answers where it has taken an announcement."""
+"""What `routerd` answers if it has taken an announcement."""
 TRIED_AGAIN = 5.0
 """Seconds after which what `routerd` refused is given again."""
 TRIED_SOON = 1.0
-"""The same where it took others of that turn: it may have room again soon, as LSAs that were
-flushed are acknowledged."""
+"""The same if it took others of that turn: it may have room again soon, as LSAs that were flushed
+are acknowledged."""
 LEAST_INTERVAL = 5.0
 """Seconds between two `add`s of a redistributed destination, as of MinLSInterval (RFC 2328, B): one
 that comes and goes is withdrawn at once, and announced again after that."""
@@ -82,9 +82,9 @@ class Announcements:
         """`ask` gives `routerd` a line."""
         self._ask, self._publish = ask, publish
         self.changed: Callable[[], None] = lambda: None
-        """Is called where `give` has something to do."""
+        """Is called when `give` has something to do."""
         self.trouble = ""
-        """What keeps the owners from asking, for the log and `status`; empty where nothing does."""
+        """What keeps the owners from asking, for the log and `status`; empty if nothing does."""
         self._lock = threading.Lock()
         self._wanted: dict[Owner, dict[IPv4Network, Announcement]] = {each: {} for each in Owner}
         self._withdrawn: set[IPv4Network] = set()
@@ -165,7 +165,7 @@ class Announcements:
 
     def give(self, now: float) -> float | None:
         """Brings `routerd` what is asked for, as far as it takes it. After how many seconds there
-        is something to give again; None where there is nothing. `RouterGone` where it has ended."""
+        is something to give again; None if there is nothing. `RouterGone` if it has ended."""
         with self._lock:
             self._refused, self._waiting = {}, 0
             added = self._added.items()

@@ -1,5 +1,5 @@
 """Brings `routerd` what is to be announced, and follows what is redistributed: in a thread of its
-own, which is woken where either changes."""
+own, which is woken when either changes."""
 from __future__ import annotations
 
 import logging
@@ -19,8 +19,8 @@ log = logging.getLogger("leafrunt.announcements")
 TOGETHER = 0.1
 """Seconds that changes are waited for after the first one: they are brought together."""
 REST = 5
-"""After a turn the thread rests so many times what it took of a processor: a storm of changes costs
-a sixth of one at most."""
+"""After a turn the thread rests this many times what it took of a processor: a storm of changes
+costs a sixth of one at most."""
 
 
 class Announcer:

@@ -10,8 +10,8 @@ LARGEST_PIECE = 1 << 18
 
 
 class Answers:
-    """Lines, for one asker at a time. `TimeoutError` where none comes in time, `EOFError` once
-    there are no more."""
+    """Lines, for one asker at a time. `TimeoutError` if none comes in time, `EOFError` once there
+    are no more."""
 
     def __init__(self, stream: BinaryIO) -> None:
         self._stream = stream

@@ -100,7 +100,7 @@ class Area:
         return sorted(found, key=lambda link: link.data)
 
     def steps(self, start: Vertex) -> Iterator[Step]:
-        """Where one can go on from a vertex: a link counts only where the other end links back."""
+        """Where one can go on from a vertex: a link counts only if the other end links back."""
         if start.kind == Kind.NETWORK.value:
             for each in self.networks[start.id].routers:
                 if self._has_transit(each, start.id):

@@ -9,7 +9,7 @@ from leafrunt_host.area import Announced, Area, Step, Vertex, Ways, network, rou
 from leafrunt_host.lsas import LinkType, RouterLink, network_of
 
 MOST_SHOWN = 6
-"""So many of the prefixes that one router announces are written out; the others are counted."""
+"""This many of the prefixes that one router announces are written out; the others are counted."""
 MARKED = 'color="#c00000", fontcolor="#c00000", penwidth=2.5'
 HEAD = [
     "digraph area {",
@@ -147,8 +147,8 @@ def link_line(
     net: IPv4Network | None,
     marked: Marked,
 ) -> str:
-    """One link: its network and its cost, at each end where the two differ; an arrow where it is on
-    the way; dashed where nothing leads back, so that it doesn't count."""
+    """One link: its network and its cost, at each end if the two differ; an arrow if it is on the
+    way; dashed if nothing leads back, so that it doesn't count."""
     costs = [each.metric for each in (there, back) if each]
     words = [f"{net}"] if net else []
     ends = ""

@@ -39,8 +39,8 @@ CODE = (
 )
 MOST_ENDS, ENDS_WITHIN = 3, 60.0
 """A process that ends is followed at once by the next, which goes on with its sessions, unless it's
-the third that ends within so many seconds. The next one stands by, since on a busy machine it takes
-longer to start a process than a neighbor waits."""
+the third that ends within this many seconds. The next one stands by, since on a busy machine it
+takes longer to start a process than a neighbor waits."""
 FIRST_WAIT, LONGEST_WAIT = 1.0, 60.0
 """Seconds until the next is started then, doubled with each more that ends."""
 OPENED_AGAIN = 10.0
@@ -78,7 +78,7 @@ class Held:
     neighbor: Neighbor
     discriminator: int = 0
     sockets: tuple[socket.socket, ...] = ()
-    """Two that it hears by, and one that it sends by; none where they can't be had."""
+    """Two that it hears by, and one that it sends by; none if they can't be had."""
     report: Json = field(default_factory=lambda: dict(NOTHING))
     since: float = field(default_factory=time.time)
     """The moment of its last change, in seconds since 1970."""
@@ -92,12 +92,12 @@ class Held:
 
 
 def state_of(value: object) -> State:
-    """A state from a message. `ValueError` where it's none."""
+    """A state from a message. `ValueError` if it's none."""
     return State(value)
 
 
 def change_of(said: Json) -> tuple[State, State, int, bool, State]:
-    """A change of state from a message; `KeyError` or `ValueError` where it's none."""
+    """A change of state from a message; `KeyError` or `ValueError` if it's none."""
     before, after, remote = (state_of(said[each]) for each in ("before", "after", "remote"))
     diagnostic, is_lost = said["diagnostic"], said["is_lost"]
     if not isinstance(diagnostic, int) or not isinstance(is_lost, bool):
@@ -106,7 +106,7 @@ def change_of(said: Json) -> tuple[State, State, int, bool, State]:
 
 
 def report_of(said: Json) -> Json:
-    """What is said of a session, for `status`; `KeyError` or `ValueError` where it's nothing."""
+    """What is said of a session, for `status`; `KeyError` or `ValueError` if it's nothing."""
     numbers = ("diagnostic", "remote_diagnostic", "detection_time", "transmit_interval", "late")
     if not all(type(said[each]) is int and said[each] >= 0 for each in numbers):
         raise ValueError(said)
@@ -139,7 +139,7 @@ NOTHING = report_of(
 
 
 class Helper:
-    """The process, from its start to its end. `CannotHold` where it can't be started."""
+    """The process, from its start to its end. `CannotHold` if it can't be started."""
 
     def __init__(self, box: str, memory: int) -> None:
         self.own, other = socket.socketpair(socket.AF_UNIX, socket.SOCK_SEQPACKET)
@@ -167,11 +167,11 @@ class Helper:
         """What it said once it had given up its privileges."""
 
     def say(self, said: Json, files: Iterable[socket.socket] = ()) -> None:
-        """`OSError` where it's gone."""
+        """`OSError` if it's gone."""
         socket.send_fds(self.own, [json.dumps(said).encode()], [each.fileno() for each in files])
 
     def heard(self) -> Json | None:
-        """Its next message; None where there is none now. `CannotHold` where it's gone."""
+        """Its next message; None if there is none now. `CannotHold` if it's gone."""
         try:
             data = self.own.recv(LARGEST_MESSAGE)
         except BlockingIOError:
@@ -293,7 +293,7 @@ class Sessions:
             held.error = f"its process can't be told: {error.strerror}"
 
     def _open(self, number: int, held: Held) -> None:
-        """Opens the sockets of a session that has none. `OSError` where they can't be had."""
+        """Opens the sockets of a session that has none. `OSError` if they can't be had."""
         if held.sockets:
             return
         place, held.discriminator = self._places[number], 1 + secrets.randbelow(LARGEST_NUMBER)
@@ -327,7 +327,7 @@ class Sessions:
     # -- the process
 
     def tick(self) -> None:
-        """Starts the process where it doesn't run, and tries again what couldn't be had."""
+        """Starts the process if it doesn't run, and tries again what couldn't be had."""
         with self._lock:
             self._guarded(self._looked_after)
 
@@ -416,8 +416,8 @@ class Sessions:
                 self._ended(helper, str(why))
 
     def _ended(self, helper: Helper, how: str) -> None:
-        """The process is gone. The next one is started before a neighbor notices; where several
-        have ended the neighbors are told that the path hasn't failed, and it's waited."""
+        """The process is gone. The next one is started before a neighbor notices; if several have
+        ended, the neighbors are told that the path hasn't failed, and it's waited."""
         self._bridge.leave(helper.own)
         helper.own.close()
         self._helper, self.error, now = None, f"its process has ended ({how})", self._clock()
@@ -498,7 +498,7 @@ class Sessions:
             log.log(level, "%s", each)
 
     def report(self, number: int) -> Json | None:
-        """What `status` says of an interface's session; None where there is none."""
+        """What `status` says of an interface's session; None if there is none."""
         with self._lock:
             held = self._held.get(number)
             if held is None:

@@ -44,7 +44,7 @@ LARGEST_MESSAGE = 8192
 AT_ONCE, OTHERS_AT_ONCE = 32, 8
 """Packets of a session that are taken in one turn, and of those without its discriminator."""
 REST = 0.002
-"""Seconds without a look at the sockets after a turn with so many: a flood takes a quarter of a
+"""Seconds without a look at the sockets after a turn with this many: a flood takes a quarter of a
 processor at most, and not all of it by the real-time class."""
 KEPT_SIZE = 1024
 """Bytes for the variables of a session in the file from which, if this process ends, the next goes
@@ -77,7 +77,7 @@ class Ends:
 
 
 def ttl_of(ancillary: list[tuple[int, int, bytes]]) -> int:
-    """The TTL that a packet came with, by IP_RECVTTL (ip(7)); 0 where the kernel doesn't say it."""
+    """The TTL that a packet came with, by IP_RECVTTL (ip(7)); 0 if the kernel doesn't say it."""
     for level, kind, data in ancillary:
         if (level, kind) == (socket.IPPROTO_IP, socket.IP_TTL) and len(data) == 4:
             return int.from_bytes(data, sys.byteorder)
@@ -211,7 +211,7 @@ class Helper:
             ends.told, ends.counted = whole, now
 
     def _say(self, **said: object) -> bool:
-        """Tells the box; False where it's gone, or so far behind that it's to be told later."""
+        """Tells the box; False if it's gone, or so far behind that it's to be told later."""
         try:
             self._box.send(json.dumps(said).encode(), socket.MSG_DONTWAIT)
         except OSError:
@@ -273,7 +273,7 @@ class Helper:
 
 
 def take_class() -> str:
-    """Takes a real-time class; what kept it from that, empty where nothing did."""
+    """Takes a real-time class; what kept it from that, empty if nothing did."""
     try:
         limits = (SECONDS_OF_PROCESSOR * 1_000_000, SECONDS_OF_PROCESSOR * 1_000_000)
         resource.setrlimit(resource.RLIMIT_RTTIME, limits)

@@ -58,7 +58,7 @@ DIAGNOSTICS = (
 
 
 def diagnostic_text(code: int) -> str:
-    """The RFC's words for a diagnostic; its number where it has none."""
+    """The RFC's words for a diagnostic; its number if it has none."""
     return DIAGNOSTICS[code] if code < len(DIAGNOSTICS) else f"diagnostic {code}"
 
 
@@ -133,7 +133,7 @@ class ControlPacket:
 
 
 def decode(data: bytes) -> tuple[ControlPacket, bytes]:
-    """The packet that a datagram has, and its authentication section, empty where it has none.
+    """The packet that a datagram has, and its authentication section, empty if it has none.
     `Discarded`, by the rules of RFC 5880, 6.8.6 in their order, up to the discriminators."""
     if len(data) < HEADER.size:
         raise Discarded(Why.SHORT)
@@ -175,7 +175,7 @@ class KeyType(Enum):
 @dataclass(frozen=True)
 class BfdKey:
     """A key of a session (RFC 5880, 6.7): its ID, 0 to 255, its type, and a secret of 1 to 20
-    bytes, which `repr` doesn't show. `ValueError` where it's none."""
+    bytes, which `repr` doesn't show. `ValueError` if it's none."""
 
     id: int
     type: KeyType
@@ -199,7 +199,7 @@ class BfdKey:
 
     def verified(self, data: bytes) -> int:
         """The sequence number of a packet's bytes, up to its length, whose section names this key.
-        `Discarded` where its digest isn't by it."""
+        `Discarded` if its digest isn't by it."""
         padded = self.secret.ljust(SHA1_KEY_LENGTH, b"\0")
         wanted = hashlib.sha1(data[:-SHA1_KEY_LENGTH] + padded).digest()
         if not hmac.compare_digest(wanted, data[-SHA1_KEY_LENGTH:]):
@@ -209,8 +209,8 @@ class BfdKey:
 
 
 def number_of(data: bytes, section: bytes, keys: dict[int, BfdKey]) -> tuple[BfdKey, int]:
-    """The key and the sequence number of an authenticated packet (RFC 5880, 6.7.4). `Discarded`
-    where no key's digest is there."""
+    """The key and the sequence number of an authenticated packet (RFC 5880, 6.7.4). `Discarded` if
+    no key's digest is there."""
     if len(section) != SHA1_SECTION.size or section[1] != SHA1_SECTION.size:
         raise Discarded(Why.SECTION)
     key = keys.get(section[2])

@@ -71,7 +71,7 @@ def kept(variables: Variables) -> bytes:
 
 
 def kept_of(data: bytes) -> Variables:
-    """The same back. `ValueError` where it's no such line."""
+    """The same back. `ValueError` if it's no such line."""
     try:
         said = json.loads(data.partition(b"\n")[0])
         for each in ("session_state", "remote_session_state"):
@@ -133,7 +133,7 @@ class Session:
 
     def resume(self, variables: Variables, now: float) -> None:
         """Goes on with a session that another process held until a moment ago, which the neighbor
-        doesn't notice. A Poll Sequence may have been under way, so one is begun. `ValueError` where
+        doesn't notice. A Poll Sequence may have been under way, so one is begun. `ValueError` if
         they are another session's."""
         if variables.local_discr != self.variables.local_discr:
             raise ValueError("another session's variables")

@@ -26,7 +26,7 @@ def key_of(table: Table, number: int, kind: KeyType) -> BfdKey | None:
 def settings_of(
     interface: Table, keys: Mapping[str, AnyKey] | None, passive: bool
 ) -> Settings | None:
-    """What `bfd` of an interface says; None where it asks for no session."""
+    """What `bfd` of an interface says; None if it asks for no session."""
     table = interface.switch("bfd", f"{interface.where}, bfd")
     if table is None:
         return None

@@ -69,7 +69,7 @@ def hearing_sockets(
     """What a session's packets come to: those with its discriminator, which nobody knows who
     doesn't see its packets, to the first; those with none, as of a neighbor that is started or
     hears nothing, to the second. So a flood of the latter keeps none of the former waiting.
-    `OSError` where they can't be had."""
+    `OSError` if they can't be had."""
     opened: list[socket.socket] = []
     try:
         for number in (discriminator, 0):
@@ -98,7 +98,7 @@ def hearing_socket(place: Place, program: bytes) -> socket.socket:
 
 
 def sending_socket(place: Place) -> socket.socket:
-    """What a session's packets go by, past routing tables. `OSError` where it can't be had."""
+    """What a session's packets go by, past routing tables. `OSError` if it can't be had."""
     one = bound_socket(place)
     try:
         one.setsockopt(socket.IPPROTO_IP, socket.IP_TTL, TTL)

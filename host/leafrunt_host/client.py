@@ -52,8 +52,8 @@ class Client:
     def ask(
         self, line: str, descriptor: int | None = None, seconds: float = SECONDS_TO_ANSWER
     ) -> list[str]:
-        """The answer's lines. A file's descriptor may go with the line. `Stopped` where the box has
-        ended, where the answer isn't whole after so many seconds, and where it is too long."""
+        """The answer's lines. A file's descriptor may go with the line. `Stopped` if the box has
+        ended, if the answer isn't whole after this many seconds, and if it is too long."""
         data = line.encode("utf-8", "replace") + b"\n"
         self._socket.settimeout(seconds)
         try:
@@ -66,7 +66,7 @@ class Client:
         return self.answer(seconds)
 
     def answer(self, seconds: float | None = None) -> list[str]:
-        """The lines up to the empty one, however long they take where no time is given."""
+        """The lines up to the empty one, however long they take if no time is given."""
         until = None if seconds is None else time.monotonic() + seconds
         searched = 0
         while (end := self._end(searched)) is None:
@@ -78,7 +78,7 @@ class Client:
         return data.decode("utf-8", "replace").removesuffix("\n").split("\n") if data else []
 
     def _end(self, searched: int) -> int | None:
-        """Where the empty line begins that ends the answer; None where it hasn't come yet."""
+        """Where the empty line begins that ends the answer; None if it hasn't come yet."""
         if self._data.startswith(b"\n"):
             return 0
         at = self._data.find(b"\n\n", max(0, searched - 1))
@@ -101,7 +101,7 @@ class Client:
         self._data += data
 
     def close(self) -> None:
-        """Leaves the box, also where another thread waits for its answer."""
+        """Leaves the box, also if another thread waits for its answer."""
         try:
             self._socket.shutdown(socket.SHUT_RDWR)
         except OSError:
@@ -127,7 +127,7 @@ def connected(path: Path, box: str) -> socket.socket:
 
 
 def own_answer(answer: list[str]) -> list[str]:
-    """The lines of a word of the box's own, without the `end` of a list; `Stopped` where it was
+    """The lines of a word of the box's own, without the `end` of a list; `Stopped` if it was
     refused, or failed."""
     for word, status in ((REFUSED, Status.REFUSED), (FAILED, Status.FAILED)):
         if answer and answer[0].startswith(word):
@@ -136,8 +136,8 @@ def own_answer(answer: list[str]) -> list[str]:
 
 
 def list_of(answer: list[str]) -> list[str]:
-    """The lines of a list, `routerd`'s or the box's, without its `end`. `Stopped` where it was
-    refused, where `routerd` was out of memory, and where it is no list."""
+    """The lines of a list, `routerd`'s or the box's, without its `end`. `Stopped` if it was
+    refused, if `routerd` was out of memory, and if it is no list."""
     lines = own_answer(answer)
     if len(lines) < len(answer):
         return lines

@@ -37,7 +37,7 @@ class Step:
         )
 
     def remark(self, now: float) -> str | None:
-        """What is still to be said of it so much later; None where nothing is."""
+        """What is still to be said of it now; None if nothing is."""
         passed = now - self.at
         if self.seconds > 0:
             when = moment_text(self.moment)
@@ -58,7 +58,7 @@ class Clock:
         self._apart = wall() - steady()
 
     def look(self) -> Step | None:
-        """The step since the last look; None where there was none."""
+        """The step since the last look; None if there was none."""
         steady = self._steady()
         apart = self._wall() - steady
         seconds, self._apart = apart - self._apart, apart

@@ -64,7 +64,7 @@ class InterfaceSettings:
     network: IPv4Network | None = None
     """What the neighbor's address is in; None on an unnumbered link, where it may be any."""
     peer: IPv4Address | None = None
-    """The neighbor's address, where it's configured."""
+    """The neighbor's address, if it's configured."""
     bfd: bfd_session.Settings | None = None
 
 
@@ -98,7 +98,7 @@ class Configuration:
     redistribution: Redistribution = Redistribution()
     log_level: str = "info"
     table: KernelSettings = KernelSettings()
-    """Which table of the kernel's is kept, and how, where one is."""
+    """Which table of the kernel's is kept, and how, if one is."""
 
     def text(self, ports: list[tuple[int, int]]) -> str:
         """The configuration of `routerd`: an interface's datagrams come to the first port of its
@@ -169,9 +169,9 @@ def mode_of(status: os.stat_result) -> str:
 def read_configuration(
     path: Path, kernel: Mapping[str, KernelInterface], judge: Judge = verdict_of
 ) -> Configuration:
-    """Reads a file and all that it names, and starts nothing. `Mistaken` where anything is wrong
-    with them, `Stopped` where the file can't be read. `kernel` are the kernel's interfaces, `judge`
-    says whether an object is accepted.
+    """Reads a file and all that it names, and starts nothing. `Mistaken` if anything is wrong with
+    them, `Stopped` if the file can't be read. `kernel` are the kernel's interfaces, `judge` says
+    whether an object is accepted.
     """
     path = path.absolute()
     data = read_bytes(path)
@@ -201,7 +201,7 @@ def router_id_of(text: str) -> IPv4Address:
 
 
 class _Reader:
-    """Reads one file. Each part is read even where an earlier one is mistaken, so that all mistakes
+    """Reads one file. Each part is read even if an earlier one is mistaken, so that all mistakes
     are told at once."""
 
     def __init__(
@@ -275,7 +275,7 @@ class _Reader:
         return self._folder / text
 
     def _account(self) -> Account | None:
-        """Whom `routerd` runs as; None where it isn't to have a world of its own."""
+        """Whom `routerd` runs as; None if it isn't to have a world of its own."""
         is_isolated = self._top.truth("isolated", True)
         name = self._top.text("user", "a user of this machine", "")
         if not is_isolated:
@@ -310,7 +310,7 @@ class _Reader:
     # -- keys
 
     def _keys(self) -> dict[str, AnyKey] | None:
-        """The keys by their names; None where their file is mistaken."""
+        """The keys by their names; None if their file is mistaken."""
         if not self._top.has("keys"):
             return {}
         allowed = "a file of keys that only its owner can read"
@@ -453,7 +453,7 @@ class _Reader:
 
     @staticmethod
     def _peer(table: Table, address: IPv4Interface | None, passive: bool) -> IPv4Address | None:
-        """The neighbor's address, where it's given."""
+        """The neighbor's address, if it's given."""
         if not table.has("peer"):
             table.text("peer", "", "none")
             return None
@@ -467,7 +467,7 @@ class _Reader:
     def _network(
         self, inside: KernelInterface, address: IPv4Interface, is_settled: bool
     ) -> IPv4Network | None:
-        """The network of the link: where the kernel has a peer for the address, the peer's."""
+        """The network of the link: if the kernel has a peer for the address, the peer's."""
         network = dict(inside.peers).get(address, address.network)
         if network.prefixlen < ALONE or address.ip not in network:
             return network
@@ -640,7 +640,7 @@ def prefix_of(text: str) -> IPv4Network:
 
 
 def why_no_program(path: Path) -> str | None:
-    """Why a path is no program that may be run; None where it is one."""
+    """Why a path is no program that may be run; None if it is one."""
     try:
         status = path.stat()
     except OSError as error:
@@ -655,7 +655,7 @@ def why_no_program(path: Path) -> str | None:
 
 
 def why_not_private(status: os.stat_result) -> str | None:
-    """Why a file may be read by others than its owner and this process; None where it may not."""
+    """Why a file may be read by others than its owner and this process; None if it may not."""
     if not stat.S_ISREG(status.st_mode):
         return "it is no regular file"
     if status.st_uid not in (0, os.geteuid()):

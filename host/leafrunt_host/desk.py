@@ -54,8 +54,8 @@ class Desk:
         """Is held while a program is attached or detached, or a capture begins or ends."""
         self._capture: Capture | None = None
         self.reload: Callable[[], list[str]] = lambda: []
-        """Takes the configuration over as it is now, and says what it did; `Stopped` where it is
-        left as it was."""
+        """Takes the configuration over as it is now, and says what it did; `Stopped` if it is left
+        as it was."""
         self._own: dict[str, Callable[[str], list[str]]] = {
             "status": self._status,
             "interfaces": self._interfaces,

@@ -85,7 +85,7 @@ def status_read(box: str, status: object) -> Json:
 
 
 def read_each(form: re.Pattern[str], lines: Iterable[str]) -> Iterable[re.Match[str]]:
-    """The lines of a list by their form. `Stopped` where one has another."""
+    """The lines of a list by their form. `Stopped` if one has another."""
     for line in lines:
         found = form.fullmatch(line)
         if found is None:
@@ -105,7 +105,7 @@ def interface_at(interfaces: dict[str, Json], number: str) -> Json:
 
 
 def hops_by(interfaces: dict[str, Json], via: str) -> list[Json]:
-    """The next hops of a route; none where it is the router's own network (`via 0`)."""
+    """The next hops of a route; none if it is the router's own network (`via 0`)."""
     hops = []
     for number in via.split(","):
         if number != "0":
@@ -202,13 +202,13 @@ def programs_of(status: Json, lines: Iterable[str]) -> Json:
 def database_of(
     box: str, entries: Iterable[tuple[LsHeader, Entry]], left_out: int, is_whole: bool
 ) -> Json:
-    """The LSAs, with their bodies where they are asked for whole."""
+    """The LSAs, with their bodies if they are asked for whole."""
     lsas = [lsa_of(header, entry, is_whole) for header, entry in entries]
     return document("database", box, lsas=lsas, packets_left_out=left_out)
 
 
 def lsa_of(header: LsHeader, entry: Entry, is_whole: bool) -> Json:
-    """An LSA's header, in the words of RFC 2328, A.4.1, and its body where that is asked for."""
+    """An LSA's header, in the words of RFC 2328, A.4.1, and its body if that is asked for."""
     key = header.key
     said: Json = {
         "type": LsType(key.type).title,
@@ -224,7 +224,7 @@ def lsa_of(header: LsHeader, entry: Entry, is_whole: bool) -> Json:
 
 
 def body_of(body: Body | None) -> Json | None:
-    """The body of an LSA, in the words of RFC 2328, A.4.2 to A.4.5; None where it can't be read."""
+    """The body of an LSA, in the words of RFC 2328, A.4.2 to A.4.5; None if it can't be read."""
     match body:
         case RouterBody(flags, links):
             return {

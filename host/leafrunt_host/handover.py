@@ -62,7 +62,7 @@ class Handover:
 
     def run(self, new: Configuration, programs: Callable[[], dict[str, str]]) -> None:
         """`programs` says which are to be attached, by their hooks; nobody else attaches any
-        meanwhile. `Stopped` where the new one can't be had, or doesn't come to where the old one is:
+        meanwhile. `Stopped` if the new one can't be had, or doesn't come to where the old one is:
         then nothing is changed."""
         with self.desk.changing:
             self._run(new, programs())

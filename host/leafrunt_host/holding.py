@@ -29,7 +29,7 @@ Held = tuple[int, bytes]
 
 
 def own_router_lsa_in(data: bytes) -> bytes | None:
-    """The router-LSA of its sender in an OSPF packet, where that is an Update that has one."""
+    """The router-LSA of its sender in an OSPF packet, if that is an Update that has one."""
     if data[TYPE] != UPDATE or 2 * data[ROUTER_ID] not in data:
         return None  # (such an LSA has it twice in a row)
     with suppress(Malformed):
@@ -94,7 +94,7 @@ class Holding:
             return False
         said = _Said(lsa[INSTANCE], links_to_routers(lsa))
         if lsa[AGE] == FLUSHED or not self._is_kept or not said.links > self._passed.links:
-            # (what is held is older, and `routerd` sends it again where a neighbor lacks it)
+            # (what is held is older, and `routerd` sends it again if a neighbor lacks it)
             self._passed, self._held = said, []
             return False
         if not self._held or said.instance != self._last.instance:

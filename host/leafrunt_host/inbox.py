@@ -77,11 +77,11 @@ class Inbox:
         return self._ahead >= MOST_AHEAD
 
     def seen(self, waiting: int) -> None:
-        """So much waits at `routerd`'s socket now."""
+        """How much waits at `routerd`'s socket now."""
         self._ahead = waiting
 
     def take(self) -> bytes | None:
-        """The next datagram; None where there is none, or `routerd` has enough."""
+        """The next datagram; None if there is none, or `routerd` has enough."""
         if self.is_blocked or not self:
             return None
         data = self._next(self._hellos) if self._hellos else self._merged()

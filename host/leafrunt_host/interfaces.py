@@ -1,4 +1,4 @@
-"""The kernel's interfaces as the bridge follows them: by rtnetlink, asked for where a notice tells
+"""The kernel's interfaces as the bridge follows them: by rtnetlink, asked for when a notice tells
 of a change."""
 from __future__ import annotations
 
@@ -15,7 +15,7 @@ ALL_SPF_ROUTERS_LISTED = ("050000E0", "E0000005")
 
 @dataclass(frozen=True)
 class KernelState:
-    """What the kernel says of an interface: its index, 0 where there is none, whether it has a
+    """What the kernel says of an interface: its index, 0 if there is none, whether it has a
     carrier, its MTU, and its addresses."""
 
     index: int = 0
@@ -25,15 +25,15 @@ class KernelState:
 
 
 class Interfaces:
-    """The interfaces of the network namespace that this process is in. `CannotAsk` where the kernel
-    can't be asked, and from `states` where it doesn't answer."""
+    """The interfaces of the network namespace that this process is in. `CannotAsk` if the kernel
+    can't be asked, and from `states` if it doesn't answer."""
 
     def __init__(self, kernel: Kernel | None = None, notices: Notices | None = None) -> None:
         self._kernel = kernel or Kernel()
         self._notices = notices or Notices(groups=OF_LINKS)
 
     def fileno(self) -> int:
-        """Of a socket that can be read where something changed."""
+        """Of a socket that can be read when something changed."""
         return self._notices.fileno()
 
     def is_changed(self) -> bool:
@@ -58,9 +58,9 @@ class Interfaces:
 
 
 def group_members(listed: Path = MEMBERSHIPS) -> set[int] | None:
-    """The indexes of the interfaces that are members of AllSPFRouters (proc(5)); None where the
-    kernel doesn't say it. A membership ends with its interface, and isn't there again where the
-    interface comes back with its old index."""
+    """The indexes of the interfaces that are members of AllSPFRouters (proc(5)); None if the kernel
+    doesn't say it. A membership ends with its interface, and isn't there again when the interface
+    comes back with its old index."""
     try:
         lines = listed.read_text(encoding="utf-8", errors="replace").splitlines()
     except OSError:

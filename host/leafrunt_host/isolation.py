@@ -26,7 +26,7 @@ T = TypeVar("T")
 PLACES = "/usr/sbin:/usr/bin:/sbin:/bin"
 """Where programs of the system are looked for: never where the caller's PATH says."""
 USER = "leafrunt"
-"""Whom `routerd` runs as, where the system has this user and the configuration names no other."""
+"""Whom `routerd` runs as, if the system has this user and the configuration names no other."""
 FIRST_NUMBER, LAST_NUMBER = 61184, 65519
 """User numbers that systemd gives to services that have no user (DynamicUser=): nobody's else."""
 ADDRESS_SPACE = 1 << 30
@@ -75,9 +75,9 @@ class Account:
 
 
 def account_of(name: str | None, box: str) -> Account:
-    """The account of a user, by default of `leafrunt`, and where there is none, or this process
-    runs as that, one of a number that nobody has. `ValueError`, with half a sentence, where the
-    user isn't there, is root, or is this process's own, whose files and keys aren't `routerd`'s."""
+    """The account of a user, by default of `leafrunt`, and if there is none, or this process runs
+    as that, one of a number that nobody has. `ValueError`, with half a sentence, if the user isn't
+    there, is root, or is this process's own, whose files and keys aren't `routerd`'s."""
     try:
         found = pwd.getpwnam(name or USER)
     except KeyError:
@@ -116,7 +116,7 @@ def running_users(processes: Path = Path("/proc")) -> set[int]:
 
 
 def libc_call(name: str, *numbers: int) -> None:
-    """A call of the C library that Python has no name for. `OSError` where it fails."""
+    """A call of the C library that Python has no name for. `OSError` if it fails."""
     if getattr(ctypes.CDLL(None, use_errno=True), name)(*map(ctypes.c_ulong, numbers)):
         number = ctypes.get_errno()
         raise OSError(number, os.strerror(number))
@@ -138,7 +138,7 @@ class World:
     """Where `routerd` is started, and the bridge's sockets to it are opened."""
 
     def __init__(self, account: Account | None) -> None:
-        """With an account, a world of its own: `CannotIsolate` where it can't be had."""
+        """With an account, a world of its own: `CannotIsolate` if it can't be had."""
         self.account = account
         self._inside: ThreadPoolExecutor | None = None
         if account is None:

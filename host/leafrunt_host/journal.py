@@ -67,15 +67,15 @@ class Kept(logging.Handler):
         self._lines.append(self.format(record))
 
     def last(self, count: int) -> list[str]:
-        """The last so many lines, the oldest first."""
+        """The last `count` lines, the oldest first."""
         lines = list(self._lines)
         return lines[-count:] if count else []
 
 
 class Shown(logging.Handler):
-    """Writes lines to a file by a thread of its own: where nobody takes them (a terminal that
-    stands still, a pipe that is full), nothing else waits for that. Lines that have no room are
-    left out, and how many were is told."""
+    """Writes lines to a file by a thread of its own: if nobody takes them (a terminal that stands
+    still, a pipe that is full), nothing else waits for that. Lines that have no room are left out,
+    and how many were is told."""
 
     def __init__(self, descriptor: int, formatter: logging.Formatter) -> None:
         super().__init__()

@@ -1,5 +1,5 @@
 """Keeps what a running box knows of its neighbors, and the kernel's table, equal to what `routerd`
-says: in a thread of its own, which is woken where something happens."""
+says: in a thread of its own, which is woken when something happens."""
 from __future__ import annotations
 
 import logging
@@ -29,15 +29,15 @@ log = logging.getLogger("leafrunt.box")
 EACH = 0.5
 """Seconds between two looks at the neighbors, whose states timers change too."""
 AFTER = (0.02, 0.03, 0.05, 0.1, 0.15, 1.0)
-"""After something happened the table is looked at so many seconds later, one after the other until
-it has changed: `routerd` doesn't say when it has dealt with it."""
+"""After something happened the table is looked at this many seconds later, one after the other
+until it has changed: `routerd` doesn't say when it has dealt with it."""
 AGAIN = 4
 """Which of these steps comes after the table has changed: it may have changed in part."""
 SELDOM = 5.0
-"""Seconds between two looks where nothing happens."""
+"""Seconds between two looks when nothing happens."""
 REST, LONGEST_REST = 5, 0.25
-"""After a look that found another table the keeper rests so many times what it took, and so many
-seconds at most."""
+"""After a look that found another table the keeper rests this many times what it took, and this
+many seconds at most."""
 SECONDS_SHORT = 60.0
 """After `routerd` has been out of memory for so long the box ends, so that it is started anew."""
 SECONDS_ABSENT = 0.1
@@ -105,8 +105,8 @@ class Pace:
     def looked(
         self, now: float, taken: float, is_changed: bool, is_lacking: bool = False
     ) -> None:
-        """A look that took so many seconds has ended, and the table was another or was not; where
-        it lacks routes that the kernel has, `routerd` most likely calculates them."""
+        """A look that took this many seconds has ended, and the table was another or was not; if it
+        lacks routes that the kernel has, `routerd` most likely calculates them."""
         self._step = AGAIN if is_changed else self._step + 1
         pause = AFTER[self._step] if self._step < len(AFTER) else SELDOM
         rest = min(REST * taken, LONGEST_REST) if is_changed else 0.0
@@ -252,7 +252,7 @@ class Keeper:
             self._say(where_it_failed(error))
 
     def _look_at_refusals(self, now: float) -> None:
-        """Whether `routerd` takes what happens. Where it has no memory, and gets none for long, the
+        """Whether `routerd` takes what happens. If it has no memory, and gets none for long, the
         box ends."""
         refusals = self._refusals
         refusals.look(self._router.ask, self._known.announced, bool(self._refused), now)
@@ -358,7 +358,7 @@ class Keeper:
         return is_changed
 
     def _own_destinations(self) -> frozenset[IPv4Network]:
-        """What this router announces, made anew only where that changed."""
+        """What this router announces, made anew only if that changed."""
         if self._announced is not self._known.announced:
             self._announced = self._known.announced
             self._own = originated(self._known)

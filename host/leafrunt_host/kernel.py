@@ -28,12 +28,12 @@ class KernelInterface:
     vrf: str = ""
     """The name of the VRF device that it is enslaved to, or that it is itself."""
     vrf_table: int = 0
-    """Of a VRF device the number of its table; 0 where it is none."""
+    """Of a VRF device the number of its table; 0 if it is none."""
 
 
 @dataclass(frozen=True)
 class Way:
-    """A next hop of the kernel's: the address, None where the destination is on the link itself."""
+    """A next hop of the kernel's: the address, None if the destination is on the link itself."""
 
     interface: str
     address: IPv4Address | None
@@ -62,8 +62,8 @@ def interfaces_of(links: Iterable[Link], addresses: Iterable[Address]) -> dict[s
 
 
 def vrf_of(link: Link, links: Iterable[Link]) -> str:
-    """The name of the VRF device that an interface is enslaved to, or that it is itself; empty
-    where there is none."""
+    """The name of the VRF device that an interface is enslaved to, or that it is itself; empty if
+    there is none."""
     devices = (each for each in links if each.vrf_table)
     return next((each.name for each in devices if each.index in (link.master, link.index)), "")
 
@@ -92,7 +92,7 @@ def network_of(prefix: bytes) -> IPv4Network:
 
 
 def ways_of(route: Route, names: Mapping[int, str], next_hops: Mapping[int, NextHop]) -> list[Way]:
-    """A route's ways; where the kernel names its next hop object alone, that's."""
+    """A route's ways; if the kernel names its next hop object alone, that's."""
     paths = list(route.paths)
     if not paths and route.next_hop in next_hops:
         it = next_hops[route.next_hop]

@@ -16,7 +16,7 @@ MOST_HOPS = 63
 """As many as interfaces: no route has more next hops."""
 FIRST_ID, SPAN = 89_000_000, 1_000_000
 """Next hop objects have numbers that all programs of a machine share; zebra begins with 1. Those of
-a table are so many from its first one on."""
+a table are this many from its first one on."""
 RANGES = 4000
 CLAIM = "kernel's routing table"
 OF_CLAIM = re.compile(rf"{CLAIM}(?: ([1-9]\d{{0,9}}))?", re.ASCII)
@@ -44,7 +44,7 @@ class KernelSettings:
 
     @classmethod
     def of_claim(cls, claim: str) -> KernelSettings | None:
-        """The table that was claimed by this; None where it is another claim."""
+        """The table that was claimed by this; None if it is another claim."""
         found = OF_CLAIM.fullmatch(claim)
         table = int(found[1] or MAIN) if found else 0
         return cls(table) if 0 < table <= LARGEST_TABLE else None
@@ -57,7 +57,7 @@ class KernelSettings:
 def kernel_settings_of(
     top: Table, kernel: Mapping[str, KernelInterface]
 ) -> tuple[bool, KernelSettings]:
-    """Reads `kernel`: whether a table is kept, and, where it's a table of the file, which and how.
+    """Reads `kernel`: whether a table is kept, and, if it's a table of the file, which and how.
     Mistakes are noted."""
     if not top.has_table("kernel"):
         return top.truth("kernel", True), KernelSettings()

@@ -53,7 +53,7 @@ def without_links(lsa: bytes) -> bytes:
 
 
 def own_router_lsa(topology: Topology, router_id: IPv4Address) -> list[bytes]:
-    """This router's router-LSA; none where it isn't known."""
+    """This router's router-LSA; none if it isn't known."""
     return [
         entry.data
         for header, entry in topology.entries()

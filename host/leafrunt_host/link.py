@@ -76,9 +76,9 @@ class Interface:
     keys: tuple[Key, ...] = ()
     dead_interval: float = 40.0
     network: IPv4Network | None = None
-    """What the neighbor's address is in; None where it may be any."""
+    """What the neighbor's address is in; None if it may be any."""
     neighbor: IPv4Address | None = None
-    """The neighbor's address, where it's configured."""
+    """The neighbor's address, if it's configured."""
 
     def filter(self) -> PacketFilter:
         """Which packets count here."""
@@ -304,7 +304,7 @@ class Link:
             self._hello = packet
 
     def _is_neighbor(self, router_id: IPv4Address) -> bool:
-        """Whether it's the one that `routerd` has as its neighbor: that its Hellos name, or, where
+        """Whether it's the one that `routerd` has as its neighbor: that its Hellos name, or, if
         they name nobody yet, whose Hello it took first."""
         named = self.observer.named
         return router_id in named if named else router_id == self._first
@@ -371,7 +371,7 @@ class Link:
         return Sent(to_router=[with_description(self._neighbor_like, wrong, ROUTER_MTU).encode()])
 
     def _described(self, packet: Packet, now: float) -> Sent:
-        """A neighbor's Description: it's discarded where its MTU is above this interface's (RFC
+        """A neighbor's Description: it's discarded if its MTU is above this interface's (RFC
         2328, 10.6), here, as `routerd` sees 8192 in each. One of another router than the
         neighbor, which `routerd` discards too, would end the exchange under way."""
         description = Description.decode(packet.body)
@@ -458,7 +458,7 @@ class Link:
         return state is None or (state.is_up and self.interface.address.ip in state.addresses)
 
     def kernel_is(self, state: KernelState, now: float) -> Sent:
-        """What the kernel says of the interface: a new MTU counts from now on. Where it went
+        """What the kernel says of the interface: a new MTU counts from now on. If it went
         down, or lost its address, `routerd` hears the neighbor's last Hello naming nobody, so
         that it goes to 1-Way at once and not after RouterDeadInterval (RFC 2328, 10.5)."""
         with self._lock:
@@ -476,7 +476,7 @@ class Link:
 
     @property
     def index(self) -> int:
-        """The kernel's index of the interface, 0 where it isn't known or there is none."""
+        """The kernel's index of the interface, 0 if it isn't known or there is none."""
         return self._kernel.index if self._kernel else 0
 
     def neighbor_lost(self) -> Sent:
@@ -499,7 +499,7 @@ class Link:
 
     def update(self, lsas: list[bytes]) -> Sent:
         """These LSAs to the neighbor, as Updates of this router; nothing before `routerd`'s first
-        Hello, nor where there are none."""
+        Hello, nor if there are none."""
         with self._lock:
             own = self.observer.own
             if own is None or not lsas:

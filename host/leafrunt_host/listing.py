@@ -24,7 +24,7 @@ DOCUMENTS: dict[str, Callable[[Json, Iterable[str]], Json]] = {
 
 
 def json_answer(client: Client, line: str) -> Json:
-    """A box's answer in JSON, which is one line. `Stopped` where it is no object of JSON."""
+    """A box's answer in JSON, which is one line. `Stopped` if it is no object of JSON."""
     lines = own_answer(client.ask(line))
     try:
         read = json.loads("".join(lines))

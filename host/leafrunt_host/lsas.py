@@ -164,8 +164,8 @@ Body = RouterBody | NetworkBody | SummaryBody | ExternalBody
 
 
 def body_of(data: bytes) -> Body | None:
-    """The body of an LSA; None where it is too short for what it announces. TOS metrics are left
-    out (RFC 2328, A.4)."""
+    """The body of an LSA; None if it is too short for what it announces. TOS metrics are left out
+    (RFC 2328, A.4)."""
     body = data[HEADER.size :]
     try:
         match data[3]:
@@ -206,7 +206,7 @@ def router_links(body: bytes) -> Iterator[RouterLink]:
 
 
 def network_of(address: IPv4Address, mask: IPv4Address) -> IPv4Network | None:
-    """The network of an address under a mask; None where the mask's ones aren't in front."""
+    """The network of an address under a mask; None if the mask's ones aren't in front."""
     try:
         length = IPv4Network(f"0.0.0.0/{mask}").prefixlen
     except (NetmaskValueError, ValueError):

@@ -95,7 +95,7 @@ def families_of_box(status: Json) -> Iterator[Family]:
 
 
 def families_of_kernel(status: Json) -> Iterator[Family]:
-    """What became of the kernel's table, where the box updates it."""
+    """What became of the kernel's table, if the box updates it."""
     box, kernel = status["box"], status["kernel"]
     if not kernel["kept"]:
         return
@@ -214,7 +214,7 @@ class Families:
 
 
 def text_of(families: Iterable[Family], form: str) -> str:
-    """The families in one of the formats. `Stopped` where the library isn't there."""
+    """The families in one of the formats. `Stopped` if the library isn't there."""
     try:
         made: bytes = import_module(FORMATS[form]).generate_latest(Families(families))
     except ImportError as error:

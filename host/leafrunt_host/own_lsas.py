@@ -2,7 +2,7 @@
 until nobody waits for it (RFC 2328, 14), and by FRR for a minute, and answers each instance that
 this router originates meanwhile and that isn't newer.
 
-Then this router has to go one past its number (13.4). `routerd` does so where it may originate at
+Then this router has to go one past its number (13.4). `routerd` does so if it may originate at
 once. Within MinLSInterval of its last instance it has to wait: what came is removed meanwhile,
 since it is at MaxAge, its number is forgotten, and the next instance begins where the last one
 did, without an end. So what comes within that time counts as lost: the neighbor sends it again.

@@ -2,9 +2,8 @@
 
 A packet counts only if it was sent to AllSPFRouters, as each one is on a point-to-point link, from
 an address of the link's network, with the interface's AuType. So nobody who isn't on the link is
-heard: no router passes on what is sent to AllSPFRouters. Where the neighbor's address is
-configured, packets count from that alone, and those too that it sent to this interface's own
-address.
+heard: no router passes on what is sent to AllSPFRouters. If the neighbor's address is configured,
+packets count from that alone, and those too that it sent to this interface's own address.
 
 The same rule stands here twice: as a classic BPF program for the kernel (socket(7),
 SO_ATTACH_FILTER), which drops the rest before it costs this process anything, and in Python, for
@@ -66,7 +65,7 @@ class Bpf:
 @dataclass(frozen=True)
 class Compare:
     """A comparison of the accumulator in a filter: where it goes on if it holds, and if it doesn't:
-    at the return of that name, or after so many further steps."""
+    at the return of that name, or after this many further steps."""
 
     number: int
     then: str | int = 0
@@ -77,7 +76,7 @@ Step = tuple[int, int] | Compare
 
 
 def assembled(steps: list[Step], returns: dict[str, int]) -> bytes:
-    """The program: the steps, and below them a return for each name, of so many bytes."""
+    """The program: the steps, and below them a return for each name, of its number of bytes."""
     names = list(returns)
 
     def skipped(at: int, to: str | int) -> int:
@@ -104,7 +103,7 @@ class Arrived(NamedTuple):
 
 
 def arrived(packet: bytes) -> Arrived | None:
-    """Reads an IPv4 packet of protocol 89; None where it isn't one."""
+    """Reads an IPv4 packet of protocol 89; None if it isn't one."""
     if len(packet) < IP_HEADER_LENGTH:
         return None
     version, protocol, source, destination = IP_HEADER.unpack_from(packet)
@@ -137,8 +136,8 @@ def ip_packet(source: IPv4Address, payload: bytes) -> bytes:
 @dataclass(frozen=True)
 class PacketFilter:
     """What counts at one interface: the own address; the network that the neighbor's address has to
-    be of, None where the own one is in none (RFC 2328, 8.2: an unnumbered link); the neighbor's
-    address, where it's configured."""
+    be of, None if the own one is in none (RFC 2328, 8.2: an unnumbered link); the neighbor's
+    address, if it's configured."""
 
     own: IPv4Address
     network: IPv4Network | None
@@ -165,7 +164,7 @@ class PacketFilter:
         return came.source == self._own
 
     def program(self, queue: Queue, neighbors: Iterable[int] = ()) -> bytes:
-        """The filter of the socket of that kind, where the neighbor has one of these Router IDs."""
+        """The filter of the socket of that kind, if the neighbor has one of these Router IDs."""
         (mask, network), stray = self.sources, Queue.STRAYS.value
         steps: list[Step] = [
             (Bpf.LOAD_BYTE, 0),
@@ -193,7 +192,7 @@ class PacketFilter:
         return assembled(steps, {**returns, NONE: 0})
 
     def refusal(self, came: Arrived) -> Refused | None:
-        """Why a packet doesn't count by its addresses; None where it does. AuType is looked at
+        """Why a packet doesn't count by its addresses; None if it does. AuType is looked at
         with the authentication."""
         mask, network = self.sources
         if came.source & mask != network:

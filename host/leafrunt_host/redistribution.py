@@ -52,7 +52,7 @@ class PrefixRange(NamedTuple):
 
     @classmethod
     def of(cls, text: str) -> PrefixRange:
-        """`ValueError` where the text is none."""
+        """`ValueError` if the text is none."""
         found = RANGE.fullmatch(text)
         if not found:
             raise ValueError(text)
@@ -124,7 +124,7 @@ class Redistribution:
         return self.protocols.union(static)
 
     def of_address(self, prefix: IPv4Network) -> tuple[Owner, Announcement] | None:
-        """How the network of an address is announced; None where it isn't."""
+        """How the network of an address is announced; None if it isn't."""
         return self._by(prefix, {Owner.CONNECTED}) if self._may_be(prefix) else None
 
     def of_route(self, route: Route) -> tuple[Owner, Announcement] | None:
@@ -152,7 +152,7 @@ class Redistribution:
         return None
 
     def always(self) -> tuple[Owner, Announcement] | None:
-        """The default route, where it's announced whatever the kernel has."""
+        """The default route, if it's announced whatever the kernel has."""
         return self._by(DEFAULT, {Owner.DEFAULT}) if self.is_default_always else None
 
 

@@ -107,8 +107,8 @@ class Changes:
 
 
 class Redistributor:
-    """What is redistributed, as the kernel has it now. `CannotAsk` where the kernel can't be asked,
-    and from `asked_for` where it doesn't answer."""
+    """What is redistributed, as the kernel has it now. `CannotAsk` if the kernel can't be asked,
+    and from `asked_for` if it doesn't answer."""
 
     def __init__(
         self,
@@ -129,7 +129,7 @@ class Redistributor:
         """The messages of routes that were read last, and what is announced for each."""
 
     def fileno(self) -> int:
-        """Of a socket that can be read where something changed."""
+        """Of a socket that can be read when something changed."""
         return self._changes.fileno()
 
     def is_changed(self) -> bool:
@@ -190,7 +190,7 @@ class Redistributor:
         return (asked, route) if asked and route else None
 
     def _next_hops(self, routes: Iterable[Route]) -> dict[int, NextHop]:
-        """The next hop objects, where a route names one alone (net.ipv4.nexthop_compat_mode)."""
+        """The next hop objects, if a route names one alone (net.ipv4.nexthop_compat_mode)."""
         if not any(each.next_hop and not each.paths for each in routes):
             return {}
         return {each.id: each for each in self._kernel.next_hops(is_own=False)}
@@ -212,7 +212,7 @@ def is_live(route: Route, links: dict[int, Link], next_hops: dict[int, NextHop])
 def redistributor_of(
     redistribution: Redistribution, table: KernelSettings
 ) -> Redistributor | None:
-    """What follows the kernel for what is redistributed; None where nothing is. `Stopped` where the
+    """What follows the kernel for what is redistributed; None if nothing is. `Stopped` if the
     kernel can't be asked."""
     if not redistribution:
         return None

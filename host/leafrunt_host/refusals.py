@@ -1,4 +1,4 @@
-"""Whether `routerd` takes what happens: packets, the passing of time, commands. Where memory is
+"""Whether `routerd` takes what happens: packets, the passing of time, commands. If memory is
 refused to it, it refuses all of these, and says so only to whoever gives it a line of the console,
 while its lists may be answered as before. So it is given a line that changes nothing.
 """
@@ -23,9 +23,9 @@ event that changes nothing."""
 ASKED_EACH = 5.0
 """Seconds between two such lines, as long as they are taken."""
 NO_LIST = "out of memory"
-"""What `routerd` answers where it has no memory for a list."""
+"""What `routerd` answers if it has no memory for a list."""
 REFUSED = re.compile(r"refused [467]")
-"""Answers that say so: where the clock was set back, for want of memory, at the last event."""
+"""Answers that say so: if the clock was set back, for want of memory, at the last event."""
 
 
 @dataclass(frozen=True)
@@ -53,7 +53,7 @@ class Refusal:
         return f"routerd refuses {what} ({self.answer})" + (f": {meaning}" if meaning else "")
 
     def remark(self, now: float) -> str | None:
-        """What `status` says of it; None where nothing is to be said any more."""
+        """What `status` says of it; None if nothing is to be said any more."""
         if self.until is None:
             began = moment_text(self.since)
             return f"{self.news()}. Neighbors and routes are shown as they were at {began}"
@@ -89,8 +89,8 @@ class Refusals:
         is_list_refused: bool,
         now: float,
     ) -> None:
-        """Gives it the line where that is due, or where a list was refused; `now` is by the clock
-        that nobody sets."""
+        """Gives it the line if that is due, or if a list was refused; `now` is by the clock that
+        nobody sets."""
         if now < self._due and not self.is_lasting and not is_list_refused:
             return
         self._due = now + ASKED_EACH
@@ -100,7 +100,7 @@ class Refusals:
         self._note(answer, now)
 
     def seconds(self, now: float) -> float:
-        """For how long memory has been refused to it; 0 where it isn't."""
+        """For how long memory has been refused to it; 0 if it isn't."""
         last = self.last
         return now - self._began if last and last.until is None and last.is_of_memory else 0.0
 

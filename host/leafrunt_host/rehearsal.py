@@ -60,8 +60,8 @@ def prefixes_of(lines: Iterable[str]) -> set[str]:
 
 
 class Rehearsal:
-    """One such `routerd`, and the proxies at its interfaces. `Stopped` where it doesn't come to
-    where it has to."""
+    """One such `routerd`, and the proxies at its interfaces. `Stopped` if it doesn't come to where
+    it has to."""
 
     def __init__(
         self,

@@ -1,8 +1,8 @@
 """A changed configuration is taken over while the box runs, as BIRD's `configure` and FRR's
 `frr-reload.py` do: `leafrunt reload`, and SIGHUP.
 
-All of it is read and checked first: where anything is wrong, nothing is changed. What differs from
-the configuration of before is changed, and nothing else, so what was done at the console stays.
+All of it is read and checked first: if anything is wrong, nothing is changed. What differs from the
+configuration of before is changed, and nothing else, so what was done at the console stays.
 """
 from __future__ import annotations
 
@@ -46,7 +46,7 @@ log = logging.getLogger("leafrunt.reload")
 SECONDS_TO_FILL = 10.0
 """How long a table may take to get its first routes."""
 TAKEN = re.compile(r": (attached|detached) \w+|, stays$")
-"""What is said of a program where it is as it is to be."""
+"""What is said of a program if it is as it is to be."""
 
 
 def claims_of(configuration: Configuration) -> list[str]:
@@ -88,7 +88,7 @@ class Reloader:
     _one_at_a_time: threading.Lock = field(default_factory=threading.Lock)
 
     def reload(self, waits: bool = False) -> list[str]:
-        """A line for each thing that was done. `Mistaken` or `Stopped` where the configuration is
+        """A line for each thing that was done. `Mistaken` or `Stopped` if the configuration is
         wrong, or can't be taken over now: then all is as it was. Another reload that is under way
         is waited for, or this one is refused."""
         if not self._one_at_a_time.acquire(blocking=waits):
@@ -169,7 +169,7 @@ class Reloader:
     def _other_redistributor(
         old: Configuration, new: Configuration, undone: ExitStack
     ) -> Redistributor | None:
-        """What follows the kernel, where something else is to be redistributed."""
+        """What follows the kernel, if something else is to be redistributed."""
         if redistributed(old) == redistributed(new):
             return None
         made = redistributor_of(new.redistribution, new.table)
@@ -181,7 +181,7 @@ class Reloader:
     def _other_table(
         self, old: Configuration, new: Configuration, undone: ExitStack
     ) -> KernelTable | None:
-        """Where the kernel's table is to be kept, or to be left alone, it is so from now on; the one
+        """If the kernel's table is to be kept, or to be left alone, it is so from now on; the one
         that was kept before."""
         if kept(old) == kept(new):
             return None

@@ -13,8 +13,8 @@ from leafrunt_host.statuses import Stopped
 
 
 def clear(room: Room) -> list[str]:
-    """A line for each table that the box kept. `Stopped` where the box runs, and where the kernel
-    can't be asked."""
+    """A line for each table that the box kept. `Stopped` if the box runs, and if the kernel can't
+    be asked."""
     claims = map(KernelSettings.of_claim, room.claimed_before())
     said = [cleared(room, each) for each in claims if each]
     return said or [f"the box {room.name} left nothing"]

@@ -56,7 +56,7 @@ def own_folder(path: Path, may_be_anyones: bool = False) -> None:
 
 def locked(path: Path, holder: str) -> tuple[TextIO | None, str]:
     """A file that is locked for this process, which the kernel gives back however that ends, with
-    the holder written into it; None where another has it, and who that is."""
+    the holder written into it; None if another has it, and who that is."""
     try:
         lock = open(
             os.open(path, os.O_RDWR | os.O_CREAT | os.O_NOFOLLOW | os.O_CLOEXEC, 0o600),
@@ -80,7 +80,7 @@ def locked(path: Path, holder: str) -> tuple[TextIO | None, str]:
 
 
 def holder_of(path: Path) -> str:
-    """Who is written into a file that was locked; nobody where it can't be read."""
+    """Who is written into a file that was locked; nobody if it can't be read."""
     try:
         flags = os.O_RDONLY | os.O_NOFOLLOW | os.O_NONBLOCK | os.O_CLOEXEC
         with open(os.open(path, flags), "rb") as it:
@@ -115,12 +115,12 @@ class Room:
         return self.lent / "routerd.conf"
 
     def kept(self, name: str) -> Path | None:
-        """A file that is kept over a restart; None where there is no folder for it."""
+        """A file that is kept over a restart; None if there is no folder for it."""
         return self.state / name if self._has_state else None
 
     def lend(self, name: str, data: bytes) -> Path:
-        """Writes a file for `routerd`: where the run's folder has no room, beside the state.
-        `OSError` where it can't be written there either."""
+        """Writes a file for `routerd`: if the run's folder has no room, beside the state. `OSError`
+        if it can't be written there either."""
         try:
             return self._lend(name, data)
         except OSError as error:
@@ -149,7 +149,7 @@ class Room:
     @contextmanager
     def lent_object(self, path: str) -> Iterator[str]:
         """A name by which `routerd` can read an object file, which may be in a folder that's closed
-        to it: a copy's. Where it can't be copied, its own: `routerd` says what is wrong."""
+        to it: a copy's. If it can't be copied, its own: `routerd` says what is wrong."""
         name = "object"
         try:
             with open(os.open(path, os.O_RDONLY | os.O_NONBLOCK | os.O_CLOEXEC), "rb") as it:
@@ -194,7 +194,7 @@ class Room:
         """Claims interfaces and the kernel's table for this box, in this network namespace: two
         boxes that share one would undo each other's work. A claim is a locked file, in a folder
         that its owner alone may use, so nobody else can claim anything. Root shares that of boxes
-        that run as another. Where one can't be had, none is; those of before stay."""
+        that run as another. If one can't be had, none is; those of before stay."""
         folder = self.run.parent / CLAIMS
         own_folder(folder, may_be_anyones=os.geteuid() == 0)
         namespace = os.stat(NAMESPACE).st_ino

@@ -48,7 +48,7 @@ class RouterGone(Exception):
 @dataclass(frozen=True)
 class Ended:
     """How `routerd` ended: its status, negative for a signal's number; its exact counters, which it
-    prints last; the last line that it printed, which says why where it didn't start."""
+    prints last; the last line that it printed, which says why if it didn't start."""
 
     status: int
     counters: tuple[str, ...]
@@ -122,7 +122,7 @@ class Router:
         return lines
 
     def _asked(self, line: str, seconds: float) -> tuple[bytes, bytes | None]:
-        """The first line of the answer, and where a list follows its other lines."""
+        """The first line of the answer, and, if a list follows, its other lines."""
         data = line.encode("utf-8")
         if b"\n" in data or len(data) > LONGEST_LINE:
             return b"unknown", None
@@ -154,7 +154,7 @@ class Router:
             raise RouterGone("routerd has ended") from error
 
     def ask_list(self, line: str) -> list[str] | None:
-        """The lines of a list without its end; None where it was refused."""
+        """The lines of a list without its end; None if it was refused."""
         said = self.ask_bytes(line)
         return None if said is None else said.decode("utf-8", "replace").splitlines()
 

@@ -1,5 +1,5 @@
 """The kernel's interfaces, addresses, next hops and IPv4 routes, by rtnetlink(7): asked for,
-changed, and told of where others change them.
+changed, and told of when others change them.
 
 A change is one message of some 50 bytes; hundreds go to the kernel at a time, which answers the
 refused ones alone, with its own words. Nothing here waits longer than `SECONDS`.
@@ -86,9 +86,9 @@ class Link(NamedTuple):
     is_up: bool
     """Whether it is up and has a carrier."""
     master: int = 0
-    """The index of the interface that it's enslaved to; 0 where it is to none."""
+    """The index of the interface that it's enslaved to; 0 if it is to none."""
     vrf_table: int = 0
-    """Of a VRF device the number of its table; 0 where it is none."""
+    """Of a VRF device the number of its table; 0 if it is none."""
 
 
 class Address(NamedTuple):
@@ -98,7 +98,7 @@ class Address(NamedTuple):
     address: IPv4Interface
     is_secondary: bool
     peer: IPv4Network | None = None
-    """The network that the peer is in, where the address has one (ip-address(8))."""
+    """The network that the peer is in, if the address has one (ip-address(8))."""
 
 
 class NextHop(NamedTuple):
@@ -114,8 +114,8 @@ class NextHop(NamedTuple):
 
 class Route(NamedTuple):
     """A route: its prefix (the four bytes of the address, then the length), the number of its next
-    hop object, 0 where it has none, and its paths: the gateway, empty where the destination is on
-    the link or the gateway no IPv4 address, and the interface's index."""
+    hop object, 0 if it has none, and its paths: the gateway, empty if the destination is on the
+    link or the gateway no IPv4 address, and the interface's index."""
 
     prefix: bytes
     protocol: int
@@ -147,7 +147,7 @@ class DeleteNextHop(NamedTuple):
 
 
 class AddRoute(NamedTuple):
-    """Makes a route; refused where one has its prefix and metric."""
+    """Makes a route; refused if one has its prefix and metric."""
 
     prefix: bytes
     next_hop: int
@@ -224,7 +224,7 @@ def attributes(data: bytes, at: int = 0) -> dict[int, bytes]:
 
 
 def number_of(data: bytes | None) -> int:
-    """A number of the kernel's; 0 where there is none."""
+    """A number of the kernel's; 0 if there is none."""
     return int.from_bytes(data or b"", sys.byteorder)
 
 
@@ -250,7 +250,7 @@ def link_of(body: bytes) -> Link:
 
 
 def address_of(body: bytes) -> Address | None:
-    """An address, from the body of a message of it; None where it is none of IPv4."""
+    """An address, from the body of a message of it; None if it is none of IPv4."""
     family, length, flags, _, index = ADDRESS.unpack_from(body)
     said = attributes(body, ADDRESS.size)
     local = said.get(IFA_LOCAL, b"")
@@ -263,7 +263,7 @@ def address_of(body: bytes) -> Address | None:
 
 
 def route_of(body: bytes, table: int = MAIN) -> Route | None:
-    """A route, from the body of a message of it; None where it is none of IPv4 in that table."""
+    """A route, from the body of a message of it; None if it is none of IPv4 in that table."""
     family, length, _, tos, its_table, protocol, _, kind, flags = ROUTE.unpack_from(body)
     said = attributes(body, ROUTE.size)
     if family != socket.AF_INET:
@@ -354,7 +354,7 @@ def request(
 
 
 def refusal_of(message: Message) -> Refusal | None:
-    """What an answer, or the end of a list, says; None where the change was made, or the list is
+    """What an answer, or the end of a list, says; None if the change was made, or the list is
     whole."""
     (answer,) = struct.unpack_from("=i", message.body)
     if answer >= 0:
@@ -426,7 +426,7 @@ class Kernel:
         return [each for each in map(address_of, bodies) if each]
 
     def routes(self, protocol: int = 0) -> list[Route]:
-        """The routes of the table, of one protocol number where one is given."""
+        """The routes of the table, of one protocol number if one is given."""
         bodies = self.route_bodies(protocol)
         return [each for body in bodies if (each := route_of(body, self.table))]
 
@@ -477,7 +477,7 @@ class Kernel:
                         return answers
 
     def _list(self, kind: int, head: bytes) -> list[bytes]:
-        """The bodies of all messages of a list, which is asked for again where it changed in the
+        """The bodies of all messages of a list, which is asked for again if it changed in the
         meantime."""
         for _ in range(TRIES):
             self._sequence += 1
@@ -607,8 +607,8 @@ class Notices:
         return self._socket.fileno()
 
     def read(self) -> News:
-        """What changed since the last question. Where more came than the kernel keeps for this
-        socket, all may have."""
+        """What changed since the last question. If more came than the kernel keeps for this socket,
+        all may have."""
         news = News.NOTHING
         for _ in range(MOST_NOTICES):
             try:

@@ -40,7 +40,7 @@ class Asked:
 
 @dataclass
 class Answer:
-    """What a line is answered. Where `stays` is set the connection stays open until the box has
+    """What a line is answered. If `stays` is set, the connection stays open until the box has
     ended."""
 
     lines: list[str] = field(default_factory=list)
@@ -216,8 +216,8 @@ class _Lines:
         self._descriptors: list[int] = []
 
     def next(self) -> Asked | None:
-        """The next line; None where the client has left. One that is too long, or no text, is an
-        empty line, which is no command."""
+        """The next line; None if the client has left. One that is too long, or no text, is an empty
+        line, which is no command."""
         is_long = False
         while b"\n" not in self._data:
             if len(self._data) > LONGEST_LINE:
@@ -247,7 +247,7 @@ class _Lines:
 
     @staticmethod
     def close(asked: Asked) -> None:
-        """Closes the file that came with a line, where nobody took it."""
+        """Closes the file that came with a line, if nobody took it."""
         if asked.descriptor is not None:
             os.close(asked.descriptor)
             asked.descriptor = None

@@ -83,7 +83,7 @@ def udp_socket(port: int, router: int) -> socket.socket:
 
 
 def resize(one: socket.socket, size: int) -> None:
-    """Gives a socket room for so many bytes that come in, or as much as may be had."""
+    """Gives a socket room for this many bytes that come in, or as much as may be had."""
     try:
         one.setsockopt(socket.SOL_SOCKET, SO_RCVBUFFORCE, size)
     except PermissionError:

@@ -35,7 +35,7 @@ Ports = list[tuple[int, int]]
 
 
 def free_ports(count: int) -> list[int]:
-    """So many UDP ports of 127.0.0.1 that nobody has now."""
+    """This many UDP ports of 127.0.0.1 that nobody has now."""
     sockets = [socket.socket(socket.AF_INET, socket.SOCK_DGRAM) for _ in range(count)]
     try:
         for one in sockets:
@@ -105,7 +105,7 @@ class Fresh:
     listed: Path
 
     def close(self) -> None:
-        """Ends it, where it isn't to take the other's place."""
+        """Ends it, if it isn't to take the other's place."""
         self.router.quit()
         for each in (*self.udp.values(), *self.sinks.values()):
             each.close()
@@ -124,12 +124,12 @@ class Starter:
         news: Callable[[], None] = lambda: None,
     ) -> None:
         """`watch` is called with each packet that passes, `holding` says which have to wait, and
-        `news` is called where an interface goes down or comes up."""
+        `news` is called when an interface goes down or comes up."""
         self._room, self._watch, self._holding, self._news = room, watch, holding, news
         self._numbers, self._neighbor_numbers = numbers, neighbor_numbers
 
     def begin(self, configuration: Configuration, told: Callable[[str], None]) -> Parts:
-        """Opens the bridge and starts `routerd`, whose lines on standard error are told. Where either
+        """Opens the bridge and starts `routerd`, whose lines on standard error are told. If either
         has no luck with the ports, both are tried with others."""
         for tried in range(1, TRIES + 1):
             world = World(configuration.account)
@@ -147,7 +147,7 @@ class Starter:
         self, configuration: Configuration, told: Callable[[str], None]
     ) -> Fresh:
         """Starts `routerd` alone, beside one that runs. `CannotOpen`, `CannotIsolate` or `Stopped`
-        where it can't be had."""
+        if it can't be had."""
         world = World(configuration.account)
         try:
             return self._begun_beside(world, configuration, told)

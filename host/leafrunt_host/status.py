@@ -89,7 +89,7 @@ class Known:
     steps: tuple[Step, ...] = ()
     """The last steps of the machine's clock."""
     sessions: Sessions | None = None
-    """BFD's, where an interface asks for it."""
+    """BFD's, if an interface asks for it."""
     table_changes: tuple[tuple[float, TableChange], ...] = ()
     """What changed last of `routerd`'s table, and when."""
     looked: float | None = None
@@ -138,8 +138,8 @@ def remarks_of(known: Known, now: float) -> list[str]:
 
 
 def since(known: Known, neighbor: Neighbor) -> float | None:
-    """The moment, in seconds since 1970, from which on a neighbor has been in its state; None where
-    it has come to that just now."""
+    """The moment, in seconds since 1970, from which on a neighbor has been in its state; None if it
+    has come to that just now."""
     began = known.adjacencies.since(neighbor.number, neighbor.router_id, neighbor.state)
     return None if began is None else since_1970(began)
 
@@ -191,8 +191,8 @@ def interface_status(known: Known, number: int, each: InterfaceSettings) -> Json
 
 def at_rest_since(known: Known) -> float | None:
     """The moment, in seconds since 1970, from which on all neighbors have been Full, owed nothing
-    and were owed nothing; None where one isn't, or does, or there is none, or `routerd` refuses
-    what happens."""
+    and were owed nothing; None if one isn't, or does, or there is none, or `routerd` refuses what
+    happens."""
     if known.refusal and known.refusal.until is None:
         return None
     began = []
@@ -211,7 +211,7 @@ def since_1970(moment: float) -> float:
 
 
 def table_status(known: Known) -> Json:
-    """What is said of `routerd`'s table, which is looked at where the kernel's is kept."""
+    """What is said of `routerd`'s table, which is looked at if the kernel's is kept."""
     changes = [change_document(*each) for each in known.table_changes]
     return {"routes": known.kept.table, "changes": changes}
 

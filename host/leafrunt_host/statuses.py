@@ -1,4 +1,4 @@
-"""How a command ends: its status, which is as `routerd`'s, and what it says where that isn't 0."""
+"""How a command ends: its status, which is as `routerd`'s, and what it says if that isn't 0."""
 from __future__ import annotations
 
 from enum import IntEnum
@@ -15,7 +15,7 @@ class Status(IntEnum):
     MEMORY = 4
 
 REFUSED, FAILED = "refused: ", "failed: "
-"""What each line of a box's answer begins with where it can't do what it is asked: as it may not be
+"""What each line of a box's answer begins with if it can't do what it is asked: as it may not be
 done, or as something else failed."""
 
 

@@ -15,7 +15,7 @@ MOST_KEPT = 8
 
 
 class RouteChange(NamedTuple):
-    """A route's line without its prefix, before and after; None where there was or is none."""
+    """A route's line without its prefix, before and after; None if there was or is none."""
 
     prefix: str
     before: str | None

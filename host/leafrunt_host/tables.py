@@ -75,7 +75,7 @@ def mistake_of_toml(file: str, error: Exception) -> Mistake:
 
 
 def toml_of(file: str, data: bytes, mistakes: list[Mistake]) -> dict[str, object]:
-    """The tables of a file; a mistake, and no tables, where it is no TOML."""
+    """The tables of a file; a mistake, and no tables, if it is no TOML."""
     try:
         return tomllib.loads(data.decode("utf-8"))
     except UnicodeDecodeError as error:
@@ -91,9 +91,9 @@ def toml_of(file: str, data: bytes, mistakes: list[Mistake]) -> dict[str, object
 class Table:
     """One table of a file.
 
-    Each read of a key gives its value. Where it is a mistake that is noted, and reading goes on
-    with the default, or with None where the kind of value has none. `end` notes the keys that
-    nobody asked for.
+    Each read of a key gives its value. If it is a mistake, that is noted, and reading goes on with
+    the default, or with None if the kind of value has none. `end` notes the keys that nobody asked
+    for.
     """
 
     def __init__(
@@ -201,7 +201,7 @@ class Table:
             return None
 
     def moment(self, key: str) -> float | None:
-        """A moment in seconds since 1970; None where the key isn't there."""
+        """A moment in seconds since 1970; None if the key isn't there."""
         self._asked.append(key)
         value = self._items.get(key)
         if value is None:
@@ -214,7 +214,7 @@ class Table:
         return value.timestamp()
 
     def texts(self, key: str, allowed: str) -> list[str] | None:
-        """A list of different texts, empty where the key isn't there."""
+        """A list of different texts, empty if the key isn't there."""
         value = self._value(key, allowed, [], lambda each: isinstance(each, list))
         texts: list[str] = []
         for each in value if isinstance(value, list) else []:
@@ -226,7 +226,7 @@ class Table:
         return None if value is None else texts
 
     def switch(self, key: str, title: str) -> Table | None:
-        """A table, or `true` for one in which nothing is said; None for `false`, and where the key
+        """A table, or `true` for one in which nothing is said; None for `false`, and if the key
         isn't there. `title` says where it stands."""
         allowed = f"true, false or a table [{key}]"
         value = self._value(key, allowed, False, lambda each: isinstance(each, bool | dict))
@@ -235,8 +235,8 @@ class Table:
         return Table(self._file, title, {}, self._mistakes) if value is True else None
 
     def tables(self, key: str, title: Callable[[int, dict[str, Any]], str]) -> list[Table] | None:
-        """The tables of a list, `[[key]]` in the file, empty where there is none; `title` says
-        where one of them stands."""
+        """The tables of a list, `[[key]]` in the file, empty if there is none; `title` says where
+        one of them stands."""
         allowed = f"tables, each begun with [[{key}]]"
         value = self._value(key, allowed, [], lambda each: isinstance(each, list))
         if not isinstance(value, list):
@@ -251,7 +251,7 @@ class Table:
         ]
 
     def table(self, key: str) -> Table:
-        """The table of this name, `[key]` in the file, empty where there is none; of one in a
+        """The table of this name, `[key]` in the file, empty if there is none; of one in a
         table `[table.key]`."""
         where = ".".join(filter(None, (self._where, key)))
         value = self._value(

@@ -65,7 +65,7 @@ def painted(rows: Sequence[Row], columns: int, lines: int) -> str:
 
 
 def why_no_screen() -> str | None:
-    """Why there is no screen to paint; None where there is one."""
+    """Why there is no screen to paint; None if there is one."""
     if not (sys.stdin.isatty() and sys.stdout.isatty()):
         return "standard input and output are no terminal"
     if os.environ.get("TERM", "dumb") in ("", "dumb"):
@@ -100,8 +100,8 @@ class Screen:
         self._write(painted(rows, columns, lines))
 
     def key(self, seconds: float) -> str | None:
-        """What was typed; an empty text where something else ended the wait, None where the
-        terminal is gone."""
+        """What was typed; an empty text if something else ended the wait, None if the terminal is
+        gone."""
         ready = dict(self._waiting.poll(seconds * 1000))
         if self._event in ready:
             os.eventfd_read(self._event)

@@ -96,7 +96,7 @@ class Topology:
     ) -> None:
         self._clock = clock
         self._news = news
-        """Is called where an LSA comes, from either side, that says something new: a refresh of one
+        """Is called when an LSA comes, from either side, that says something new: a refresh of one
         that is known doesn't."""
         self._one_at_a_time = threading.Lock()
         self._entries: dict[bytes, Entry] = {}
@@ -190,8 +190,8 @@ class Topology:
             self._put(entry._replace(age=age_of(header)), now)
 
     def _put(self, entry: Entry, now: float) -> None:
-        """An older instance than the one here comes late, or, where that one was flushed, begins
-        anew (12.1.6, 14.1)."""
+        """An older instance than the one here comes late, or, if that one was flushed, begins anew
+        (12.1.6, 14.1)."""
         before = self._entries.get(entry.data[KEY])
         is_known = before is not None and before.data[2:] == entry.data[2:]
         if not is_known and not is_whole(entry.data):

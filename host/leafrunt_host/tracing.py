@@ -17,7 +17,7 @@ from leafrunt_host.packets import (
 
 log = logging.getLogger("leafrunt.packets")
 MOST_LINES, SECONDS = 50, 1.0
-"""So many lines of an interface within so many seconds: how many more there were is told."""
+"""This many lines of an interface within this many seconds: how many more there were is told."""
 REQUEST_LENGTH = 12
 TITLES = {
     PacketType.HELLO: "Hello",

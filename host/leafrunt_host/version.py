@@ -12,7 +12,7 @@ UNKNOWN = "unknown"
 
 
 def rows_of(file: Path) -> dict[str, str]:
-    """The rows `name: value` of a file; none where it can't be read."""
+    """The rows `name: value` of a file; none if it can't be read."""
     try:
         lines = file.read_text(encoding="utf-8").splitlines()
     except (OSError, UnicodeDecodeError):
@@ -21,7 +21,7 @@ def rows_of(file: Path) -> dict[str, str]:
 
 
 def said_by_git(clone: Path, *words: str) -> str | None:
-    """What git says of a clone; None where it says nothing."""
+    """What git says of a clone; None if it says nothing."""
     command = ["git", "-C", str(clone), *words]
     try:
         ran = subprocess.run(
@@ -33,7 +33,7 @@ def said_by_git(clone: Path, *words: str) -> str | None:
 
 
 def commit_of(clone: Path) -> str:
-    """The commit of a clone, marked where its files were changed since."""
+    """The commit of a clone, marked if its files were changed since."""
     commit = said_by_git(clone, "rev-parse", "--short=12", "HEAD")
     if not commit:
         return UNKNOWN

@@ -42,7 +42,7 @@ class Look:
 
 
 def look_at(client: Client) -> Look:
-    """Asks a box. `Stopped` where it doesn't answer."""
+    """Asks a box. `Stopped` if it doesn't answer."""
     status = box_status(client)
     counters = list_of(client.ask("counters"))
     with understood(client.box):
@@ -90,7 +90,7 @@ def said_of(neighbor: Json | None) -> str:
 
 
 def duration(seconds: float) -> str:
-    """As operators read it: days where there are some, then hours, minutes and seconds."""
+    """As operators read it: days if there are any, then hours, minutes and seconds."""
     whole = max(0, int(seconds))
     days, rest = divmod(whole, DAY)
     clock = f"{rest // HOUR:02}:{rest % HOUR // MINUTE:02}:{rest % MINUTE:02}"
@@ -164,7 +164,7 @@ def route_text(route: Json) -> str:
 
 
 def counter_rows(watched: Watched) -> Iterator[Row]:
-    """The programs' counters, those with a name too where they are 0."""
+    """The programs' counters, those with a name even if they are 0."""
     names = {number: name for name, number in watched.now.status["counter_names"].items()}
     before = watched.before.counters if watched.before else {}
     for number in sorted(watched.now.counters.keys() | names.keys()):
@@ -230,7 +230,7 @@ class Asker:
                 return
 
     def looks(self) -> Iterator[Look]:
-        """What came since the last time. `Stopped` where the box doesn't answer any more."""
+        """What came since the last time. `Stopped` if the box doesn't answer any more."""
         while self._looks:
             look = self._looks.popleft()
             if isinstance(look, Stopped):
@@ -265,7 +265,7 @@ def followed(client: Client, first: Look, interval: float, screen: Screen) -> No
 
 
 def watch(client: Client, interval: float, is_once: bool) -> Status:
-    """The command. `Stopped` where there is no terminal, or the box doesn't answer any more."""
+    """The command. `Stopped` if there is no terminal, or the box doesn't answer any more."""
     why = None if is_once else why_no_screen()
     if why:
         raise Stopped(f"{why}: `leafrunt watch --once` prints what it would show", Status.USAGE)

@@ -4,8 +4,8 @@ take for a reason that isn't known here.
 
 Other routers may hold such an LSA and describe it. `routerd` would ask for it again and again, and
 stay in Loading, with no route. So it is acknowledged to the neighbor and never passed on, and its
-header is left out of the neighbor's Descriptions. Where `routerd` asks for one already, the
-Database Exchange is begun anew.
+header is left out of the neighbor's Descriptions. If `routerd` asks for one already, the Database
+Exchange is begun anew.
 """
 from __future__ import annotations
 
@@ -25,7 +25,7 @@ KEPT_FREE = 64
 NO_EXTERNALS = 1_024
 """Of these for LSAs of the area."""
 ROOM_AGAIN = 512
-"""So many LSAs must have room before those that were withheld are asked for."""
+"""This many LSAs must have room before those that were withheld are asked for."""
 SECONDS_BETWEEN = 5.0
 """Between two exchanges that are begun anew on one link at least."""
 STUCK_AFTER = 3.5
@@ -35,7 +35,7 @@ LONG_ASKED = 10.0
 GIVEN_IN_VAIN = 5
 """`routerd` was given an LSA so often, and asks for it again: it doesn't take it."""
 MOST_ABOVE = 65_536
-"""Of those above the limit so many are known, whatever a neighbor sends."""
+"""Of those above the limit this many are known, whatever a neighbor sends."""
 LIMIT_TOLD_EACH = 60.0
 """Seconds after which the log says again that there are some."""
 MOST_KEPT = 1024
@@ -52,7 +52,7 @@ Key = bytes
 
 
 def header_fault(header: bytes) -> str | None:
-    """Why `routerd` doesn't read an LSA with this header, as half a sentence; None where it may."""
+    """Why `routerd` doesn't read an LSA with this header, as half a sentence; None if it may."""
     age, _, kind, _, _, sequence, _, length = HEAD.unpack_from(header)
     if not LsType.ROUTER <= kind <= LsType.EXTERNAL:
         return f"its type {kind} is none of area 0.0.0.0's usual ones"
@@ -100,7 +100,7 @@ def router_fault(body: bytes) -> str | None:
 
 
 def fault(lsa: bytes) -> str | None:
-    """Why `routerd` doesn't read this LSA, whose checksum holds; None where it does, or where the
+    """Why `routerd` doesn't read this LSA, whose checksum holds; None if it does, or if the
     checksum doesn't hold, so that every router discards it."""
     said = header_fault(lsa) or body_fault(lsa)
     return said if said and is_whole(lsa) else None
@@ -121,8 +121,8 @@ class Database:
     alone."""
 
     def __init__(self, most: int = MOST_LSAS - KEPT_FREE, no_externals: int = 0) -> None:
-        """So many of these places no AS-external-LSA takes: without a router-LSA on the way no
-        destination is reached."""
+        """`no_externals` of these places no AS-external-LSA takes: without a router-LSA on the way
+        no destination is reached."""
         self._keys: dict[Key, float] = {}
         self._most_externals = most - no_externals
         self._oldest = float("-inf")

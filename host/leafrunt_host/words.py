@@ -30,7 +30,7 @@ CLIENT_WORDS = {
 
 
 def first_words() -> list[str]:
-    """What a line may begin with, for completion: with a space where more has to come."""
+    """What a line may begin with, for completion: with a space if more has to come."""
     words = (each.partition(" ") for each in [*ROUTERD_WORDS, *BOX_WORDS, *CLIENT_WORDS])
     return sorted(first + space for first, space, _ in words)
 

@@ -29,7 +29,7 @@ class WorkQueue:
         return self._event
 
     def do(self, work: Callable[[], T], seconds: float = SECONDS) -> T:
-        """Has it done by that thread, and what came of it, its error included. `Stopped` where that
+        """Has it done by that thread, and what came of it, its error included. `Stopped` if that
         thread has ended, or doesn't answer; then it isn't done any more, unless it was begun."""
         future: Future[T] = Future()
         with self._lock:

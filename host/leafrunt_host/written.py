@@ -9,7 +9,7 @@ from pathlib import Path
 
 def replace_file(path: Path, text: str, is_synced: bool) -> None:
     """Writes a file anew, so that it's the old one or the new one at each moment. `OSError`
-    where it can't be written."""
+    if it can't be written."""
     part = path.with_name(path.name + ".part")
     with open(part, "w", encoding="ascii") as it:
         it.write(text)
@@ -30,9 +30,9 @@ class Written:
         self._is_busy = self._is_slow = False
 
     def write(self, text: str, seconds: float, is_last: bool = False) -> bool:
-        """Whether the file has this text within that time. Where it hasn't, it gets the last text
-        that was given once the disk goes on, and until then nobody waits but for the last one.
-        `OSError` where it can't be written."""
+        """Whether the file has this text within that time. If it hasn't, it gets the last text that
+        was given once the disk goes on, and until then nobody waits but for the last one. `OSError`
+        if it can't be written."""
         with self._changed:
             self._next = text
             if self._is_slow and not is_last:

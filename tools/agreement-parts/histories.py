@@ -14,7 +14,7 @@ INFINITE = 400
 
 class Setting(NamedTuple):
     """A network, its times, and how often what happens: `faults` of a hundred packets each are repeated, lost and out of turn, and of acts
-    between packets so many in a row are Ticks, commands, links that go down, restarts and calm."""
+    between packets `shares`, in this order, are Ticks, commands, links that go down, restarts and calm."""
 
     routers: int
     shape: str
@@ -38,14 +38,14 @@ class Act(NamedTuple):
 
 
 FIELDS = {
-    # the packet under way to a router's interface that stands behind so many comes, comes and stays under way, or is lost
+    # the packet under way to a router's interface that stands behind this many comes, comes and stays under way, or is lost
     **dict.fromkeys(("comes", "again", "lost"), ("place", "number", "value")),
-    # so many seconds pass, with a Tick at each router; or at one router, whose clock alone goes on
+    # this many seconds pass, with a Tick at each router; or at one router, whose clock alone goes on
     "second": ("value",), "tick": ("place", "value"),
-    # a router announces the destination of a number with a metric, or withdraws it; its interface goes down; it begins anew after so many
-    # seconds
+    # a router announces the destination of a number with a metric, or withdraws it; its interface goes down; it begins anew after this
+    # many seconds
     "announce": ("place", "number", "value"), "withdraw": ("place", "number"), "down": ("place", "number"), "restart": ("place", "value"),
-    # all that is under way comes, in order, until nothing is; so many seconds pass, in each of which all comes
+    # all that is under way comes, in order, until nothing is; this many seconds pass, in each of which all comes
     "all": (), "calm": ("value",),
 }
 
@@ -152,7 +152,7 @@ class Network:
                     self.comes(end, packet)
 
     def meets(self, act: Act) -> None:
-        """What becomes of a packet; nothing, where it isn't there."""
+        """What becomes of a packet; nothing, if it isn't there."""
         under_way = self.wires.get((act.place, act.number), [])
         if act.value >= len(under_way):
             return

@@ -1,9 +1,9 @@
 """Judges each link at rest by the law on Full neighbors, from what goes over the wires and what routers show alone.
 
-A link is at rest where each end is Full with the other, and neither owes anything. A key is judged already where both are Full and
+A link is at rest if each end is Full with the other, and neither owes anything. A key is judged already if both are Full and
 neither owes that of the key: then both ends hold the same instance, by sequence number and checksum, with the same text, and both at MaxAge
-or none; or one holds none, and the other's copy is at MaxAge. Where that isn't so, one of these took effect at an end in its present
-conversation, which begins where it enters ExStart:
+or none; or one holds none, and the other's copy is at MaxAge. If that isn't so, one of these took effect at an end in its present
+conversation, which begins when it enters ExStart:
 
 description          a Description came in that was sent in another conversation, and the conversation went on
 update               an Update brought the key and was taken, though since it was sent an end lost its copy
@@ -17,7 +17,7 @@ clocks               an instance that was requested came to MaxAge on the reques
 two bodies            the originator said two things under one sequence number and checksum (and the texts alone differ)
 
 What is owed isn't shown but as a count: acknowledgments, and requested LSAs. Both lists are followed here by the rules of sections 10.6 and
-13, from what goes out and comes in, and compared with the count after each event: where they differ, nothing is judged, and `Miscounted`
+13, from what goes out and comes in, and compared with the count after each event: if they differ, nothing is judged, and `Miscounted`
 is raised.
 """
 from __future__ import annotations
@@ -197,7 +197,7 @@ class Judge:
         return [(number, self._packet(event, number, text, said)) for number, text, said in outs]
 
     def _converses(self, event: Event, number: int) -> bool:
-        """Follows the conversation at an interface. Tells whether Exchange is entered."""
+        """Follows the conversation at an interface. Returns whether Exchange is entered."""
         seen = self.routers[event.place].ends[number]
         before = seen.was = seen.state
         seen.earlier = seen.conversation
@@ -234,7 +234,7 @@ class Judge:
 
     def _is_installed(self, event: Event, brought: Instance) -> bool:
         """An instance that an Update brought was put into the database, though it may have left it in the same event. One at MaxAge is only
-        acknowledged where none is held, unless a neighbor is in Exchange or Loading (section 13, step 4)."""
+        acknowledged if none is held, unless a neighbor is in Exchange or Loading (section 13, step 4)."""
         held, key = event.before.get(brought.key), brought.key
         if held is not None and compare(brought, held) <= 0:
             return False
@@ -273,7 +273,7 @@ class Judge:
             seen.name(key, "before MaxAge")
 
     def _acknowledged(self, event: Event, number: int) -> Iterator[Key]:
-        """The keys of which the packet names the very instance that the router held. Where it is at MaxAge, and this acknowledgment is the
+        """The keys of which the packet names the very instance that the router held. If it is at MaxAge, and this acknowledgment is the
         last one owed, it leaves in the same event."""
         if event.packet is None or event.interface != number or event.packet.said.kind not in (UPDATE, ACKNOWLEDGMENT):
             return

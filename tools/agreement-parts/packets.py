@@ -32,12 +32,12 @@ class Instance(NamedTuple):
         return self.age >= MAX_AGE
 
     def after(self, seconds: int) -> Instance:
-        """The same so many seconds later."""
+        """The same this many seconds later."""
         return Instance(self.key, self.sequence, self.checksum, min(MAX_AGE, self.age + seconds), self.text) if seconds else self
 
 
 def compare(one: Instance, other: Instance) -> int:
-    """Above 0 where the one is newer (section 13.1), 0 where they are the same."""
+    """Above 0 if the one is newer (section 13.1), 0 if they are the same."""
     if one.name != other.name:
         return 1 if one.name > other.name else -1
     if one.is_at_max_age != other.is_at_max_age:

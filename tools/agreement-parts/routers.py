@@ -63,7 +63,7 @@ class Router:
         return self.ask(line)
 
     def ask(self, line: str, asked: str = SHOWN, ends: int = 2) -> Shown:
-        """Plays a line, and reads what the router shows after it: what was asked, of so many lists that end with `end`."""
+        """Plays a line, and reads what the router shows after it: what was asked, of this many lists that end with `end`."""
         self._write(f"{line}\n{asked}")
         shown = Shown([], {}, {}, {}, [])
         for words in (each.split(" ") for each in self._lines(ends)):

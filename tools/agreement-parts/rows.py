@@ -171,7 +171,7 @@ class Row:
             self.happens(place, f"packet {at} {packet.hex()}", (at, packet))
 
     def again(self, back: int) -> None:
-        """A packet comes that was sent so many packets ago."""
+        """A packet comes that was sent this many packets ago."""
         self.comes(len(self.packets) - back)
 
     def _goes_on(self) -> None:
@@ -193,13 +193,13 @@ class Row:
         self.happens(place, "tick")
 
     def passes(self, seconds: int) -> None:
-        """So many seconds pass at once."""
+        """This many seconds pass at once."""
         self.moment += seconds
         for place in range(self.count):
             self.tick(place)
 
     def seconds(self, count: int, fates: str) -> None:
-        """So many seconds pass one by one, and in each all that is under way meets these fates, from the first one on and repeatedly."""
+        """This many seconds pass one by one, and in each all that is under way meets these fates, from the first one on and repeatedly."""
         for _ in range(count):
             self.passes(1)
             met = 0

@@ -41,10 +41,10 @@ class Family:
         raise NotImplementedError
 
     def begin(self) -> None:
-        """A new target. `CannotTry` where there can't be one."""
+        """A new target. `CannotTry` if there can't be one."""
 
     def play(self, data: bytes) -> None:
-        """Gives the target one input; `Broken` where it doesn't bear it."""
+        """Gives the target one input; `Broken` if it doesn't bear it."""
         raise NotImplementedError
 
     def settle(self) -> None:

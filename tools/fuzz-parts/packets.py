@@ -16,7 +16,7 @@ damaged = family.tool("try-hooktool").damaged
 
 
 def sealed_packet(data: bytes, router: bytes) -> bytes:
-    """The packet of that router, with its length and checksum where it has a header."""
+    """The packet of that router, with its length and checksum if it has a header."""
     if len(data) < HEADER:
         return data
     return faults.headed(data[:4] + router + data[8:], length=len(data) & 0xFFFF)

@@ -43,7 +43,7 @@ class Line:
 
 
 def register(name):
-    """Returns the number of r1 or w1, or None where a word isn't one."""
+    """Returns the number of r1 or w1, or None if a word isn't one."""
     return int(name[1:]) if re.fullmatch(r"[rw]\d+", name) else None
 
 

@@ -19,7 +19,7 @@ def passed(text, told):
 
 
 def compiled(clang, words, cpu, source, elf):
-    """Compiles a program of C, and returns clang's status and what is told of its tables. Where nothing is rewritten the text isn't used."""
+    """Compiles a program of C, and returns clang's status and what is told of its tables. If nothing is rewritten, the text isn't used."""
     text, told = pathlib.Path(f"{elf}.s"), []
     done = subprocess.run([clang, *words, f"-mcpu={cpu}", "-S", os.fspath(source), "-o", os.fspath(text)], check=False)
     if done.returncode:

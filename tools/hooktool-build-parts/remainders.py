@@ -5,7 +5,7 @@ NAMED = {"/=", "*=", "-="}
 
 
 def value_of(known, word, is_short):
-    """Returns what a register or a number stands for, in its low 32 bits where only those are used."""
+    """Returns what a register or a number stands for, in its low 32 bits if only those are used."""
     number = register(word)
     if number is None:
         return ("number", word)
@@ -22,7 +22,7 @@ def word_of(known, value, is_short):
 
 
 def divisor_in(known, parts, is_short):
-    """Returns the word for n where the instruction takes x / n * n from x, or None."""
+    """Returns the word for n if the instruction takes x / n * n from x, or None."""
     value, product = value_of(known, parts["target"], is_short), value_of(known, parts["value"], is_short)
     if parts["how"] != "-=" or product[:3] != ("step", is_short, "*="):
         return None

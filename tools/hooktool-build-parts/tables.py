@@ -66,7 +66,7 @@ class Data:
         return frozenset(self.pointers[at].split("+")[0] for at in places if at in self.pointers), any(at not in self.pointers for at in places)
 
     def value(self, at, width):
-        """Returns the number of so many bytes at an address."""
+        """Returns the number in this many bytes at an address."""
         if at in self.pointers and width == 8:
             name, _, more = self.pointers[at].partition("+")
             if name not in self.names:
@@ -172,7 +172,7 @@ class Tests:
 
 
 def rewritten(data, tests, lines, told):
-    """Returns a function's lines without addresses of tables. Cannot where one may be used in another way."""
+    """Returns a function's lines without addresses of tables. Cannot if one may be used in another way."""
     known, made, slots = known_at(data, lines), [], 0
     for at, line in enumerate(lines):
         names, is_other = known.get(at, {}).get(register(line.parts.get("base", "")), OTHER)

@@ -16,8 +16,8 @@ IP_HEADER = 20
 
 
 def grid(side: int, externals: int, networks: int = 0) -> tuple[dict[str, list], dict[str, list], dict[str, list]]:
-    """Returns the links of each router; of each external prefix its originator, type and metric; and of so many of the
-    grid's links, which are transit networks, by the designated router's address the routers, that one first."""
+    """Returns the links of each router; of each external prefix its originator, type and metric; and of this many of
+    the grid's links, which are transit networks, by the designated router's address the routers, that one first."""
     chance = random.Random(1)
     names = {(x, y): ospf.dotted(0x0A800000 + x * side + y + 1) for x in range(side) for y in range(side)}
     routers: dict[str, list] = {it: [] for it in names.values()}
