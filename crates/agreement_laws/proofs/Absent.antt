@@ -60,7 +60,7 @@ module _ (key : Key) where
   abbrev pub Lacks : Outcome → Type 0
   Lacks o = IsNone o.area.database
 
-  -- where the key isn't the router's own
+  -- if the key isn't the router's own
   pub none_kept : (own moment : ℕ) → (key.advertising_router ≡ own → ⊥) → IsKept own moment IsNone
   none_kept own moment others = record {
     marks = none_marked moment;

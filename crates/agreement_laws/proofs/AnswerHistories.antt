@@ -144,8 +144,8 @@ module _ (number : ℕ) (heard : List (List ℕ)) (p q : Party) (t : TakesEvent 
         new = is_new (neighbor_at number p.router.area.links) refl;
       })
 
-  -- where what was accepted in the event counts from now on, and what is sent was sent before or
-  -- in the event
+  -- if what was accepted in the event counts from now on, and what is sent was sent before or in
+  -- the event
   module _ (takes : (w : Conversation) (d : Description) → Converses number w q.router → Takes d
       → AccN w d)
       (still : (w : Conversation) (d : Description) → Converses number w q.router → AccB w d

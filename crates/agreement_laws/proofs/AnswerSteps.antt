@@ -185,7 +185,7 @@ module _ (own : ℕ) (Acc : Description → Type 0) (Began : Conversation → Ty
   fewer S T so m (f, inl e) = (f, inl e)
   fewer S T so m (f, inr g) = (f, inr (g.0, g.1, g.2, g.3, λ d k. g.4 d (so d k), g.5))
 
-  -- where no Description is sent
+  -- if no Description is sent
   pub quiet : (S : Description → Type 0) (cs : List Content) → AreOther cs → (m : Neighbor)
       → Sound S m → Sound (With S cs) m
   quiet S cs other m h = fewer S (With S cs) by m h
@@ -533,7 +533,7 @@ module _ (own : ℕ) (Acc : Description → Type 0) (Began : Conversation → Ty
             (λ x opened. led x (k.5 x opened))
         by_role false k c h so = as_slave S m f k.1 k.2 so (other_flag d.master false c) k.4 k.5
 
-    -- where only the opening Description was sent
+    -- if only the opening Description was sent
     negotiated : (S : Description → Type 0) (m : Neighbor) → is_foreign own m.router ≡ true
         → ((w : Conversation) → Began w → ⊥) → m.dd_sequence_start ≡ Some m.sequence
         → ((x : Description) → m.described ≡ Some x → x ≡ initial_description m.sequence)

@@ -29,7 +29,7 @@ use Rattle.agreement_laws.proofs.Steps as steps
 module _ (ranks : RanksFollowTheComparison) (key : Key) (moment : ℕ) (first : Instance)
     (entry : ListEntry) (low : is_at_least (listed_now moment entry) first ≡ true)
     (with_it : Conversation) (May : Type 0) where
-  -- it isn't in the conversation in Exchange or later, where that may be
+  -- it isn't in the conversation in Exchange or later, and that may be
   abbrev pub IsOver : Neighbor → Type 0
   IsOver m = May × (is_exchange_or_later m.state ≡ true → conversation_with m ≡ with_it → ⊥)
 

@@ -1,5 +1,5 @@
 -- A property of the database alone in the parts of an event: what is sent only marks copies, so the
--- property stays where marks keep it, and what the router originates, flushes and installs.
+-- property stays if marks keep it, and what the router originates, flushes and installs.
 use Rattle.std.proofs.Common.{◌≡◌, ℕ, true, List, [], ◌∷◌, map, Option, None, Some, ap}
 use Rattle.std.specs.FinMap as finite
 use Rattle.std.specs.List.{Contains, fold}
@@ -141,7 +141,7 @@ module _ (old : Router) (moment : ℕ) (event : Occurrence) (P : Database → Ty
   abbrev start : EventState
   start = start_event moment old
 
-  -- after the ages, where each LSA of the event's packet may be installed
+  -- after the ages, if each LSA of the event's packet may be installed
   pub kept_too : ((place : ℕ) (packet : Packet) → IsHeard start event place packet
       → (lsa : Lsa) → Contains (lsas_brought packet.body) lsa → (db : Database)
       → newer_than_copy moment lsa.header (finite.get db (lsa_key lsa)) ≡ true → P db

@@ -1,4 +1,4 @@
--- The end of an event, after its own part: a property stays where the router's own LSAs, the end of
+-- The end of an event, after its own part: a property stays if the router's own LSAs, the end of
 -- Loading and new requests keep it.
 use Rattle.std.proofs.Common.{◌≡◌, ℕ, Bool, cond, not, ◌&&◌, List, map, Option, None, Some, refl}
 use Rattle.std.specs.FinMap as finite

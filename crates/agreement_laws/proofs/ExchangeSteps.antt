@@ -61,7 +61,7 @@ module _ (n : Neighbor) where
       → Standing (without_old_description moment dead m)
   old_description moment dead m h = steps.old_description Standing moment dead m (λ e. h) h
 
-  -- ---- where it isn't over
+  -- ---- if it isn't over
 
   pub same_flooded : (moment : ℕ) (from : Bool) (lsa : Lsa) (m : Neighbor) → IsSame m
       → IsSame (flooding moment from lsa m).neighbor

@@ -98,7 +98,7 @@ module _ (ranks : RanksFollowTheComparison) where
         → is_at_least (copy_now moment c) first ≡ true → IsHeldAsNew (finite.insert db k c)
     held_same k c db here new = (c, put_same db k key c here, new)
 
-    -- where a copy is there, it is the one
+    -- if a copy is there, it is the one
     of_copy : (db : Database) (k : Key) (c : DatabaseCopy) → key ≡ k → finite.get db k ≡ Some c
         → IsHeldAsNew db → is_at_least (copy_now moment c) first ≡ true
     of_copy db k c same at h =

@@ -58,7 +58,7 @@ module _ (ranks : RanksFollowTheComparison) (key : Key) (moment : ℕ) (first : 
   abbrev Asks : Neighbor → Type 0
   Asks m = Asking ranks key moment first entry low with_it May m
 
-  -- nobody is there, where the conversation may be over
+  -- if nobody is there, the conversation may be over
   abbrev pub AsksThere : Option Neighbor → Type 0
   AsksThere None = May
   AsksThere (Some m) = Asks m

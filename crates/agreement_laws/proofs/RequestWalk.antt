@@ -325,7 +325,7 @@ module _ (ranks : RanksFollowTheComparison) (old : Router) (moment : ℕ) (event
       (order_begun old moment order)
       (more (outcome start) begun, whole_begun old event moment)))
 
-  -- ---- where nothing that could meet it is there, or comes
+  -- ---- if nothing that could meet it is there, or comes
 
   module _ (foreign : IsForeignAndAbsent old key) (brings : BringsNone event key) where
     abbrev Both : Outcome → ByKey ℕ → Type 0
@@ -397,7 +397,7 @@ pub requests_are_met : RanksFollowTheComparison → RequestsAreMet
 requests_are_met ranks old moment event outs new happens order number n there key entry asked =
     became ranks old moment event order number n there key entry asked outs new happens
 
--- ---- the end of an event, where the conversation isn't over
+-- ---- the end of an event, if the conversation isn't over
 
 module _ (ranks : RanksFollowTheComparison) (was : Router) (event : Occurrence) (moment : ℕ)
     (key : Key) (first : Instance) (entry : ListEntry)
@@ -460,7 +460,7 @@ module _ (ranks : RanksFollowTheComparison) (was : Router) (event : Occurrence) 
       (HasHad was event key) o (λ c at. whole_at was event moment o.area.database key c h.2 at)
       h.0)
 
-  -- where nothing was there, it stands on the list
+  -- if nothing was there, it stands on the list
   asked_still : Absent → (old : Router) (after : EventState) → Going own moment Still after
       → parts.AsksThere ranks key moment first entry low with_it ⊥ ⊥ number
       (neighbor_at number (end_event old moment after).router.area.links)
@@ -619,7 +619,7 @@ module _ (ranks : RanksFollowTheComparison) (old : Router) (moment : ℕ) (event
       (IsForeignAndAbsent old (key_of h)) (λ f e. f.others e) old happens.after
       (going happens.after happens.own)))
 
-  -- where no copy is held, and the key is another router's
+  -- if no copy is held, and the key is another router's
   is_requested : (outs : List Out) (new : Router) → Happens old moment event outs new
       → IsForeignAndAbsent old (key_of h) → IsRequested number conversation (key_of h) entered new
   is_requested outs new happens foreign =

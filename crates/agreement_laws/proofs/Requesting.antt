@@ -48,7 +48,7 @@ module _ (moment : ℕ) (db : Database) (key : Key) (entry : ListEntry) where
       (finite.insert r (key_of g) (record { header = g; at = moment })) r
       (λ e. put_other r (key_of g) key (record { header = g; at = moment }) other ∙ at) (λ e. at)
 
-  -- where no header is of the key
+  -- if no header is of the key
   all_kept : (hs : List Header) (r : ByKey ListEntry)
       → AllByRecursion (λ (g : Header). same_key key (key_of g) ≡ false) hs → finite.get r key
       ≡ Some entry → finite.get (fold (with_request moment db) r hs) key ≡ Some entry

@@ -1,5 +1,5 @@
--- A property of a neighbor in each of its steps but Descriptions: it stays, where it isn't about
--- timers and what is outstanding, and holds of a neighbor in Init and in a new attempt.
+-- A property of a neighbor in each of its steps but Descriptions: it stays if it isn't about timers
+-- and what is outstanding, and holds of a neighbor in Init and in a new attempt.
 use Rattle.std.proofs.Common.{◌≡◌, ℕ, Bool, true, false, not, ◌&&◌, List, [], ◌∷◌, map, Option}
 use Rattle.std.proofs.Common.{None, Some}
 use Rattle.std.specs.Prelude.{◌==◌}
@@ -113,7 +113,7 @@ module _ (P : Neighbor → Type 0) where
       chosen Of (meets moment lsa (request_of m lsa)) (without_request (lsa_key lsa) m) m
       (λ e. without) (λ e. h)
 
-  -- where it is added to the retransmission list, or that of its key removed
+  -- when it is added to the retransmission list, or that of its key is removed
   pub flooded : (moment : ℕ) (from : Bool) (lsa : Lsa) (m : Neighbor)
       → Of (add_retransmission moment lsa.header (without_met_request moment lsa m))
       → Of (remove_retransmission (lsa_key lsa) (without_met_request moment lsa m)) → Of m

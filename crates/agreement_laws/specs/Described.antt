@@ -1,5 +1,5 @@
 -- What one neighbor described the other holds, or it came there and was lost (RFC 2328, sections
--- 10.3, 10.6 and 10.9): where both are done with their exchange, in every history of two neighbors;
+-- 10.3, 10.6 and 10.9): if both are done with their exchange, in every history of two neighbors;
 -- unless a Description of another conversation was taken for one of this.
 use Rattle.std.specs.Prelude.{◌≡◌, ◌⊎◌, true, List}
 use Rattle.std.specs.List.{Contains}

@@ -1,7 +1,7 @@
 -- What is requested (RFC 2328, section 10.6): each header of a Description that is accepted, unless
 -- an instance that is as new is held. And what becomes of a request in an event (sections 10.9, 13
--- and 13.3): it leaves the request list only where one that is as new is held, where a Description
--- is accepted that has a header of its key, or with the conversation.
+-- and 13.3): it leaves the request list only if one that is as new is held, if a Description is
+-- accepted that has a header of its key, or with the conversation.
 use Rattle.std.specs.Prelude.{◌≡◌, ℕ, true, List, Some}
 use Rattle.std.specs.FinMap as finite
 use Rattle.std.specs.List.{Contains}

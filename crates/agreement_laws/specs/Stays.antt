@@ -1,6 +1,6 @@
 -- What is requested stays so until an LSA of its key comes (RFC 2328, sections 10.6, 10.9, 13 and
--- 13.3): where no copy is held and the key isn't the router's own, what is accepted is requested,
--- and a request leaves its list in no event that brings no LSA of the key.
+-- 13.3): if no copy is held and the key isn't the router's own, what is accepted is requested, and
+-- a request leaves its list in no event that brings no LSA of the key.
 use Rattle.std.specs.Prelude.{◌≡◌, ℕ, List, None, Some}
 use Rattle.std.specs.FinMap as finite
 use Rattle.std.specs.List.{Contains}

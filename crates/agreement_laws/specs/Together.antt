@@ -57,7 +57,7 @@ pub record TheExchangeEndsTogether : Type 0 where
       → IsOpening d
       ⊎ WasAccepted ends side (conversation_with mine.neighbor) (conversation_with its.neighbor) d
       now earlier h
-  -- so the very Description, where numbers serve once
+  -- so the very Description, if numbers serve once
   pub same : (ends : Ends) (side : Side) (now : Pair) (earlier : List Pair)
       (h : IsHistory ends now earlier)
       → (mine : IsDone ends side now) (its : IsDone ends (other_side side) now)

@@ -16,8 +16,8 @@ use Rattle.agreement_laws.specs.Accepted.{IsLastOfItsKey, accepts_description}
 use Rattle.agreement_laws.specs.TakenIn.{WasTakenIn}
 
 pub record WorkedRequests : Type 0 where
-  -- two headers of one key, both newer than the copy: the later one is requested, even where the
-  -- first one is the newer of the two
+  -- two headers of one key, both newer than the copy: the later one is requested, even if the first
+  -- one is the newer of the two
   pub later : (moment : Moment) (db : Database) (n : Neighbor) (h g : Header) → key_of g ≡ key_of h
       → is_wanted moment db h ≡ true → is_wanted moment db g ≡ true
       → finite.get (with_requests moment db (h ∷ g ∷ []) n).requests (key_of h)

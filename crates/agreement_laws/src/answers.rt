@@ -27,7 +27,7 @@ pub fn the_exchange_ends_together()
     descriptions_are_answered();
 }
 
-/// In every history of two neighbors: where a router is Full with the other one, and in their
+/// In every history of two neighbors: if a router is Full with the other one, and in their
 /// conversation has accepted Descriptions with headers of a key, each of which names an instance as
 /// new as the given one, it holds an instance that is as new; unless it lost the key since it
 /// accepted one: after some event it had no copy, and one was there before that event, or came in
@@ -42,9 +42,9 @@ pub fn what_was_accepted_is_held()
     requests_stay();
 }
 
-/// So in every history of two neighbors that are done with their exchange, where one is Full with
-/// the other one: of each key that this one described to it in the conversation, by headers as new
-/// as the given instance, it holds one as new, or it lost the key; unless a Description of another
+/// So in every history of two neighbors that are done with their exchange, if one is Full with the
+/// other one: of each key that this one described to it in the conversation, by headers as new as
+/// the given instance, it holds one as new, or it lost the key; unless a Description of another
 /// conversation was taken for one of this, or a number served twice (RFC 2328, sections 10.3 and
 /// 10.6).
 pub fn what_was_described_is_held()

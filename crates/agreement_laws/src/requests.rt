@@ -26,11 +26,11 @@ pub fn what_is_accepted_is_requested()
     ranks_follow_the_comparison();
 }
 
-/// What is requested stays so until an LSA of its key comes: where no copy is held, and the key
-/// isn't the router's own, the last header of a key in an accepted Description is requested after
-/// the event; and a request stays in each event whose packet brings no LSA of the key, unless
-/// another Description with a header of it is accepted, or the conversation is over (RFC 2328,
-/// sections 10.6, 10.9, 13 and 13.3). It asks that the router is in order, as it is in every run.
+/// What is requested stays so until an LSA of its key comes: if no copy is held, and the key isn't
+/// the router's own, the last header of a key in an accepted Description is requested after the
+/// event; and a request stays in each event whose packet brings no LSA of the key, unless another
+/// Description with a header of it is accepted, or the conversation is over (RFC 2328, sections
+/// 10.6, 10.9, 13 and 13.3). It asks that the router is in order, as it is in every run.
 pub fn requests_stay()
     ensures { RequestsStay }
 {

@@ -87,7 +87,7 @@ fn renewed(
 /// said at the moment `before` to what the database says at this moment. `None` if it has to be
 /// rebuilt: if a router or network was added or removed, or if many LSAs changed. It takes the time
 /// of two lookups for each link of the routers and networks whose LSAs changed, and of those that
-/// these named or name: at most as many as there are nodes, and 64.
+/// these named or name: at most as many as there are nodes, and 64 more.
 ///
 /// # Errors
 /// `AllocError` if an allocation is refused.

@@ -1,4 +1,4 @@
--- Where the root alone is reached, its own router-LSA tells all that the LSAs of types 1 to 4 tell.
+-- If the root alone is reached, its own router-LSA tells all that the LSAs of types 1 to 4 tell.
 use Rattle.std.proofs.Common.{◌≡◌, ℕ, inl, inr, cond, List, [], Option, None, Some, arith, refl}
 use Rattle.std.proofs.Common.{sym, ◌∙◌, ap, subst}
 use Rattle.std.specs.Prelude.{◌↔◌, bit_and}
@@ -72,7 +72,7 @@ module _ {R : Type 0} (Q : Key × LsaBody → R → Type 0) (key : Key) (says : 
   just_of_it None none = λ r p. none r (by_it r p)
   just_of_it (Some it) just = λ r. (λ p. (just r).0 (by_it r p), λ e. of_it r ((just r).1 e))
 
--- ---- where the root alone is reached
+-- ---- if the root alone is reached
 
 module _ (root : Root) (ways : Ways)
     (are_alone : (node : Node) → ways node ≡ way_in (alone root) node) where

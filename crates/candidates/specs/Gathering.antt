@@ -8,7 +8,7 @@ abbrev pub IsJust : {X : Type 0} → (X → Type 0) → Option X → Type 0
 IsJust {X} P None = (x : X) → P x → ⊥
 IsJust {X} P (Some it) = (x : X) → P x ↔ (x ≡ it)
 
--- the new list has exactly the elements of the old one and those of which P holds
+-- the new list has exactly the elements of the old one and the offers of which P holds
 abbrev pub Adds : List Offer → List Offer → (Offer → Type 0) → Type 0
 Adds old new P = (o : Offer) → Contains new o ↔ (Contains old o ⊎ P o)
 

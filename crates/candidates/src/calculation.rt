@@ -124,8 +124,8 @@ pub fn calculate<W: Ways>(
     Ok(Calculated { inner, routes })
 }
 
-// The results from the LSAs of types 1 to 4 at a moment. Where the root alone is reached, as while
-// the database is loaded, no LSA but its own is visited.
+// The results from the LSAs of types 1 to 4 at a moment. If the root alone is reached, as while the
+// database is loaded, no LSA but its own is visited.
 fn inner_at<W: Ways>(
     alloc: Global,
     db: &Lsdb,

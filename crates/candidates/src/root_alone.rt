@@ -1,4 +1,4 @@
-//! The results from the LSAs of types 1 to 4 where the root alone is reached, as before its first
+//! The results from the LSAs of types 1 to 4 if the root alone is reached, as before its first
 //! neighbor is Full: its own router-LSA tells all of them, so no other LSA is visited.
 ghost use Rattle.std.specs.Prelude.{◌≡◌, IfOk, OnOk, option_copied};
 ghost use Rattle.candidates.specs.Alone.{OfOne, list_of};
@@ -80,7 +80,7 @@ fn push_by<W: Ways>(
     }
 }
 
-/// The results from the LSAs of types 1 to 4 where the root alone is reached.
+/// The results from the LSAs of types 1 to 4 if the root alone is reached.
 ///
 /// # Errors
 /// `AllocError` if an allocation is refused.

@@ -42,7 +42,7 @@ pub ok_if : {A E : Type 0} {P : A → Type 0} {Q : Type 0} (r : Result A E) → 
 ok_if (Ok a) f p = f a p
 ok_if (Err e) f p = tt
 
--- no limit is exceeded where that isn't the refusal
+-- no limit is exceeded if that isn't the refusal
 pub stays_within : {X : Type 0} (r : Result X CoreError) (new : Router) → TellsLimit {X = X} new r
     → OnOk r (exceeds new ≡ false)
 stays_within (Ok x) new tells = tells

@@ -5,6 +5,6 @@ use Rattle.area_routes.specs.flooding.Owed.{owed_on}
 use Rattle.events.specs.received.Links.{neighbor_at}
 use Rattle.events.specs.Routers.{Router}
 
--- so much as the one at the interface with this number owes, if there is one
+-- what the one at the interface with this number owes; nothing if there is none
 abbrev pub owed_at : Router → InterfaceNumber → ℕ
 owed_at r number = owed_on (neighbor_at number r.area.links)

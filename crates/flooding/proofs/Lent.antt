@@ -1,5 +1,5 @@
 -- Links that are lent as a slice, and what the Vec has afterwards: none of them has changed its
--- settled state, so they are as many as before.
+-- settled state, so there are as many as before.
 use Rattle.std.proofs.Common.{◌≡◌, ℕ, List, ◌++◌, length, map, take, drop, sym, ap, ◌∙◌}
 use Rattle.std.proofs.lemmas.List.{length-map, take_at}
 use Rattle.adjacency.specs.Kept.{Kept}

@@ -79,7 +79,7 @@ tick_after before (Deed.Gives moment work ended) = tick_of before work ended
 tick_after before (Deed.Looks moment) = before
 tick_after before (Deed.Listens heard) = before
 
--- the moment at which the last Tick was tried last; this one where there was none
+-- the moment at which the last Tick was tried last; this one if there was none
 abbrev pub last_tick : (before : Option ℕ) → List Deed → Option ℕ
 last_tick before [] = before
 last_tick before (deed ∷ deeds) = last_tick (tick_after before deed) deeds

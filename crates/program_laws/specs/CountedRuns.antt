@@ -109,7 +109,7 @@ pub record CodeThatStaysInsideIsNeverLeft : Type 0 where
       → (hook : Hook) (input : Given) (n : ℕ) (labels : List Label) (word : ℕ)
       → Ends (setting_of counted hook input) n labels word
       → IsRunInside (setting_of code hook input) heads start answer turns labels word
-  -- so it is where `annotate` counts turns
+  -- so it is if `annotate` counts turns
   pub of_texts : (answer turns : ℕ) (text counted : List ℕ)
       → (counts : CountsLoops answer turns text counted)
       → (hook : Hook) (input : Given) (n : ℕ) (labels : List Label) (word : ℕ)

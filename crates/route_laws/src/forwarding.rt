@@ -21,8 +21,8 @@ pub fn each_hop_is_nearer()
     every_offer_has_a_candidate();
 }
 
-/// A packet for a network within the area visits no router twice, and at most as many further ones
-/// as the first one's cost.
+/// A packet for a network within the area visits no router twice, and the number of routers after
+/// the first one is at most the cost of the first one's route.
 pub fn no_packet_returns()
     ensures { NoPacketReturns }
 {
