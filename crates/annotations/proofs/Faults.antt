@@ -29,7 +29,7 @@ pub not_all : (code : List Slot) (register : ℕ) → 6 ≤ register → registe
     → IsUnnamed code register → NamesAll code → ⊥
 not_all code register least most unnamed all = all register least most unnamed
 
--- where the code couldn't be built
+-- if the code couldn't be built
 pub unbuilt : (answer turns : ℕ) (code : List Slot) (error : CountError) → (NamesAll code → ⊥)
     → turns < 1000000 → answer ≤ 2147483647 → (error ≡ errors.TooLong) ⊎ (error ≡ errors.Memory)
     → IsUncounted answer turns code error
@@ -39,7 +39,7 @@ unbuilt answer turns code error some few small is = elim is [
   | inr memory ↦ subst (λ (e : CountError). IsUncounted answer turns code e) (sym memory) tt
 ]
 
--- what the verifier said of the bytes, where it gave this error
+-- what the verifier said of the bytes, if it gave this error
 pub why : (given bytes : List ℕ) (said : Result Program VerifyError) (error same : VerifyError)
     → given ≡ bytes → said ≡ Err error → error ≡ same → IfErr said (Refuses given)
     → Refuses bytes same

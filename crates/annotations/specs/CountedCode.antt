@@ -1,5 +1,5 @@
 -- Code whose turns are counted: a register that the code doesn't name falls with each jump back to
--- one of some heads, and where it comes to 0 the program answers a fixed number.
+-- one of some heads, and when it comes to 0 the program answers a fixed number.
 use Rattle.std.specs.Prelude.{◌≡◌, ℕ, ◌+◌, ◌*◌, ◌<◌, ◌≤◌, pos, negsuc, ℤ, ◌-ℤ◌, ◌==◌, nat_le, ◌||◌}
 use Rattle.std.specs.Prelude.{Bool}
 use Rattle.std.specs.Prelude.{false, min}
@@ -157,7 +157,7 @@ pub record IsCounted (answer : ℕ) (turns : ℕ) (heads : List ℕ) (code count
 abbrev pub NamesAll : List Slot → Type 0
 NamesAll code = (register : ℕ) → 6 ≤ register → register ≤ 9 → IsUnnamed code register → ⊥
 
--- Why not, each reason only where none before it is one. (Whether the code would be too long, or a
+-- Why not, each reason only if none before it is one. (Whether the code would be too long, or a
 -- jump go too far, isn't said.)
 abbrev pub IsUncounted : (answer turns : ℕ) → List Slot → CountError → Type 0
 IsUncounted answer turns code errors.NoRegister = NamesAll code

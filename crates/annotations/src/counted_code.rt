@@ -15,7 +15,7 @@ use isa::{
 use segments::places::jump_of;
 use std::alloc::Global;
 
-/// So many turns no program may take.
+/// A program may take fewer turns than this number.
 const MOST_TURNS: u32 = 1_000_000;
 
 /// The greatest number that an instruction moves into a register as it is.

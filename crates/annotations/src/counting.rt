@@ -19,7 +19,7 @@ use ranking_functions::{Unranked, kinds_of};
 use std::alloc::{AllocError, Global};
 use verifier::BUDGET;
 
-/// So many turns are followed at most.
+/// The greatest number of turns that are followed.
 const MOST_FOLLOWED: u64 = 20_000;
 
 /// How often more loops are counted at most.
@@ -175,8 +175,8 @@ pub fn annotate_counted(
     annotate_loops(task, code, &mut heads, turns, unranked)
 }
 
-/// Has the loops at these heads counted by as many turns as they take at most. `None` if that isn't
-/// found, or if the verifier refuses the code all the same.
+/// Has the turns of the loops at these heads counted, up to the greatest number that they take.
+/// `None` if that number isn't found, or if the verifier refuses the code all the same.
 fn try_bounded(
     task: &Task<'_>,
     code: &Code,

@@ -80,8 +80,9 @@ fn annotate_object(
 }
 
 /// Finds statements and ranks for the code in the file: bare code, or an object with statements of
-/// its own, which may be partial. Of loops that have no rank the turns are counted: as many as the
-/// fuel has, or without fuel if it is found how many they take at most.
+/// its own, which may be partial. Of loops that have no rank the turns are counted: up to the
+/// number that the fuel has, or without one up to the greatest number that they take, if that is
+/// found.
 ///
 /// # Errors
 ///

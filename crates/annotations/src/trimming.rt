@@ -10,7 +10,7 @@ use object::{StatedKind, StatedNumber, Statement};
 use ranking_functions::kinds_of;
 use std::alloc::{AllocError, Global};
 
-/// So many statements are trimmed one by one at most.
+/// The greatest number of statements that are trimmed one by one.
 const MOST_TRIES: usize = 64;
 
 /// The numbers of the range, whatever their bits.

@@ -42,7 +42,7 @@ Matches (Distance n) word = distance_of word ≡ Some n
 Matches (Name name) word = (word ≡ name) × (is_name name ≡ true)
 Matches (Definition name) word = (word ≡ name ++ 58 ∷ []) × (is_name name ≡ true)
 
--- Each word matches the part at its place, and there are as many.
+-- Each word matches the part at its place, and there are as many words as parts.
 abbrev pub Fits : List Word → List Part → Type 0
 Fits [] [] = Unit {0}
 Fits [] (part ∷ parts) = ⊥

@@ -15,7 +15,7 @@ use Rattle.commands.specs.declared.fault.CommandError.TheVariants as faults
 use Rattle.commands.specs.declared.report.CommandOutput.{CommandOutput}
 use Rattle.commands.specs.Statuses.{fault_of_object, fault_of_refusal, fault_of_text}
 
--- The text spells an object, and so many slots are told.
+-- The text spells an object, and the number of its slots is told.
 pub record IsAssembled (text : List ℕ) (report : CommandOutput) : Type 0 where
   pub object : ObjectParts
   pub spells : TextSpells text object

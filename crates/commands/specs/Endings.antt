@@ -63,7 +63,7 @@ Prints report old new status =
     (status ≡ 3)
     ⊎ ((status ≡ status_of_refused report.is_refused) × Appends old new (string_bytes report.text))
 
--- what a writer has, where that is known
+-- what a writer has, if that is known
 abbrev pub Contents : Type 0
 Contents = Option (List ℕ)
 

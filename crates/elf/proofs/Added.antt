@@ -37,7 +37,7 @@ abbrev among_with : (table : List ℕ) (i section k : ℕ) (first : List LinkedS
 among_with table i section k first is_one = first ++ (functions_among table i section k
     ++ (if is_one then linked table i k ∷ [] else []))
 
--- that is added just if it is a function of the section
+-- that is added exactly if it is a function of the section
 among_next : (table : List ℕ) (i section k : ℕ) (first : List LinkedSymbol) (symbol : Symbol)
     (is_one : Bool) → symbol ≡ symbol_at table k → is_one ≡ is_function_of symbol section
     → among_with table i section k first is_one

@@ -27,7 +27,7 @@ no_hook_of_text : (section : List ℕ) → section ≡ codes ".text" → IsForNo
 no_hook_of_text section is hook (inl named) = never_text hook (sym is ∙ named)
 no_hook_of_text section is hook (inr other) = never_some hook other.1
 
--- that section is for none, where none was asked for
+-- that section is for none, if none was asked for
 pub unasked : (asked : Option Hook) (section : List ℕ) → section ≡ codes ".text"
     → IfNone asked (IsForNoHook asked section)
 unasked (Some asked) section is = tt

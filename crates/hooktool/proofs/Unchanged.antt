@@ -19,7 +19,7 @@ by_all read all functions is unchanged =
     subst (λ (these : List LinkedRelocation).
     All (λ (function : LinkedSymbol). is_changed these function ≡ false) functions) is unchanged
 
--- where there are none
+-- if there are none
 pub by_none : (all : List LinkedRelocation) (functions : List LinkedSymbol) → all ≡ []
     → All (λ (function : LinkedSymbol). is_changed all function ≡ false) functions
 by_none all functions none =
@@ -27,7 +27,7 @@ by_none all functions none =
     All (λ (function : LinkedSymbol). is_changed these function ≡ false) functions) (sym none)
     (λ k d less. refl)
 
--- there are none where none was read
+-- there are none if none was read
 pub none_read : (read : Vec LinkedRelocation) (all : List LinkedRelocation) (is_none : Bool)
     → read.items ≡ all → is_none ≡ (vec_len read == 0) → is_none ≡ true → all ≡ []
 none_read read all is_none are empty is =

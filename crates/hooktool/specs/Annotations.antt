@@ -30,7 +30,7 @@ abbrev pub accepted_text : Program → (found : Option ℕ) → List ℕ
 accepted_text program found = codes "accepted bound "
     ++ (decimal program.bound ++ (counted_words found ++ cells_note program))
 
--- An object was found of the file's code (with --fuel, or where that is told, of that code with its
+-- An object was found of the file's code (with --fuel, or if that is told, of that code with its
 -- turns counted) that the verifier accepts; its bytes were written, and its bound is told. Turns
 -- that --fuel asked for aren't told as found.
 pub record IsFound (are_written : (bytes : List ℕ) → Type 0) (hook : Hook) (fuel : FuelAsked)

@@ -34,7 +34,7 @@ pub record Wanted : Type 1 where
 abbrev pub object_path : (folder function : List ℕ) → List ℕ
 object_path folder function = folder ++ (codes "/" ++ (function ++ codes ".o"))
 
--- The object's bytes were written there, where objects are asked for.
+-- The object's bytes were written there, if objects are asked for.
 abbrev pub IsPlaced : Wanted → (function bytes : List ℕ) → Type 0
 IsPlaced wanted function bytes = IfSome wanted.folder
     (λ folder. wanted.written (object_path folder function) bytes)
@@ -70,9 +70,9 @@ IsHookOf asked section hook = (section ≡ hook_name hook)
 abbrev pub IsForNoHook : (asked : Option Hook) → (section : List ℕ) → Type 0
 IsForNoHook asked section = (hook : Hook) → IsHookOf asked section hook → ⊥
 
--- An object was found of the function's code (with --fuel, or where that is told, of that code with
--- its turns counted) that the verifier accepts; its bytes were written, where objects are asked
--- for, and the text tells its bound.
+-- An object was found of the function's code (with --fuel, or if that is told, of that code with
+-- its turns counted) that the verifier accepts; its bytes were written, if objects are asked for,
+-- and the text tells its bound.
 pub record IsBuiltFunction (file : List ℕ) (wanted : Wanted) (hook : Hook) (function : LinkedSymbol)
     (line : List ℕ) : Type 0 where
   pub named : HasSymbol file function.table function.index

@@ -7,7 +7,7 @@ use Rattle.verifier.specs.Programs.{Program}
 use Rattle.hooktool.specs.declared.report.CommandReport.{CommandReport}
 
 -- The verdict is the verifier's on the object file that the bytes are. The text ends with its
--- words, and the report is a refusal where it is one.
+-- words, and the report is a refusal if it is one.
 pub record IsExplained (bytes : List ℕ) (report : CommandReport) : Type 0 where
   pub verdict : Result Program VerifyError
   pub accepts : IfOk verdict (Accepts bytes)

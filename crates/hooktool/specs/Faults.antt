@@ -95,7 +95,7 @@ abbrev pub IsByVerifier : Shortfall → Type 0
 IsByVerifier (shortfalls.Refused rejected endless) = Unit {0}
 IsByVerifier other = ⊥
 
--- What is told where no object was found for a file, for this reason. A refusal by the verifier is
+-- What is told if no object was found for a file, for this reason. A refusal by the verifier is
 -- reported, unless memory is refused.
 abbrev pub IsFaultOfShortfall : Shortfall → HooktoolFault → Type 0
 IsFaultOfShortfall (shortfalls.Code error) fault = fault ≡ fault_of_refusal error
@@ -122,7 +122,7 @@ IsFolderFault known folder fault = (fault ≡ faults.Write folder)
 abbrev pub IsUnplaced : KnownFiles → Bor (List ℕ) → HooktoolFault → Type 0
 IsUnplaced known folder fault = (fault ≡ faults.Memory) ⊎ IsFolderFault known folder fault
 
--- The same, where objects are asked for.
+-- The same, if objects are asked for.
 abbrev pub IsUnwritable : KnownFiles → Purpose → HooktoolFault → Type 0
 IsUnwritable known (purposes.Object folder) fault = IsFolderFault known folder fault
 IsUnwritable known purposes.Explanation fault = ⊥

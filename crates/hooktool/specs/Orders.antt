@@ -29,8 +29,8 @@ wanted_of known order = record {
   written = known.written;
 }
 
--- An object was found of this code that the verifier accepts; its bytes were written, where
--- objects are asked for, and its bound is told.
+-- An object was found of this code that the verifier accepts; its bytes were written, if objects
+-- are asked for, and its bound is told.
 pub record IsFoundCode (wanted : Wanted) (hook : Hook) (function code : List ℕ)
     (report : CommandReport) : Type 0 where
   pub plain : is_file_name function ≡ true

@@ -13,7 +13,7 @@ use Rattle.hooktool.specs.declared.report.CommandReport.{CommandReport}
 use Rattle.hooktool.specs.declared.testing.Tested.{Tested}
 use Rattle.hooktool.specs.declared.testing.Tested.TheVariants as tests
 
--- The report is a refusal just if one of its points isn't ok. (Of which points there are, the
+-- The report is a refusal exactly if one of its points isn't ok. (Of which points there are, the
 -- contract says nothing.)
 pub record IsReport (report : CommandReport) : Type 0 where
   pub points : List Point

@@ -15,8 +15,8 @@ abbrev pub IsPacketOf : KnownFiles → PacketSource → List ℕ → Type 0
 IsPacketOf known (packets.File path) packet = known.holds path.now packet
 IsPacketOf known source packet = PacketIs source packet
 
--- The program of the object file ran on the question, and the report is a refusal where a run gave
--- no answer.
+-- The program of the object file ran on the question, and the report is a refusal if a run gave no
+-- answer.
 pub record IsTried (bytes packet : List ℕ) (question : Question) (report : CommandReport)
     : Type 0 where
   pub trial : ObjectTrial

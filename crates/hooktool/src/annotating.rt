@@ -32,14 +32,14 @@ pub(crate) struct Telling {
     pub is_whole: bool,
     /// What `--fuel` says.
     pub turns: Option<u32>,
-    /// How many slots the given code has, where that is known.
+    /// How many slots the given code has, if that is known.
     pub slots: Option<usize>,
 }
 
 /// The slots that count the turns of a loop: one at the entry, and four behind the code.
 const COUNTING: usize = 5;
 
-/// How great a rank may be at the entry of a program with so many slots.
+/// How great a rank may be at the entry of a program of this number of slots.
 fn most_rank(slots: usize) -> u64 {
     match slots {
         0 => 0,
@@ -47,12 +47,13 @@ fn most_rank(slots: usize) -> u64 {
     }
 }
 
-/// The greatest N of `--fuel` that code of so many slots may have: with one loop that is counted.
+/// The greatest N of `--fuel` that code of this number of slots may have: with one loop that is
+/// counted.
 fn most_fuel(slots: usize) -> u64 {
     most_rank(slots.saturating_add(COUNTING)).saturating_sub(1)
 }
 
-/// How great a rank may be at the entry of a program with so many slots.
+/// How great a rank may be at the entry of a program of this number of slots.
 fn push_budget(out: &mut Text, slots: usize) {
     let most = most_rank(slots);
     out.fill(
@@ -62,7 +63,7 @@ fn push_budget(out: &mut Text, slots: usize) {
     )
 }
 
-/// Which `--fuel` is too much for code of so many slots.
+/// Which `--fuel` is too much for code of this number of slots.
 fn push_fuel(out: &mut Text, slots: usize) {
     let counted = slots.saturating_add(COUNTING);
     let most = most_fuel(slots);
@@ -72,7 +73,7 @@ fn push_fuel(out: &mut Text, slots: usize) {
     )
 }
 
-/// What an author can do about a loop without a rank, in a program with so many slots.
+/// What an author can do about a loop without a rank, in a program of this number of slots.
 fn push_remedies(out: &mut Text, endless: &EndlessLoop, slots: usize) {
     out.push(
         "  either let a register fall with each turn (DOWN and EACH of examples/c/leafrunt.h \
@@ -97,7 +98,7 @@ fn is_fuel(endless: &EndlessLoop, turns: Option<u32>) -> bool {
     }
 }
 
-/// Which loop has no rank and why, and what an author can do. The program has so many slots.
+/// Which loop has no rank and why, and what an author can do. The program has this number of slots.
 fn push_endless(out: &mut Text, endless: &EndlessLoop, slots: usize, telling: Telling) {
     let (sentence, register, from) = match endless.why.trouble {
         Trouble::Rises { register } => (
@@ -135,8 +136,8 @@ fn push_endless(out: &mut Text, endless: &EndlessLoop, slots: usize, telling: Te
     }
 }
 
-/// What an explanation tells, and which loop has no rank. The program has so many slots. An error
-/// where the verifier was refused memory.
+/// What an explanation tells, and which loop has no rank. The program has this number of slots. An
+/// error if the verifier was refused memory.
 fn told_of(
     alloc: Global,
     explanation: &Explanation,
@@ -194,7 +195,7 @@ fn uncounted<'a>(error: CountError) -> HooktoolFault<'a>
     HooktoolFault::Uncounted { reason }
 }
 
-/// What is told where nothing was accepted.
+/// What is told if nothing was accepted.
 pub(crate) fn shortfall<'a>(
     alloc: Global,
     shortfall: Shortfall,
@@ -343,10 +344,10 @@ fn annotate_bytes<'a, R: WholeFiles + AllocGlobal>(
 }
 
 /// Finds statements for the code of the file at `code`, at the hook, and writes the object file
-/// `object`, if the verifier accepts it. Where it doesn't, `object` is as it was.
+/// `object`, if the verifier accepts it. If it doesn't, `object` is as it was.
 ///
-/// A fault where a file can't be read or written, the first one is no code and no object for the
-/// hook, or memory is refused.
+/// A fault if a file can't be read or written, if the first one is no code and no object for the
+/// hook, or if memory is refused.
 pub(crate) fn annotate<'a, R: WholeFiles + AllocGlobal>(
     rt: &R,
     hook: Hook,

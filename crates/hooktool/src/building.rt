@@ -275,7 +275,7 @@ fn explain_function<'a>(
     added(head, Ok(explained))
 }
 
-/// What is told of a function with so many bytes of code for which no object was found.
+/// What is told of a function for which no object was found. Its code has `size` bytes.
 fn shortfall_refusal<'a>(
     alloc: Global,
     order: &Order<'_>,
@@ -533,7 +533,7 @@ fn build_section<'a, R: WholeFiles + AllocGlobal>(
     build_for(rt, order, hook, file, index, &functions)
 }
 
-/// Tells whether a section has instructions.
+/// Whether a section has instructions.
 fn is_program_section(file: &ObjectFile<'_>, index: usize) -> bool
     requires { index < section_count file.now }
     ensures { result ≡ is_program_section file.now index }
@@ -604,7 +604,7 @@ fn no_elf<'a>(
     told(format!(in alloc; "{path}: {fault}\n{hint}"), true)
 }
 
-/// Tells whether a section has instructions.
+/// Whether one of the sections has instructions.
 fn has_program(file: &ObjectFile<'_>) -> bool
     ensures found { result ≡ true → HasProgram file.now }
     ensures none { result ≡ false → HasNoProgram file.now }

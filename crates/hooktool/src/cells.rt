@@ -49,7 +49,7 @@ fn has_cells_of_many(program: &Accepted) -> bool
     may_any_ask(program.hook()) && is_any_loading(program.slots())
 }
 
-/// What is told of the program's cells: nothing, unless it has such ones.
+/// What is told of the program's cells: nothing, unless it uses some where any worker may ask.
 pub(crate) fn cells_note(program: &Accepted) -> &'static str
     ensures { result.now ≡ cells_note program.now }
 {

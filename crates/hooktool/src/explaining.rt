@@ -18,7 +18,7 @@ use object_verdicts::VerifyError;
 use std::alloc::Global;
 use verifier::{Accepted, Rule};
 
-/// Why these bytes hold no program. Where they hold one, memory was refused.
+/// Why these bytes hold no program. If they hold one, memory was refused.
 pub(crate) fn fault_in<'a>(alloc: Global, bytes: &[u8]) -> HooktoolFault<'a>
     ensures { IsObjectFault bytes.now result }
 {
@@ -41,8 +41,8 @@ pub(crate) fn lacks_memory(verdict: &Result<Accepted, VerifyError>) -> bool {
     }
 }
 
-/// What is told of an explanation: its three texts, one behind the other. A fault where no verdict
-/// was reached for want of memory.
+/// What is told of an explanation: its three texts, one behind the other. A fault if no verdict was
+/// reached for want of memory.
 fn told_of<'a>(alloc: Global, explanation: &Explanation) -> Result<CommandReport, HooktoolFault<'a>>
     ensures text { IfOk result (λ report. string_bytes report.text
         ≡ string_bytes explanation.now.before ++ (string_bytes explanation.now.last
@@ -111,7 +111,7 @@ fn explain_bytes<'a, R: WholeFiles + AllocGlobal>(
 /// the one that it refuses, and its verdict. The same of each function of an ELF file that is in
 /// the section of a hook, with the statements that are found for it.
 ///
-/// A fault where the file can't be read, is neither, holds no code, or memory is refused.
+/// A fault if the file can't be read, is neither, or holds no code, or if memory is refused.
 pub(crate) fn explain<'a, R: WholeFiles + AllocGlobal>(
     rt: &R,
     path: &'a str,

@@ -10,7 +10,7 @@ use object_trials::WholeFiles;
 use std::alloc::Global;
 use whole_files::{ReadFault, WriteFault};
 
-/// The bytes of the file at `path`. `Fault::Read` where it can't be opened or read, is no regular
+/// The bytes of the file at `path`. `Fault::Read` if it can't be opened or read, is no regular
 /// file, or is too long.
 pub(crate) fn read<'a, R: WholeFiles>(rt: &R, path: &'a str) -> Result<Vec<u8>, HooktoolFault<'a>>
     ensures bytes { IfOk result (λ bytes. R.known.holds path.now bytes.items) }

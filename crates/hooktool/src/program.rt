@@ -55,7 +55,7 @@ fn end<O: Stream>(outcome: Result<CommandReport, HooktoolFault<'_>>, output: &mu
 }
 
 // Writes help, or a text about the words of the command line or of a test, and answers the status,
-// which is this one where that is done.
+// which is this one if that is done.
 fn tell_usage<D: Display + Drop, O: Stream>(text: D, stream: &mut O, status: u8) -> u8
     ensures { Fails (O.state stream.new) result ⊎ (result ≡ status) }
 {
@@ -89,8 +89,8 @@ fn tell_words<O: Stream, E: Stream>(error: &Error, output: &mut O, errors: &mut 
     }
 }
 
-/// Tells that the words can't be read, and answers the status: 4 where memory was refused, 2 where
-/// a word isn't UTF-8, and 3 where that can't be told.
+/// Tells that the words can't be read, and answers the status: 4 if memory was refused, 2 if a word
+/// isn't UTF-8, and 3 if that can't be told.
 pub fn end_without_words<O: Stream, E: Stream>(
     alloc: Global,
     error: &io::Error,

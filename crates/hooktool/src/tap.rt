@@ -31,7 +31,7 @@ fn push_last(out: &mut Text, last: Last) {
     }
 }
 
-/// What was found, as it is told where a point isn't ok.
+/// What was found, as it is told if a point isn't ok.
 fn push_found(out: &mut Text, found: Found) {
     match found {
         Found::Run(last) => push_last(out, last),

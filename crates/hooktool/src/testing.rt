@@ -48,7 +48,7 @@ fn stopped_text(alloc: Global, path: &str, stopped: Stopped) -> Result<String, A
     }
 }
 
-/// Tells whether one of the points isn't ok.
+/// Whether one of the points isn't ok.
 fn is_any_wrong(points: &[Point<'_>]) -> bool
     ensures { result ≡ list_any (λ point. not point.verdict.is_ok) points.now }
 {
@@ -121,7 +121,7 @@ fn test_text<'a, R: WholeFiles + AllocGlobal>(
 /// Plays the test in the file at `path`: the text of its points, or of the first line that can't be
 /// read or played.
 ///
-/// A fault where the file can't be read, isn't UTF-8, or memory is refused.
+/// A fault if the file can't be read or isn't UTF-8, or if memory is refused.
 pub(crate) fn test<'a, R: WholeFiles + AllocGlobal>(
     rt: &R,
     path: &'a str,

@@ -19,7 +19,7 @@ use object_trials::{ObjectTrial, RunEnding, WholeFiles, is_any_stuck, try_object
 use std::alloc::{AllocError, Global};
 use verifier::BUDGET;
 
-/// The program that was run, and as many instructions as it may take.
+/// The program that was run, and how many instructions it may take.
 #[derive(Drop)]
 struct Program {
     hook: Hook,
@@ -49,7 +49,7 @@ fn program_in(alloc: Global, object: &Object) -> Option<Program> {
     }
 }
 
-/// The program of the object file that these bytes are. None where they hold none, or memory is
+/// The program of the object file that these bytes are. None if they hold none, or if memory is
 /// refused.
 fn program_of(alloc: Global, bytes: &[u8]) -> Option<Program> {
     match object::read(alloc, bytes) {
@@ -78,7 +78,7 @@ fn push_ending(out: &mut Text, program: &Program, ending: &RunEnding) {
     }
 }
 
-/// The same of each run, with its number where there are several.
+/// The same of each run, with its number if there are several.
 fn push_endings(out: &mut Text, program: &Program, endings: &[RunEnding]) {
     for (index, ending) in endings.iter().enumerate() {
         if endings.len() > 1 {
@@ -137,7 +137,7 @@ fn told_of<'a>(
     }
 }
 
-/// The same, where the bytes hold a program.
+/// The same, if the bytes hold a program.
 fn trial_of<'a>(
     alloc: Global,
     bytes: &[u8],
@@ -177,7 +177,7 @@ fn try_bytes<'a, R: WholeFiles + AllocGlobal>(
 /// Runs the program of the object file at `path` on the question, and tells each run's end and what
 /// was left in counters and cells.
 ///
-/// A fault where a file can't be read, is no object file, holds no code, or memory is refused.
+/// A fault if a file can't be read, is no object file, or holds no code, or if memory is refused.
 pub(crate) fn try_question<'a, R: WholeFiles + AllocGlobal>(
     rt: &R,
     path: &'a str,

@@ -14,7 +14,7 @@ use Rattle.hooktool_line.specs.declared.settings.Setting.{Setting}
 use Rattle.words.specs.declared.route.ExternalType.TheVariants.{Type2}
 use Rattle.words.specs.declared.route.RouteKind.TheVariants.{Intra}
 
--- the number of an option: this one where it isn't given
+-- the number of an option: the usual one if it isn't given
 abbrev pub HasNumber : List Row → (name : Text) → (usual least most : ℕ) → ℕ → Type 0
 HasNumber rows name usual least most n =
     OrElse (first_of name rows) (n ≡ usual) (λ word. IsNumber least most word n)
@@ -42,12 +42,13 @@ pub record HasPlaces (rows : List Row) (places : Places) : Type 0 where
   pub kind : OrElse (first_of (codes "kind") rows) (places.kind ≡ Intra)
       (λ word. word ≡ kind_word places.kind)
 
--- the set of so many interfaces from the first on
+-- the set of `count` interfaces from the first on
 abbrev pub hops_from : (first count : ℕ) → ℕ
 hops_from first zero = 0
 hops_from first (suc n) = bit_or (hops_from first n) (2 ^ (first + n))
 
--- the question of both: the route leaves by so many interfaces from the named one on
+-- the question of both: the route leaves by the number of interfaces that is asked for, from the
+-- named one on
 abbrev pub asked_of : Places → Numbers → Asked
 asked_of places numbers = record {
   prefix = places.prefix;

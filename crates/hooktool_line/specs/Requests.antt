@@ -30,12 +30,12 @@ command_of (requests.Test file) = codes "test"
 abbrev pub HasWord : List Row → Text → Text → Type 0
 HasWord rows name word = first_of name rows ≡ Some word
 
--- the number under this name, where it is told
+-- the number under this name, if it is told
 abbrev pub HasTold : List Row → (name : Text) → (least most : ℕ) → Option ℕ → Type 0
 HasTold rows name least most n =
     OrElse (first_of name rows) (n ≡ None) (λ word. IsTold least most word n)
 
--- how many turns loops may take, and what is answered once they are used up, where that is told
+-- how many turns loops may take, and what is answered once they are used up, each if it is told
 abbrev pub HasFuel : List Row → FuelAsked → Type 0
 HasFuel rows fuel = HasTold rows (codes "fuel") 1 999999 fuel.turns
     × HasTold rows (codes "fuel-answer") 0 2147483647 fuel.answer
@@ -67,7 +67,7 @@ MadeBy name rows (Some request) = (command_of request ≡ name) × HasWordsOf ro
 MadeBy name rows None = (request : HooktoolRequest) → command_of request ≡ name
     → HasWordsOf rows request → ⊥
 
--- The same, where nothing may be made for want of memory too.
+-- The same; or nothing is made, for want of memory.
 abbrev pub IsMade : Text → List Row → Result HooktoolRequest NotRead → Type 0
 IsMade name rows (Ok request) = MadeBy name rows (Some request)
 IsMade name rows (Err (not_read.Meaningless why)) = MadeBy name rows None
@@ -91,8 +91,8 @@ MakesNone named = (request : HooktoolRequest) → Makes named request → ⊥
 abbrev pub Asks : List Text → HooktoolRequest → Type 0
 Asks words request = (fault_of line words ≡ []) × Makes (subcommand_of line words) request
 
--- What is wrong with words that the command line takes: that no command is named, or a value where
--- one is.
+-- What is wrong with words that the command line takes: no command is named, or one is and a value
+-- is wrong.
 abbrev pub IsWrongKind : Option (Text × List Row) → Error → Type 0
 IsWrongKind None error = kind_of error ≡ kinds.MissingSubcommand
 IsWrongKind (Some named) error = kind_of error ≡ kinds.InvalidValue

@@ -18,23 +18,23 @@ use Rattle.hooktool_line.specs.declared.values.NotRead.TheVariants as not_read
 use Rattle.hooktool_line.specs.declared.requests.PacketSource.TheVariants as packets
 use Rattle.hooktool_line.specs.declared.settings.Setting.{Setting}
 
--- What is read has this meaning; where nothing is, nothing has it.
+-- What is read has this meaning; if nothing is read, nothing has it.
 abbrev pub Reads : {A : Type 0} → (A → Type 0) → Option A → Type 0
 Reads {A} Means (Some x) = Means x
 Reads {A} Means None = (x : A) → Means x → ⊥
 
--- The same, where it is told why nothing is read.
+-- The same, and it is told why nothing is read.
 abbrev pub ReadsOrTells : {A : Type 0} → (A → Type 0) → Result A (Bor Text) → Type 0
 ReadsOrTells {A} Means (Ok x) = Means x
 ReadsOrTells {A} Means (Err why) = (x : A) → Means x → ⊥
 
--- The same, where nothing may be read for want of memory too.
+-- The same; or nothing is read, for want of memory.
 abbrev pub ReadsOrLacks : {A : Type 0} → (A → Type 0) → Result A NotRead → Type 0
 ReadsOrLacks {A} Means (Ok x) = Means x
 ReadsOrLacks {A} Means (Err (not_read.Meaningless why)) = (x : A) → Means x → ⊥
 ReadsOrLacks {A} Means (Err not_read.OutOfMemory) = Unit {0}
 
--- what a word means, or what is so where there is none
+-- what a word means, or what is so if there is none
 abbrev pub OrElse : Option Text → Type 0 → (Text → Type 0) → Type 0
 OrElse None Usual Means = Usual
 OrElse (Some word) Usual Means = Means word

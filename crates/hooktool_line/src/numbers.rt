@@ -9,8 +9,8 @@ ghost use Rattle.hooktool_line.specs.Words.{ReadsOrTells};
 use crate::values::number_of;
 use clap::ArgMatches;
 
-/// The numbers of a question: moments below 2^62, interfaces below 64, of which there are so many
-/// next hops from the given one on.
+/// The numbers of a question: moments below 2^62, interfaces below 64, and the number of next hops,
+/// which are the interfaces from the given one on.
 #[derive(Clone, Copy)]
 pub(crate) struct Numbers {
     pub metric: u32,

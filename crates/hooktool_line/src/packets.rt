@@ -19,7 +19,7 @@ fn without_packet(error: FromHexError) -> NotRead
     }
 }
 
-/// The packet that an option's word is: a file's, or bytes in hex; none where it isn't given.
+/// The packet that an option's word is: a file's, or bytes in hex; none if it isn't given.
 pub(crate) fn packet_in<'a>(
     alloc: Global,
     word: Option<&'a str>,

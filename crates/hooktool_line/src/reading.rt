@@ -27,8 +27,8 @@ pub fn unread(alloc: Global, error: &io::Error) -> Error
 
 /// Reads the words of a command line, of which the first is the program's name.
 ///
-/// `Ok` is just what the words ask for. `Err` has the text for the user: a mistake in the words,
-/// where they ask for nothing, or the help that they ask for; its kind is `OutOfMemory` where an
+/// `Ok` is exactly what the words ask for. `Err` has the text for the user: a mistake in the words,
+/// if they ask for nothing, or the help that they ask for; its kind is `OutOfMemory` if an
 /// allocation was refused.
 pub fn parse<'a>(alloc: Global, words: &'a [&'a str]) -> Result<HooktoolRequest<'a>, Error>
     ensures { MatchResult result (Asks (map (λ w. w.now) words.entry.now))

@@ -54,7 +54,7 @@ struct Lists {
 }
 
 /// How many turns loops without a rank may take, 1 to 999,999, and what is answered once they are
-/// used up, 0 to 2^31 - 1: where that is told.
+/// used up, 0 to 2^31 - 1; each if it is told.
 #[derive(Clone, Copy)]
 pub struct FuelAsked {
     pub turns: Option<u32>,
@@ -94,7 +94,7 @@ pub enum HooktoolRequest<'a> {
     },
 }
 
-/// The set of so many interfaces from the first one on.
+/// The set of `count` interfaces from the first one on.
 fn hops_from(first: u8, count: u8) -> Hops
     requires { first + count ≤ 64 }
     ensures { result ≡ hops_from first count }
@@ -241,7 +241,7 @@ fn annotate_request<'a>(matches: &ArgMatches<'a>) -> Result<HooktoolRequest<'a>,
     })
 }
 
-/// The hook of functions in no hook's section, where that is told. None where the word is no hook.
+/// The hook of functions in no hook's section, if that is told. None if the word is no hook.
 fn hook_of(matches: &ArgMatches<'_>) -> Option<Option<Hook>>
     ensures { Reads (HasHook (rows_of (found_of matches.now))) result }
 {
@@ -308,7 +308,7 @@ fn test_request<'a>(matches: &ArgMatches<'a>) -> Result<HooktoolRequest<'a>, Not
     }
 }
 
-// What a command makes of its words. It makes nothing where there is no such command.
+// What a command makes of its words. It makes nothing if there is no such command.
 fn made_by<'a>(
     alloc: Global,
     name: &str,
@@ -326,7 +326,7 @@ fn made_by<'a>(
     }
 }
 
-// The request that a command makes of its words. A wrong value where it makes none.
+// The request that a command makes of its words. A wrong value if it makes none.
 fn request_by<'a>(
     alloc: Global,
     name: &str,

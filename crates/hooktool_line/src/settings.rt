@@ -15,7 +15,8 @@ pub struct Setting {
     pub number: u64,
 }
 
-/// The setting that a word like 17=3 is: of one of so many places, and of a number up to the most.
+/// The setting that a word like 17=3 is: its index is below `places`, and its number at most
+/// `most`.
 fn setting_of(word: &str, places: u64, most: u64) -> Option<Setting>
     requires { (1 ≤ places) × (places ≤ 256) }
     ensures { Reads (IsSetting places most word.now) result }

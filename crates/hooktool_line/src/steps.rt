@@ -183,7 +183,7 @@ fn step_of<'a>(alloc: Global, words: &'a [&'a str]) -> Result<Step<'a>, LineErro
     }
 }
 
-/// Tells whether the words are none, or a comment: the first one begins with `#`.
+/// Whether the words are none, or a comment: the first one begins with `#`.
 fn is_blank(words: &[&str]) -> bool
     ensures { result ≡ is_blank (views words.now) }
 {

@@ -37,7 +37,7 @@ pub(crate) fn word_of<'a>(matches: &ArgMatches<'a>, name: &str) -> Option<&'a st
     matches.get_str(name)
 }
 
-/// The number under a name, or the usual one where there is none.
+/// The number under a name, or the usual one if there is none.
 pub(crate) fn number_of(
     matches: &ArgMatches<'_>,
     name: &str,
@@ -56,7 +56,7 @@ pub(crate) fn number_of(
     }
 }
 
-/// The number under a name, where it is told. None where the word is no such number.
+/// The number under a name, if it is told. None if the word is no such number.
 pub(crate) fn told_number(
     matches: &ArgMatches<'_>,
     name: &str,

@@ -13,8 +13,7 @@ use isa::{Operation, Width};
 /// The difference between a biased number and the signed one.
 const BIAS: u128 = 1 << 63;
 
-/// The sums. Two biases are added where one is needed; adding a third removes the other, modulo
-/// 2^64.
+/// The sums. Two biases are added instead of one; adding a third removes the other, modulo 2^64.
 fn signed_sum(left: Span, right: Span) -> Span
     ensures holds { (a b : ℕ) → IsIn left (biased_number a) → IsIn right (biased_number b)
         → IsIn result (biased_number (low Bits64 (a + b))) }

@@ -12,7 +12,7 @@ use isa::Hook;
 // LSInfinity (RFC 2328, appendix B), from which on a destination is withheld.
 const LS_INFINITY: u64 = 16_777_215;
 
-/// Tells whether the number that a program answered at its hook is what was expected.
+/// Whether the number that a program answered at its hook is what was expected.
 fn is_met(expected: ExpectedAnswer, hook: Hook, answer: u64) -> bool
     ensures { result ≡ is_met expected hook answer }
 {
@@ -41,7 +41,7 @@ fn is_met(expected: ExpectedAnswer, hook: Hook, answer: u64) -> bool
     }
 }
 
-/// Tells whether the last run answered what was expected.
+/// Whether the last run answered what was expected.
 pub(crate) fn meets(expected: ExpectedAnswer, last: Last) -> bool
     ensures { result ≡ meets expected last }
 {
@@ -67,7 +67,7 @@ fn last_of(hook: Hook, ending: &RunEnding) -> Last
     }
 }
 
-/// Tells whether one of these runs gave no answer.
+/// Whether one of these runs gave no answer.
 pub fn is_any_stuck(endings: &[RunEnding]) -> bool
     ensures { result ≡ list_any (λ ending. is_err ending.outcome) endings.now }
 {

@@ -232,7 +232,7 @@ fn compare_answer(last: Last, expected: ExpectedAnswer) -> PointResult
     }
 }
 
-/// Plays a step: whether it is ok, where it asks or expects something.
+/// Plays a step: whether it is ok, if it asks or expects something.
 fn play_step<R: WholeFiles + AllocGlobal>(
     rt: &R,
     stage: &mut Stage,

@@ -45,7 +45,7 @@ fn run_once(
     })
 }
 
-/// Runs the program of the object file so many times, each time on what the run before left.
+/// Runs the program of the object file this number of times, each time on what the run before left.
 pub(crate) fn run_in_a_row(
     alloc: Global,
     bytes: &[u8],

@@ -24,8 +24,8 @@ pub struct ObjectTrial {
 ///
 /// # Errors
 ///
-/// `Program` where the bytes are no object file or its code doesn't decode; want of memory is told
-/// by it or by `Memory`.
+/// `Program` if the bytes are no object file or its code doesn't decode; want of memory is told by
+/// it or by `Memory`.
 pub fn try_object(
     alloc: Global,
     bytes: &[u8],

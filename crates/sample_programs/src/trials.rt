@@ -1,4 +1,4 @@
-//! How a program is tried: verified, and run on many inputs. Where memory is refused, there is no
+//! How a program is tried: verified, and run on many inputs. If memory is refused, there is no
 //! answer, and the tests ask once more, since a run of them may refuse one allocation.
 ghost use Rattle.std.specs.Prelude.{◌≡◌, length, IfSome};
 ghost use Rattle.std.specs.List.{slice_range};

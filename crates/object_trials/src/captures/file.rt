@@ -24,7 +24,7 @@ pub struct Capture<'a> {
     pub records: Vec<Record<'a>>,
 }
 
-/// Tells whether a header is there, in this order of bytes.
+/// Whether a header is there, in this order of bytes.
 fn is_header(order: Order, bytes: &[u8]) -> bool
     ensures { IsTrue result ↔ IsHeader order bytes.now }
 {

@@ -55,7 +55,7 @@ fn header_length(link: LinkType) -> usize
     }
 }
 
-/// Tells whether the frame carries an IP packet.
+/// Whether the frame carries an IP packet.
 fn carries_ip(link: LinkType, frame: &[u8]) -> bool
     ensures { IsTrue result ↔ CarriesIp link frame.now }
 {
@@ -75,7 +75,7 @@ fn header_of(datagram: &[u8]) -> usize
     4 * usize::from(datagram[0] % 16)
 }
 
-/// Tells whether the bytes begin with a whole IP packet of OSPF's protocol.
+/// Whether the bytes begin with a whole IP packet of OSPF's protocol.
 fn is_ospf(datagram: &[u8]) -> bool
     ensures { IsTrue result ↔ IsOspf datagram.now }
 {
