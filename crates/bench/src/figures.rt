@@ -110,8 +110,8 @@ fn measure<R: Clock, W: Round>(
 /// Whether all figures were printed so far, or why one wasn't: then no other one is.
 pub type PrintResult = Result<(), NoFigure>;
 
-/// What a figure is for: a measurement has so many rounds, and each of them so many units of this
-/// name.
+/// What a figure is for: a measurement has a number of rounds, and each of them a number of units
+/// of this name.
 #[derive(Clone, Copy)]
 pub struct Unit {
     pub name: &'static str,

@@ -13,7 +13,7 @@ use std::thread::Threads;
 /// How many additions each seat makes in a round.
 const ADDS: u64 = 4_000_000;
 
-// What is printed of so many seats, and whether each has a counter of its own.
+// What is printed of this number of seats, and whether each has a counter of its own.
 type SeatsRow = (&'static str, usize, bool);
 
 const ROWS: [SeatsRow; 6] = [

@@ -96,7 +96,7 @@ answered_at a b moment e (Err (refusing.Core x)) current taken (fresh, answers) 
       answers,
 )
 
--- where the journal has room, only a book that may take no more is full
+-- if the journal has room, only a book that may take no more is full
 pub answered_anew : {X : Type 0} (b : BookView) (moment : Moment) (e : Event)
     (r : Result X BookError) → length b.journal < 65536 → Answers b moment e r
     → AnswersAnew b moment e r

@@ -22,6 +22,7 @@ with_event bytes e = min (bytes + held_by e + 256) 18446744073709551615
 abbrev pub bytes_of : List JournalEntry → ℕ
 bytes_of journal = fold (λ bytes (e : JournalEntry). with_event bytes e.event) 0 journal
 
--- the bytes that the journal of a router with so many LSAs may take: 256 KiB, and 256 for each
+-- the bytes that the journal of a router with this number of LSAs may take: 256 KiB, and 256 for
+-- each
 abbrev pub allowed_for : (lsas : ℕ) → ℕ
 allowed_for lsas = min (min (lsas * 256) 18446744073709551615 + 262144) 18446744073709551615

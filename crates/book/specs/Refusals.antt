@@ -23,7 +23,8 @@ abbrev pub IsRefusedEarly : BookView → Moment → Event → Type 0
 IsRefusedEarly b moment e =
     IsSpent b ⊎ (early_refusal b.current moment (occurrence_of e) ≡ None → ⊥)
 
--- A book that is refused for itself says so, and only such a one; else the router's answer stands.
+-- A book that is refused for itself says so, and no other book does; else the router's answer
+-- stands.
 abbrev pub AnswersWhere : {X : Type 0} → (IsRefused : BookView → Type 0)
     → BookView → Moment → Event → Result X BookError → Type 0
 AnswersWhere IsRefused b moment e (Ok x) =
@@ -36,7 +37,7 @@ AnswersWhere IsRefused b moment e (Err (refusing.Core x)) =
 abbrev pub Answers : {X : Type 0} → BookView → Moment → Event → Result X BookError → Type 0
 Answers b moment e r = AnswersWhere IsFull b moment e r
 
--- a book that starts anew where its journal is full
+-- a book that starts anew if its journal is full
 abbrev pub AnswersAnew : {X : Type 0} → BookView → Moment → Event → Result X BookError → Type 0
 AnswersAnew b moment e r = AnswersWhere IsSpent b moment e r
 

@@ -28,8 +28,8 @@ Replays start journal now =
     (steps : List Step) × (map step_occurrence steps ≡ map entry_occurrence journal)
     × Run start steps now
 
--- so many events, one after the other, lead from one router to the other, whatever they sent; none
--- is earlier than the one before it, and the first no earlier than the router's last moment
+-- this many events, one after the other, lead from one router to the other, whatever they sent;
+-- none is earlier than the one before it, and the first no earlier than the router's last moment
 abbrev pub Leads : (origin : Router) → (taken : ℕ) → (now : Router) → Type 0
 Leads origin taken now =
     (steps : List Step) × Run origin steps now × (length steps ≡ taken)
@@ -53,7 +53,7 @@ started_book core = record { start = core; journal = []; current = core; taken =
 abbrev pub marked_book : BookView → BookView
 marked_book b = record b { start = b.current; journal = [] }
 
--- the router at the start, where there is none the router as it is now
+-- the router at the start; if there is none, the router as it is now
 abbrev pub start_of : Option Router → (now : Router) → Router
 start_of None now = now
 start_of (Some start) now = start
@@ -82,8 +82,8 @@ forgotten_at [] place = []
 forgotten_at (e ∷ rest) zero = record e { event = without_answers e.event } ∷ rest
 forgotten_at (e ∷ rest) (suc place) = e ∷ forgotten_at rest place
 
--- the journal, which ends with this entry; where that is an Install, one before it may have lost
--- its answers
+-- the journal, which ends with this entry; if that is an Install, one before it may have lost its
+-- answers
 abbrev pub EndsWith : List JournalEntry → JournalEntry → List JournalEntry → Type 0
 EndsWith before e journal =
     (journal ≡ before ++ e ∷ [])
@@ -110,7 +110,7 @@ IsDue b =
 abbrev pub IsSameOrAnew : (old new : BookView) → Type 0
 IsSameOrAnew old new = ((IsDue old → ⊥) × (new ≡ old)) ⊎ (new ≡ marked_book old)
 
--- it is the book that was marked where its journal was too much, and only there; else the same one
+-- it is the book that was marked if its journal was too much, and only then; else the same one
 abbrev pub IsSameOrMarked : (old new : BookView) → Type 0
 IsSameOrMarked old new =
     ((IsDue old → ⊥) × (new ≡ old)) ⊎ (IsDue old × (new ≡ marked_book old))

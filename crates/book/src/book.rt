@@ -42,8 +42,8 @@ pub const TAKEN: u64 = 1 << 63;
 #[derive(Drop)]
 pub struct Book<L: Origin> {
     alloc: Global,
-    // The router at the start. None where that is the router as it is now: a copy of this one is
-    // made when an event comes.
+    // The router at the start. None if that is the router of now: a copy of this one is made when
+    // an event comes.
     start: Option<Core>,
     current: Core,
     journal: Vec<JournalEntry>,
@@ -107,7 +107,7 @@ impl<L: Origin> Book<L> {
     /// A book that starts with this router and has taken nothing, and the share that has every part
     /// of the ledger.
     ///
-    /// `AllocError` comes where an allocation was refused: the start is a copy.
+    /// `AllocError` if an allocation is refused: the start is a copy.
     pub fn new(alloc: Global, blank: Blank, core: Core) -> Result<(Book<L>, Share<L>), AllocError>
         requires name { blank.name ≡ L.name }
         requires parts { blank.parts ≡ L.parts }
@@ -140,10 +140,10 @@ impl<L: Origin> Book<L> {
     /// Takes an event at a moment: what it makes of the router, and what is to be sent. The event
     /// stands last in the journal then, and counts once in the book and once in the share.
     ///
-    /// Refused, in this order: `Journal` where the journal holds 65,536 events or 2^63 were taken
-    /// in all; what the router refuses, in its own order; `Core(Memory)` only where neither the
-    /// journal nor the clock nor the interface is refused, and an allocation was. A refusal leaves
-    /// the book and the share as they were.
+    /// Refused, in this order: `Journal` if the journal holds 65,536 events or 2^63 were taken in
+    /// all; what the router refuses, in its own order; `Core(Memory)` only if neither the journal
+    /// nor the clock nor the interface is refused, and an allocation was. A refusal leaves the book
+    /// and the share as they were.
     pub fn apply(
         &mut self,
         mine: &mut Share<L>,
@@ -186,7 +186,7 @@ impl<L: Origin> Book<L> {
         self.journal.len() == JOURNAL || self.taken == TAKEN
     }
 
-    // As `apply`, where neither the journal nor the clock nor the interface is refused. A refusal
+    // As `apply`, if neither the journal nor the clock nor the interface is refused. A refusal
     // gives the event back.
     #[tactic(auto, using(flood::proofs::Early::may_run_out, crate::proofs::Noted::not_full))]
     fn attempt(
@@ -266,7 +266,7 @@ impl<L: Origin> Book<L> {
         self.journal.len() == JOURNAL || self.noted > allowance(self.current.database().len())
     }
 
-    // Marks the book where that is due.
+    // Marks the book if that is due.
     fn make_room(&mut self)
         ensures book { IsSameOrMarked self.old self.new }
         ensures room { length self.new.journal < 65536 }
@@ -293,17 +293,17 @@ impl<L: Origin> Book<L> {
         }
     }
 
-    /// Takes an event as [`apply`](Book::apply) does, in a book that is marked first where its
-    /// journal is full, or where its events hold more bytes than 256 KiB and 256 for each LSA of
-    /// the router. So `Journal` is answered only where 2^63 events were taken. Where memory is
-    /// refused, the book is marked, which gives memory back, and the event is tried once more.
+    /// Takes an event as [`apply`](Book::apply) does, in a book that is marked first if its journal
+    /// is full, or if its events hold more bytes than 256 KiB and 256 for each LSA of the router.
+    /// So `Journal` is answered only if 2^63 events were taken. If memory is refused, the book is
+    /// marked, which gives memory back, and the event is tried once more.
     ///
     /// An Install that another one follows stands in the journal without its answers, since no
     /// router after the later one tells them: so the journal holds the answers of one alone.
     ///
-    /// A mark stands, whether the event is taken or not: so where it is refused for want of memory,
-    /// the book is marked. None is made where 2^63 events were taken, nor where the event is
-    /// refused for its moment or its interface.
+    /// A mark stands, whether the event is taken or not: so if it is refused for want of memory,
+    /// the book is marked. None is made if 2^63 events were taken, nor if the event is refused for
+    /// its moment or its interface.
     pub fn apply_anew(
         &mut self,
         mine: &mut Share<L>,
@@ -374,10 +374,10 @@ impl<L: Origin> Book<L> {
         self.total.audit(mine);
     }
 
-    /// Tells whether some candidate of the router as it is now stands in none of the answers of its
-    /// last installation, as [`Core::stale`] does. What clauses see of the book stays.
+    /// Whether some candidate of the router as it is now stands in none of the answers of its last
+    /// installation, as [`Core::stale`] does. What clauses see of the book stays.
     ///
-    /// `AllocError` comes where an allocation was refused.
+    /// `AllocError` if an allocation is refused.
     pub fn is_stale(&mut self) -> Result<bool, AllocError>
         ensures stale { IfOk result (λ b. IsTrue b ↔ IsStaleNow self.old.current) }
         ensures book { self.new ≡ self.old }

@@ -14,7 +14,7 @@ const LEAST: u64 = 256 << 10;
 /// takes for it.
 const FOR_AN_LSA: u64 = 256;
 
-/// The bytes that the journal of a router with so many LSAs may take.
+/// The bytes that the journal of a router with this number of LSAs may take.
 pub fn allowance(lsas: usize) -> u64
     ensures { result ≡ allowed_for lsas }
 {

@@ -138,7 +138,7 @@ over_mute gives fails unwritable s interfaces before old after new (inl replied)
 over_mute gives fails unwritable s interfaces before old after new (inr unprinted) =
     (old, new, unprinted.1)
 
--- where it is mute, a write has failed
+-- if it is mute, a write has failed
 pub talked_mute : {Input Output : Type 0} (gives : Gives Input) (fails : Fails Input)
     (takes : Takes Output) (unwritable : Fails Output) (s : Sources) (interfaces : ℕ)
     (start : Place Input) (old : Output) (parting : Parting) (now : Place Input) (new : Output)

@@ -16,7 +16,7 @@ senses_at gives hears shows origin number =
     number
 
 -- It lived some rounds from this flag and this standing on, until it found the flag set. Its port
--- knows such operations then, and has given the router so many events.
+-- knows these operations then, and has given the router this number of events.
 abbrev pub HasServed : {Link Clock Flag : Type 0} → Senses Link Clock → Reads Flag
     → (begun : Flag) → (start : Standing Link Clock) → (known : List LoaderOperation) → (events : ℕ)
     → Type 0

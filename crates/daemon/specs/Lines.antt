@@ -17,7 +17,7 @@ Gives Input = (before : Input) → (byte : Option ℕ) → (after : Input) → T
 abbrev pub Fails : (Input : Type 0) → Type 1
 Fails Input = (before after : Input) → Type 0
 
--- of the bytes that are left, where they are known, this is the first, or there is none
+-- of the bytes that are left, if they are known, this is the first, or there is none
 abbrev pub IsNext : (before : Option (List ℕ)) → (byte : Option ℕ) → (after : Option (List ℕ))
     → Type 0
 IsNext before None after = IsAtEnd before
@@ -32,8 +32,8 @@ GivesEach {Input = Input} gives before (byte ∷ bytes) after =
 
 -- ---- lines
 
--- A line: bytes of which none is a line feed (10), up to a line feed; or up to the end, where there
--- are some.
+-- A line: bytes of which none is a line feed (10), up to a line feed; or up to the end, if there
+-- are any.
 pub record GivesLine {Input : Type 0} (gives : Gives Input) (before : Input) (line : List ℕ)
     (after : Input) : Type 0 where
   pub between : Input
@@ -41,7 +41,7 @@ pub record GivesLine {Input : Type 0} (gives : Gives Input) (before : Input) (li
   pub unbroken : All (λ byte. byte ≢ 10) line
   pub ended : gives between (Some 10) after ⊎ (gives between None after × (0 < length line))
 
--- its text: the line; or nothing, where it has more than 4,096 bytes or is no UTF-8
+-- its text: the line; or nothing, if it has more than 4,096 bytes or is no UTF-8
 abbrev pub IsText : (line text : List ℕ) → Type 0
 IsText line text =
     ((text ≡ line) × (length line ≤ 4096)) ⊎ ((text ≡ []) × (IsUtf8 line → 4096 < length line))

@@ -46,8 +46,8 @@ IsPortOf interfaces port = SomeIndex interfaces (λ k.
     slice_index_or (map (λ configured. configured.port) interfaces) k port ≡ port)
 
 -- Why no router that this text says runs: the first line that is wrong or missing, or that of the
--- router, where it isn't within the profile; a port of one of its interfaces; no places for those
--- who ask the programs; output that couldn't be written.
+-- router, if it isn't within the profile; a port of one of its interfaces; no places for those who
+-- ask the programs; output that couldn't be written.
 abbrev pub IsWhy : (unwritten : Type 0) → (text : List ℕ) → RouteError → Type 0
 IsWhy unwritten text (Configuration line) =
     Refuses text line ⊎ ((line ≡ 1) × ((configured : Configured) × Says text configured))

@@ -1,4 +1,4 @@
--- The status that the program ends with: where no router runs, and after one ran.
+-- The status that the program ends with: if no router runs, and after one ran.
 use Rattle.std.specs.Prelude.{◌≡◌, ◌⊎◌, ℕ, Bool, List, ◌||◌, if◌then◌else◌, length, map}
 use Rattle.std.specs.List.{list_any}
 use Rattle.worker.specs.events.Events.{initial}
@@ -29,15 +29,15 @@ status_of Memory = 4
 abbrev pub any_failed : List Worked → Bool
 any_failed workers = list_any (λ (worked : Worked). has_failed worked.end) workers
 
--- 3 where the link of a worker or of the console failed, or the input couldn't be read, else 0
+-- 3 if the link of a worker or of the console failed, or the input couldn't be read, else 0
 abbrev pub status_of_ran : Ran → ℕ
 status_of_ran ran =
     if any_failed ran.workers.items || has_failed ran.console || is_deaf ran.parted then 3 else 0
 
 -- ---- which router ran
 
--- A router that began as this one ran, with so many interfaces: each had a worker that lived until
--- it was told to end, or its link failed. So says that there is a `Worked` of it, which only
+-- A router that began as this one ran, with this number of interfaces: each had a worker that lived
+-- until it was told to end, or its link failed. So says that there is a `Worked` of it, which only
 -- `labor::work` makes.
 pub record HasRan (origin : Router) (interfaces : ℕ) (ran : Ran) : Type 0 where
   pub began : ran.origin.value ≡ origin
@@ -49,7 +49,7 @@ IsConfigOf configured config =
     (config.router ≡ configured.router)
     × (config.interfaces ≡ map (λ configured. configured.interface) configured.interfaces)
 
--- one of such a configuration ran, over so many sockets
+-- one of this configuration ran, over this number of sockets
 abbrev pub HasRanOver : (sockets : ℕ) → Configured → Ran → Type 0
 HasRanOver sockets configured ran =
     (config : Config) × IsConfigOf configured config × HasRan (initial config) sockets ran
@@ -60,7 +60,7 @@ HasRanFor text ran =
     (configured : Configured) × Says text configured
     × HasRanOver (length configured.interfaces) configured ran
 
--- the program ends as such a router ran; or, where none did, as the reason says, or as output that
+-- the program ends as such a router ran; or, if none did, as the reason says, or as output that
 -- couldn't be written when that was told
 abbrev pub EndsSo : (unwritten : Type 0) → (text : List ℕ) → (status : ℕ) → Type 0
 EndsSo unwritten text status =

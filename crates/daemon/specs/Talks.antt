@@ -56,13 +56,13 @@ IsObeyedFrom s interfaces before line answer after =
 abbrev pub HasRead : {Input : Type 0} → (before after : Place Input) → Type 0
 HasRead before after = after ≡ record before { input = after.input }
 
--- the console is done where a line has no answer
+-- the console is done if a line has no answer
 abbrev pub reply_of : Option Told → Result Told Parting
 reply_of None = Err Done
 reply_of (Some answer) = Ok answer
 
 -- What was given is answered so: a line as the desk does, or that there was no memory for it; at
--- the end the console is done, and where the input can't be read it is deaf.
+-- the end the console is done, and if the input can't be read, it is deaf.
 abbrev pub IsReply : {Input : Type 0} → Sources → (interfaces : ℕ) → Given
     → (before : Place Input) → Result Told Parting → (after : Place Input) → Type 0
 IsReply s interfaces (given.Line line) before reply after =

@@ -28,9 +28,9 @@ use worker::{Book, Closed, Core, Hub, Port, Setup, Signal, Site, close_hub, open
 /// There is a link for each port but the operator's: port n's receives at interface n. The book
 /// took just as many events as all shares count; the shared words come back with all their seats,
 /// as [`Shared::close`](maps::Shared::close) asks for them. Beside that stands how each link ended,
-/// and the conversation: it is mute only where the output couldn't be written.
+/// and the conversation: it is mute only if the output couldn't be written.
 ///
-/// `AllocError` comes where an allocation was refused, or where a thread couldn't be started.
+/// `AllocError` if an allocation is refused, or if a thread couldn't be started.
 pub fn side_by_side<
     L: Site + Send + Sync,
     R: Threads + Wait + Clock + Log + Sync,
@@ -150,8 +150,8 @@ fn crew<
     Ok((back, ends, parted))
 }
 
-// A thread for each port, each with the link that receives at the interface of its number. Where
-// one can't be started the others are told to end.
+// A thread for each port, each with the link that receives at the interface of its number. If one
+// can't be started, the others are told to end.
 fn started<'s, E, L: Site + Send + Sync, R: Threads + Wait + Clock + Log + Sync>(
     scope: &Scope<'s, E>,
     hub: &'s Hub<L, Book<L>>,

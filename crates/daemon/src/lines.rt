@@ -40,7 +40,7 @@ impl<I: BufRead> ReadsBytes for I {
     }
 }
 
-// The first of so many bytes.
+// The first of this number of bytes.
 fn first(bytes: &[u8; 1], count: usize) -> Option<u8>
     ensures { MatchOption result (count ≡ 0)
         (λ byte. (0 < count) × (byte ≡ slice_index bytes.now 0)) }
@@ -48,7 +48,7 @@ fn first(bytes: &[u8; 1], count: usize) -> Option<u8>
     if count == 0 { None } else { Some(bytes[0]) }
 }
 
-// The next byte, which is read again where a signal interrupts that.
+// The next byte, which is read again if a signal interrupts that.
 #[tactic(auto, using(crate::proofs::Reading::keeps_self, crate::proofs::Reading::keeps_still, crate::proofs::Reading::next_read))]
 fn read_byte<I: BufRead>(input: &mut I) -> Result<Option<u8>, Unreadable>
     ensures { IfOk result (λ byte.
@@ -70,7 +70,7 @@ fn read_byte<I: BufRead>(input: &mut I) -> Result<Option<u8>, Unreadable>
 /// What the input gave.
 #[derive(Drop)]
 pub enum Given {
-    /// A line without its line feed. It is empty where the line can be no command, since it isn't
+    /// A line without its line feed. It is empty if the line can be no command, since it isn't
     /// UTF-8 or has more than 4,096 bytes.
     Line(String),
     /// There was no memory for the line, which is passed over.
@@ -81,7 +81,8 @@ pub enum Given {
     Failed,
 }
 
-// Keeps one more byte of a line, unless more than 4,096 are kept. Tells whether there was memory.
+// Keeps one more byte of a line, unless more than 4,096 are kept. The answer is whether there was
+// memory.
 #[tactic(auto, using(crate::proofs::Reading::kept_all, crate::proofs::Reading::kept_enough))]
 fn keep(bytes: &mut Vec<u8>, byte: u8) -> bool
     ensures { IsTrue result → (line : List ℕ) → IsKeptOf bytes.old.items line
@@ -93,7 +94,7 @@ fn keep(bytes: &mut Vec<u8>, byte: u8) -> bool
     bytes.push(byte).is_ok()
 }
 
-// The line of which these bytes are kept, where there was memory for each of them.
+// The line of which these bytes are kept, if there was memory for each of them.
 #[tactic(auto, using(crate::proofs::Reading::text_same, crate::proofs::Reading::text_long, crate::proofs::Reading::text_unread))]
 fn whole(alloc: Global, bytes: Vec<u8>, is_lost: bool) -> Given
     ensures { IsWhole bytes.items is_lost result }
@@ -110,7 +111,7 @@ fn whole(alloc: Global, bytes: Vec<u8>, is_lost: bool) -> Given
     }
 }
 
-// The same where the input ends after them: then there is no line where there are none.
+// The same if the input ends after them: then there is no line if there are none.
 fn last(alloc: Global, bytes: Vec<u8>, is_lost: bool) -> Given
     ensures { IsLast bytes.items is_lost result }
 {

@@ -29,8 +29,8 @@ fn is_any_failed(workers: &[Worked]) -> bool
 }
 
 impl Ran {
-    /// The status of the program: 3 where the link of a worker or of the console failed, or the
-    /// input couldn't be read, else 0.
+    /// The status of the program: 3 if the link of a worker or of the console failed, or the input
+    /// couldn't be read, else 0.
     pub fn status(&self) -> u8
         ensures { result ≡ status_of_ran self.now }
     {

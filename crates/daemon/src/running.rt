@@ -233,9 +233,9 @@ fn run_all<
 ///
 /// # Errors
 ///
-/// `Hooks` where the programs have no places, also for more than 63 sockets; `Configuration` with
-/// line 1 where the router isn't within the profile; `Output` where the output can't be written,
-/// `Memory` where memory was refused or a thread couldn't be started.
+/// `Hooks` if the programs have no places, also for more than 63 sockets; `Configuration` with line
+/// 1 if the router isn't within the profile; `Output` if the output can't be written, `Memory` if
+/// memory was refused or a thread couldn't be started.
 #[tactic(auto, using(crate::proofs::Fresh::all_ask, crate::proofs::AsMany::ran_from, crate::proofs::Ended::unprinted_why))]
 pub fn operate<
     'x,
@@ -318,10 +318,9 @@ fn run_over<
 ///
 /// # Errors
 ///
-/// `Configuration` where the text says none, `Bind` where a port can't be had, `Socket` where the
-/// sockets can't be waited at, `Hooks` where the programs have no places, tried in this order;
-/// `Output` where the output can't be written, `Memory` where memory was refused or a thread
-/// couldn't be started.
+/// `Configuration` if the text says none, `Bind` if a port can't be had, `Socket` if the sockets
+/// can't be waited at, `Hooks` if the programs have no places, tried in this order; `Output` if the
+/// output can't be written, `Memory` if memory was refused or a thread couldn't be started.
 #[tactic(auto, using(crate::proofs::Ended::text_why, crate::proofs::Ended::socket_why, crate::proofs::Ended::later_why))]
 pub fn run_router<
     R: Net + Threads + Wait + Clock + Log + Files + AllocGlobal + Sync + Drop,
@@ -338,7 +337,7 @@ pub fn run_router<
     Ok(ran)
 }
 
-// The status after a router ran. Where none did, a line on `output` says why.
+// The status after a router ran. If none did, a line on `output` says why.
 #[tactic(auto, using(crate::proofs::Ended::failed_once))]
 fn told<O: WritesTexts>(outcome: Result<Ran, RouteError>, output: &mut O) -> u8
     ensures ran { IfOk outcome (λ ran. result ≡ status_of_ran ran) }
@@ -355,9 +354,9 @@ fn told<O: WritesTexts>(outcome: Result<Ran, RouteError>, output: &mut O) -> u8
     }
 }
 
-/// Runs a router as [`run_router`] does. Where it doesn't run, a line on `output` says why. The
-/// answer is the status: 0 ended by the operator, 1 refused, 3 a socket, a worker or the output
-/// failed, 4 memory was refused or a thread couldn't be started.
+/// Runs a router as [`run_router`] does. If it doesn't run, a line on `output` says why. The answer
+/// is the status: 0 ended by the operator, 1 refused, 3 a socket, a worker or the output failed, 4
+/// memory was refused or a thread couldn't be started.
 pub fn route<
     R: Net + Threads + Wait + Clock + Log + Files + AllocGlobal + Sync + Drop,
     I: BufRead,

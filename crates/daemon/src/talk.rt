@@ -86,7 +86,7 @@ fn tick<L: Site, B: Taker<L>, R: Wait, K: Transport + Drop, C: Seconds + Drop>(
     }
 }
 
-// The console is done where a line has no answer.
+// The console is done if a line has no answer.
 fn reply_of(answer: Option<Told>) -> Result<Told, Parting>
     ensures { result ≡ reply_of answer }
 {

@@ -31,7 +31,7 @@ pub counted_off : {A : Type 0} (f : A → ℕ) (last : ℕ) (xs : List A) (x : A
 counted_off f last xs x h =
     counted_before last (map f xs) (f x) (subst (CountDownTo last) (map-append f xs (x ∷ [])) h)
 
--- as many descending numbers with the same last one are the same
+-- lists of descending numbers of the same length and with the same last one are the same
 pub counted_same : (last : ℕ) (ns ms : List ℕ) → length ns ≡ length ms → CountDownTo last ns
     → CountDownTo last ms → ns ≡ ms
 counted_same last [] [] e h k = refl

@@ -21,7 +21,7 @@ pub made : {E : Type 0} (IsText : List ℕ → Type 0) (lines : Result (String G
 made IsText (Ok text) answer is told = subst (AreLines IsText) (sym told) is
 made IsText (Err refused) answer is told = subst (AreLines IsText) (sym told) tt
 
--- the counters that were read, or as many of them as were when memory was refused
+-- the counters that were read, or those of them that had been read when memory was refused
 pub read_out : {E : Type 0} (c : Change) (lines : Result (String Global) E) (answer : Told)
     → IfOk lines (λ text. IsCountersText c.seat c.seated (string_bytes text))
     → OnErr lines (HasReadSome c.seat c.seated)

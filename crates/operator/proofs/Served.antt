@@ -45,14 +45,14 @@ module _ {Link Clock : Type 0} (faults : Link → ℕ) (senses : Senses Link Clo
       → IsUnlessFault faults (IsTurnServed senses (Some w)) before after
   as_known w before after is = (is.0, λ fine. (before.known, prefix_self before.known, is.1 fine))
 
-  -- where there is no turn
+  -- if there is no turn
   pub unserved_still : (before after : Standing Link Clock) → after ≡ before
       → IsUnlessFault faults (IsTurnServed senses None) before after
   unserved_still before after same =
       subst (λ a. IsUnlessFault faults (IsTurnServed senses None) before a) (sym same)
       (omega arith, λ fine. refl)
 
-  -- nor where lines were made of an answer, or there was no memory for them
+  -- nor if lines were made of an answer, or there was no memory for them
   pub lines_served : {E : Type 0} (lines : Result (String Global) E) (answer : Told)
       (now : Standing Link Clock)
       → MatchResult lines (λ text. answer ≡ told.Lines text) (λ _. answer ≡ told.Memory)

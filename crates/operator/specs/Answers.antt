@@ -30,7 +30,7 @@ use Rattle.operator.specs.Shown.{HasReadSome, IsCountersText, ShowsNeighbors, Sh
 
 -- ---- what answers rest on
 
--- what is said of neighbors at so many interfaces
+-- what is said of neighbors at this number of interfaces
 abbrev pub Lists : Type 1
 Lists = (interfaces : ℕ) → List (Option (RouterNumber × NeighborState)) → Type 0
 
@@ -41,8 +41,8 @@ IsAnyFile path bytes = Unit {0}
 abbrev pub IsAnyPath : Unreadable
 IsAnyPath path = Unit {0}
 
--- what is said of the destinations that a router announces, or doesn't, after so many events of the
--- port that asks
+-- what is said of the destinations that a router announces, or doesn't, after this number of events
+-- of the port that asks
 abbrev pub Wanted : Type 1
 Wanted = (events : ℕ) → Network → Bool → Type 0
 
@@ -116,7 +116,7 @@ IsServed {Clock = Clock} senses w before after =
     × Serves senses moment w (record before { clock = shown }) ended after
 
 -- the event of this work was refused for this, or its questions were, at some moment, to a port
--- that knew and knows these operations and whose events until then are so many
+-- that knew and knows these operations, with this number of events until then
 abbrev pub IsRefusedOnce : Offers → Refuses → (known now : List LoaderOperation) → (counted : ℕ)
     → Work → TurnError → Type 0
 IsRefusedOnce offers refuses known now counted w error =
@@ -130,7 +130,7 @@ IsRefusal offers refuses known now w counted counts number =
     × (number ≡ turn_error_number error) × (counts ≡ counted)
 
 -- a refresh of the table was tried, by a port that knew and knows these operations: it is due still
--- where it was refused, and nothing counts then
+-- if it was refused, and nothing counts then
 abbrev pub IsRefreshed : Offers → Took → Refuses → (known now : List LoaderOperation) → (due : Bool)
     → (counted counts : ℕ) → Type 0
 IsRefreshed offers took refuses known now false counted counts =
@@ -139,7 +139,7 @@ IsRefreshed offers took refuses known now true counted counts =
     (error : TurnError) × IsRefusedOnce offers refuses known now counted work.Refresh error
     × (counts ≡ counted)
 
--- where a refresh of the table is due, it was tried; else nothing was done
+-- if a refresh of the table is due, it was tried; else nothing was done
 abbrev pub IsMadeUp : Offers → Took → Refuses → (due still : Bool)
     → (knew known : List LoaderOperation) → (before counted : ℕ) → (seat between : SeatView)
     → Type 0
@@ -150,7 +150,7 @@ IsMadeUp offers took refuses true still knew known before counted seat between =
 
 -- ---- what a line leaves as it is
 
--- the loader did nothing, and a refresh is due just if one was
+-- the loader did nothing, and a refresh is due exactly if one was
 abbrev pub LeavesPrograms : Change → Type 0
 LeavesPrograms c = (c.now ≡ c.before) × (c.due ≡ c.still)
 
@@ -254,8 +254,9 @@ IsAnswerToCounters c (told.Lines lines) = IsCountersText c.seat c.seated (string
 IsAnswerToCounters c told.Memory = HasReadSome c.seat c.seated
 IsAnswerToCounters c other = ⊥
 
--- What each command is answered at a router of so many interfaces. What is shown changes nothing,
--- but for the seat that reads the counters, and no announcement or withdrawal changes the programs.
+-- What each command is answered at a router of this number of interfaces. What is shown changes
+-- nothing, but for the seat that reads the counters, and no announcement or withdrawal changes the
+-- programs.
 abbrev pub IsAnswerTo : Sources → (interfaces : ℕ) → Change → Command → Told → Type 0
 IsAnswerTo s interfaces c (commands.Attach path) answer =
     IsAnswerToAttach s c path.now answer
@@ -276,7 +277,7 @@ IsAnswerTo s interfaces c commands.Counters answer =
     IsUnchanged c × IsAnswerToCounters c answer
 IsAnswerTo s interfaces c commands.Quit answer = ⊥
 
--- a command that is answered; none is where the console ends, and then nothing changed
+-- a command that is answered; there is no answer if the console ends, and then nothing changed
 abbrev pub IsCarriedOut : Sources → (interfaces : ℕ) → Change → Command → Option Told → Type 0
 IsCarriedOut s interfaces c command None = (command ≡ commands.Quit) × IsUntouched c
 IsCarriedOut s interfaces c command (Some answer) = IsAnswerTo s interfaces c command answer

@@ -31,7 +31,7 @@ turn_of commands.Neighbors answer = None
 turn_of commands.Counters answer = None
 turn_of commands.Quit answer = None
 
--- before a line, of a refresh, where that is due
+-- before a line, of a refresh, if that is due
 abbrev pub turn_due : Bool → Option Work
 turn_due true = Some work.Refresh
 turn_due false = None
@@ -46,7 +46,7 @@ IsServedThen senses w before after =
     (knew : List LoaderOperation) × IsPrefix before.known knew
     × IsServed senses w (record before { known = knew }) after
 
--- So was the turn that there is. Where there is none, the clock wasn't looked at, nothing was sent,
+-- So was the turn that there is. If there is none, the clock wasn't looked at, nothing was sent,
 -- the port learnt nothing, and the router got no event.
 abbrev pub IsTurnServed : {Link Clock : Type 0} → Senses Link Clock → Option Work
     → (before after : Standing Link Clock) → Type 0
@@ -80,7 +80,7 @@ AreServed {Link = Link} {Clock = Clock} senses due line answer before after =
 
 -- ---- by a link that counts its faults
 
--- A link never counts fewer faults than before. Where it counts no more, this is so.
+-- A link never counts fewer faults than before. If it counts no more, this is so.
 abbrev pub IsUnlessFault : {Link Clock : Type 0} → (faults : Link → ℕ)
     → (Is : (before after : Standing Link Clock) → Type 0) → (before after : Standing Link Clock)
     → Type 0

@@ -122,7 +122,7 @@ fn withdraw<L: Site, B: Taker<L>, R: Wait, K: Transport + Drop, C: Seconds + Dro
 }
 
 impl<L: Site, Q: Wait + Drop, K: Transport + Drop, C: Seconds + Drop> Desk<L, Q, K, C> {
-    // The table is made anew. Where that is refused, it is tried again before the next line.
+    // The table is made anew. If that is refused, it is tried again before the next line.
     #[tactic(auto, using(crate::proofs::Done::refreshed))]
     fn refresh<B: Taker<L>, R: Wait>(&mut self, rt: &R, hub: &Hub<L, B>, port: &mut Port<L>)
         ensures done { IsRefreshed B.offers B.took B.refuses
@@ -258,7 +258,7 @@ impl<L: Site, Q: Wait + Drop, K: Transport + Drop, C: Seconds + Drop> Desk<L, Q,
         Told::Detached(hook)
     }
 
-    // Carries out a command. None where it ends the console.
+    // Carries out a command. None if it ends the console.
     fn carry_out<B: Taker<L>, R: Wait, F: ReadsFiles>(
         &mut self,
         rt: &R,
@@ -297,7 +297,7 @@ impl<L: Site, Q: Wait + Drop, K: Transport + Drop, C: Seconds + Drop> Desk<L, Q,
         })
     }
 
-    // Makes the table anew where that is due.
+    // Makes the table anew if that is due.
     fn make_up<B: Taker<L>, R: Wait>(&mut self, rt: &R, hub: &Hub<L, B>, port: &mut Port<L>)
         ensures made_up { IsMadeUp B.offers B.took B.refuses self.old.unrefreshed
             self.new.unrefreshed (known_to port.old.asker) (known_to port.new.asker)
@@ -354,9 +354,9 @@ impl<L: Site, Q: Wait + Drop, K: Transport + Drop, C: Seconds + Drop> Desk<L, Q,
         }
     }
 
-    /// Does what a line asks for, with the files that these give. None where it ends the console.
+    /// Does what a line asks for, with the files that these give. None if it ends the console.
     ///
-    /// Where the table couldn't be made anew after the programs were changed, that is tried first.
+    /// If the table couldn't be made anew after the programs were changed, that is tried first.
     pub fn obey_with<B: Taker<L>, R: Wait, F: ReadsFiles>(
         &mut self,
         rt: &R,

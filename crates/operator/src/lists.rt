@@ -62,7 +62,7 @@ pub fn table<L: Site, B: Taker<L>, R: Wait>(
     Ok(text)
 }
 
-/// The neighbors at so many interfaces, of one moment.
+/// The neighbors at this number of interfaces, of one moment.
 pub fn neighbors<L: Site, B: Taker<L>, R: Wait>(
     rt: &R,
     alloc: Global,

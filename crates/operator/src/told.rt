@@ -10,7 +10,7 @@ use worker::TurnError;
 /// What a line is answered. The text is what is printed.
 #[derive(Debug, Drop)]
 pub enum Told {
-    /// A program was published at this hook, which makes at most so many steps.
+    /// A program was published at this hook, which makes at most this number of steps.
     Attached(Hook, u64),
     /// This hook has no program.
     Detached(Hook),

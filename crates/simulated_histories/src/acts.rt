@@ -23,7 +23,7 @@ pub enum HistoryStep {
     LinkDown(u32, u32),
     /// A router begins anew.
     Restart(u32),
-    /// So many seconds pass, and in each all comes.
+    /// This many seconds pass, and in each all comes.
     Calm(u32),
 }
 

@@ -8,7 +8,7 @@ use forwarding_loops::{LinkEnds, PrefixRoute, count_looping};
 use std::alloc::Global;
 use words::{Hops, Route};
 
-/// Stands for the place of a router where no router announces the external destination.
+/// Stands for the place of a router if no router announces the external destination.
 pub const NOBODY: usize = 0xffff_ffff;
 
 // What was last read off a router.

@@ -4,7 +4,7 @@ use Rattle.simulation.specs.Statuses.{status_of}
 use Rattle.simulation.specs.declared.fault.SimulationError.{SimulationError}
 use Rattle.simulation.specs.declared.fault.SimulationError.TheVariants as faults
 
--- what a writer has, where that is known
+-- what a writer has, if that is known
 abbrev pub Contents : Type 0
 Contents = Option (List ℕ)
 

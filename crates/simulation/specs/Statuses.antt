@@ -29,8 +29,8 @@ fault_of_kind_of_words other error = faults.Usage error
 abbrev pub fault_of_words : Error → SimulationError
 fault_of_words error = fault_of_kind_of_words (kind_of error) error
 
--- What is told where a network can't go on. Its destinations can always be announced, unless memory
--- is refused.
+-- What is told if a network can't go on. Its destinations can always be announced, unless memory is
+-- refused.
 abbrev pub fault_of_network : NetworkError → SimulationError
 fault_of_network networks.Configuration = faults.Times
 fault_of_network other = faults.Memory

@@ -24,7 +24,7 @@ scenario_word scenarios.Announce = codes "announce"
 scenario_word scenarios.Withdraw = codes "withdraw"
 scenario_word scenarios.Storm = codes "storm"
 
--- what a word means, or what is so where there is none
+-- what a word means, or what is so if there is none
 abbrev pub OrElse : Option Text → Type 0 → (Text → Type 0) → Type 0
 OrElse None Usual Means = Usual
 OrElse (Some word) Usual Means = Means word

@@ -44,8 +44,8 @@ IsRefusalOf refused interfaces (errors.Bind port) =
     port ≡ port)
 IsRefusalOf refused interfaces other = other ≡ errors.Memory
 
--- the socket of this interface was handed the bytes, for its peer; where there is no such
--- interface, none was
+-- the socket of this interface was handed the bytes, for its peer; if there is no such interface,
+-- none was
 abbrev pub IsHandedOver : {Socket : Type 0} → (takes : Socket → ℕ → List ℕ → Type 0)
     → List (Wire Socket)
     → (interface : ℕ) → (bytes : List ℕ) → Type 0
@@ -64,7 +64,7 @@ abbrev pub IsSilent : {Socket : Type 0} → (hands : Socket → List ℕ → Typ
 IsSilent hands refuses waits socket =
     (IsNoneThere refuses socket × waits) ⊎ ((bytes : List ℕ) × hands socket bytes)
 
--- what came, if anything did, the socket of this interface gave; where nothing did, that socket was
+-- what came, if anything did, the socket of this interface gave; if nothing did, that socket was
 -- silent, or there is none
 abbrev pub IsHeardAt : {Socket : Type 0} → (hands : Socket → List ℕ → Type 0)
     → (refuses : Socket → Error → Type 0) → (waits : Type 0) → List (Wire Socket)

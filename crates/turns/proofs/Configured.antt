@@ -1,4 +1,4 @@
--- Answers where no program stands.
+-- Answers if no program stands at the hooks.
 use Rattle.std.proofs.Common.{◌≡◌, inl, inr, List, refl}
 use Rattle.words.specs.Numbers.{Moment}
 use Rattle.words.specs.declared.route.External.{External}

@@ -35,7 +35,7 @@ sent_by_some origin events taken moment at e old new outs stale least leads is l
   left,
 )
 
--- whether it is stale, where that was told
+-- whether it is stale, if that was told
 pub left_stale : {E : Type 0} (new : Router) (told : Result Bool E) (stale : Option Bool)
     → IfOk told (λ is. IsTrue is ↔ IsStaleNow new)
     → MatchResult told (λ is. stale ≡ Some is) (λ _. stale ≡ None)

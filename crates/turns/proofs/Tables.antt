@@ -58,7 +58,7 @@ some_route = record {
   tag = 0;
 }
 
--- those of the first so many routes that are let in
+-- those of the first `n` routes that are let in
 first_let_in : (answers : Answers) (routes : List Route) (n : ℕ) → n ≤ length routes
     → (part : List Route) × AreLetInOf answers routes n part
 first_let_in answers routes zero low = ([], none_yet answers routes)

@@ -23,8 +23,8 @@ CountReachesNoEvent =
     (work.Datagram number bytes) outs stale
     ↔ Sends origin events moment (event.Packet number bytes) outs stale
 
--- Wherever a table is offered, the answers of an announcement are beside the rows of one that is:
--- those for which none was asked are the same beside each.
+-- If a table is offered, the answers of an announcement are beside the rows of one that is: those
+-- for which none was asked are the same beside each.
 abbrev pub AnswersAreBesideATable : Type 0
 AnswersAreBesideATable =
     (origin : Router) (candidates : List Route) (rows : List TableRow)

@@ -42,10 +42,10 @@ use Rattle.turns.specs.declared.work.Work.TheVariants as work
 
 -- ---- what the book is asked
 
--- Three predicates that a `Taker` leaves open: an event was taken at a moment, for a port whose
--- events until then are so many, sent these outs and left the router stale or not (None where that
--- isn't known, for want of memory); the workers were told that the programs are now those that
--- these operations leave; and the programs at `count` were asked about this input.
+-- Three predicates that a `Taker` leaves open: an event was taken at a moment, for a port with this
+-- number of events until then, sent these outs and left the router stale or not (None if that isn't
+-- known, for want of memory); the workers were told that the programs are now those that these
+-- operations leave; and the programs at `count` were asked about this input.
 pub record Took : Type 1 where
   pub taken : (events : ℕ) → Moment → Event → List Out → (stale : Option Bool) → Type 0
   pub told : List LoaderOperation → Type 0
@@ -56,9 +56,9 @@ pub data Lack : Type 0 where
   Reading : (input : Given) → Lack
   Memory : Lack
 
--- Three more: an event was refused at a moment, to a port whose events until then are so many, and
--- why; a question got no reading, or memory was lacking; and this number of changes of the programs
--- was read, by such a port.
+-- Three more: an event was refused at a moment, to a port with this number of events until then,
+-- and why; a question got no reading, or memory was lacking; and this number of changes of the
+-- programs was read, by such a port.
 pub record Refuses : Type 1 where
   pub refused : (events : ℕ) → Moment → Event → BookError → Type 0
   pub lacks : Lack → Type 0
@@ -89,7 +89,7 @@ abbrev pub Offers : Type 1
 Offers = List Route → List TableRow → Type 0
 
 -- When a book takes an event that it is given at a moment: an installation at the moment of the
--- router's last event, where this is later; everything else at the moment itself.
+-- router's last event, if this is later; everything else at the moment itself.
 abbrev pub taken_at : Event → Moment → (last : Moment) → Moment
 taken_at (event.Packet number bytes) moment last = moment
 taken_at event.Tick moment last = moment
@@ -106,10 +106,10 @@ abbrev pub IsAtTheEndOfTheClock : {B : Type 0} → (own : B → Type 0) → (mom
 IsAtTheEndOfTheClock {B = B} own moment_of moment =
     (book : B) × own book × (clock_end ≤ max moment (moment_of book))
 
--- A book that began with this router says to a port whose events until then are so many: the event
--- that is given at this moment sends these, from a router to which events lead from there, at least
--- as many as the port's, of which none is later; it leaves one that is stale or isn't, where that is
--- known.
+-- A book that began with this router says to a port with this number of events until then: the
+-- event that is given at this moment sends these, from a router to which events lead from there, at
+-- least as many as the port's, of which none is later; it leaves one that is stale or isn't, if
+-- that is known.
 abbrev pub Sends : (origin : Router) → (events : ℕ) → Moment → Event → List Out
     → (stale : Option Bool) → Type 0
 Sends origin events moment e outs stale =
@@ -123,7 +123,7 @@ abbrev pub RefusesAt : BookView → Moment → Event → BookError → Type 0
 RefusesAt b moment e error =
     AnswersAnew {X = Unit {0}} b (taken_at e moment b.current.moment) e (Err error)
 
--- a book that began with this router says to a port whose events until then are so many: it is
+-- a book that began with this router says to a port with this number of events until then: it is
 -- refused so, at a router to which events lead from there, at least as many as the port's
 abbrev pub IsRefusedBySome : (origin : Router) → (events : ℕ) → Moment → Event → BookError → Type 0
 IsRefusedBySome origin events moment e error =
@@ -167,7 +167,7 @@ IsWantedBySome origin events prefix wanted =
 abbrev pub IsOwn : (origin : Router) → BookView → Type 0
 IsOwn origin b = Leads origin b.taken b.current
 
--- the neighbors at the interfaces 1 to so many, each as it is found at its own
+-- the neighbors at the interfaces from 1 to this number, each as it is found at its own
 pub record AreNeighbors (at : InterfaceNumber → Option (RouterNumber × NeighborState))
     (interfaces : ℕ) (neighbors : List (Option (RouterNumber × NeighborState))) : Type 0 where
   pub all : length neighbors ≡ interfaces
@@ -215,7 +215,7 @@ AreVetoes known now moment rows routes answers =
     (map (λ a. a.route) answers ≡ routes) × All (IsVetoOn known now moment rows) answers
 
 -- The datagram was counted as one of the interface: an asker's list and its seat are those after a
--- word that the programs answer of it; or they are as before, where it got no reading.
+-- word that the programs answer of it; or they are as before, if it got no reading.
 abbrev pub IsCounted : Refuses → (before now : List LoaderOperation) → (old new : SeatView)
     → InterfaceNumber → Moment → (packet : List ℕ) → Type 0
 IsCounted refuses before now old new number moment packet =
@@ -223,7 +223,7 @@ IsCounted refuses before now old new number moment packet =
     × refuses.lacks (Lack.Reading (count_input number moment packet)))
     ⊎ ((word : ℕ) × IsAnswered before now old new (count_input number moment packet) word)
 
--- where the work is a datagram, that is counted
+-- if the work is a datagram, that is counted
 abbrev pub CountsFor : Refuses → (before now : List LoaderOperation) → (old new : SeatView) → Work
     → Moment → Type 0
 CountsFor refuses before now old new (work.Datagram number bytes) moment =
@@ -234,15 +234,15 @@ CountsFor refuses before now old new (work.Withdraw prefix) moment = Unit {0}
 CountsFor refuses before now old new (work.Down number) moment = Unit {0}
 CountsFor refuses before now old new work.Refresh moment = Unit {0}
 
--- Where the work is a datagram, that is counted, by a port that had such a seat and knew the first
--- of these operations, and knows the last ones in the end: what it knew as it counted begins them.
+-- If the work is a datagram, that is counted, by a port that had such a seat and knew the first of
+-- these operations, and knows the last ones in the end: what it knew as it counted begins them.
 abbrev pub HasCountedFor : Refuses → (before after : List LoaderOperation) → (old : SeatView) → Work
     → Moment → Type 0
 HasCountedFor refuses before after old w moment =
     (known : List LoaderOperation) × (seat : SeatView)
     × CountsFor refuses before known old seat w moment × IsPrefix known after
 
--- where the work is a datagram, the programs at `count` were asked about it
+-- if the work is a datagram, the programs at `count` were asked about it
 abbrev pub AsksFor : Took → Moment → Work → Type 0
 AsksFor took moment (work.Datagram number bytes) = took.asked (count_input number moment bytes)
 AsksFor took moment work.Tick = Unit {0}
@@ -266,8 +266,8 @@ abbrev pub AreBeside : (known now : List LoaderOperation) → External → Momen
 AreBeside known now external moment rows tag price =
     IsTagOn known now external moment rows tag × IsPriceOn known now external moment rows price
 
--- They are beside the rows of a table that was offered; or beside whatever rows, as they are where
--- no program stands at `tag` and none at `price`: then no table was asked for.
+-- They are beside the rows of a table that was offered; or beside whatever rows, as they are if no
+-- program stands at `tag` and none at `price`: then no table was asked for.
 abbrev pub AreAsked : Offers → (known now : List LoaderOperation) → External → Moment
     → (tag : ExternalAnswer) → (price : ExternalAnswer) → Type 0
 AreAsked offers known now external moment tag price =
@@ -293,7 +293,7 @@ IsFor offers known now (work.Withdraw prefix) moment e = e ≡ event.Withdraw pr
 IsFor offers known now (work.Down number) moment e = e ≡ event.LinkDown number
 IsFor offers known now work.Refresh moment e = IsInstall offers known now moment e
 
--- the work's event was given at this moment, by a port whose events until then are so many, sent
+-- the work's event was given at this moment, by a port with this number of events until then, sent
 -- these, and left the router so
 abbrev pub TakesFor : Offers → Took → (known now : List LoaderOperation) → (events : ℕ) → Moment
     → Work → List Out → (stale : Option Bool) → Type 0
@@ -337,7 +337,7 @@ IsUnaskedFor refuses (work.Down number) moment error = ⊥
 IsUnaskedFor refuses work.Refresh moment error =
     IsAway refuses (AsksOfRoutes moment) error ⊎ IsShort refuses error
 
--- the work's event was given at this moment, by a port whose events until then are so many, and
+-- the work's event was given at this moment, by a port with this number of events until then, and
 -- refused, for this
 abbrev pub IsGivenInVain : Offers → Refuses → (known now : List LoaderOperation) → (events : ℕ)
     → Moment → Work → TurnError → Type 0
@@ -352,7 +352,7 @@ RefusesFor offers refuses known now events moment w error =
     IsUnaskedFor refuses w moment error
     ⊎ IsGivenInVain offers refuses known now events moment w error
 
--- a number of changes of the programs was read, after so many events, that isn't this one
+-- after `events` events, a number of changes of the programs was read that isn't `before`
 abbrev pub IsChangedSince : Refuses → (events : ℕ) → ℕ → Type 0
 IsChangedSince refuses events before = (now : ℕ) × refuses.counted events now × (now ≢ before)
 
@@ -374,11 +374,11 @@ IsUnchanged refuses events =
 -- ---- a turn
 
 -- What comes of a turn at a port that knew the first of these operations before it and knows the
--- others after it: the outs of the work's event, and,
--- where a refresh followed, those of its installation. It followed where the event left the router
--- stale and only there, unless one wasn't taken, and only where the programs weren't changed
--- meanwhile. The events count in the port's share, which grew from one number to the other: the
--- work's event is among those that count where the refresh is given.
+-- others after it: the outs of the work's event, and, if a refresh followed, those of its
+-- installation. It followed if the event left the router stale and only then, unless one wasn't
+-- taken, and only if the programs weren't changed meanwhile. The events count in the port's share,
+-- which grew from one number to the other: the work's event is among those that count when the
+-- refresh is given.
 pub record IsTurned (offers : Offers) (took : Took) (refuses : Refuses)
     (known now : List LoaderOperation) (moment : Moment) (w : Work) (before after : ℕ)
     (turned : Turned)

@@ -46,7 +46,7 @@ pub struct Hub<L: Site, B: Taker<L>> {
     pub ghost words: { shared ≡ L.words },
 }
 
-// The neighbors at the interfaces 1 to so many.
+// The neighbors at the interfaces from 1 to this number.
 fn neighbors_of<L: Site, B: Taker<L>>(
     alloc: Global,
     book: &B,
@@ -186,8 +186,8 @@ impl<L: Site, B: Taker<L>> Hub<L, B> {
         book.candidates()
     }
 
-    /// The neighbor at the interface of this number and its state, or None where it is Down or
-    /// there is no such interface.
+    /// The neighbor at the interface of this number and its state, or None if it is Down or there
+    /// is no such interface.
     pub fn neighbor<R: Wait>(&self, rt: &R, interface: u16) -> Option<(RouterId, NeighborState)>
         ensures { (book : B) × B.own book × (result ≡ B.neighbor_at book interface) }
     {
@@ -196,8 +196,8 @@ impl<L: Site, B: Taker<L>> Hub<L, B> {
         book.neighbor(interface)
     }
 
-    /// The neighbors at the interfaces 1 to so many, of one moment under the lock: at each as
-    /// [`neighbor`](Hub::neighbor) gives it.
+    /// The neighbors at the interfaces from 1 to this number, of one moment under the lock: at each
+    /// as [`neighbor`](Hub::neighbor) gives it.
     pub fn neighbors<R: Wait>(
         &self,
         rt: &R,
@@ -212,7 +212,7 @@ impl<L: Site, B: Taker<L>> Hub<L, B> {
         neighbors_of::<L, B>(alloc, book, interfaces)
     }
 
-    /// Tells whether this destination is announced, after the port's events so far.
+    /// Whether this destination is announced, after the port's events so far.
     pub fn wants<R: Wait>(&self, rt: &R, port: &mut Port<L>, prefix: Prefix) -> bool
         ensures wanted { B.wanted port.old.share.amount prefix result }
         ensures share { port.new.share.amount ≡ port.old.share.amount }

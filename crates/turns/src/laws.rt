@@ -7,8 +7,8 @@ pub fn count_reaches_no_event()
     ensures { CountReachesNoEvent }
 {}
 
-/// The answers of an announcement are beside the rows of a table that is offered, wherever one is:
-/// where no program stands at `tag` and `price`, they are the same beside each.
+/// If a table is offered, the answers of an announcement are beside the rows of one that is: if no
+/// program stands at `tag` and `price`, they are the same beside each.
 pub fn answers_are_beside_a_table()
     ensures { AnswersAreBesideATable }
 {}

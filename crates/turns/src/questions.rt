@@ -60,8 +60,8 @@ pub fn asked<L: Site, B: Taker<L>, R: Wait>(
     }
 }
 
-// A destination that is to be announced, with its tag and its metric. If neither hook has a program
-// the table isn't made, which would take as long as the router's candidates do.
+// A destination to announce, with its tag and its metric. If neither hook has a program the table
+// isn't made, which would take as long as the router's candidates do.
 fn redistribution<L: Site, B: Taker<L>, R: Wait>(
     rt: &R,
     hub: &Hub<L, B>,
@@ -85,7 +85,7 @@ fn redistribution<L: Site, B: Taker<L>, R: Wait>(
     }
 }
 
-// The same, where a program may stand at `tag` or `price`: both are asked beside the rows of the
+// The same, if a program may stand at `tag` or `price`: both are asked beside the rows of the
 // table.
 fn beside_table<L: Site, B: Taker<L>, R: Wait>(
     rt: &R,
@@ -208,8 +208,8 @@ pub fn installation<L: Site, B: Taker<L>, R: Wait>(
     }
 }
 
-// The same, where a program may stand at `veto`: it is asked of each candidate beside the rows of
-// the table.
+// The same, if a program may stand at `veto`: it is asked of each candidate beside the rows of the
+// table.
 fn vetoed<L: Site, B: Taker<L>, R: Wait>(
     rt: &R,
     hub: &Hub<L, B>,

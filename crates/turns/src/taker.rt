@@ -51,7 +51,7 @@ use std::sync::ledger::Share;
 use words::{External, Prefix, Route, RouterId, Second, Sequence, TableRow};
 
 /// What an event sends, and whether it left the router stale: some candidate stands in no answer of
-/// the last installation then. None where that isn't known, for want of memory.
+/// the last installation then. None if that isn't known, for want of memory.
 #[derive(Drop)]
 pub struct Taken {
     pub outs: Vec<Out>,
@@ -66,7 +66,7 @@ pub struct Taken {
 /// implements this gives it a meaning. A turn is proved for all such types at once, so only by the
 /// call itself can it know what the call says. Hence the prover refuses a turn that gives another
 /// event, or none, or gives it at another moment or to another book; and one that says that a
-/// reading or memory was wanting where it never asked for one.
+/// reading or memory was wanting though it never asked for one.
 pub trait Taker<L: Origin> {
     ghost took: { Took };
 
@@ -84,8 +84,8 @@ pub trait Taker<L: Origin> {
 
     /// Takes an event, which counts once in the share. A refusal leaves the share as it was.
     ///
-    /// An installation comes after programs were asked, which takes its time: it isn't refused
-    /// where another event came at a later moment meanwhile.
+    /// An installation comes after programs were asked, which takes its time: it isn't refused if
+    /// another event came at a later moment meanwhile.
     fn take(
         &mut self,
         mine: &mut Share<L>,
@@ -115,12 +115,12 @@ pub trait Taker<L: Origin> {
         ensures offered { IfOk result (λ c. (rows : List TableRow) × offers c.items rows) }
         ensures short { OnErr result (IsLacking refuses Lack.Memory) };
 
-    /// Tells whether this destination is announced now, as the port asks that has this share.
+    /// Whether this destination is announced now, if the port that has this share asks.
     fn wants(&mut self, mine: &mut Share<L>, prefix: Prefix) -> bool
         ensures wanted { wanted mine.old.amount prefix result }
         ensures share { (mine.new.amount ≡ mine.old.amount) × (mine.new.parts ≡ mine.old.parts) };
 
-    /// The neighbor at the interface of this number and its state now, or None where it is Down or
+    /// The neighbor at the interface of this number and its state now, or None if it is Down or
     /// there is no such interface.
     fn neighbor(&self, interface: u16) -> Option<(RouterId, NeighborState)>
         ensures at { result ≡ neighbor_at self.now interface }
@@ -229,7 +229,7 @@ pub trait Taker<L: Origin> {
         ensures copied { IfOk result (λ copy. copy ≡ bytes.now) }
         ensures short { OnErr result (IsLacking refuses Lack.Memory) };
 
-    /// A list with room for so many answers.
+    /// A list with room for this number of answers.
     fn room(alloc: Global, answers: usize) -> Result<Vec<VetoAnswer>, AllocError>
         ensures none { IfOk result (λ list. list.items ≡ []) }
         ensures room { IfOk result (λ list. answers ≤ vec_capacity list) }
@@ -259,7 +259,7 @@ fn taken_at(event: &Event, moment: Second, last: Second) -> Second
     }
 }
 
-// What is known, where memory wasn't refused.
+// What is known, if memory wasn't refused.
 fn known(told: Result<bool, AllocError>) -> Option<bool>
     ensures { MatchResult told (λ is. result ≡ Some is) (λ _. result ≡ None) }
 {
@@ -270,9 +270,9 @@ fn known(told: Result<bool, AllocError>) -> Option<bool>
 }
 
 /// A book takes an event by [`Book::apply_anew`], an installation at the moment of its last event
-/// where this is later. What is sent is what the event makes of its own router, which is then the
-/// one that the event leaves; and all that it says is of a router to which the events that it took
-/// lead from the one that it began with.
+/// if this is later. What is sent is what the event makes of its own router, which is then the one
+/// that the event leaves; and all that it says is of a router to which the events that it took lead
+/// from the one that it began with.
 impl<L: Origin> Taker<L> for Book<L> {
     ghost took = { took_from L.origin };
 

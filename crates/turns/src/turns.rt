@@ -29,14 +29,14 @@ use std::sync::Wait;
 use words::Second;
 
 /// A turn: it asks the programs what the work's event needs, passes the gate once, and gives the
-/// event to the book under the lock. Where that left the router stale, a refresh follows, which
-/// passes no gate. It may wait for the lock.
+/// event to the book under the lock. If that left the router stale, a refresh follows, which passes
+/// no gate. It may wait for the lock.
 ///
 /// At a [`Book`](book::Book) the outs are those that the event gives, by the rules of a whole
 /// event, at a router that took at least as many events as the port had given; which router it was,
-/// only the book knows. An installation happens at the moment of the router's last event, where
-/// that is later than the turn's: it may have passed while the programs were asked. All else
-/// happens at the turn's moment.
+/// only the book knows. An installation happens at the moment of the router's last event, if that
+/// is later than the turn's: it may have passed while the programs were asked. All else happens at
+/// the turn's moment.
 ///
 /// Refused: `Away` if `tag`, `price` or `veto` got no reading; else as the book refuses the event
 /// ([`Book::apply_anew`](book::Book::apply_anew)). `Memory` may come earlier, while the programs
@@ -45,7 +45,7 @@ use words::Second;
 ///
 /// The refresh is refused too if the programs were changed since the turn began
 /// ([`Hub::programs_changed`]). A refusal of it leaves the turn's outs as they are, and the next
-/// turn tries again; so it does if memory was lacking to tell whether the router is stale.
+/// turn tries again; so it does if memory was lacking to find out whether the router is stale.
 ///
 /// A turn that is refused before its event is given hasn't passed the gate.
 pub fn turn<L: Site, B: Taker<L>, G: Gate, R: Wait>(
@@ -100,7 +100,7 @@ fn is_stale(stale: Option<bool>) -> bool
     }
 }
 
-// The refresh that follows a turn which left the router stale; None where it didn't, or the refresh
+// The refresh that follows a turn which left the router stale; None if it didn't, or the refresh
 // isn't taken.
 fn follow<L: Site, B: Taker<L>, R: Wait>(
     rt: &R,

@@ -1,4 +1,4 @@
--- The seats of a new table are so many, and of that table.
+-- The seats of a new table are `count`, and of that table.
 use Rattle.std.proofs.Common.{◌≡◌, ℕ, zero, suc, ◌<◌, List, [], ◌∷◌, length, map, slice_index_or}
 use Rattle.std.proofs.Common.{refl, ap, sym, subst, ◌∙◌, arith}
 use Rattle.std.specs.List.{All, range_with_len}

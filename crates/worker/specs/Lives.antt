@@ -39,8 +39,8 @@ abbrev pub Refusals : Type 1
 Refusals = (known now : List LoaderOperation) → (events : ℕ) → (moment : ℕ) → Work → TurnError
     → Type 0
 
--- a turn at a moment, for a work, whose datagram the programs at `count` were asked about, where it
--- is one
+-- a turn at a moment, for a work, whose datagram the programs at `count` were asked about, if it is
+-- one
 abbrev pub Asks : Type 1
 Asks = (moment : ℕ) → Work → Type 0
 
@@ -100,7 +100,7 @@ ShowsEach shows before [] after = after ≡ before
 ShowsEach {Clock = Clock} shows before (moment ∷ moments) after =
     (between : Clock) × ShowsEach shows before moments between × shows between moment after
 
--- the latest of the moments, or this one where there is none
+-- the latest of the moments, or this one if there is none
 abbrev pub latest : (first : ℕ) → List ℕ → ℕ
 latest first [] = first
 latest first (moment ∷ moments) = moment
@@ -112,8 +112,8 @@ AreAhead refused first (moment ∷ moments) =
     refused (latest first moments) clock_back × AreAhead refused first moments
 
 -- A turn was tried at the first moment, and then at most three times again, each time at a moment
--- that the clock showed then, since the one before was refused by a router whose clock is ahead;
--- where it is refused so at last, it was tried three times again.
+-- that the clock showed then, since the one before was refused by a router whose clock is ahead; if
+-- it is refused so at last, it was tried three times again.
 pub record IsTried {Clock : Type 0} (shows : Shows Clock)
     (refused : (moment : ℕ) → TurnError → Type 0) (before : Clock) (first : ℕ)
     (after : Clock) (last : ℕ) (outcome : Result Turned TurnError) : Type 0 where
@@ -124,7 +124,7 @@ pub record IsTried {Clock : Type 0} (shows : Shows Clock)
   pub at_last : last ≡ latest first again
   pub thrice : outcome ≡ Err clock_back → length again ≡ 3
 
--- A turn that asked what it has to ask, and the link was given what it sends; where it is refused
+-- A turn that asked what it has to ask, and the link was given what it sends; if it is refused,
 -- nothing is sent, and the router has no event more. Its answers are by operations that begin with
 -- all that the port knew before, and begin all that it knows then, which begins with the former.
 pub record Serves {Link Clock : Type 0} (senses : Senses Link Clock) (moment : ℕ) (work : Work)
@@ -186,8 +186,8 @@ Round {Link = Link} {Clock = Clock} senses ticked before next after =
     (between : Standing Link Clock) × Ticks senses ticked before next between
     × Listens senses between after
 
--- So many rounds, after which this is the moment of the last Tick. Before each the flag was looked
--- at once, and found unset.
+-- This many rounds, after which this is the moment of the last Tick. Before each the flag was
+-- looked at once, and found unset.
 abbrev pub Lives : {Link Clock Flag : Type 0} → Senses Link Clock → Reads Flag → (begun : Flag)
     → (start : Standing Link Clock) → (rounds : ℕ) → (ticked : Option ℕ) → (flag : Flag)
     → (now : Standing Link Clock) → Type 0

@@ -6,8 +6,8 @@ use Rattle.maps.specs.Words.{SharedWords}
 use Rattle.hooks.specs.Known.{asks_of}
 use Rattle.worker.specs.declared.setup.Setup.{Setup}
 
--- a setup with the ledger of this name and of so many parts, with these shared words, and askers
--- of the programs of this history
+-- a setup with the ledger of this name and of this number of parts, with these shared words, and
+-- askers of the programs of this history
 abbrev pub IsSetUpFor : (name parts : ℕ) → SharedWords → History → Setup → Type 0
 IsSetUpFor name parts words history s =
     (s.blank.name ≡ name) × (s.blank.parts ≡ parts) × (s.shared ≡ words)

@@ -3,7 +3,7 @@ ghost use Rattle.std.specs.Prelude.{Bool};
 
 use std::sync::atomic::{AtomicBool, Ordering};
 
-/// A flag that a worker looks at once a round, and ends where it is set.
+/// A flag that a worker looks at once a round, and ends if it is set.
 ///
 /// What is so of a flag before and after it was found set, or unset (`reads`), is left open: a
 /// worker, which is proved for any flag, knows it only of one that it looked at, and only once.

@@ -29,7 +29,7 @@ pub enum Ended {
 }
 
 impl Ended {
-    /// The status of the program: 0, or 3 where a link failed.
+    /// The status of the program: 0, or 3 if a link failed.
     pub fn status(self) -> u8
         ensures quit { self ≡ Quit → result ≡ 0 }
         ensures fault { self ≡ Fault → result ≡ 3 }

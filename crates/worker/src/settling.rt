@@ -18,8 +18,7 @@ pub struct Settled<L: Site> {
 /// Puts the shares of the ports and the rest of the ledger together. The book has taken just as
 /// many events as they count.
 ///
-/// `AllocError` comes where an allocation was refused; the ports are lost then, and the book is as
-/// it was.
+/// `AllocError` if an allocation is refused; the ports are lost then, and the book is as it was.
 pub fn settle<L: Site>(
     alloc: Global,
     book: &mut Book<L>,
@@ -59,7 +58,7 @@ pub struct Closed<L: Site> {
 /// many events as the share counts; the words come with all their seats, as
 /// [`Shared::close`](maps::Shared::close) asks for them.
 ///
-/// `AllocError` comes where the ports didn't come back, or an allocation was refused.
+/// `AllocError` if the ports didn't come back, or an allocation is refused.
 #[tactic(auto, using(crate::proofs::SeatsOf::of_the_same))]
 pub fn close_hub<L: Site>(
     alloc: Global,

@@ -10,8 +10,8 @@ use std::alloc::{AllocError, Global};
 use std::sync::Wait;
 use std::sync::ledger::Blank;
 
-/// What the workers of one router start with, for so many ports: the shared words with a seat for
-/// each port, an asker for each, and a ledger with a part for each.
+/// What the workers of one router start with, for this number of ports: the shared words with a
+/// seat for each port, an asker for each, and a ledger with a part for each.
 #[derive(Drop)]
 pub struct Setup {
     pub(crate) blank: Blank,
@@ -27,12 +27,13 @@ pub struct Setup {
 }
 
 impl Setup {
-    /// All for so many ports, and the loader whose programs they will run, which has none yet.
+    /// All for this number of ports, and the loader whose programs they will run, which has none
+    /// yet.
     ///
     /// # Errors
     ///
-    /// `Count` where `ports` is 0 or above 64, which is tried first; `Memory` where an allocation
-    /// is refused; `Places` where there was no place for an asker.
+    /// `Count` if `ports` is 0 or above 64, which is tried first; `Memory` if an allocation is
+    /// refused; `Places` if there was no place for an asker.
     pub fn new<R: Wait + Drop>(
         alloc: Global,
         rt: R,
@@ -58,7 +59,7 @@ impl Setup {
     }
 }
 
-// A table with so many seats.
+// A table with this number of seats.
 fn table(alloc: Global, count: usize) -> Result<(Shared, Vec<Seat>), AllocError>
     requires { (0 < count) × (count ≤ 64) }
     ensures every { IfOk result (λ r. r.0.seats ≡ count) }

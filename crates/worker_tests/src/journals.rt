@@ -19,7 +19,7 @@ enum Call {
     Candidates,
 }
 
-// So many calls, what the last one is answered (0, or the number of the refusal), and what the
+// A number of calls, what the last one is answered (0, or the number of the refusal), and what the
 // journal holds and the book has taken after it.
 type Row = (u32, Call, u8, usize, u64);
 
@@ -59,8 +59,8 @@ fn called<L: Origin>(book: &mut Book<L>, share: &mut Share<L>, call: Call) -> u8
     }
 }
 
-// The last answer of so many calls. An allocation may be refused once, as a run of the tests with a
-// refusal makes it: then the book is as it was, and answers in full the next time.
+// The last answer of the calls of a row. An allocation may be refused once, as a run of the tests
+// with a refusal makes it: then the book is as it was, and answers in full the next time.
 fn called_often<L: Origin>(book: &mut Book<L>, share: &mut Share<L>, row: &Row) -> u8
     requires { 0 < share.old.parts }
     ensures { share.new.parts ≡ share.old.parts }
@@ -112,8 +112,8 @@ fn play_once(alloc: Global, rows: &[Row]) -> usize {
     }
 }
 
-// How many rows are as told. Where there was no memory for a book, or it was marked before its
-// journal was too much, as it is where memory is refused, all is played once more.
+// How many rows are as told. If there was no memory for a book, or it was marked before its journal
+// was too much, as it is if memory is refused, all is played once more.
 fn played(alloc: Global, rows: &[Row]) -> usize {
     let count = play_once(alloc, rows);
     if count < rows.len() {

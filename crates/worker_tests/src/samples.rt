@@ -21,7 +21,7 @@ pub const VETOING: &[u8] =
     b"BPFH\x01\x04\x00\x00\x00\x00\x00\x00\x02\x00\x00\x00\xb7\x00\x00\x00\x01\x00\x00\x00\x95\x00\
         \x00\x00\x00\x00\x00\x00";
 
-/// The Hello at the interface of this number, with so many zeros behind it.
+/// The Hello at the interface `number`, with this many zeros behind it.
 pub fn hello(alloc: Global, number: u16, zeros: usize) -> Result<Work, AllocError> {
     let mut bytes = Vec::from_slice(alloc, HELLO)?;
     bytes.resize(HELLO.len().saturating_add(zeros), 0)?;

@@ -47,7 +47,7 @@ pub enum Scene<'a> {
 /// how many events stand in the journal, and how many the book took.
 pub type End = (u8, usize, usize, u64);
 
-// The end where memory for the router was refused.
+// The end if memory for the router was refused.
 const UNOPENED: End = (6, 0, 0, 0);
 
 // Plays at port 1 what needs no other: the status, and how many datagrams were sent.
@@ -173,8 +173,8 @@ fn play<R: Threads + Wait + Clock + Sync>(rt: &R, alloc: Global, scene: Scene<'_
 
 /// Plays the scene four times, each from its start: the end that is wanted, or the first other one.
 /// One at most may differ, in which an allocation may have been refused, as a run of the tests with
-/// a refusal makes it. A scene of two threads is spared only where a turn was refused memory; a
-/// long one is played twice at most.
+/// a refusal makes it. A scene of two threads is spared only if a turn was refused memory; a long
+/// one is played twice at most.
 pub fn end_of<R: Threads + Wait + Clock + Sync>(
     rt: &R,
     alloc: Global,

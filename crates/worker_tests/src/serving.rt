@@ -13,7 +13,7 @@ pub enum Heard {
     /// Of forty calls the one of this number fails, counted from 0: the others send, or receive the
     /// Hello.
     Hellos(usize),
-    /// So many calls receive nothing, and send nothing.
+    /// This many calls receive nothing, and send nothing.
     Nothing(usize),
 }
 

@@ -17,7 +17,7 @@ pub fn number_of(turned: Result<Turned, TurnError>) -> u8 {
     }
 }
 
-/// A Tick's turn at each of these moments: the number of a refusal, 0 where there was none.
+/// A Tick's turn at each of these moments: the number of a refusal, 0 if there was none.
 pub fn tick<L: Site, B: Taker<L>, R: Wait>(
     rt: &R,
     hub: &Hub<L, B>,
@@ -34,7 +34,7 @@ pub fn tick<L: Site, B: Taker<L>, R: Wait>(
     refused
 }
 
-// What a turn is answered, tried by a clock from its first moment on; 9 where the clock then shows
+// What a turn is answered, tried by a clock from its first moment on; 9 if the clock then shows
 // another moment than the next.
 fn tried_by<L: Site, B: Taker<L>, R: Wait>(
     rt: &R,
@@ -55,7 +55,7 @@ fn tried_by<L: Site, B: Taker<L>, R: Wait>(
     }
 }
 
-/// After a Tick at moment 6, what a turn that does this is answered; 9 where the clock then shows
+/// After a Tick at moment 6, what a turn that does this is answered; 9 if the clock then shows
 /// another moment than the next. The clock shows the moments, at the first of which it is tried the
 /// first time.
 pub fn try_again<L: Site, B: Taker<L>, R: Wait>(
@@ -75,7 +75,7 @@ pub fn try_again<L: Site, B: Taker<L>, R: Wait>(
     }
 }
 
-// Waits for the flag. Tells whether it was raised within 10,000 tries of a millisecond.
+// Waits for the flag. The answer is whether it was raised within 10,000 tries of a millisecond.
 fn waited<R: Clock>(rt: &R, flag: &AtomicBool) -> bool {
     for _attempt in 0..10_000u32 {
         if flag.load(Ordering::SeqCst) {
@@ -155,9 +155,9 @@ fn hold_at<L: Site + Send + Sync, B: Taker<L> + Send, R: Threads + Wait + Clock 
 
 /// Holds a turn of port 1 at moment 5 until port 2 has ticked at each moment from 5 to below this,
 /// which it begins once the other has come to its gate: what that is answered, or a Tick that was
-/// refused; 9 where one of both waited in vain. Where the turn is refused memory before it comes to
-/// its gate, it says that; and where both waited in vain, since no thread was to be had and one ran
-/// after the other, 6 too.
+/// refused; 9 if one of both waited in vain. If the turn is refused memory before it comes to its
+/// gate, it says that; and if both waited in vain, since no thread was to be had and one ran after
+/// the other, 6 too.
 pub fn hold<L: Site + Send + Sync, B: Taker<L> + Send, R: Threads + Wait + Clock + Sync>(
     rt: &R,
     alloc: Global,

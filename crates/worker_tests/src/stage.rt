@@ -14,8 +14,8 @@ use worker::{Gate, Hub, Port, Site, Taker, TurnError, Work, turn};
 /// What is done: a turn, or a change of the programs, which each port learns then.
 #[derive(Clone, Copy)]
 pub enum Deed {
-    /// The Hello comes in at the interface of this number, with so many zeros behind it: a turn of
-    /// the interface's port. All other turns are of port 0.
+    /// The Hello comes in at the interface of the first number, and the second says how many zeros
+    /// stand behind it: a turn of the interface's port. All other turns are of port 0.
     Hear(u16, usize),
     Tick,
     /// A Tick's turn during which the programs are changed.
@@ -56,7 +56,7 @@ pub struct Stage<L: Site, Q: Wait + Drop> {
     pub ghost loaded: { history_of loader ≡ L.history },
 }
 
-/// What a turn is for that does this; None where it is no turn, or for want of memory.
+/// What a turn is for that does this; None if it is no turn, or for want of memory.
 pub fn work_of(alloc: Global, deed: Deed) -> Option<Work> {
     match deed {
         Deed::Hear(number, zeros) => hello(alloc, number, zeros).ok(),

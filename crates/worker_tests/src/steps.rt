@@ -269,7 +269,7 @@ const SCENES: &[Row] = &[
         0,
         1,
     ),
-    // no table is asked for where no program stands at `tag` and `price`; the book isn't looked at
+    // no table is asked for if no program stands at `tag` and `price`; the book isn't looked at
     (
         "an announcement without programs asks for no table",
         Scene::Tableless,

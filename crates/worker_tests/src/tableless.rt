@@ -137,7 +137,7 @@ impl<L: Site> Taker<L> for Tableless<L> {
     }
 }
 
-// The number of the refusal where the last of these ports does this work, or 0.
+// The number of the refusal when the last of these ports does this work, or 0.
 fn answer<L: Site, B: Taker<L>, R: Wait>(
     rt: &R,
     hub: &Hub<L, B>,
@@ -152,8 +152,8 @@ fn answer<L: Site, B: Taker<L>, R: Wait>(
     }
 }
 
-/// The number of the refusal where the destination is announced at the last of these ports, or 0.
-/// No table is asked for where no program stands at `tag` and `price`.
+/// The number of the refusal when the destination is announced at the last of these ports, or 0. No
+/// table is asked for if no program stands at `tag` and `price`.
 pub fn announce<L: Site, R: Wait, Q: Wait + Drop>(
     rt: &R,
     alloc: Global,

@@ -26,8 +26,8 @@ impl<'a, L: Site, B: Taker<L>> Gate for Noting<'a, L, B> {
     }
 }
 
-// What a turn of the one port is answered, which the other sees pass: 9 where it didn't pass the
-// gate just once, after the datagram was counted.
+// What a turn of the one port is answered, which the other sees pass: 9 if it didn't pass the gate
+// exactly once, after the datagram was counted.
 fn noted<L: Site, B: Taker<L>, R: Wait>(
     rt: &R,
     hub: &Hub<L, B>,
@@ -66,7 +66,7 @@ fn watched<L: Site, B: Taker<L>, R: Wait>(
 }
 
 /// Port 1 hears a datagram, which a program counts by 3 at counter 5. What the turn is answered: 9
-/// where it didn't pass the gate just once, after the datagram was counted. Port 0 looks.
+/// if it didn't pass the gate exactly once, after the datagram was counted. Port 0 looks.
 pub fn watch<L: Site, B: Taker<L>, R: Wait, Q: Wait + Drop>(
     rt: &R,
     alloc: Global,
