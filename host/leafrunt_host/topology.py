@@ -42,6 +42,8 @@ log = logging.getLogger("leafrunt.topology")
 KINDS = frozenset(map(int, LsType))
 MOST_WAITING = 50_000
 SECONDS_WAITING = 60
+MOST_ENTRIES = 32_768
+"""LSAs, twice what `routerd` has at most: beyond these, those that are gone are looked for."""
 MOST_UNREAD = 8_192
 """Packets that may wait to be read. Beyond that they are left out and counted, since the bridge may
 not wait for this."""
@@ -100,6 +102,7 @@ class Topology:
         that is known doesn't."""
         self._one_at_a_time = threading.Lock()
         self._entries: dict[bytes, Entry] = {}
+        self._most = MOST_ENTRIES
         self._waiting: OrderedDict[bytes, Entry] = OrderedDict()
         self._unread: queue.SimpleQueue[
             tuple[Side, Packet, float] | threading.Event
@@ -202,6 +205,18 @@ class Topology:
             if not is_flushed or now - before.moment < SECONDS_UNSETTLED:
                 return
         self._entries[entry.data[KEY]] = entry
+        if len(self._entries) > self._most:
+            self._forget_gone(now)
+
+    def _forget_gone(self, now: float) -> None:
+        """Removes what ran out or was flushed: a neighbor may flush LSAs of ever other names, each
+        of which `routerd` acknowledges and doesn't keep (13, step 4)."""
+        self._entries = {
+            key: entry
+            for key, entry in self._entries.items()
+            if entry.age_at(now) < MAX_AGE or now - entry.moment < SECONDS_UNSETTLED
+        }
+        self._most = max(MOST_ENTRIES, 2 * len(self._entries))
 
     def counts(self) -> dict[str, int]:
         """How many LSAs there are of each type, by its name."""

@@ -2,6 +2,7 @@ import struct
 import unittest
 from ipaddress import IPv4Address, IPv4Network
 from itertools import accumulate
+from unittest import mock
 
 from leafrunt_host.area import Area, Ways, area_of, network, router
 from leafrunt_host.area_map import Destination, map_lines
@@ -223,6 +224,25 @@ class Databases(unittest.TestCase):
         self.wire(two)
         self.topology.watch(Side.ROUTER, acknowledgment(one), self.now)
         self.assertEqual(self.instances(), [("11.0.0.0", 1, 0)])
+
+    def test_what_is_flushed_is_forgotten(self) -> None:
+        """`routerd` acknowledges what is flushed, and keeps it no longer (RFC 2328, 13, step 4): a
+        neighbor may flush LSAs of ever other names."""
+        with mock.patch("leafrunt_host.topology.MOST_ENTRIES", 100):
+            self.topology = Topology(lambda: self.now)
+            self.sent(EXTERNAL)
+            for number in range(400):
+                self.now += 0.25
+                self.wire(external(f"10.{number >> 8}.{number & 255}.0/24", "2.2.2.2", age=MAX_AGE))
+            self.assertEqual(self.instances(), [("203.0.113.0", 1, 100)])
+            self.assertLessEqual(len(self.topology._entries), 101)
+
+    def test_many_that_count(self) -> None:
+        """What is there stays, however much that is."""
+        with mock.patch("leafrunt_host.topology.MOST_ENTRIES", 100):
+            self.topology = Topology(lambda: self.now)
+            self.sent(*(external(f"10.0.{number}.0/24", "2.2.2.2") for number in range(250)))
+            self.assertEqual(len(self.instances()), 250)
 
     def test_lines(self) -> None:
         self.sent(
