@@ -253,9 +253,16 @@ class Withheld:
             return False
         is_new = not self._database.has(key)
         is_taken = self._has_room(header, now)
-        if is_new and is_taken:
-            self._promised.add(key)
+        if is_new and self._database.has(key):
+            self._promise(key)
         return is_taken
+
+    def _promise(self, key: Key) -> None:
+        """Of those that were promised only those with a place in the database matter, of which
+        there are no more than that has: others are at MaxAge, or were flushed since."""
+        if len(self._promised) >= MOST_LSAS:
+            self._promised = {each for each in self._promised if self._database.has(each)}
+        self._promised.add(key)
 
     def _has_room(self, lsa: bytes, now: float) -> bool:
         key = lsa[KEY]

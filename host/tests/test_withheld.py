@@ -315,6 +315,16 @@ class Limits(unittest.TestCase):
         self.assertEqual(sizes, [1000, 0, ROOM_AGAIN + 10])
         self.assertIn("(1000 LSAs or more are withheld)", said)
 
+    def test_a_flood_of_what_is_flushed(self) -> None:
+        """Headers at MaxAge promise nothing that has a place, and neither does what was flushed
+        after it was described: a neighbor may describe ever other ones."""
+        with mock.patch("leafrunt_host.withheld.MOST_LSAS", 100):
+            for number in range(300):
+                lsas = external(2 * number, MAX_AGE), external(2 * number + 1)
+                self.withheld.described([each[:20] for each in lsas], 0)
+                self.database.takes(external(2 * number + 1, MAX_AGE), 0)
+        self.assertLessEqual(len(self.withheld._promised), 100)
+
     def test_those_withheld_are_flushed(self) -> None:
         most = ROOM_AGAIN + 10
         self.withheld.updated([external(number) for number in range(most + 5)], 0)
