@@ -41,6 +41,8 @@ from leafrunt_host.packets import LSA_HEADER_LENGTH, Malformed, Packet, PacketTy
 log = logging.getLogger("leafrunt.topology")
 KINDS = frozenset(map(int, LsType))
 MOST_WAITING = 50_000
+MOST_BYTES = 64 << 20
+"""Of LSAs that wait, and of packets that may wait to be read: one may have 64 KiB."""
 SECONDS_WAITING = 60
 MOST_ENTRIES = 32_768
 """LSAs, twice what `routerd` has at most: beyond these, those that are gone are looked for."""
@@ -104,6 +106,8 @@ class Topology:
         self._entries: dict[bytes, Entry] = {}
         self._most = MOST_ENTRIES
         self._waiting: OrderedDict[bytes, Entry] = OrderedDict()
+        self._waiting_bytes = self._put_bytes = self._read_bytes = 0
+        """Of those that wait, and of the packets that were put by the bridge, and read here."""
         self._unread: queue.SimpleQueue[
             tuple[Side, Packet, float] | threading.Event
         ] = queue.SimpleQueue()
@@ -117,9 +121,11 @@ class Topology:
             side is Side.WIRE or packet.type != PacketType.LINK_STATE_ACKNOWLEDGMENT
         ):
             return
-        if self._unread.qsize() >= MOST_UNREAD:
+        unread = self._put_bytes - self._read_bytes
+        if self._unread.qsize() >= MOST_UNREAD or unread + packet.length > MOST_BYTES:
             self.left_out += 1
         else:
+            self._put_bytes += packet.length
             self._unread.put((side, packet, now))
 
     def _read(self) -> None:
@@ -135,6 +141,7 @@ class Topology:
             except Exception as error:
                 # a mistake in this program: the next packet is read all the same
                 log.error("database: %s", where_it_failed(error))
+            self._read_bytes += given[1].length
 
     def _read_one(self, side: Side, packet: Packet, now: float) -> None:
         if packet.type == PacketType.LINK_STATE_UPDATE:
@@ -175,20 +182,28 @@ class Topology:
         if before and before.data[2:] == entry.data[2:] and MAX_AGE not in (before.age, entry.age):
             return
         instance = entry.data[INSTANCE]
-        self._waiting.pop(instance, None)
+        self._waits_no_more(instance)
         self._waiting[instance] = entry
+        self._waiting_bytes += len(entry.data)
+
+    def _waits_no_more(self, instance: bytes) -> Entry | None:
+        """Takes it out, if it waits."""
+        entry = self._waiting.pop(instance, None)
+        self._waiting_bytes -= len(entry.data) if entry else 0
+        return entry
 
     def _let_go(self, now: float) -> None:
         """Of what wasn't acknowledged the oldest goes."""
         while self._waiting:
-            oldest = next(iter(self._waiting.values()))
-            if len(self._waiting) <= MOST_WAITING and now - oldest.moment < SECONDS_WAITING:
+            instance, oldest = next(iter(self._waiting.items()))
+            is_full = len(self._waiting) > MOST_WAITING or self._waiting_bytes > MOST_BYTES
+            if not is_full and now - oldest.moment < SECONDS_WAITING:
                 break
-            self._waiting.popitem(last=False)
+            self._waits_no_more(instance)
 
     def _acknowledged(self, header: bytes, now: float) -> None:
         """An acknowledgment of `routerd` has the header that it received, age and all (13.5)."""
-        entry = self._waiting.pop(header[INSTANCE], None)
+        entry = self._waits_no_more(header[INSTANCE])
         if entry:
             self._put(entry._replace(age=age_of(header)), now)
 

@@ -225,6 +225,30 @@ class Databases(unittest.TestCase):
         self.topology.watch(Side.ROUTER, acknowledgment(one), self.now)
         self.assertEqual(self.instances(), [("11.0.0.0", 1, 0)])
 
+    def test_bytes_that_wait(self) -> None:
+        """Few LSAs may have many: of those that nobody acknowledges the oldest go."""
+        lsas = [lsa(1, f"2.2.2.{number}", "2.2.2.2", bytes(30_000)) for number in range(9)]
+        with mock.patch("leafrunt_host.topology.MOST_BYTES", 100_000):
+            for each in lsas:
+                self.wire(each, is_acknowledged=False)
+                self.instances()
+                waiting = self.topology._waiting.values()
+                self.assertLessEqual(sum(len(entry.data) for entry in waiting), 100_000)
+            self.topology.watch(Side.ROUTER, acknowledgment(*lsas), self.now)
+        self.assertEqual(len(self.instances()), 3)
+        self.assertEqual(self.topology._waiting_bytes, 0)
+
+    def test_bytes_that_are_not_read_yet(self) -> None:
+        packet = update(lsa(1, "2.2.2.2", "2.2.2.2", bytes(30_000)))
+        with mock.patch("leafrunt_host.topology.MOST_BYTES", 100_000):
+            with self.topology._one_at_a_time:
+                for _ in range(9):
+                    self.topology.watch(Side.WIRE, packet, self.now)
+                self.assertGreaterEqual(self.topology.left_out, 5)
+            self.instances()
+            self.topology.watch(Side.ROUTER, packet, self.now)
+        self.assertEqual(len(self.instances()), 1)
+
     def test_what_is_flushed_is_forgotten(self) -> None:
         """`routerd` acknowledges what is flushed, and keeps it no longer (RFC 2328, 13, step 4): a
         neighbor may flush LSAs of ever other names."""
