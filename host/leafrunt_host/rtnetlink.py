@@ -524,6 +524,10 @@ class Kernel:
 # -- notices
 
 LOAD_WORD, LOAD_HALF, LOAD_BYTE, IF_EQUAL, RETURN = 0x20, 0x28, 0x30, 0x15, 0x06
+LOAD_NUMBER, LOAD_INDEX, INDEX, LOAD_WORD_AT = 0x00, 0x01, 0x07, 0x40
+ATTRIBUTE_AT = 0xFFFF_F00C
+"""The place of the first attribute of the kind in the index register, from the place in the
+accumulator on; 0 if there is none (SKF_AD_NLATTR)."""
 
 
 def swapped(value: int, width: int) -> int:
@@ -532,24 +536,31 @@ def swapped(value: int, width: int) -> int:
 
 
 def filter_of_others(
-    port: int, protocol: int, table: int = MAIN
+    port: int, protocol: int, table: int = MAIN, metric: int = 0
 ) -> list[tuple[int, int, int, int]]:
-    """A classic BPF program for a socket of notices: it takes none of the port's own changes, and
-    of the table's routes and of next hops those of the protocol number alone."""
+    """A classic BPF program for a socket of notices: it takes none of the port's own changes; of
+    the table's routes those of the protocol number or of the metric, as another program's with that
+    may have taken the place of one; and of next hops those of the protocol number alone."""
     kinds = [NEW_ROUTE, DELETE_ROUTE, NEW_NEXT_HOP, DELETE_NEXT_HOP]
     new_route, delete_route, new_next_hop, delete_next_hop = (swapped(each, 2) for each in kinds)
     return [
         (LOAD_WORD, 0, 0, 12),
-        (IF_EQUAL, 12, 0, swapped(port, 4)),
+        (IF_EQUAL, 18, 0, swapped(port, 4)),
         (LOAD_HALF, 0, 0, 4),
         (IF_EQUAL, 3, 0, new_route),
         (IF_EQUAL, 2, 0, delete_route),
-        (IF_EQUAL, 5, 0, new_next_hop),
-        (IF_EQUAL, 4, 6, delete_next_hop),
+        (IF_EQUAL, 11, 0, new_next_hop),
+        (IF_EQUAL, 10, 12, delete_next_hop),
         (LOAD_BYTE, 0, 0, HEADER.size + 4),
-        (IF_EQUAL, 0, 5, noticed_table(table)),
+        (IF_EQUAL, 0, 11, noticed_table(table)),
         (LOAD_BYTE, 0, 0, HEADER.size + 5),
-        (IF_EQUAL, 2, 3, protocol),
+        (IF_EQUAL, 8, 0, protocol),
+        (LOAD_NUMBER, 0, 0, HEADER.size + ROUTE.size),
+        (LOAD_INDEX, 0, 0, RTA_PRIORITY),
+        (LOAD_WORD, 0, 0, ATTRIBUTE_AT),
+        (INDEX, 0, 0, 0),
+        (LOAD_WORD_AT, 0, 0, ATTRIBUTE.size),
+        (IF_EQUAL, 2, 3, swapped(metric, 4)),
         (LOAD_BYTE, 0, 0, HEADER.size + 2),
         (IF_EQUAL, 0, 1, protocol),
         (RETURN, 0, 0, 0xFFFF_FFFF),
@@ -582,8 +593,8 @@ OF_KIND = {
 
 
 class Notices:
-    """What others than this port change of links and addresses, and of a table's routes and of next
-    hops of the protocol number."""
+    """What others than this port change of links and addresses, of a table's routes of the protocol
+    number or the metric, and of next hops of the protocol number."""
 
     def __init__(
         self,
@@ -592,12 +603,13 @@ class Notices:
         one: socket.socket | None = None,
         groups: int = OF_ALL,
         table: int = MAIN,
+        metric: int = 0,
     ) -> None:
         try:
             self._socket = one or netlink(groups)
             self._port = port or -1
             if one is None and groups != OF_LINKS:
-                attach_filter(self._socket, filter_of_others(port, protocol, table))
+                attach_filter(self._socket, filter_of_others(port, protocol, table, metric))
         except OSError as error:
             words = f"no socket for the kernel's notices: {error.strerror}"
             raise CannotAsk(words) from error

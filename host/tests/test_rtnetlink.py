@@ -281,9 +281,19 @@ class Kernels(unittest.TestCase):
                 self.assertLessEqual(len(each.body), cut // 2)
 
 
+def place_of(kind: int, data: bytes, at: int) -> int:
+    """Where an attribute begins; 0 if there is none."""
+    while at + 4 <= len(data):
+        length, its = struct.unpack_from("=HH", data, at)
+        if its == kind:
+            return at
+        at += (length + 3) & ~3
+    return 0
+
+
 def runs(program: list[tuple[int, int, int, int]], data: bytes) -> bool:
     """Whether a classic BPF program takes the packet (bpf(4)), of the instructions used here."""
-    at = value = 0
+    at = value = index = 0
     while True:
         code, if_so, if_not, number = program[at]
         at += 1
@@ -291,6 +301,14 @@ def runs(program: list[tuple[int, int, int, int]], data: bytes) -> bool:
             return number > 0
         if code == 0x15:
             at += if_so if value == number else if_not
+        elif code == 0x00:
+            value = number
+        elif code in (0x01, 0x07):
+            index = value if code == 0x07 else number
+        elif number == 0xFFFFF00C:
+            value = place_of(index, data, value)
+        elif code == 0x40:
+            value = int.from_bytes(data[index + number : index + number + 4], "big")
         else:
             width = {0x20: 4, 0x28: 2, 0x30: 1}[code]
             value = int.from_bytes(data[number : number + width], "big")
@@ -313,6 +331,18 @@ class Noticed(unittest.TestCase):
         ):
             with self.subTest(data.hex()):
                 self.assertEqual(runs(filter_of_others(own, 89), data), is_taken)
+
+    def test_routes_that_take_the_place_of_own_ones(self) -> None:
+        """Another program's, with the box's metric: `ip route replace` tells of no other one."""
+        deleted = bytes.fromhex(ROUTE_DELETED)
+        of_bgp = deleted[:21] + b"\xba" + deleted[22:]
+        for metric, own, is_taken in ((89, 1, True), (88, 1, False), (89, 0x358C, False)):
+            for kind in (24, 25):
+                notice = of_bgp[:4] + bytes([kind]) + of_bgp[5:]
+                taken = runs(filter_of_others(own, 89, metric=metric), notice)
+                self.assertEqual(taken, is_taken, (metric, own, kind))
+        without = of_bgp.replace(bytes.fromhex("0800060059000000"), b"")
+        self.assertFalse(runs(filter_of_others(1, 89, metric=89), without))
 
     def test_what_they_say(self) -> None:
         one, kernel = socket.socketpair(socket.AF_UNIX, socket.SOCK_SEQPACKET)
