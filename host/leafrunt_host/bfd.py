@@ -45,6 +45,8 @@ FIRST_WAIT, LONGEST_WAIT = 1.0, 60.0
 """Seconds until the next is started then, doubled with each more that ends."""
 OPENED_AGAIN = 10.0
 """Seconds after which sockets that couldn't be had are tried again."""
+MOST_MESSAGES = 256
+"""Of a process in one turn: one that was taken over may send them without an end."""
 CUT_SECONDS = 5.0
 """For so long after a loss there is no next hop while `routerd` hasn't said that it knows."""
 SECONDS_TO_END = 2.0
@@ -348,9 +350,12 @@ class Sessions:
         try:
             act()
         except Exception as error:
-            lines = self._limiter.passing("BFD", [where_it_failed(error)], self._clock())
-            for each in lines:
-                log.error("BFD: %s", each)
+            self._log(f"BFD: {where_it_failed(error)}", logging.ERROR)
+
+    def _log(self, line: str, level: int) -> None:
+        """Logs what a process says, or what comes of it, within bounds."""
+        for each in self._limiter.passing("BFD", [line], self._clock()):
+            log.log(level, "%s", each)
 
     def _start(self, now: float) -> None:
         helper, self._standby = self._standby, None
@@ -389,7 +394,9 @@ class Sessions:
     def _heard_standby(self) -> None:
         standby = self._standby
         try:
-            while standby and (said := standby.heard()) is not None:
+            for _ in range(MOST_MESSAGES):
+                if standby is None or (said := standby.heard()) is None:
+                    break
                 if "started" in said:
                     standby.started = said
                 else:
@@ -409,7 +416,9 @@ class Sessions:
     def _heard(self) -> None:
         helper = self._helper
         try:
-            while helper and (said := helper.heard()) is not None:
+            for _ in range(MOST_MESSAGES):
+                if helper is None or (said := helper.heard()) is None:
+                    break
                 self._take(said)
         except CannotHold as why:
             if helper:
@@ -455,7 +464,7 @@ class Sessions:
                 self._helper.started = said
             return
         if "failed" in said:
-            log.error("BFD: %s", str(said["failed"])[:200])
+            self._log(f"BFD: {str(said['failed'])[:200]}", logging.ERROR)
             return
         number = said["number"]
         held = self._held.get(number)
@@ -466,17 +475,16 @@ class Sessions:
         else:
             held.report = report_of(said)
 
-    @staticmethod
-    def _tell_class(said: Json) -> None:
-        if said["class"]:
-            log.warning(
-                "BFD: process %d has no real-time class (%.80s): on a busy machine it may be late, "
-                "and sessions fall",
-                int(said["started"]),
-                str(said["class"]),
+    def _tell_class(self, said: Json) -> None:
+        process, why = int(said["started"]), str(said["class"])[:80]
+        if why:
+            line = (
+                f"BFD: process {process} has no real-time class ({why}): on a busy machine it may "
+                "be late, and sessions fall"
             )
+            self._log(line, logging.WARNING)
         else:
-            log.info("BFD: process %d, of a real-time class", int(said["started"]))
+            self._log(f"BFD: process {process}, of a real-time class", logging.INFO)
 
     def _changed(self, number: int, held: Held, said: Json) -> None:
         before, after, diagnostic, is_lost, remote = change_of(said)
@@ -493,9 +501,7 @@ class Sessions:
 
     def _tell(self, number: int, text: str, level: int) -> None:
         held = self._held[number]
-        line = f"{self._places[number].name}: BFD with {held.neighbor.address}: {text}"
-        for each in self._limiter.passing("BFD", [line], self._clock()):
-            log.log(level, "%s", each)
+        self._log(f"{self._places[number].name}: BFD with {held.neighbor.address}: {text}", level)
 
     def report(self, number: int) -> Json | None:
         """What `status` says of an interface's session; None if there is none."""

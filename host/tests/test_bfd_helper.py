@@ -496,6 +496,20 @@ class AsAProcess(unittest.TestCase):
         self.assertEqual(self.state(), "Up")
         self.assertEqual(self.lost, [])
 
+    def test_messages_without_an_end(self) -> None:
+        """Of a process that was taken over: they keep the bridge from nothing, and fill no log."""
+        logging.disable(logging.NOTSET)
+        self.until(lambda: self.sessions._standby)
+        for read in (self.sessions._read, self.sessions._read_standby):
+            for said in (b'{"failed": "x"}', b'{"started": 1, "class": "x"}', b'{"number": 9}'):
+                heard = mock.Mock(side_effect=[said] * 9999 + [BlockingIOError])
+                with mock.patch.object(socket.socket, "recv", heard):
+                    with self.assertLogs("leafrunt.bfd") as told:
+                        bfd.log.warning("(one line at least)")
+                        read()
+                self.assertLess(heard.call_count, 1000)
+                self.assertLess(len(told.output), 30)
+
     def test_a_port_that_another_has(self) -> None:
         with mock.patch.object(bfd, "hearing_sockets", side_effect=OSError(98, "Address in use")):
             self.sessions.follow(1, Neighbor(IPv4Address(THERE), 1), is_two_way=True)
