@@ -166,9 +166,13 @@ class Router:
         return first + b"\n" + more
 
     def quit(self, seconds: float = SECONDS_TO_END) -> Ended:
-        """Ends it, if it hasn't ended, and waits for it. One that doesn't end by itself is killed,
-        and that is logged."""
-        with self._one_at_a_time:
+        """Ends it, if it hasn't ended, and waits for it. One that doesn't end by itself, or doesn't
+        answer whoever waits for that, is killed, and that is logged."""
+        if not self._one_at_a_time.acquire(timeout=seconds):
+            log.error("routerd hasn't answered for %d seconds: it is killed", seconds)
+            self._ran.kill()
+            self._one_at_a_time.acquire()
+        try:
             was_gone, self._is_gone = self._is_gone, True
             try:
                 if not was_gone:
@@ -182,6 +186,8 @@ class Router:
                 log.error("routerd didn't end within %d seconds of `quit`: it is killed", seconds)
                 self._ran.kill()
                 status = self._ran.wait()
+        finally:
+            self._one_at_a_time.release()
         for each in self._readers:
             each.join(5)
         lines = [each.decode("utf-8", "replace") for each in self._answers.rest()]

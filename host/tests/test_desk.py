@@ -5,6 +5,7 @@ import os
 import struct
 import sys
 import tempfile
+import threading
 import time
 import unittest
 from collections import Counter
@@ -289,6 +290,27 @@ class Routers(unittest.TestCase):
         with self.assertLogs("leafrunt.router", "ERROR"):
             ended = router.quit(0.1)
         self.assertEqual((ended.status, ended.words), (-9, "killed by signal 9"))
+
+    def test_one_that_does_not_answer_somebody_else_is_killed(self) -> None:
+        """The end of a box doesn't wait as long as an answer is waited for."""
+        router, gone = Router(self.program, self.configuration), list[str]()
+
+        def ask() -> None:
+            try:
+                router.ask("attach /silent", 20)
+            except RouterGone as why:
+                gone.append(str(why))
+
+        asker = threading.Thread(target=ask)
+        asker.start()
+        while not router._one_at_a_time.locked():
+            time.sleep(0.01)
+        began = time.monotonic()
+        with self.assertLogs("leafrunt.router", "ERROR"):
+            ended = router.quit(0.1)
+        asker.join()
+        self.assertEqual((ended.status, gone), (-9, ["routerd has ended"]))
+        self.assertLess(time.monotonic() - began, 15)
 
     def test_lines_that_are_none(self) -> None:
         router = Router(self.program, self.configuration)
