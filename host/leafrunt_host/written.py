@@ -11,7 +11,7 @@ def replace_file(path: Path, text: str, is_synced: bool) -> None:
     """Writes a file anew, so that it's the old one or the new one at each moment. `OSError`
     if it can't be written."""
     part = path.with_name(path.name + ".part")
-    with open(part, "w", encoding="ascii") as it:
+    with open(part, "w", encoding="utf-8") as it:
         it.write(text)
         it.flush()
         if is_synced:
