@@ -60,6 +60,8 @@ class Written:
                 replace_file(self._path, text, self._is_synced)
             except OSError as error:
                 self._error = error
+            except Exception as error:  # such as want of memory: the next text is written
+                self._error = OSError(None, f"{type(error).__name__} {error}".strip())
 
     def _taken(self) -> str | None:
         with self._changed:
