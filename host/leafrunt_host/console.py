@@ -1,6 +1,7 @@
 """`leafrunt console`: lines from a terminal or a pipe to a box, and its answers."""
 from __future__ import annotations
 
+import io
 import os
 import sys
 from collections.abc import Iterable
@@ -134,6 +135,9 @@ def run(client: Client, commands: list[str]) -> Status:
     """The command `console`: these lines, or those of standard input."""
     if commands:
         return console(client, commands, sys.stdout)
+    if isinstance(sys.stdin, io.TextIOWrapper):
+        # (bytes that are no text are no command either, which the box says)
+        sys.stdin.reconfigure(errors="replace")
     if sys.stdin.isatty():
         print(f"box {client.box}: `help` lists what can be asked, `quit` leaves")
         return console(client, typed_lines(f"{client.box}> "), sys.stdout)

@@ -1,8 +1,12 @@
-"""What `leafrunt console` completes and helps with."""
+"""What `leafrunt console` completes and helps with, and what it reads."""
+import contextlib
+import io
 import unittest
 from pathlib import Path
+from unittest import mock
 
-from leafrunt_host.console import completions
+from leafrunt_host.client import Client
+from leafrunt_host.console import completions, run
 from leafrunt_host.words import help_lines
 
 HERE = Path(__file__).resolve().parent
@@ -28,6 +32,14 @@ class Typing(unittest.TestCase):
         lines = help_lines()
         for each in ("attach PATH", "table", "status", "capture FILE", "quit"):
             self.assertTrue(any(line.startswith(f"{each} ") for line in lines), each)
+
+    def test_what_is_no_text(self) -> None:
+        """It's a line that the box doesn't know, and the next one is read."""
+        client = mock.Mock(spec=Client, ask=lambda line: [f"asked {line}"])
+        given = io.TextIOWrapper(io.BytesIO(b"\xff\ntable\n"), encoding="utf-8")
+        with mock.patch("sys.stdin", given), contextlib.redirect_stdout(io.StringIO()) as said:
+            run(client, [])
+        self.assertEqual(said.getvalue(), "asked \ufffd\nasked table\n")
 
 
 if __name__ == "__main__":
