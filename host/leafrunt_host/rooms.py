@@ -199,14 +199,18 @@ class Room:
         own_folder(folder, may_be_anyones=os.geteuid() == 0)
         namespace = os.stat(NAMESPACE).st_ino
         new = [each for each in names if each not in self._claims]
-        for name in new:
-            path = folder / f"{namespace} {name}"
-            claim, holder = locked(path, f"{self.name} (process {os.getpid()})\n")
-            if claim is None:
-                self.give_back(new)
-                who = f"the box {holder}" if holder else "another box"
-                raise Stopped(f"{who} has the {name} in this network namespace", Status.REFUSED)
-            self._claims[name] = claim
+        try:
+            for name in new:
+                path = folder / f"{namespace} {name}"
+                claim, holder = locked(path, f"{self.name} (process {os.getpid()})\n")
+                if claim is None:
+                    who = f"the box {holder}" if holder else "another box"
+                    words = f"{who} has the {name} in this network namespace"
+                    raise Stopped(words, Status.REFUSED)
+                self._claims[name] = claim
+        except Stopped:
+            self.give_back(new)
+            raise
 
     def claimed_before(self) -> list[str]:
         """What a box of this name claimed here and never gave back: it runs, or it was killed."""

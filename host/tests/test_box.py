@@ -587,6 +587,18 @@ class Starts(Boxes):
         rooms[1].claim(["interface eth2", name])
         rooms[1].leave()
 
+    def test_a_claim_that_cannot_be_made(self) -> None:
+        """Those before it are given back."""
+        one, two = (Room(name, self.run_folder / name, self.state / name) for name in ("a", "b"))
+        folder = self.run_folder / ".claims"
+        folder.mkdir(0o700, parents=True)
+        (folder / f"{os.stat('/proc/self/ns/net').st_ino} interface eth2").mkdir()
+        with self.assertRaisesRegex(Stopped, "eth2: Is a directory"):
+            one.claim(["interface eth1", "interface eth2"])
+        self.assertEqual(one.claimed, frozenset())
+        two.claim(["interface eth1"])
+        two.leave()
+
     def test_nobody_else_can_claim(self) -> None:
         """The files of claims are their owner's alone, and an abstract socket of the name that
         other versions claimed by keeps no box from starting."""
