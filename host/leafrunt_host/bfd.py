@@ -93,6 +93,11 @@ class Held:
         self.sockets = ()
 
 
+def place_of(place: Place) -> tuple[str, IPv4Address]:
+    """What the sockets of a session there are bound to."""
+    return place.name, place.address.ip
+
+
 def state_of(value: object) -> State:
     """A state from a message. `ValueError` if it's none."""
     return State(value)
@@ -248,13 +253,13 @@ class Sessions:
                 self._add(number)
 
     def take_over(self, settings: dict[int, Settings], places: dict[int, Place]) -> None:
-        """Sessions of interfaces that ask for it no longer, or have another number, end. All others
-        go on, with what is asked for now; `follow` begins those that aren't there."""
+        """Sessions of interfaces that ask for it no longer, or have another number or address, end.
+        All others go on, with what is asked for now; `follow` begins those that aren't there."""
         with self._lock:
             before, self.settings = self.settings, settings
             for number in list(self._held):
                 is_there = number in settings and number in places
-                if not is_there or self._places[number].name != places[number].name:
+                if not is_there or place_of(self._places[number]) != place_of(places[number]):
                     self._remove(number)
                 elif before.get(number) != settings[number]:
                     self._change(number)

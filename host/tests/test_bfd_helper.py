@@ -475,6 +475,22 @@ class AsAProcess(unittest.TestCase):
         self.sessions.follow(1, Neighbor(IPv4Address(THERE), 1), is_two_way=True)
         self.assertIsNone(self.state())
 
+    def test_another_address(self) -> None:
+        """A session's sockets are bound to the interface's: it begins anew, with others."""
+        self.come_up()
+        before, there = self.sessions._held[1], Neighbor(IPv4Address(THERE), 1)
+        longer = Loopback(address=IPv4Interface(f"{HERE}/9"))
+        self.sessions.take_over(self.sessions.settings, {1: longer})
+        self.sessions.follow(1, there, is_two_way=True)
+        self.assertIs(self.sessions._held[1], before)
+        self.sessions.take_over(
+            self.sessions.settings, {1: Loopback(address=IPv4Interface(f"{OWN_NETWORK}.4/8"))}
+        )
+        self.sessions.follow(1, there, is_two_way=True)
+        hears, *_ = self.sessions._held[1].sockets
+        self.assertEqual(hears.getsockname(), (f"{OWN_NETWORK}.4", CONTROL_PORT))
+        self.assertEqual(before.sockets, ())
+
     def test_messages_that_are_none(self) -> None:
         """They end nothing."""
         mine = self.come_up()
