@@ -34,11 +34,18 @@ def socket_path(run: Path, name: str) -> Path:
     return run / name / "socket"
 
 
+def make_folder(path: Path, mode: int) -> None:
+    """Makes a folder, and those above it, which nobody else may change, whatever the umask."""
+    if not path.parent.exists():
+        make_folder(path.parent, 0o755)
+    path.mkdir(mode, exist_ok=True)
+
+
 def own_folder(path: Path, may_be_anyones: bool = False) -> None:
     """Makes a folder that only its owner may use. One that is there must be like that, and may be
     another's only if that's said."""
     try:
-        path.mkdir(mode=0o700, parents=True, exist_ok=True)
+        make_folder(path, 0o700)
         status = path.stat(follow_symlinks=False)
     except OSError as error:
         raise Stopped(f"cannot make the folder {path}: {error.strerror}") from error

@@ -599,6 +599,16 @@ class Starts(Boxes):
         two.claim(["interface eth1"])
         two.leave()
 
+    def test_folders_without_a_umask(self) -> None:
+        """Who can change the one above could put another in a box's place."""
+        before = os.umask(0)
+        self.addCleanup(os.umask, before)
+        room = Room("one", self.folder / "a" / "b" / "one", self.folder / "c" / "one")
+        room.enter()
+        room.leave()
+        modes = [stat.S_IMODE((self.folder / each).stat().st_mode) for each in ("a", "a/b", "c")]
+        self.assertEqual(modes, [0o755] * 3)
+
     def test_nobody_else_can_claim(self) -> None:
         """The files of claims are their owner's alone, and an abstract socket of the name that
         other versions claimed by keeps no box from starting."""
