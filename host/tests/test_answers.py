@@ -1,6 +1,8 @@
 import io
 import os
+import time
 import unittest
+from unittest import mock
 
 from leafrunt_host.answers import Answers
 
@@ -14,6 +16,19 @@ class Pieces(io.BytesIO):
 
     def read1(self, size: int | None = -1) -> bytes:
         return super().read1(self._size)
+
+
+class Endless(io.BytesIO):
+    """A stream that never ends, and counts the pieces that it gave."""
+
+    def __init__(self, piece: bytes) -> None:
+        super().__init__()
+        self._piece, self.count = piece, 0
+
+    def read1(self, _size: int | None = -1) -> bytes:
+        time.sleep(0.0001)
+        self.count += 1
+        return self._piece if self.count < 5000 else b""
 
 
 class Lines(unittest.TestCase):
@@ -39,6 +54,21 @@ class Lines(unittest.TestCase):
         self.assertEqual(answers.rest(), [b"three"])
         self.assertRaises(EOFError, answers.next, 5)
         self.assertRaises(EOFError, answers.up_to, b"end", 5)
+
+    def test_what_waits_is_bounded(self) -> None:
+        """Whatever a program prints that was taken over, asked or not."""
+        for line in (b"x" * 99 + b"\n", b"x" * 100):
+            stream = Endless(line)
+            with self.subTest(line[-1]), mock.patch.multiple(
+                "leafrunt_host.answers", MOST_BYTES=10_000, LONGEST_LINE=1000
+            ):
+                answers = Answers(stream)
+                while stream.count < 100:
+                    time.sleep(0.01)
+                time.sleep(0.2)
+                self.assertLess(stream.count, 150)
+                self.assertEqual(answers.next(5)[:5], b"xxxxx")
+                self.assertRaises(EOFError, answers.up_to, b"end", 5)
 
     def test_one_that_says_nothing(self) -> None:
         reader, writer = os.pipe()
