@@ -5,6 +5,7 @@ import logging
 import re
 import subprocess
 import threading
+import time
 from collections.abc import Callable
 from contextlib import AbstractContextManager, nullcontext
 from dataclasses import dataclass
@@ -12,6 +13,7 @@ from pathlib import Path
 
 from leafrunt_host.answers import Answers
 from leafrunt_host.isolation import ENVIRONMENT, World
+from leafrunt_host.observing import Limiter
 
 log = logging.getLogger("leafrunt.router")
 LISTS = ("table", "neighbors", "counters")
@@ -60,7 +62,7 @@ class Ended:
 
 
 class Router:
-    """The child. Its standard error is logged, line by line."""
+    """The child. Its standard error is logged, line by line, within bounds."""
 
     def __init__(
         self,
@@ -94,9 +96,11 @@ class Router:
         return self._ran.pid
 
     def _read_errors(self) -> None:
-        for line in self._errors:
+        limiter = Limiter()
+        while line := self._errors.readline(LONGEST_LINE):
             text = line.decode("utf-8", "replace").rstrip()
-            log.warning("routerd: %s", text)
+            for each in limiter.passing("routerd", [f"routerd: {text}"], time.monotonic()):
+                log.warning("%s", each)
             self._told(text)
 
     def status(self) -> int | None:

@@ -26,6 +26,8 @@ NO_DIAGNOSTIC = diagnostic_text(Diagnostic.NONE)
 SECONDS_TO_LOOK = 10.0
 """After so long a look of the keeper's hangs."""
 NEIGHBOR = re.compile(r"neighbor (\d+) (\S+) (\w+)")
+MOST_STOPPED = 64
+"""Lines of `routerd` that are kept: one for each interface that it stops to serve."""
 
 
 @dataclass(frozen=True)
@@ -97,7 +99,7 @@ class Known:
 
     def told(self, line: str) -> None:
         """A line of `routerd` on its standard error."""
-        if "stopped" in line:
+        if "stopped" in line and len(self.stopped) < MOST_STOPPED:
             self.stopped = (*self.stopped, line)
 
     def note_table(self, moment: float, change: TableChange) -> None:

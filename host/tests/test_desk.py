@@ -26,7 +26,7 @@ from leafrunt_host.kernel_settings import KernelSettings
 from leafrunt_host.observing import Adjacencies, Report
 from leafrunt_host.owed import Owed
 from leafrunt_host.packets import lsas_of
-from leafrunt_host.router import Router, RouterGone
+from leafrunt_host.router import LONGEST_LINE, Router, RouterGone
 from leafrunt_host.status import (
     Kept,
     Known,
@@ -311,6 +311,25 @@ class Routers(unittest.TestCase):
         asker.join()
         self.assertEqual((ended.status, gone), (-9, ["routerd has ended"]))
         self.assertLess(time.monotonic() - began, 15)
+
+    def test_errors_without_an_end(self) -> None:
+        """Of one that was taken over: they fill no log and no memory, also without line feeds."""
+        lines, none = "yes stopped", "yes | tr -d '\\n'"
+        self.program.write_text(
+            f"#!/bin/sh\n{lines} | head -c 9999 >&2\n{none} | head -c 99999 >&2\n"
+        )
+        it, longest = known(), 0
+
+        def told(line: str) -> None:
+            nonlocal longest
+            longest = max(longest, len(line))
+            it.told(line)
+
+        with self.assertLogs("leafrunt.router", "WARNING") as logged:
+            ended = Router(self.program, self.configuration, told).quit(20)
+        self.assertEqual(ended.status, 0)
+        self.assertEqual((len(logged.output), len(it.stopped)), (20, 64))
+        self.assertEqual(longest, LONGEST_LINE)
 
     def test_lines_that_are_none(self) -> None:
         router = Router(self.program, self.configuration)
