@@ -14,7 +14,7 @@ from leafrunt_host.packets import Packet
 
 MIN_LS_ARRIVAL = 1.0
 MOST = 1_024
-"""Router-LSAs of which notes are kept."""
+"""Router-LSAs of which notes are kept, and of those that wait."""
 KEY, AT_INSTANCE = slice(3, 12), 12
 Instance = tuple[int, ...]
 """Sequence number and checksum."""
@@ -55,6 +55,8 @@ class Arrivals:
             self._give(key, instance, now)
             return False
         waiting = self._waiting.get(key)
+        if waiting is None and len(self._waiting) >= MOST:
+            return False
         if waiting is None or INSTANCE.unpack_from(waiting.lsa, AT_INSTANCE) < instance:
             self._waiting[key] = _Waiting(number, update, lsa)
         return True

@@ -195,6 +195,14 @@ class WithinMinLSArrival(unittest.TestCase):
             self.waits(router_lsa(str(IPv4Address(number + 1)), STUB), 10)
         self.assertEqual(len(self.arrivals._given), MOST_GIVEN)
 
+    def test_bounds_of_what_waits(self) -> None:
+        """What has no room goes on at once."""
+        for number in range(MOST_GIVEN + 9):
+            router, waits = str(IPv4Address(number + 1)), number < MOST_GIVEN
+            self.assertFalse(self.waits(router_lsa(router, STUB), 10))
+            self.assertEqual(self.waits(router_lsa(router, STUB, sequence=FIRST + 1), 10), waits)
+        self.assertEqual(len(self.arrivals._waiting), MOST_GIVEN)
+
     def test_it_comes_by_its_link(self) -> None:
         one = Link(link().interface, link().authentication._numbers, arrivals=self.arrivals)
         one.from_router(own_hello(), 0)
