@@ -125,7 +125,8 @@ def area_of(lsas: Iterable[tuple[LsKey, Body | None]]) -> Area:
     area = Area()
     for key, body in lsas:
         match body:
-            case RouterBody():
+            case RouterBody() if key.id == key.router:
+                # (a router's links are those under its own name: RFC 2328, 12.4.1)
                 area.routers[key.id] = body
             case NetworkBody():
                 area.networks[key.id] = body

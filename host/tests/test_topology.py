@@ -349,6 +349,14 @@ class WaysTest(unittest.TestCase):
         alone = [*SQUARE[:3], router_lsa("4.4.4.4", (3, "192.0.2.0", MASK, 10))]
         self.assertNotIn(router(FOUR), Ways(area(*alone), ONE).cost)
 
+    def test_a_router_lsa_under_another_name(self) -> None:
+        """Whoever announces one with a router's name as its Link State ID changes nothing of it."""
+        forged = lsa(1, "2.2.2.2", "3.3.3.3", bytes(4))
+        there = router_lsa("2.2.2.2", (3, "192.0.2.0", MASK, 5))
+        for lsas in ((there, forged), (forged, there)):
+            self.assertEqual(len(list(area(*lsas).stubs(TWO))), 1)
+        self.assertEqual(area(forged).routers, {})
+
     def test_a_transit_network(self) -> None:
         one = router_lsa("1.1.1.1", (2, "10.0.0.2", "10.0.0.1", 3))
         two = router_lsa("2.2.2.2", (2, "10.0.0.2", "10.0.0.2", 3))
