@@ -144,7 +144,11 @@ class Session:
         """Goes on with other settings. Intervals are changed by a Poll Sequence (6.8.3): before its
         end nothing is counted on that the neighbor may not know yet."""
         them = self.variables
-        self._before = (them.desired_min_tx_interval, them.required_min_rx_interval)
+        sent, received = them.desired_min_tx_interval, them.required_min_rx_interval
+        if self._before:
+            # (the neighbor may know none of the last changes)
+            sent, received = min(sent, self._before[0]), max(received, self._before[1])
+        self._before = sent, received
         self._settings, self._keys = settings, {each.id: each for each in settings.keys}
         them.detect_mult = settings.detect_mult
         them.required_min_rx_interval = settings.receive_interval

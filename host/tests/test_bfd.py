@@ -401,6 +401,16 @@ class Changing(unittest.TestCase):
         it.received(packet(State.UP, bits=Bits.FINAL, **quick).encode(), 0.02)
         self.assertEqual(it.detection_time, 600 * MILLISECOND)
 
+    def test_again_before_the_neighbor_knows(self) -> None:
+        """It may have heard of neither change: what it counts on is as it was before both."""
+        for first, later in (((600, 100), (900, 200)), ((900, 200), (600, 100))):
+            it = self.changed(*first)
+            it.change(Settings(*(each * MILLISECOND for each in later)))
+            self.assertEqual(it.transmit_interval, 300 * MILLISECOND)
+            self.assertEqual(it.detection_time, 900 * MILLISECOND)
+            it.received(packet(State.UP, bits=Bits.FINAL).encode(), 0.02)
+            self.assertEqual(it.transmit_interval, later[0] * MILLISECOND)
+
     def test_while_down(self) -> None:
         it = session()
         it.change(Settings(100 * MILLISECOND, 200 * MILLISECOND, 3, (KEYED,)))
