@@ -40,7 +40,8 @@ from leafrunt_host.journal import where_it_failed
 PRIORITY = 10
 """Of the real-time class, 1 to 99: above nothing that the kernel's own threads need."""
 LARGEST = 512
-LARGEST_MESSAGE = 8192
+LARGEST_MESSAGE = 32_768
+"""Bytes: with each of 256 keys a session's settings have some 20,000."""
 AT_ONCE, OTHERS_AT_ONCE = 32, 8
 """Packets of a session that are taken in one turn, and of those without its discriminator."""
 REST = 0.002

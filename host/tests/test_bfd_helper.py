@@ -19,6 +19,7 @@ from leafrunt_host import bfd
 from leafrunt_host.bfd import Neighbor, Sessions, change_of, report_of
 from leafrunt_host.bfd_helper import (
     KEPT_SIZE,
+    LARGEST_MESSAGE,
     OTHERS_AT_ONCE,
     REST,
     Helper,
@@ -269,6 +270,8 @@ class InThisProcess(unittest.TestCase):
         key = BfdKey(3, KeyType.METICULOUS_KEYED_SHA1, b"\xffsecret")
         for settings in (Settings(), Settings(50_000, 70_000, 9, (key,))):
             self.assertEqual(settings_of(json.loads(json.dumps(message_of(settings)))), settings)
+        keys = tuple(replace(key, id=number, secret=b"\xff" * 20) for number in range(256))
+        self.assertLess(len(json.dumps(message_of(Settings(keys=keys)))) + 200, LARGEST_MESSAGE)
         for said in ({}, {"before": 1, "after": 9, "remote": 1, "diagnostic": 0, "is_lost": True}):
             with self.subTest(said), self.assertRaises((KeyError, ValueError)):
                 change_of(said)
