@@ -7,6 +7,7 @@ process is gone, changes nothing, and neither does a neighbor that doesn't speak
 from __future__ import annotations
 
 import contextlib
+import itertools
 import json
 import logging
 import os
@@ -78,6 +79,8 @@ class Held:
     has no sockets."""
 
     neighbor: Neighbor
+    slot: int
+    """Its number to the process, which stays if the interface gets another."""
     discriminator: int = 0
     sockets: tuple[socket.socket, ...] = ()
     """Two that it hears by, and one that it sends by; none if they can't be had."""
@@ -249,26 +252,44 @@ class Sessions:
                 self._remove(number)
                 held = None
             if held is None and neighbor and is_two_way and number in self.settings:
-                self._held[number] = Held(neighbor)
+                slots = {each.slot for each in self._held.values()}
+                free = next(each for each in itertools.count(1) if each not in slots)
+                self._held[number] = Held(neighbor, free)
                 self._add(number)
 
+    def is_at(self, number: int, name: str) -> bool:
+        """Whether this is the interface of that number: it may get another by a reload."""
+        return number in self._places and self._places[number].name == name
+
     def take_over(self, settings: dict[int, Settings], places: dict[int, Place]) -> None:
-        """Sessions of interfaces that ask for it no longer, or have another number or address, end.
-        All others go on, with what is asked for now; `follow` begins those that aren't there."""
+        """Sessions of interfaces that ask for it no longer, or have another address, end. Others go
+        on, with what is asked for now; `follow` begins those that aren't there."""
         with self._lock:
-            before, self.settings = self.settings, settings
+            numbers = {place_of(place): number for number, place in places.items()}
+            after = {
+                number: numbers[place_of(place)]
+                for number, place in self._places.items()
+                if place_of(place) in numbers
+            }
             for number in list(self._held):
-                is_there = number in settings and number in places
-                if not is_there or place_of(self._places[number]) != place_of(places[number]):
+                if after.get(number) not in settings:
                     self._remove(number)
-                elif before.get(number) != settings[number]:
-                    self._change(number)
-            self._places = places
+            differ = [
+                after[number]
+                for number in self._held
+                if self.settings[number] != settings[after[number]]
+            ]
+            self._held = {after[number]: held for number, held in self._held.items()}
+            self._cut = {after[each]: at for each, at in self._cut.items() if each in after}
+            self.settings, self._places = settings, places
+            for number in differ:
+                self._change(number)
 
     def _change(self, number: int) -> None:
-        said = {"do": "change", "number": number, **message_of(self.settings[number])}
+        held = self._held[number]
+        said = {"do": "change", "number": held.slot, **message_of(self.settings[number])}
         try:
-            if self._helper and self._held[number].sockets:
+            if self._helper and held.sockets:
                 self._helper.say(said)
         except OSError:
             pass  # its end is seen where its messages are read, and the next one is told all
@@ -288,7 +309,7 @@ class Sessions:
             return
         said = {
             "do": "add",
-            "number": number,
+            "number": held.slot,
             "neighbor": str(held.neighbor.address),
             "discriminator": held.discriminator,
             "resumes": resumes,
@@ -317,7 +338,7 @@ class Sessions:
         held.close()
         if self._helper:
             try:
-                self._helper.say({"do": "remove", "number": number})
+                self._helper.say({"do": "remove", "number": held.slot})
             except OSError:
                 pass  # its end is seen where its messages are read
 
@@ -455,7 +476,7 @@ class Sessions:
             return
         session = Session(self.settings[number], held.discriminator, self._clock())
         try:
-            data = os.pread(self._memory, KEPT_SIZE, number * KEPT_SIZE)
+            data = os.pread(self._memory, KEPT_SIZE, held.slot * KEPT_SIZE)
             session.resume(kept_of(data), self._clock())
             to = (str(held.neighbor.address), CONTROL_PORT)
             held.sockets[-1].sendto(session.farewell(), to)
@@ -471,8 +492,8 @@ class Sessions:
         if "failed" in said:
             self._log(f"BFD: {str(said['failed'])[:200]}", logging.ERROR)
             return
-        number = said["number"]
-        held = self._held.get(number)
+        slot, known = said["number"], self._held.items()
+        number, held = next((each for each in known if each[1].slot == slot), (0, None))
         if held is None or held.discriminator != said["discriminator"]:
             return
         if "before" in said:

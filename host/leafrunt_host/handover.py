@@ -8,6 +8,7 @@ from collections.abc import Callable
 from dataclasses import dataclass, replace
 from ipaddress import IPv4Network
 
+from leafrunt_host import bfd_session
 from leafrunt_host.announcements import TAKEN, Announced, Announcements
 from leafrunt_host.bridge import CannotOpen
 from leafrunt_host.configuration import Configuration
@@ -18,6 +19,7 @@ from leafrunt_host.link import Interface, Link
 from leafrunt_host.packets import Hello, Packet
 from leafrunt_host.rehearsal import Rehearsal, prefixes_of
 from leafrunt_host.router import Router, RouterGone
+from leafrunt_host.sockets import Place
 from leafrunt_host.starting import Fresh, Parts, Starter, interface_of
 from leafrunt_host.status import Known
 from leafrunt_host.statuses import Stopped
@@ -26,6 +28,18 @@ from leafrunt_host.topology import Topology
 log = logging.getLogger("leafrunt.reload")
 SECONDS_TO_GIVE_AGAIN = 2.5
 """After the new one has taken over."""
+
+
+def bfd_of(configuration: Configuration) -> dict[int, bfd_session.Settings]:
+    """The interfaces that ask for BFD, by their numbers."""
+    return {at: each.bfd for at, each in enumerate(configuration.interfaces, 1) if each.bfd}
+
+
+def follow_numbers(known: Known, configuration: Configuration) -> None:
+    """BFD's sessions as the configuration has them, with the numbers of its interfaces."""
+    if known.sessions:
+        places: dict[int, Place] = dict(enumerate(configuration.interfaces, 1))
+        known.sessions.take_over(bfd_of(configuration), places)
 
 
 @dataclass
@@ -187,6 +201,7 @@ class Handover:
         ]
         rehearsal.catch_up()
         self.parts.bridge.hand_over(pairs, list(made.values()), fresh.udp, fresh.listed)
+        follow_numbers(self.known, new)
         for each in self.parts.sinks.values():
             each.close()
         self.parts.router, self.parts.links = fresh.router, links | made

@@ -314,8 +314,10 @@ class Keeper:
         """Says which neighbors there are, to those that BFD watches."""
         for number in list(sessions.settings):
             neighbor, link = self._known.neighbors.get(number), self._known.links.get(number)
-            address = link.next_hop(neighbor.router_id) if neighbor and link else None
-            who = BfdNeighbor(address, link.index) if address and link else None
+            if link is None or not sessions.is_at(number, link.interface.name):
+                continue  # (a reload is about to give it another number)
+            address = link.next_hop(neighbor.router_id) if neighbor else None
+            who = BfdNeighbor(address, link.index) if address else None
             state = neighbor.state if neighbor else "Down"
             sessions.follow(number, who, state in TWO_WAY)
             if state != "Full":

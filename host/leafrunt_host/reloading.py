@@ -15,7 +15,6 @@ from contextlib import ExitStack
 from dataclasses import dataclass, field, replace
 from pathlib import Path
 
-from leafrunt_host import bfd_session
 from leafrunt_host.announcements import Announcements
 from leafrunt_host.announcer import Announcer
 from leafrunt_host.bridge import CannotOpen
@@ -30,14 +29,14 @@ from leafrunt_host.differences import (
     of_bridge,
 )
 from leafrunt_host.forwarding import CannotKeep, KernelTable
-from leafrunt_host.handover import Handover
+from leafrunt_host.handover import Handover, bfd_of, follow_numbers
 from leafrunt_host.journal import set_level
 from leafrunt_host.keeper import Keeper
 from leafrunt_host.kernel_settings import KernelSettings
 from leafrunt_host.link import Link
 from leafrunt_host.redistributor import Redistributor, redistributor_of
 from leafrunt_host.rooms import Room
-from leafrunt_host.sockets import LOOPBACK, Place
+from leafrunt_host.sockets import LOOPBACK
 from leafrunt_host.starting import Parts, interface_of
 from leafrunt_host.status import Known
 from leafrunt_host.statuses import Status, Stopped
@@ -65,11 +64,6 @@ def redistributed(configuration: Configuration) -> tuple[object, ...] | None:
 def kept(configuration: Configuration) -> KernelSettings | None:
     """The kernel's table that is kept."""
     return configuration.table if configuration.kernel else None
-
-
-def bfd_of(configuration: Configuration) -> dict[int, bfd_session.Settings]:
-    """The interfaces that ask for BFD, by their numbers."""
-    return {at: each.bfd for at, each in enumerate(configuration.interfaces, 1) if each.bfd}
 
 
 @dataclass
@@ -121,7 +115,7 @@ class Reloader:
             undone.pop_all()
         self.known.configuration = replace(new, programs=new.programs if anew else old.programs)
         if anew or bfd_of(old) != bfd_of(new):
-            self._in_bridge(self._sessions)
+            self._in_bridge(lambda: follow_numbers(self.known, self.known.configuration))
         said += self._kernel(old, new, table)
         if redistributed(old) != redistributed(new):
             self.announcer.redistribute(redistributor)
@@ -157,13 +151,6 @@ class Reloader:
         earlier = {each.name: each for each in old.interfaces}
         both = [(earlier[each.name], each) for each in new.interfaces if each.name in earlier]
         return [each for pair in both for each in for_bridge(*pair)] + said
-
-    def _sessions(self) -> None:
-        """BFD as the configuration has it now."""
-        if self.known.sessions:
-            configuration = self.known.configuration
-            places: dict[int, Place] = dict(enumerate(configuration.interfaces, 1))
-            self.known.sessions.take_over(bfd_of(configuration), places)
 
     @staticmethod
     def _other_redistributor(

@@ -142,6 +142,10 @@ class StandInSessions:
     said: dict[str, Any] | None = None
     cut: set[int] = field(default_factory=set)
     followed: list[tuple[int, Neighbor | None, bool]] = field(default_factory=list)
+    name: str = "eth1"
+
+    def is_at(self, number: int, name: str) -> bool:
+        return (number, name) == (1, self.name)
 
     def report(self, number: int) -> dict[str, Any] | None:
         return self.said if number == 1 else None
@@ -254,6 +258,13 @@ class Kept(unittest.TestCase):
                 self.router.neighbors = [f"neighbor 1 2.2.2.2 {state}"] if state else []
                 self.look(0)
                 self.assertEqual(self.sessions.followed[-1], wanted)
+
+    def test_numbers_that_a_reload_changes(self) -> None:
+        """An interface's session isn't followed by what is known of another one's neighbor."""
+        for links, name, count in ((self.known.links, "eth2", 0), ({}, "eth1", 0)):
+            self.known.links, self.sessions.name = links, name
+            self.look(0)
+            self.assertEqual(len(self.sessions.followed), count)
 
 
 if __name__ == "__main__":

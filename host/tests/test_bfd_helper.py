@@ -478,6 +478,27 @@ class AsAProcess(unittest.TestCase):
         self.sessions.follow(1, Neighbor(IPv4Address(THERE), 1), is_two_way=True)
         self.assertIsNone(self.state())
 
+    def test_another_number(self) -> None:
+        """As after a reload with an interface less before it: a session goes on, and its neighbor
+        notices nothing."""
+        mine = self.come_up()
+        two, other = {2: Settings(), 3: Settings()}, Loopback("none", IPv4Interface("10.0.9.1/24"))
+        self.sessions.take_over(two, {1: Loopback("eth8"), 2: other, 3: Loopback()})
+        self.sessions.follow(2, Neighbor(IPv4Address("10.0.9.2"), 7), is_two_way=True)
+        self.sessions.follow(3, Neighbor(IPv4Address(THERE), 1), is_two_way=True)
+        self.assertIsNone(self.state())
+        self.assertEqual(self.sessions._held[3].discriminator, mine)
+        self.neighbor.sendto(said_by_neighbor(State.UP, mine), (HERE, CONTROL_PORT))
+        self.sessions.take_over({1: Settings(600_000, 600_000, 99)}, {1: Loopback()})
+        while (said := decode(self.neighbor.recv(100))[0]).detect_mult != 99:
+            self.assertNotEqual(said.state, State.ADMIN_DOWN)
+        self.assertEqual((said.my_discriminator, said.state), (mine, State.UP))
+        self.neighbor.sendto(said_by_neighbor(State.DOWN, mine), (HERE, CONTROL_PORT))
+        self.until(lambda: self.lost)
+        self.assertEqual((self.lost, self.sessions.is_cut(1)), ([1], True))
+        self.sessions.take_over({2: Settings()}, {2: Loopback()})
+        self.assertEqual([self.sessions.is_cut(number) for number in (1, 2)], [False, True])
+
     def test_another_address(self) -> None:
         """A session's sockets are bound to the interface's: it begins anew, with others."""
         self.come_up()
