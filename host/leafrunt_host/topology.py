@@ -111,7 +111,7 @@ class Topology:
         self._unread: queue.SimpleQueue[
             tuple[Side, Packet, float] | threading.Event
         ] = queue.SimpleQueue()
-        self.left_out = 0
+        self._left_out, self._left_out_at = 0, float("-inf")
         threading.Thread(target=self._read, name="topology", daemon=True).start()
 
     def watch(self, side: Side, packet: Packet, now: float) -> None:
@@ -123,10 +123,16 @@ class Topology:
             return
         unread = self._put_bytes - self._read_bytes
         if self._unread.qsize() >= MOST_UNREAD or unread + packet.length > MOST_BYTES:
-            self.left_out += 1
+            self._left_out, self._left_out_at = self.left_out + 1, self._clock()
         else:
             self._put_bytes += packet.length
             self._unread.put((side, packet, now))
+
+    @property
+    def left_out(self) -> int:
+        """Packets that were left out and may still be lacking: what they had comes again, or runs
+        out, within an hour (RFC 2328, 14)."""
+        return self._left_out if self._clock() - self._left_out_at <= MAX_AGE else 0
 
     def _read(self) -> None:
         """Reads the packets, in their order."""

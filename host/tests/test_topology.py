@@ -249,6 +249,17 @@ class Databases(unittest.TestCase):
             self.topology.watch(Side.ROUTER, packet, self.now)
         self.assertEqual(len(self.instances()), 1)
 
+    def test_what_was_left_out_comes_again(self) -> None:
+        """Within an hour: then the database is whole again, and a reload may go by it."""
+        with mock.patch("leafrunt_host.topology.MOST_UNREAD", 0):
+            for count in (1, 2):
+                self.topology.watch(Side.ROUTER, update(EXTERNAL), self.now)
+                self.assertEqual(self.topology.left_out, count)
+                self.now += 3000
+        self.now += 3000
+        self.assertEqual(self.topology.left_out, 0)
+        self.assertEqual(len(database_lines(self.topology)), 1)
+
     def test_what_is_flushed_is_forgotten(self) -> None:
         """`routerd` acknowledges what is flushed, and keeps it no longer (RFC 2328, 13, step 4): a
         neighbor may flush LSAs of ever other names."""
