@@ -23,6 +23,7 @@ from leafrunt_host.rtnetlink import (
     NEW_NEXT_HOP,
     NEW_ROUTE,
     OF_ALL,
+    REPLACE,
     UNICAST,
     CannotAsk,
     Kernel,
@@ -48,8 +49,9 @@ Asked = tuple[Owner, Announcement]
 
 
 def notices_filter(redistribution: Redistribution, table: int) -> bytes:
-    """A classic BPF program for a socket of notices: of routes it takes those that may count, of
-    next hops those that aren't the box's own, and all of links and addresses."""
+    """A classic BPF program for a socket of notices: of routes it takes those that may count, or
+    have taken the place of one, of which nothing else tells; of next hops those that aren't the
+    box's own; and all of links and addresses."""
     numbers = NEW_ROUTE, DELETE_ROUTE, NEW_NEXT_HOP, DELETE_NEXT_HOP
     new_route, delete_route, new_hop, delete_hop = (swapped(each, 2) for each in numbers)
     steps: list[Step] = [
@@ -67,6 +69,9 @@ def notices_filter(redistribution: Redistribution, table: int) -> bytes:
     if len(protocols) > MOST_COMPARED:
         return assembled(steps, {TAKEN: Bpf.ALL, NONE: 0})
     steps += [Compare(each, then=TAKEN) for each in protocols]
+    if protocols:
+        replaces = swapped(REPLACE, 2)
+        steps += [(LOAD_HALF, 6), (Bpf.AND, replaces), Compare(replaces, then=TAKEN)]
     if redistribution.is_default_asked:
         steps += [(Bpf.LOAD_BYTE, HEADER.size + 1), Compare(0, then=TAKEN)]
     return assembled(steps, {NONE: 0, TAKEN: Bpf.ALL})

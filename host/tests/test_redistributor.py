@@ -283,6 +283,16 @@ class Notices(unittest.TestCase):
         ):
             with self.subTest(what):
                 self.assertEqual(self.takes(program, data), is_taken)
+        replaces = deleted[:4] + b"\x18\0\0\1" + deleted[8:21] + b"\x0c" + deleted[22:]
+        for data, is_taken in (
+            (replaces, True),
+            (replaces[:6] + b"\0\6" + replaces[8:], False),
+            (replaces[:20] + b"\x64" + replaces[21:], False),
+            (replaces[:21] + b"\x59" + replaces[22:], False),
+        ):
+            self.assertEqual(self.takes(program, data), is_taken)
+        connected = notices_filter(section("[redistribute.connected]"), MAIN)
+        self.assertFalse(self.takes(connected, replaces))
         far = notices_filter(section(), 1000)
         self.assertTrue(self.takes(far, deleted[:20] + b"\xfc\4" + deleted[22:]))
         static = notices_filter(section("[redistribute.static]"), MAIN)

@@ -303,6 +303,8 @@ def runs(program: list[tuple[int, int, int, int]], data: bytes) -> bool:
             at += if_so if value == number else if_not
         elif code == 0x00:
             value = number
+        elif code == 0x54:
+            value &= number
         elif code in (0x01, 0x07):
             index = value if code == 0x07 else number
         elif number == 0xFFFFF00C:
