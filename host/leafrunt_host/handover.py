@@ -85,6 +85,7 @@ class Handover:
         if self.topology.left_out:
             raise Stopped("the database isn't known whole (`leafrunt database` says so)")
         log.info("another routerd is begun beside the one that runs")
+        stopped = len(self.known.stopped)
         try:
             fresh = self.starter.begin_beside(new, self.known.told)
         except (CannotOpen, CannotIsolate) as why:
@@ -99,7 +100,7 @@ class Handover:
             fresh.close()
             raise
         # it has taken over
-        self.keeper.serve(fresh.router, lambda: self._know(fresh, new, prepared))
+        self.keeper.serve(fresh.router, lambda: self._know(fresh, new, prepared, stopped))
         self.desk.serve(fresh.router)
         self.announcements.started_anew(prepared.given)
         log.info("routerd is process %d now", fresh.router.pid)
@@ -210,8 +211,11 @@ class Handover:
         for number in rehearsal.numbers - full:
             self.parts.bridge.neighbor_lost(number)
 
-    def _know(self, fresh: Fresh, new: Configuration, prepared: Prepared) -> None:
-        """In the keeper's thread."""
+    def _know(
+        self, fresh: Fresh, new: Configuration, prepared: Prepared, stopped: int
+    ) -> None:
+        """In the keeper's thread. So many lines tell of workers of the one before."""
+        self.known.stopped = self.known.stopped[stopped:]
         self.known.programs = prepared.programs
         self.known.links, self.known.routerd = self.parts.links, fresh.router.pid
         self.known.configuration = new

@@ -34,6 +34,7 @@ from leafrunt_host.differences import (
     in_order_of,
 )
 from leafrunt_host.forwarding import Hop, KernelTable
+from leafrunt_host.handover import Handover, Prepared
 from leafrunt_host.isolation import Account
 from leafrunt_host.redistribution import Redistribution, Source
 from leafrunt_host.kernel_settings import KernelSettings
@@ -607,6 +608,27 @@ class Taking(unittest.TestCase):
         it.new = configuration(replace(one, bfd=Settings(detect_mult=5)), two)
         self.assertEqual(it.reloader.reload(), ["eth1: BFD now", "eth2: no BFD now"])
         self.assertEqual(it.did[1:], [{1: Settings(detect_mult=5)}])
+
+    def test_workers_of_the_one_before(self) -> None:
+        """What is told of them ends with it."""
+        known = SimpleNamespace(stopped=("worker 1 stopped", "worker 2 stopped"))
+        parts = SimpleNamespace(links={}, router=SimpleNamespace())
+        keeper = SimpleNamespace(serve=lambda _router, changed: changed())
+        fresh = SimpleNamespace(router=SimpleNamespace(pid=7))
+        handover = Handover(
+            *(SimpleNamespace(begin_beside=lambda *_: fresh), parts, known, keeper),
+            *(mock.Mock(), mock.Mock(changing=threading.Lock()), mock.Mock(left_out=0)),
+            *(threading.Event(), lambda _router: None),
+        )  # type: ignore[arg-type]
+
+        def taken_over(*_: object) -> Prepared:
+            known.stopped += ("worker 3 stopped",)
+            return Prepared({}, {})
+
+        known.told = lambda line: None
+        with mock.patch.object(handover, "_taken_over", taken_over):
+            handover.run(configuration(), dict)
+        self.assertEqual((known.stopped, known.routerd), (("worker 3 stopped",), 7))
 
     def test_redistribution(self) -> None:
         old = configuration()
