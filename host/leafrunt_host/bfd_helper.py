@@ -333,5 +333,6 @@ def main(arguments: list[str]) -> int:
             pass
         return 0
     except Exception as error:
-        box.send(json.dumps({"failed": where_it_failed(error)}).encode(), socket.MSG_DONTWAIT)
+        with contextlib.suppress(OSError):  # (the box may be gone)
+            box.send(json.dumps({"failed": where_it_failed(error)}).encode(), socket.MSG_DONTWAIT)
         return 1

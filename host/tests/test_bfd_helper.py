@@ -23,6 +23,7 @@ from leafrunt_host.bfd_helper import (
     OTHERS_AT_ONCE,
     REST,
     Helper,
+    main,
     message_of,
     settings_of,
 )
@@ -277,6 +278,24 @@ class InThisProcess(unittest.TestCase):
                 change_of(said)
         with self.assertRaises((KeyError, ValueError)):
             report_of({"diagnostic": "1"})
+
+
+class Begun(unittest.TestCase):
+    def test_a_box_that_is_gone(self) -> None:
+        """A process that is begun as its box ends does so too, without a word."""
+        own, other = socket.socketpair(socket.AF_UNIX, socket.SOCK_SEQPACKET)
+        own.close()
+        memory = os.memfd_create("test")
+        self.addCleanup(os.close, memory)
+        with mock.patch.multiple(
+            "leafrunt_host.bfd_helper",
+            take_class=lambda: "",
+            give_up_privileges=lambda _user: None,
+            gc=mock.Mock(),
+            signal=mock.Mock(),
+            Path=mock.Mock(),
+        ):
+            self.assertEqual(main([str(other.detach()), str(memory), "0"]), 1)
 
 
 class StandInBridge:
