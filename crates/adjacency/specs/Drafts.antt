@@ -17,6 +17,10 @@ pub record Drafted : Type 0 where
   pub updates : List Update
   pub acknowledgments : List Header
 
+abbrev pub nothing_drafted : Drafted
+nothing_drafted =
+    record { hellos = []; descriptions = []; requests = []; updates = []; acknowledgments = [] }
+
 -- the age of an LSA is incremented by InfTransDelay when it is sent, up to MaxAge (RFC 2328,
 -- section 13.3)
 abbrev pub sent_lsa : ℕ → Lsa → Lsa

@@ -2,7 +2,7 @@
 ghost use Rattle.std.specs.Prelude.{◌≡◌, ◌∷◌, [], ℕ, OnOk};
 ghost use Rattle.lsdb.specs.Copies.{lsa_now};
 ghost use Rattle.adjacency.specs.Contents.{Acknowledges, Describes, SendsHello, Requests, Updates};
-ghost use Rattle.adjacency.specs.Drafts.{drafting};
+ghost use Rattle.adjacency.specs.Drafts.{drafting, nothing_drafted};
 
 use lsa::Header;
 use lsdb::DatabaseCopy;
@@ -59,13 +59,7 @@ impl Model for Draft {
 impl Draft {
     /// An empty draft. It doesn't allocate.
     pub fn new(alloc: Global) -> Self
-        ensures { result ≡ record {
-          hellos = [];
-          descriptions = [];
-          requests = [];
-          updates = [];
-          acknowledgments = [];
-        } }
+        ensures { result ≡ nothing_drafted }
     {
         Draft {
             hellos: Vec::new(alloc),
@@ -147,27 +141,6 @@ impl Draft {
         Ok(())
     }
 
-    /// The Hellos to be sent.
-    pub fn hellos(&self) -> &[Hello]
-        ensures { result.now ≡ self.now.hellos }
-    {
-        &self.hellos
-    }
-
-    /// The Database Descriptions to be sent.
-    pub fn descriptions(&self) -> &[Description]
-        ensures { result.now ≡ self.now.descriptions }
-    {
-        &self.descriptions
-    }
-
-    /// The Link State Requests to be sent, each as its keys.
-    pub fn requests(&self) -> &[Sequence<Key>]
-        ensures { result.now ≡ self.now.requests }
-    {
-        &self.requests
-    }
-
     /// The LSAs to be sent in Link State Updates.
     pub fn updates(&self) -> &[Update]
         ensures { result.now ≡ self.now.updates }
@@ -175,11 +148,15 @@ impl Draft {
         &self.updates
     }
 
-    /// The headers to be sent in Link State Acknowledgments.
-    pub fn acknowledgments(&self) -> &[Header]
-        ensures { result.now ≡ self.now.acknowledgments }
+    /// Nothing is to be sent any more. It keeps the buffers, and doesn't allocate.
+    pub fn clear(&mut self)
+        ensures { self.new ≡ nothing_drafted }
     {
-        &self.acknowledgments
+        self.hellos.clear();
+        self.descriptions.clear();
+        self.requests.clear();
+        self.updates.clear();
+        self.acknowledgments.clear();
     }
 
     /// Returns the lists, without allocating.

@@ -2,7 +2,7 @@
 use Rattle.std.proofs.Common.{◌≡◌, ℕ, ◌+◌, ◌<◌, List, [], ◌∷◌, ◌++◌, length, get_or, take, map}
 use Rattle.std.proofs.Common.{refl, sym, ◌∙◌, ap}
 use Rattle.std.proofs.lemmas.List.{take_more}
-use Rattle.flooding.specs.adjacency.Kept.{Kept}
+use Rattle.flooding.specs.Kept.{KeptLink}
 use Rattle.flooding.specs.received.Links.{Link}
 use Rattle.flooding.specs.Links.{present}
 use Rattle.routes.specs.declared.root.Root.{Root}
@@ -20,24 +20,24 @@ module _ {A B : Type 0} (f : A → B) where
       ap (map f) (take_more xs n x within ∙ ap (λ y. take n xs ++ y ∷ []) (sym is))
       ∙ map_push (take n xs) x
 
-addresses_are : (links : List (Kept Link))
-    → map (λ (l : Kept Link). (present l).interface.address) links
+addresses_are : (links : List KeptLink)
+    → map (λ (l : KeptLink). (present l).interface.address) links
     ≡ map (λ (l : Link). l.interface.address) (map present links)
 addresses_are [] = refl
 addresses_are (l ∷ links) = ap (λ rest. l.present.interface.address ∷ rest) (addresses_are links)
 
-pub root_is : (router : ℕ) (kept : List (Kept Link)) (links : List Link) (addresses : List ℕ)
+pub root_is : (router : ℕ) (kept : List KeptLink) (links : List Link) (addresses : List ℕ)
     → map present kept ≡ links → addresses
-    ≡ map (λ (l : Kept Link). (present l).interface.address) kept
+    ≡ map (λ (l : KeptLink). (present l).interface.address) kept
     → ◌≡◌ {A = Root} (record { router = router; addresses = addresses }) (root_by router links)
 root_is router kept links addresses shown is =
     let same = is ∙ addresses_are kept ∙ ap (map (λ (l : Link). l.interface.address)) shown in
     λ i. record { router = router; addresses = same i }
 
 -- and in the other direction
-pub root_was : (router : ℕ) (kept : List (Kept Link)) (links : List Link) (root : Root)
+pub root_was : (router : ℕ) (kept : List KeptLink) (links : List Link) (root : Root)
     → map present kept ≡ links → root ≡ root_by router links
-    → root.addresses ≡ map (λ (l : Kept Link). (present l).interface.address) kept
+    → root.addresses ≡ map (λ (l : KeptLink). (present l).interface.address) kept
 root_was router kept links root shown is =
     ap (λ (r : Root). r.addresses) is ∙ sym (ap (map (λ (l : Link). l.interface.address)) shown)
     ∙ sym (addresses_are kept)

@@ -3,10 +3,10 @@
 use Rattle.std.proofs.Common.{◌≡◌, ℕ, ◌+◌, Bool, false, List, [], ◌∷◌, map, refl, sym, ap, ◌∙◌}
 use Rattle.adjacency.specs.Contents.{Content}
 use Rattle.adjacency.specs.Drafts.{Drafted, drafting}
-use Rattle.adjacency.specs.Kept.{Kept}
 use Rattle.received.specs.Links.{Link}
 use Rattle.flooding.specs.Drafted.{drafts_with}
-use Rattle.flooding.specs.Links.{present}
+use Rattle.flooding.specs.Kept.{KeptLink}
+use Rattle.flooding.specs.Links.{draft_of, present}
 use Rattle.flooding.specs.Steps.{sends_of}
 use Rattle.flooding.proofs.Finish.{Finishes, finish_counts, finish_drafts, finish_items}
 use Rattle.flooding.proofs.Kept.{mixed}
@@ -32,32 +32,31 @@ module _ (A : Link → Link) (S : Link → List Content) where
   abbrev pub counts : ℕ → Link → Bool
   counts n l = false
 
-  items_begin : (n : ℕ) (xs : List (Kept Link))
-      → finish_items present after after_draft counts 0 n xs ≡ map A (map present xs)
+  items_begin : (n : ℕ) (xs : List KeptLink)
+      → finish_items present draft_of after after_draft counts 0 n xs ≡ map A (map present xs)
   items_begin n [] = refl
   items_begin n (x ∷ xs) = ap (λ ls. A (present x) ∷ ls) (items_begin (n + 1) xs)
 
-  drafts_begin : (n : ℕ) (xs : List (Kept Link)) (ds : List Drafted)
-      → finish_drafts present after after_draft counts 0 n xs ds
-      ≡ draft_from sent_at n (map present xs) ds
-  drafts_begin n [] ds = refl
-  drafts_begin n (x ∷ xs) [] = refl
-  drafts_begin n (x ∷ xs) (d ∷ ds) =
-      ap (λ zs. after_draft n (present x) d ∷ zs) (drafts_begin (n + 1) xs ds)
+  drafts_begin : (n : ℕ) (xs : List KeptLink)
+      → finish_drafts present draft_of after after_draft counts 0 n xs
+      ≡ draft_from sent_at n (map present xs) (map draft_of xs)
+  drafts_begin n [] = refl
+  drafts_begin n (x ∷ xs) =
+      ap (λ zs. after_draft n (present x) (draft_of x) ∷ zs) (drafts_begin (n + 1) xs)
 
-  counts_begin : (n : ℕ) (xs : List (Kept Link))
-      → finish_counts present after after_draft counts 0 n xs ≡ false
+  counts_begin : (n : ℕ) (xs : List KeptLink)
+      → finish_counts present draft_of after after_draft counts 0 n xs ≡ false
   counts_begin n [] = refl
   counts_begin n (x ∷ xs) = counts_begin (n + 1) xs
 
-  abbrev pub Steps : ℕ → List (Kept Link) → List Drafted → List Link → List Drafted → Type 0
-  Steps i xs ds olds drafts =
-      Finishes present after after_draft counts i xs ds false (map A olds)
+  abbrev pub Steps : ℕ → List KeptLink → List Link → List Drafted → Type 0
+  Steps i xs olds drafts =
+      Finishes present draft_of after after_draft counts i xs false (map A olds)
       (drafts_with (sends_of S olds) olds drafts) false
 
-  pub begins : (xs : List (Kept Link)) (ds : List Drafted) → Steps 0 xs ds (map present xs) ds
-  begins xs ds = record {
+  pub begins : (xs : List KeptLink) → Steps 0 xs (map present xs) (map draft_of xs)
+  begins xs = record {
     items_is = items_begin 1 xs;
-    drafts_is = drafts_begin 1 xs ds ∙ sym (drafts_are sent_at (map present xs) ds);
+    drafts_is = drafts_begin 1 xs ∙ sym (drafts_are sent_at (map present xs) (map draft_of xs));
     counts_is = counts_begin 1 xs;
   }

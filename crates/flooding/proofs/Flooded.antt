@@ -9,7 +9,6 @@ use Rattle.adjacency.specs.Contents.{Content, Step, Updates, no_sends}
 use Rattle.adjacency.specs.Contents as neighbor
 use Rattle.adjacency.specs.Drafts.{Drafted, drafting}
 use Rattle.adjacency.specs.Floods.{flood_step, is_any}
-use Rattle.adjacency.specs.Kept.{Kept}
 use Rattle.adjacency.specs.Neighbors.{Neighbor, is_exchange_or_later}
 use Rattle.adjacency.specs.Retransmissions.{add_retransmission, remove_retransmission}
 use Rattle.received.specs.Flooding.{flood_to, is_sender, passes, request_of, without_met_request}
@@ -17,7 +16,8 @@ use Rattle.received.specs.Links.{Link}
 use Rattle.received.specs.Outcomes.{Send, Stepping, marked_database, sent_on, step_on}
 use Rattle.received.specs.Outcomes.{stepped_links, stepping_sends}
 use Rattle.flooding.specs.Drafted.{drafted_from}
-use Rattle.flooding.specs.Links.{present, with_neighbor}
+use Rattle.flooding.specs.Kept.{KeptLink}
+use Rattle.flooding.specs.Links.{draft_of, present, with_neighbor}
 use Rattle.flooding.proofs.Finish.{Finishes, finish_counts, finish_drafts, items_all}
 use Rattle.flooding.proofs.Sends.{any_from, any_is, draft_from, drafts_are}
 use Rattle.flooding.proofs.Marks.{marks_all}
@@ -90,32 +90,30 @@ module _ (moment : ℕ) (sender : Option ℕ) (lsa : Lsa) where
       → sent_at number link ≡ cond (is_any (sent_at number link)) (Updates lsa ∷ []) []
   one number link = one_on number link link.neighbor
 
-  drafts_all : (n : ℕ) (xs : List (Kept Link)) (ds : List Drafted)
-      → finish_drafts present after_step after_draft counts 0 n xs ds
-      ≡ draft_from sent_at n (map present xs) ds
-  drafts_all n [] ds = refl
-  drafts_all n (x ∷ xs) [] = refl
-  drafts_all n (x ∷ xs) (d ∷ ds) = ap (λ zs. after_draft n (present x) d ∷ zs)
-      (drafts_all (n + 1) xs ds)
+  drafts_all : (n : ℕ) (xs : List KeptLink)
+      → finish_drafts present draft_of after_step after_draft counts 0 n xs
+      ≡ draft_from sent_at n (map present xs) (map draft_of xs)
+  drafts_all n [] = refl
+  drafts_all n (x ∷ xs) = ap (λ zs. after_draft n (present x) (draft_of x) ∷ zs)
+      (drafts_all (n + 1) xs)
 
-  counts_all : (n : ℕ) (xs : List (Kept Link))
-      → finish_counts present after_step after_draft counts 0 n xs
+  counts_all : (n : ℕ) (xs : List KeptLink)
+      → finish_counts present draft_of after_step after_draft counts 0 n xs
       ≡ any_from sent_at n (map present xs)
   counts_all n [] = refl
   counts_all n (x ∷ xs) = ap (λ b. counts n (present x) || b) (counts_all (n + 1) xs)
 
   -- before the first step
-  abbrev pub Floods : ℕ → List (Kept Link) → List Drafted → Bool → List Link → List Drafted → Type 0
-  Floods i xs ds sent olds drafts =
-      Finishes present after_step after_draft counts i xs ds sent (stepped_links step olds)
+  abbrev pub Floods : ℕ → List KeptLink → Bool → List Link → List Drafted → Type 0
+  Floods i xs sent olds drafts =
+      Finishes present draft_of after_step after_draft counts i xs sent (stepped_links step olds)
       (drafted_from 1 (stepping_sends step olds) olds drafts)
       (is_any (stepping_sends step olds))
 
-  pub begins : (xs : List (Kept Link)) (ds : List Drafted)
-      → Floods 0 xs ds false (map present xs) ds
-  begins xs ds = record {
-    items_is = items_all present after_step after_draft counts 1 xs;
-    drafts_is = drafts_all 1 xs ds ∙ sym (drafts_are sent_at (map present xs) ds);
+  pub begins : (xs : List KeptLink) → Floods 0 xs false (map present xs) (map draft_of xs)
+  begins xs = record {
+    items_is = items_all present draft_of after_step after_draft counts 1 xs;
+    drafts_is = drafts_all 1 xs ∙ sym (drafts_are sent_at (map present xs) (map draft_of xs));
     counts_is = counts_all 1 xs ∙ any_is sent_at 1 (map present xs);
   }
 

@@ -8,7 +8,10 @@ use Rattle.adjacency.specs.Contents.{Content}
 use Rattle.adjacency.specs.Drafts.{Drafted, drafting}
 use Rattle.received.specs.Links.{Link}
 use Rattle.received.specs.Outcomes.{Send, marked_database, sends_at}
+use Rattle.flooding.specs.Kept.{KeptLink}
+use Rattle.flooding.specs.Links.{draft_of}
 use Rattle.flooding.specs.Steps.{key_of_update, keys_behind, mark_each, update_count}
+use Rattle.flooding.specs.Steps.{update_count_on}
 use Rattle.flooding.proofs.Marking.{marks}
 use Rattle.flooding.proofs.Sends.{draft_from}
 use Rattle.flooding.proofs.Updates.{drop_end, drop_next, marks_behind}
@@ -51,6 +54,11 @@ module _ (moment : ℕ) (S : Link → List Content) where
   length-drafts n [] ds all = refl
   length-drafts n (l ∷ ls) [] all = refl
   length-drafts n (l ∷ ls) (d ∷ ds) all = ap suc (length-drafts (n + 1) ls ds (omega (arith, all)))
+
+pub counts_on : (ls : List KeptLink)
+    → map update_count_on ls ≡ map update_count (map draft_of ls)
+counts_on [] = refl
+counts_on (l ∷ ls) = ap (λ cs. update_count_on l ∷ cs) (counts_on ls)
 
 -- ---- the loop
 

@@ -7,14 +7,14 @@ use Rattle.std.specs.Prelude.{Option, None, Some}
 use Rattle.adjacency.specs.Contents.{Content, Step, no_sends}
 use Rattle.adjacency.specs.Contents as neighbor
 use Rattle.adjacency.specs.Drafts.{Drafted, drafting}
-use Rattle.adjacency.specs.Kept.{Kept}
 use Rattle.adjacency.specs.Neighbors.{Neighbor}
 use Rattle.adjacency.proofs.Floods.{drafting-none}
 use Rattle.received.specs.Links.{Link, change_link}
 use Rattle.received.specs.Outcomes.{sends_at, only_at, sent_on, step_on, stepped_links}
 use Rattle.received.specs.Outcomes.{stepping_sends}
 use Rattle.flooding.specs.Drafted.{at_interface, drafts_with, drafted_from}
-use Rattle.flooding.specs.Links.{present, with_neighbor}
+use Rattle.flooding.specs.Kept.{KeptLink}
+use Rattle.flooding.specs.Links.{draft_of, present, with_neighbor}
 use Rattle.flooding.proofs.Sends.{append_none, other_number, picked_elsewhere, picked_here}
 use Rattle.flooding.proofs.Sends.{same_number, sends_from}
 
@@ -110,14 +110,17 @@ sent_acts f k l None = refl
 sent_acts f k l (Some n) = sym (ap (λ b. (cond b (f n) (no_sends n)).sends) (same_number k))
 
 -- the view of the links after one of them changed
-shown_set : (ls : List (Kept Link)) (i : ℕ) (y : Kept Link)
+shown_set : (ls : List KeptLink) (i : ℕ) (y : KeptLink)
     → map present (set ls i y) ≡ set (map present ls) i y.present
 shown_set ls i y = map-set present ls i y
 
-shown_within : (ls : List (Kept Link)) (i : ℕ) → i < length ls → i < length (map present ls)
+shown_within : (ls : List KeptLink) (i : ℕ) → i < length ls → i < length (map present ls)
 shown_within ls i lt = omega (arith, lt, length-map ls present)
 
-module _ (ls : List (Kept Link)) (i k : ℕ) (y d : Kept Link) (lt : i < length ls) (at : k ≡ 1 + i)
+drafted_within : (ls : List KeptLink) (i : ℕ) → i < length ls → i < length (map draft_of ls)
+drafted_within ls i lt = omega (arith, lt, length-map ls draft_of)
+
+module _ (ls : List KeptLink) (i k : ℕ) (y d : KeptLink) (lt : i < length ls) (at : k ≡ 1 + i)
   where
     shown : get_or (map present ls) i d.present ≡ (get_or ls i d).present
     shown = get_or-map present ls i d d.present lt
@@ -158,18 +161,13 @@ module _ (ls : List (Kept Link)) (i k : ℕ) (y d : Kept Link) (lt : i < length 
         ∙ sym (sends_only S k (λ p l ne. sent_rests f k p l l.neighbor ne) i 1 (map present ls)
         d.present (shown_within ls i lt) at)
 
-    pub drafts_sent : (cs : List Content) (ds : List Drafted) (e dd : Drafted) → i < length ds
-        → e ≡ drafting (get_or ls i d).present.interface.delay cs (get_or ds i dd)
-        → set ds i e ≡ drafts_with (sends_at k cs) (map present ls) ds
-    drafts_sent cs ds e dd lt_d is =
-        drafted_only i 1 k cs (map present ls) ds d.present e dd (shown_within ls i lt) lt_d at
-        (is ∙ ap (λ (l : Link). drafting l.interface.delay cs (get_or ds i dd)) (sym shown))
-
--- if what is drafted doesn't depend on the delay, that of any link may be used
-pub drafts_at : (ls : List (Kept Link)) (i k : ℕ) → i < length ls → k ≡ 1 + i
-    → (cs : List Content) (ds : List Drafted) (e dd : Drafted) → i < length ds
-    → ((d : Kept Link) → e ≡ drafting d.present.interface.delay cs (get_or ds i dd))
-    → set ds i e ≡ drafts_with (sends_at k cs) (map present ls) ds
-drafts_at [] i k lt at cs ds e dd lt_d is = absurd (omega (arith, lt))
-drafts_at (l ∷ ls) i k lt at cs ds e dd lt_d is =
-    drafts_sent (l ∷ ls) i k l l lt at cs ds e dd lt_d (is (get_or (l ∷ ls) i l))
+    pub drafts_sent : (cs : List Content)
+        → y.drafted ≡ drafting (get_or ls i d).present.interface.delay cs (get_or ls i d).drafted
+        → map draft_of (set ls i y) ≡ drafts_with (sends_at k cs) (map present ls) (map draft_of ls)
+    drafts_sent cs is =
+        let drafted : get_or (map draft_of ls) i d.drafted ≡ (get_or ls i d).drafted =
+        get_or-map draft_of ls i d d.drafted lt in
+        map-set draft_of ls i y
+        ∙ drafted_only i 1 k cs (map present ls) (map draft_of ls) d.present y.drafted d.drafted
+        (shown_within ls i lt) (drafted_within ls i lt) at
+        (is ∙ (λ j. drafting (sym shown j).interface.delay cs (sym drafted j)))

@@ -3,17 +3,17 @@ use Rattle.std.proofs.Common.{◌≡◌, ℕ, zero, suc, ◌+◌, ◌<◌, List,
 use Rattle.std.proofs.Common.{refl, ap, ◌∙◌, arith}
 use Rattle.std.specs.List.{slice_get}
 use Rattle.std.specs.Prelude.{Some}
-use Rattle.adjacency.specs.Kept.{Kept}
-use Rattle.received.specs.Links.{Link, neighbor_at, neighbor_on}
+use Rattle.received.specs.Links.{neighbor_at, neighbor_on}
+use Rattle.flooding.specs.Kept.{KeptLink}
 use Rattle.flooding.specs.Links.{present}
 
-shown_get : (ls : List (Kept Link)) (i : ℕ) (d : Kept Link) → i < length ls
+shown_get : (ls : List KeptLink) (i : ℕ) (d : KeptLink) → i < length ls
     → Some (get_or ls i d).present ≡ slice_get (map present ls) i
 shown_get [] i d lt = absurd (omega (arith, lt))
 shown_get (l ∷ ls) zero d lt = refl
 shown_get (l ∷ ls) (suc i) d lt = shown_get ls i d (omega (arith, lt))
 
-pub shown_neighbor : (ls : List (Kept Link)) (i k : ℕ) (d : Kept Link) → i < length ls → k ≡ 1 + i
+pub shown_neighbor : (ls : List KeptLink) (i k : ℕ) (d : KeptLink) → i < length ls → k ≡ 1 + i
     → (get_or ls i d).present.neighbor ≡ neighbor_at k (map present ls)
 shown_neighbor ls i k d lt at =
     let next : suc i ≡ k = omega (arith, at) in

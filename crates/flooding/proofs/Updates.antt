@@ -8,10 +8,10 @@ use Rattle.adjacency.specs.lsdb.Headers.{lsa_key}
 use Rattle.adjacency.specs.Contents.{Acknowledges, Content, Describes, Requests, SendsHello}
 use Rattle.adjacency.specs.Contents.{Updates}
 use Rattle.adjacency.specs.Drafts.{Drafted, adds, drafting, update_of}
-use Rattle.adjacency.specs.Kept.{Kept}
 use Rattle.adjacency.specs.declared.draft.Update.{Update}
 use Rattle.received.specs.Links.{Link, link_at}
 use Rattle.received.specs.Outcomes.{sends_at}
+use Rattle.flooding.specs.Kept.{KeptLink}
 use Rattle.flooding.specs.Links.{present}
 use Rattle.flooding.specs.Steps.{key_of_update, mark_each}
 use Rattle.flooding.proofs.Marking.{marks}
@@ -41,6 +41,13 @@ drop_end (suc i) (x ∷ xs) all = drop_end i xs (omega (arith, all))
 behind_all : (us : List Update) (more : List Update) → drop (length us) (us ++ more) ≡ more
 behind_all [] more = refl
 behind_all (u ∷ us) more = behind_all us more
+
+-- what stands in for an item beyond the end doesn't matter
+pub same_item : {X : Type 0} (i : ℕ) (xs : List X) (d e : X) → i < length xs
+    → get_or xs i d ≡ get_or xs i e
+same_item i [] d e lt = absurd (omega (arith, lt))
+same_item zero (x ∷ xs) d e lt = refl
+same_item (suc i) (x ∷ xs) d e lt = same_item i xs d e (omega (arith, lt))
 
 -- ---- the Link State Updates
 
@@ -92,13 +99,13 @@ marks_behind moment delay n cs db d =
 
 -- ---- the link with a number
 
-shown_get : (ls : List (Kept Link)) (i : ℕ) (d : Kept Link) → i < length ls
+shown_get : (ls : List KeptLink) (i : ℕ) (d : KeptLink) → i < length ls
     → Some (get_or ls i d).present ≡ slice_get (map present ls) i
 shown_get [] i d lt = absurd (omega (arith, lt))
 shown_get (l ∷ ls) zero d lt = refl
 shown_get (l ∷ ls) (suc i) d lt = shown_get ls i d (omega (arith, lt))
 
-pub shown_link : (ls : List (Kept Link)) (i k : ℕ) (d : Kept Link) → i < length ls → k ≡ 1 + i
+pub shown_link : (ls : List KeptLink) (i k : ℕ) (d : KeptLink) → i < length ls → k ≡ 1 + i
     → Some (get_or ls i d).present ≡ link_at k (map present ls)
 shown_link ls i k d lt at =
     let next : suc i ≡ k = omega (arith, at) in

@@ -1,12 +1,12 @@
 -- The cases of received LSAs with their names in the code, and the tests that distinguish them.
-use Rattle.std.specs.Prelude.{Bool, List, [], ◌∷◌}
+use Rattle.std.specs.Prelude.{Bool, true, false, List, [], ◌∷◌}
 use Rattle.received.specs.Cases.{Case}
 use Rattle.flooding.specs.declared.cases.Case.{Case as Named}
 use Rattle.flooding.specs.declared.cases.Case.TheVariants as named
 use Rattle.flooding.specs.declared.cases.Tests.{Tests}
 
+-- bytes that encode no LSA are skipped before, so the code has no name for `Unreadable`
 abbrev pub case_of : Named → Case
-case_of named.Unreadable = Case.Unreadable
 case_of named.NothingToFlush = Case.NothingToFlush
 case_of named.TooSoon = Case.TooSoon
 case_of named.Newer = Case.Newer
@@ -16,6 +16,19 @@ case_of named.Duplicate = Case.Duplicate
 case_of named.SequenceWraps = Case.SequenceWraps
 case_of named.SentJustNow = Case.SentJustNow
 case_of named.Older = Case.Older
+
+-- it is newer than the copy, or there is none: it is installed
+abbrev pub is_newer : Case → Bool
+is_newer Case.Unreadable = false
+is_newer Case.NothingToFlush = false
+is_newer Case.TooSoon = false
+is_newer Case.Newer = true
+is_newer Case.BadRequest = false
+is_newer Case.ImpliedAcknowledgment = false
+is_newer Case.Duplicate = false
+is_newer Case.SequenceWraps = false
+is_newer Case.SentJustNow = false
+is_newer Case.Older = false
 
 -- the tests in order, each with its case
 abbrev pub tests_of : Tests → List (Bool × Case)

@@ -7,18 +7,23 @@ use Rattle.words.specs.Constants.{max_age}
 use Rattle.adjacency.specs.lsdb.Copies.{Database, DatabaseCopy, age_out, has_just_aged_out}
 use Rattle.adjacency.specs.lsdb.Copies.{install_originated, lsa_now}
 use Rattle.adjacency.specs.lsdb.Headers.{Lsa, lsa_aged}
-use Rattle.adjacency.specs.Kept.{Kept}
+use Rattle.adjacency.specs.Contents.{Content, Step, sent_on, step_on}
+use Rattle.adjacency.specs.Drafts.{Drafted}
 use Rattle.adjacency.specs.Neighbors.{Neighbor}
 use Rattle.adjacency.specs.declared.interface.Interface.{Interface}
 use Rattle.received.specs.Flooding.{flood}
 use Rattle.received.specs.Links.{Area, Link, any_has_retransmission}
 use Rattle.received.specs.Outcomes.{Outcome, on_database}
+use Rattle.flooding.specs.Kept.{KeptLink}
 
-abbrev pub present : Kept Link → Link
+abbrev pub present : KeptLink → Link
 present l = l.present
 
-abbrev pub settled_link : Kept Link → Link
+abbrev pub settled_link : KeptLink → Link
 settled_link l = l.settled
+
+abbrev pub draft_of : KeptLink → Drafted
+draft_of l = l.drafted
 
 -- the neighbor is Down, and nothing was sent
 abbrev pub unused_link : Interface → Link
@@ -35,7 +40,15 @@ with_neighbor n link = record link { neighbor = n }
 abbrev pub without_neighbor : Link → Link
 without_neighbor link = record link { neighbor = None }
 
-abbrev pub area_of : List (Kept Link) → Database → Area
+-- the neighbor on the link, if there is one, takes a step
+abbrev pub neighbor_step : (Neighbor → Step) → Link → Link
+neighbor_step f link = with_neighbor (step_on f link.neighbor) link
+
+-- what that step sends
+abbrev pub neighbor_sends : (Neighbor → Step) → Link → List Content
+neighbor_sends f link = sent_on f link.neighbor
+
+abbrev pub area_of : List KeptLink → Database → Area
 area_of links db = record { links = map present links; database = db }
 
 -- nothing was sent so far

@@ -10,6 +10,7 @@ use Rattle.adjacency.specs.Retransmissions.{send_again}
 use Rattle.adjacency.specs.declared.draft.Update.{Update}
 use Rattle.received.specs.Links.{Link, change_link, link_at}
 use Rattle.received.specs.Outcomes.{Outcome, Send, sends_at, on_links, sending}
+use Rattle.flooding.specs.Kept.{KeptLink}
 use Rattle.flooding.specs.Links.{with_neighbor}
 
 abbrev pub sends_of : (Link → List Content) → List Link → List Send
@@ -59,6 +60,9 @@ mark_each moment db keys = fold (λ (d : Database) (key : Key). mark_sent moment
 
 abbrev pub update_count : Drafted → ℕ
 update_count d = length d.updates
+
+abbrev pub update_count_on : KeptLink → ℕ
+update_count_on link = update_count link.drafted
 
 -- the keys of the Link State Updates of each draft after its first ones
 abbrev pub keys_behind : List ℕ → List Drafted → List Key

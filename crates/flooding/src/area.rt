@@ -1,18 +1,25 @@
 //! Links and database as one value.
-ghost use Rattle.std.specs.Prelude.{◌≡◌, map};
+//!
+//! A call that is a part of an event says by `AreaDoes` what it does: it changes links and database
+//! as the definition that it names, adds what that sends to the drafts of the interfaces, and
+//! leaves what was settled and the Router ID as they were. If it errors with `AllocError`, it may
+//! have done a part of its work; its caller then rolls back, which drops what was drafted, too.
+ghost use Rattle.std.specs.Prelude.{◌≡◌, map, IfOk, OnOk};
 ghost use Rattle.std.specs.FinMap as finite;
-ghost use Rattle.flooding.specs.Links.{area_of, present, settled_link};
+ghost use Rattle.flooding.specs.Drafted.{nothing_at};
+ghost use Rattle.flooding.specs.Links.{area_of, draft_of, present, settled_link};
 
 mod copying;
 
-use crate::flood::{roll_back_links, settle_links};
+use crate::flood::{roll_back_links, settle_links, take_drafts};
 use crate::link::Link;
-use adjacency::Lsdb;
-use std::alloc::Global;
+use adjacency::{Draft, Lsdb};
+use std::alloc::{AllocError, Global};
 use std::marker::Model;
 use words::{RouterId, Second};
 
-/// The links of a router and its database, and their state when they were last settled.
+/// The links of a router and its database, their state when they were last settled, and what was
+/// drafted since.
 #[derive(Drop)]
 pub struct Area {
     pub(crate) links: Vec<Link>,
@@ -36,14 +43,15 @@ impl Model for Area {
       coded_keys,
       coded_headers,
       finite.code {X = DatabaseCopy} {R = key_cmp} coded_key (Prim.hlevel codes),
-    )) };
+    )) (Prim.hlevel codes) };
 
-    ghost use Rattle.flooding.specs.Links.{present, settled_link};
+    ghost use Rattle.flooding.specs.Links.{draft_of, present, settled_link};
 
     ghost view = { λ a. record {
       router = a.database.router;
       present = record { links = map present a.links.items; database = a.database.present };
       settled = record { links = map settled_link a.links.items; database = a.database.settled };
+      drafted = map draft_of a.links.items;
     } };
 }
 
@@ -55,6 +63,7 @@ impl Area {
           router = router;
           present = area_of links.items finite.empty;
           settled = record { links = map settled_link links.items; database = finite.empty };
+          drafted = map draft_of links.items;
         } }
     {
         Area {
@@ -67,6 +76,7 @@ impl Area {
     pub fn links(&self) -> &[Link]
         ensures present { map present result.now ≡ self.now.present.links }
         ensures settled { map settled_link result.now ≡ self.now.settled.links }
+        ensures drafts { map draft_of result.now ≡ self.now.drafted }
     {
         &self.links
     }
@@ -82,9 +92,12 @@ impl Area {
         &self.database
     }
 
-    /// Makes the changes so far final. It doesn't allocate.
+    /// Makes the changes so far final, and drops what was drafted. It doesn't allocate.
     pub fn settle(&mut self)
-        ensures { self.new ≡ record self.old { settled = self.old.present } }
+        ensures { self.new ≡ record self.old {
+          settled = self.old.present;
+          drafted = nothing_at self.old.present.links;
+        } }
     {
         settle_links(&mut self.links);
         self.database.settle();
@@ -94,17 +107,39 @@ impl Area {
     /// moment, as in `Lsdb::settle_at`. If an allocation for that is refused, it tries again the
     /// next time.
     pub fn settle_at(&mut self, alloc: Global, moment: Second)
-        ensures { self.new ≡ record self.old { settled = self.old.present } }
+        ensures { self.new ≡ record self.old {
+          settled = self.old.present;
+          drafted = nothing_at self.old.present.links;
+        } }
     {
         settle_links(&mut self.links);
         self.database.settle_at(alloc, moment);
     }
 
-    /// Undoes all changes since the area was last settled. It doesn't allocate.
+    /// Undoes all changes since the area was last settled, and drops what was drafted. It doesn't
+    /// allocate.
     pub fn roll_back(&mut self)
-        ensures { self.new ≡ record self.old { present = self.old.settled } }
+        ensures { self.new ≡ record self.old {
+          present = self.old.settled;
+          drafted = nothing_at self.old.settled.links;
+        } }
     {
         roll_back_links(&mut self.links);
         self.database.roll_back();
+    }
+
+    /// Takes what was drafted away, in the order of the interfaces, so that nothing is left.
+    ///
+    /// Errors with `AllocError` if an allocation is refused.
+    pub fn take_drafts(&mut self, alloc: Global) -> Result<Vec<Draft>, AllocError>
+        ensures drafts { IfOk result (λ drafts. drafts.items ≡ self.old.drafted) }
+        ensures rest { OnOk result (self.new ≡ record self.old {
+          drafted = nothing_at self.old.present.links;
+        }) }
+        ensures present { self.new.present ≡ self.old.present }
+        ensures settled { self.new.settled ≡ self.old.settled }
+        ensures router { self.new.router ≡ self.old.router }
+    {
+        take_drafts(alloc, &mut self.links)
     }
 }

@@ -19,8 +19,6 @@ use words::{MAX_AGE, Second, SequenceNumber};
 /// 2328, section 13).
 #[derive(Clone, Copy, Debug)]
 pub enum Case {
-    /// The bytes encode no LSA. They are skipped before any test, so `Tests::case` never gives it.
-    Unreadable,
     /// At MaxAge, without a database copy, and no neighbor is in Exchange or Loading: nothing to
     /// flush.
     NothingToFlush,

@@ -1,14 +1,15 @@
 //! Flooding over the links of an area.
-ghost use Rattle.std.specs.Prelude.{◌≡◌, ◌≤◌, ◌||◌, IfOk, None, OnOk, length, map};
+ghost use Rattle.std.specs.Prelude.{◌≡◌, ◌≤◌, ◌||◌, IfOk, None, length, map};
 ghost use Rattle.words.specs.Constants.{max_age};
 ghost use Rattle.adjacency.specs.lsdb.Copies.{has_just_aged_out, lsa_now};
 ghost use Rattle.adjacency.specs.Floods.{is_any};
 ghost use Rattle.received.specs.Flooding.{flood_to, is_sender};
 ghost use Rattle.received.specs.Outcomes.{stepped_links, stepping_sends};
 ghost use Rattle.received.specs.Updates.{install};
-ghost use Rattle.flooding.specs.Drafted.{drafts_with};
-ghost use Rattle.flooding.specs.Links.{age_outcome, come_of_age, flooded_key, originate_outcome};
-ghost use Rattle.flooding.specs.Links.{present, settled_link, start};
+ghost use Rattle.flooding.specs.Doing.{AreaDoes, LinksDo};
+ghost use Rattle.flooding.specs.Drafted.{nothing_at};
+ghost use Rattle.flooding.specs.Links.{age_outcome, come_of_age, draft_of, flooded_key};
+ghost use Rattle.flooding.specs.Links.{originate_outcome, present, settled_link, start};
 
 use crate::area::Area;
 use crate::link::Link;
@@ -35,58 +36,45 @@ fn was_sent(before: bool, here: bool) -> bool
     before || here
 }
 
-// Floods the copy over all links, adding each Link State Update to the draft of its interface.
-// Returns whether any was sent.
+// Floods the copy over all links. Returns whether any Link State Update is sent.
 fn flood_links(
     alloc: Global,
     moment: Second,
     sender: Option<usize>,
     copy: &DatabaseCopy<'_>,
     links: &mut [Link],
-    drafts: &mut [Draft],
 ) -> Result<bool, AllocError>
-    requires { length drafts.old ≡ length links.old }
-    ensures links { IfOk result (λ _. map present links.new
-        ≡ stepped_links (flood_to moment sender (lsa_now moment copy.now))
-        (map present links.old)) }
-    ensures drafts { IfOk result (λ _. drafts.new
-        ≡ drafts_with (stepping_sends (flood_to moment sender (lsa_now moment copy.now))
-        (map present links.old))
-        (map present links.old) drafts.old) }
+    ensures does { LinksDo (stepped_links (flood_to moment sender (lsa_now moment copy.now)))
+        (stepping_sends (flood_to moment sender (lsa_now moment copy.now)))
+        links.old links.new result }
     ensures sent { IfOk result (λ sent. sent
         ≡ is_any (stepping_sends (flood_to moment sender (lsa_now moment copy.now))
         (map present links.old))) }
-    ensures settled { map settled_link links.new ≡ map settled_link links.old }
 {
     let mut sent = false;
     for i in 0..links.len() {
         let from = is_sender(sender, i + 1);
-        let one = links[i].flood(alloc, moment, from, copy, &mut drafts[i])?;
+        let one = links[i].flood(alloc, moment, from, copy)?;
         sent = was_sent(sent, one);
     }
     Ok(sent)
 }
 
 // Floods the LSA over all links as the copy that is going to be installed, so that it needn't be
-// searched for afterwards. Returns whether any Link State Update was sent.
+// searched for afterwards. Returns whether any Link State Update is sent.
 fn flood_received(
     alloc: Global,
     moment: Second,
     sender: Option<usize>,
     lsa: &Lsa,
     links: &mut [Link],
-    drafts: &mut [Draft],
 ) -> Result<bool, AllocError>
     requires age { lsa.now.header.age ≤ max_age }
-    requires drafts { length drafts.old ≡ length links.old }
-    ensures links { IfOk result (λ _. map present links.new
-        ≡ stepped_links (flood_to moment sender lsa.now) (map present links.old)) }
-    ensures drafts { IfOk result (λ _. drafts.new
-        ≡ drafts_with (stepping_sends (flood_to moment sender lsa.now) (map present links.old))
-        (map present links.old) drafts.old) }
+    ensures does { LinksDo (stepped_links (flood_to moment sender lsa.now))
+        (stepping_sends (flood_to moment sender lsa.now))
+        links.old links.new result }
     ensures sent { IfOk result (λ sent. sent
         ≡ is_any (stepping_sends (flood_to moment sender lsa.now) (map present links.old))) }
-    ensures settled { map settled_link links.new ≡ map settled_link links.old }
 {
     let header = lsa.header();
     let times = CopyTimes {
@@ -96,7 +84,7 @@ fn flood_received(
         sent: None,
     };
     let copy = DatabaseCopy { lsa, times };
-    flood_links(alloc, moment, sender, &copy, links, drafts)
+    flood_links(alloc, moment, sender, &copy, links)
 }
 
 fn has_just_aged_out(before: Second, moment: Second, copy: &DatabaseCopy<'_>) -> bool
@@ -108,27 +96,14 @@ fn has_just_aged_out(before: Second, moment: Second, copy: &DatabaseCopy<'_>) ->
 impl Area {
     // Floods the copy of this key to every neighbor, if there is one, and marks it as sent if it
     // was.
-    fn flood(
-        &mut self,
-        alloc: Global,
-        moment: Second,
-        key: &Key,
-        drafts: &mut [Draft],
-    ) -> Result<(), AllocError>
-        requires { length drafts.old ≡ length self.old.present.links }
-        ensures ok { OnOk result (self.new.present
-            ≡ (flooded_key moment None key.now self.old.present).area) }
-        ensures drafts { OnOk result (drafts.new
-            ≡ drafts_with (flooded_key moment None key.now self.old.present).sends
-            self.old.present.links drafts.old) }
-        ensures settled { self.new.settled ≡ self.old.settled }
-        ensures router { self.new.router ≡ self.old.router }
+    fn flood(&mut self, alloc: Global, moment: Second, key: &Key) -> Result<(), AllocError>
+        ensures { AreaDoes (flooded_key moment None key.now) self.old self.new result }
     {
         let Some(copy) = self.database.get(key) else {
             return Ok(());
         };
         let header = copy.header(moment);
-        let sent = flood_links(alloc, moment, None, &copy, &mut self.links, drafts)?;
+        let sent = flood_links(alloc, moment, None, &copy, &mut self.links)?;
         if sent {
             let sent_key = header.key();
             return self.database.mark_sent(moment, &sent_key);
@@ -136,31 +111,26 @@ impl Area {
         Ok(())
     }
 
-    // Floods an LSA that was received at the interface with this number, delays its
-    // acknowledgment, and installs it.
-    pub(crate) fn install(
+    /// Floods an LSA of the case `Newer` that was received at the interface with this number,
+    /// delays its acknowledgment, and installs it (RFC 2328, section 13, step 5). Processing a
+    /// self-originated LSA further is up to the caller.
+    ///
+    /// Errors with `AllocError` if an allocation is refused.
+    pub fn install(
         &mut self,
         alloc: Global,
         moment: Second,
         number: usize,
         lsa: Lsa,
-        drafts: &mut [Draft],
     ) -> Result<(), AllocError>
         requires first { 1 ≤ number }
         requires last { number ≤ length self.old.present.links }
-        requires drafts { length drafts.old ≡ length self.old.present.links }
-        ensures ok { OnOk result (self.new.present
-            ≡ (install moment number lsa (start self.old.present)).area) }
-        ensures drafts { OnOk result (drafts.new
-            ≡ drafts_with (install moment number lsa (start self.old.present)).sends
-            self.old.present.links drafts.old) }
-        ensures settled { self.new.settled ≡ self.old.settled }
-        ensures router { self.new.router ≡ self.old.router }
+        ensures { AreaDoes (λ a. install moment number lsa (start a)) self.old self.new result }
     {
         lsa.check_age();
         let header = lsa.header();
         let key = header.key();
-        let sent = flood_received(alloc, moment, Some(number), &lsa, &mut self.links, drafts)?;
+        let sent = flood_received(alloc, moment, Some(number), &lsa, &mut self.links)?;
         acknowledge_later(number, header, &mut self.links)?;
         self.database.install_flooded(moment, lsa)?;
         if sent {
@@ -172,84 +142,47 @@ impl Area {
     /// Installs an LSA that this router originated (RFC 2328, section 12.4), and floods it to every
     /// neighbor.
     ///
-    /// Errors with `AllocError` if an allocation is refused; the caller then rolls the area back
-    /// and drops the drafts.
-    pub fn originate(
-        &mut self,
-        alloc: Global,
-        moment: Second,
-        lsa: Lsa,
-        drafts: &mut [Draft],
-    ) -> Result<(), AllocError>
-        requires { length drafts.old ≡ length self.old.present.links }
-        ensures ok { OnOk result (self.new.present
-            ≡ (originate_outcome moment lsa self.old.present).area) }
-        ensures drafts { OnOk result (drafts.new
-            ≡ drafts_with (originate_outcome moment lsa self.old.present).sends
-            self.old.present.links drafts.old) }
-        ensures settled { self.new.settled ≡ self.old.settled }
-        ensures router { self.new.router ≡ self.old.router }
+    /// Errors with `AllocError` if an allocation is refused.
+    pub fn originate(&mut self, alloc: Global, moment: Second, lsa: Lsa) -> Result<(), AllocError>
+        ensures { AreaDoes (originate_outcome moment lsa) self.old self.new result }
     {
         lsa.check_age();
         let header = lsa.header();
         let key = header.key();
         self.database.install_originated(moment, lsa)?;
-        self.flood(alloc, moment, &key, drafts)
+        self.flood(alloc, moment, &key)
     }
 
     /// Sets the copy of this key to MaxAge, and floods it to every neighbor (RFC 2328, section
     /// 14.1). Without a copy nothing changes.
     ///
-    /// Errors with `AllocError` if an allocation is refused; the caller then rolls the area back
-    /// and drops the drafts.
-    pub fn age_out(
-        &mut self,
-        alloc: Global,
-        moment: Second,
-        key: &Key,
-        drafts: &mut [Draft],
-    ) -> Result<(), AllocError>
-        requires { length drafts.old ≡ length self.old.present.links }
-        ensures ok { OnOk result (self.new.present
-            ≡ (age_outcome moment key.now self.old.present).area) }
-        ensures drafts { OnOk result (drafts.new
-            ≡ drafts_with (age_outcome moment key.now self.old.present).sends
-            self.old.present.links drafts.old) }
-        ensures settled { self.new.settled ≡ self.old.settled }
-        ensures router { self.new.router ≡ self.old.router }
+    /// Errors with `AllocError` if an allocation is refused.
+    pub fn age_out(&mut self, alloc: Global, moment: Second, key: &Key) -> Result<(), AllocError>
+        ensures { AreaDoes (age_outcome moment key.now) self.old self.new result }
     {
         self.database.age_out(moment, key)?;
-        self.flood(alloc, moment, key, drafts)
+        self.flood(alloc, moment, key)
     }
 
     /// Floods a copy of this key that has reached MaxAge since the moment `before` to every
     /// neighbor (RFC 2328, section 14). Without such a copy nothing changes.
     ///
-    /// Errors with `AllocError` if an allocation is refused; the caller then rolls the area back
-    /// and drops the drafts.
+    /// Errors with `AllocError` if an allocation is refused.
     pub fn come_of_age(
         &mut self,
         alloc: Global,
         before: Second,
         moment: Second,
         key: &Key,
-        drafts: &mut [Draft],
     ) -> Result<(), AllocError>
-        requires { length drafts.old ≡ length self.old.present.links }
-        ensures ok { OnOk result (self.new.present
-            ≡ (come_of_age before moment key.now self.old.present).area) }
-        ensures drafts { OnOk result (drafts.new
-            ≡ drafts_with (come_of_age before moment key.now self.old.present).sends
-            self.old.present.links drafts.old) }
-        ensures settled { self.new.settled ≡ self.old.settled }
-        ensures router { self.new.router ≡ self.old.router }
+        ensures { AreaDoes (come_of_age before moment key.now) self.old self.new result }
     {
         let Some(copy) = self.database.get(key) else {
             return Ok(());
         };
         let came = has_just_aged_out(before, moment, &copy);
         if came {
-            return self.flood(alloc, moment, key, drafts);
+            return self.flood(alloc, moment, key);
         }
         Ok(())
     }
@@ -258,6 +191,7 @@ impl Area {
 pub fn settle_links(links: &mut [Link])
     ensures present { map present links.new ≡ map present links.old }
     ensures settled { map settled_link links.new ≡ map present links.old }
+    ensures drafts { map draft_of links.new ≡ nothing_at (map present links.old) }
 {
     for i in 0..links.len() {
         links[i].settle();
@@ -267,8 +201,24 @@ pub fn settle_links(links: &mut [Link])
 pub fn roll_back_links(links: &mut [Link])
     ensures present { map present links.new ≡ map settled_link links.old }
     ensures settled { map settled_link links.new ≡ map settled_link links.old }
+    ensures drafts { map draft_of links.new ≡ nothing_at (map settled_link links.old) }
 {
     for i in 0..links.len() {
         links[i].roll_back();
     }
+}
+
+/// Takes what was drafted away, in the order of the interfaces, so that nothing is left.
+pub fn take_drafts(alloc: Global, links: &mut [Link]) -> Result<Vec<Draft>, AllocError>
+    ensures drafts { IfOk result (λ drafts. drafts.items ≡ map draft_of links.old) }
+    ensures present { map present links.new ≡ map present links.old }
+    ensures settled { map settled_link links.new ≡ map settled_link links.old }
+    ensures rest { IfOk result (λ _. map draft_of links.new ≡ nothing_at (map present links.old)) }
+{
+    let mut drafts = Vec::new(alloc);
+    for i in 0..links.len() {
+        let draft = links[i].take_draft(alloc);
+        drafts.push(draft)?;
+    }
+    Ok(drafts)
 }

@@ -1,8 +1,5 @@
 //! Flooding over all links of an area, and processing received LSAs (RFC 2328, sections 13 and
 //! 13.3).
-//!
-//! A call that errors with `AllocError` may have done a part of its work. The caller then rolls
-//! back what it changes, and drops the drafts that it adds to.
 #![tactic(auto)]
 
 mod area;

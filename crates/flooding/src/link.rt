@@ -1,14 +1,15 @@
 //! Interfaces with their state.
-ghost use Rattle.std.specs.Prelude.{◌≡◌, ℕ, IfOk, OnOk};
+ghost use Rattle.std.specs.Prelude.{◌≡◌, ◌∷◌, [], IfOk};
 ghost use Rattle.lsa.specs.Headers.{key_of};
 ghost use Rattle.adjacency.specs.lsdb.Copies.{lsa_now};
 ghost use Rattle.adjacency.specs.Adjacencies.{mismatch_step};
-ghost use Rattle.adjacency.specs.Contents.{no_sends, sent_on, step_on};
-ghost use Rattle.adjacency.specs.Drafts.{drafting};
+ghost use Rattle.adjacency.specs.Contents.{Updates, no_sends, sent_on};
+ghost use Rattle.adjacency.specs.Drafts.{nothing_drafted};
 ghost use Rattle.adjacency.specs.Floods.{flood_step, is_any};
 ghost use Rattle.adjacency.specs.Retransmissions.{remove_retransmission};
 ghost use Rattle.received.specs.Links.{acknowledge_later};
-ghost use Rattle.flooding.specs.Links.{unused_link, with_neighbor};
+ghost use Rattle.flooding.specs.Doing.{LinkDoes};
+ghost use Rattle.flooding.specs.Links.{neighbor_sends, neighbor_step, unused_link};
 
 mod acknowledgments;
 mod asked;
@@ -18,7 +19,7 @@ pub mod packets;
 pub mod timers;
 
 use crate::place::Place;
-use adjacency::{DatabaseCopy, Draft, Interface, Saved};
+use adjacency::{DatabaseCopy, Draft, Interface, Saved, Update};
 use keyed_map::KeyedMap;
 use lsa::Header;
 use std::alloc::{AllocError, Global};
@@ -26,7 +27,9 @@ use std::marker::Model;
 use words::Second;
 
 /// An interface with its neighbor, the delayed acknowledgments, and the moment of the last Hello
-/// that was sent; and their state when they were last settled.
+/// that was sent; their state when they were last settled; and what was drafted for the interface
+/// since. A call that errors may have done a part of its work: `Area` says what its caller then
+/// does.
 #[derive(Drop)]
 pub struct Link {
     interface: Interface,
@@ -34,17 +37,19 @@ pub struct Link {
     // the latest one for each key
     acknowledgments: KeyedMap<Header>,
     last_hello_sent: Saved<Option<Second>>,
+    // nothing between events
+    draft: Draft,
 }
 
 impl Model for Link {
     ghost use Rattle.std.specs.Coded.{codes};
-    ghost use Rattle.adjacency.specs.Kept.{Kept};
-    ghost use Rattle.adjacency.specs.Codes.{coded_headers, coded_kept, coded_keys, coded_lists};
-    ghost use Rattle.received.specs.Links.{Link as Shown};
+    ghost use Rattle.adjacency.specs.Codes.{coded_headers, coded_keys, coded_lists};
+    ghost use Rattle.flooding.specs.Kept.{KeptLink, coded_link};
 
-    ghost Value = { Kept Shown };
+    ghost Value = { KeptLink };
 
-    ghost coded = { coded_kept (Prim.hlevel (codes, coded_lists, coded_keys, coded_headers)) };
+    ghost coded = { coded_link (Prim.hlevel (codes, coded_lists, coded_keys, coded_headers))
+        (Prim.hlevel codes) };
 
     ghost view = { λ a. record {
       present = record {
@@ -59,6 +64,7 @@ impl Model for Link {
         acknowledgments = a.acknowledgments.settled;
         last_hello_sent = a.last_hello_sent.settled;
       };
+      drafted = a.draft;
     } };
 }
 
@@ -67,8 +73,8 @@ impl Link {
     pub fn new(alloc: Global, interface: Interface) -> Self
         ensures { result ≡ record {
           present = unused_link interface;
-          settled = unused_link
-              interface;
+          settled = unused_link interface;
+          drafted = nothing_drafted;
         } }
     {
         Link {
@@ -76,6 +82,7 @@ impl Link {
             place: Place::down(),
             acknowledgments: KeyedMap::new(alloc),
             last_hello_sent: Saved::new(None),
+            draft: Draft::new(alloc),
         }
     }
 
@@ -86,72 +93,80 @@ impl Link {
         self.interface
     }
 
+    /// The LSAs that were drafted for Link State Updates.
+    pub fn updates(&self) -> &[Update]
+        ensures { result.now ≡ self.now.drafted.updates }
+    {
+        self.draft.updates()
+    }
+
     /// Floods the copy to the neighbor, from which it came or not. Returns whether it is sent in a
     /// Link State Update, its age incremented by InfTransDelay (RFC 2328, section 13.3).
     ///
-    /// Errors with `AllocError` if an allocation is refused; the caller then rolls the link back.
+    /// Errors with `AllocError` if an allocation is refused.
     pub fn flood(
         &mut self,
         alloc: Global,
         moment: Second,
         from: bool,
         copy: &DatabaseCopy<'_>,
-        draft: &mut Draft,
     ) -> Result<bool, AllocError>
-        ensures ok { IfOk result (λ _. self.new.present
-            ≡ with_neighbor (step_on (flood_step moment from (lsa_now moment copy.now))
-            self.old.present.neighbor)
-            self.old.present) }
-        ensures draft { IfOk result (λ _. draft.new
-            ≡ drafting self.old.present.interface.delay
-            (sent_on (flood_step moment from (lsa_now moment copy.now)) self.old.present.neighbor)
-            draft.old) }
+        ensures does { LinkDoes
+            (neighbor_step (flood_step moment from (lsa_now moment copy.now)))
+            (neighbor_sends (flood_step moment from (lsa_now moment copy.now)))
+            self.old self.new result }
         ensures sent { IfOk result (λ sent. sent
             ≡ is_any (sent_on (flood_step moment from (lsa_now moment copy.now))
             self.old.present.neighbor)) }
-        ensures settled { self.new.settled ≡ self.old.settled }
     {
         let delay = self.interface.delay;
         let Some(neighbor) = &mut self.place.neighbor else {
             return Ok(false);
         };
-        neighbor.flood(alloc, moment, from, copy, delay, draft)
+        neighbor.flood(alloc, moment, from, copy, delay, &mut self.draft)
+    }
+
+    /// Sends the copy in a Link State Update, its age incremented by InfTransDelay, without putting
+    /// it on the neighbor's retransmission list.
+    ///
+    /// Errors with `AllocError` if an allocation is refused.
+    pub fn send_copy(
+        &mut self,
+        alloc: Global,
+        moment: Second,
+        copy: &DatabaseCopy<'_>,
+    ) -> Result<(), AllocError>
+        ensures { LinkDoes (λ link. link) (λ link. Updates (lsa_now moment copy.now) ∷ []) self.old
+            self.new result }
+    {
+        let delay = self.interface.delay;
+        self.draft.update(alloc, delay, moment, copy)
     }
 
     /// BadLSReq (RFC 2328, section 10.3, and section 13, step 6): from Exchange on, the neighbor
     /// goes back to ExStart, and the first Database Description of a new attempt is sent.
     ///
-    /// Errors with `AllocError` if an allocation is refused; the caller then rolls the link back.
-    pub fn bad_request(
-        &mut self,
-        alloc: Global,
-        moment: Second,
-        draft: &mut Draft,
-    ) -> Result<(), AllocError>
-        ensures ok { OnOk result (self.new.present
-            ≡ with_neighbor (step_on (mismatch_step moment) self.old.present.neighbor)
-            self.old.present) }
-        ensures draft { OnOk result ((delay : ℕ) → draft.new
-            ≡ drafting delay (sent_on (mismatch_step moment) self.old.present.neighbor) draft.old) }
-        ensures settled { self.new.settled ≡ self.old.settled }
+    /// Errors with `AllocError` if an allocation is refused.
+    pub fn bad_request(&mut self, alloc: Global, moment: Second) -> Result<(), AllocError>
+        ensures { LinkDoes (neighbor_step (mismatch_step moment))
+            (neighbor_sends (mismatch_step moment))
+            self.old self.new result }
     {
         let exchanging = self.place.is_exchange_or_later();
         if exchanging {
-            return self.place.attempt(alloc, moment, draft);
+            return self.place.attempt(alloc, moment, &mut self.draft);
         }
         Ok(())
     }
 
     /// Removes the header's key from the neighbor's retransmission list.
     ///
-    /// Errors with `AllocError` if an allocation is refused; the caller then rolls the link back.
+    /// Errors with `AllocError` if an allocation is refused.
     pub fn remove_retransmission(&mut self, header: &Header) -> Result<(), AllocError>
-        ensures ok { OnOk result (self.new.present
-            ≡ with_neighbor
-            (step_on (λ n. no_sends (remove_retransmission (key_of header.now) n))
-            self.old.present.neighbor)
-            self.old.present) }
-        ensures settled { self.new.settled ≡ self.old.settled }
+        ensures { LinkDoes
+            (neighbor_step (λ n. no_sends (remove_retransmission (key_of header.now) n)))
+            (λ link. [])
+            self.old self.new result }
     {
         match &mut self.place.neighbor {
             None => Ok(()),
@@ -162,29 +177,46 @@ impl Link {
     /// Adds a delayed acknowledgment of the instance, which replaces an earlier one of its key (RFC
     /// 2328, section 13.5).
     ///
-    /// Errors with `AllocError` if an allocation is refused; the caller then rolls the link back.
+    /// Errors with `AllocError` if an allocation is refused.
     pub fn acknowledge_later(&mut self, header: Header) -> Result<(), AllocError>
-        ensures ok { OnOk result (self.new.present ≡ acknowledge_later header self.old.present) }
-        ensures settled { self.new.settled ≡ self.old.settled }
+        ensures { LinkDoes (acknowledge_later header) (λ link. []) self.old self.new result }
     {
         self.acknowledgments.insert(header.key(), header)
     }
 
-    /// Makes the changes so far final.
+    /// Makes the changes so far final, and drops what was drafted.
     pub fn settle(&mut self)
-        ensures { self.new ≡ record { present = self.old.present; settled = self.old.present } }
+        ensures { self.new ≡ record {
+          present = self.old.present;
+          settled = self.old.present;
+          drafted = nothing_drafted;
+        } }
     {
         self.place.settle();
         self.acknowledgments.settle();
         self.last_hello_sent.settle();
+        self.draft.clear();
     }
 
-    /// Undoes all changes since the link was last settled.
+    /// Undoes all changes since the link was last settled, and drops what was drafted.
     pub fn roll_back(&mut self)
-        ensures { self.new ≡ record { present = self.old.settled; settled = self.old.settled } }
+        ensures { self.new ≡ record {
+          present = self.old.settled;
+          settled = self.old.settled;
+          drafted = nothing_drafted;
+        } }
     {
         self.place.roll_back();
         self.acknowledgments.roll_back();
         self.last_hello_sent.roll_back();
+        self.draft.clear();
+    }
+
+    /// Takes what was drafted away, so that nothing is left. It doesn't allocate.
+    pub fn take_draft(&mut self, alloc: Global) -> Draft
+        ensures draft { result ≡ self.old.drafted }
+        ensures link { self.new ≡ record self.old { drafted = nothing_drafted } }
+    {
+        std::mem::replace(&mut self.draft, Draft::new(alloc))
     }
 }

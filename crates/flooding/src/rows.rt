@@ -1,6 +1,5 @@
-//! What is asked of all links, and what the cases of a received LSA do to links and drafts, which
-//! the caller passes separately.
-ghost use Rattle.std.specs.Prelude.{◌≡◌, ◌≤◌, OnOk, [], ◌∷◌, length, map};
+//! What is asked of all links, and what the cases of a received LSA do to links.
+ghost use Rattle.std.specs.Prelude.{◌≡◌, ◌≤◌, [], ◌∷◌, length, map};
 ghost use Rattle.lsa.specs.Headers.{key_of};
 ghost use Rattle.adjacency.specs.lsdb.Copies.{lsa_now};
 ghost use Rattle.adjacency.specs.Adjacencies.{mismatch_step};
@@ -9,11 +8,11 @@ ghost use Rattle.adjacency.specs.Retransmissions.{remove_retransmission};
 ghost use Rattle.received.specs.Links.{acknowledge_later, any_exchange_or_loading};
 ghost use Rattle.received.specs.Links.{any_has_retransmission, change_link};
 ghost use Rattle.received.specs.Outcomes.{sends_at, only_at, stepped_links, stepping_sends};
-ghost use Rattle.flooding.specs.Drafted.{drafts_with};
-ghost use Rattle.flooding.specs.Links.{present, settled_link};
+ghost use Rattle.flooding.specs.Doing.{LinksDo};
+ghost use Rattle.flooding.specs.Links.{present};
 
 use crate::link::Link;
-use adjacency::{DatabaseCopy, Draft};
+use adjacency::DatabaseCopy;
 use lsa::Header;
 use std::alloc::{AllocError, Global};
 use words::{Key, Second};
@@ -50,21 +49,15 @@ pub fn mismatch(
     moment: Second,
     number: usize,
     links: &mut [Link],
-    drafts: &mut [Draft],
 ) -> Result<(), AllocError>
     requires first { 1 ≤ number }
     requires last { number ≤ length links.old }
-    requires drafts { length drafts.old ≡ length links.old }
-    ensures links { OnOk result (map present links.new
-        ≡ stepped_links (only_at number (mismatch_step moment)) (map present links.old)) }
-    ensures drafts { OnOk result (drafts.new
-        ≡ drafts_with (stepping_sends (only_at number (mismatch_step moment))
-        (map present links.old))
-        (map present links.old) drafts.old) }
-    ensures settled { map settled_link links.new ≡ map settled_link links.old }
+    ensures { LinksDo (stepped_links (only_at number (mismatch_step moment)))
+        (stepping_sends (only_at number (mismatch_step moment)))
+        links.old links.new result }
 {
     let i = number - 1;
-    links[i].bad_request(alloc, moment, &mut drafts[i])
+    links[i].bad_request(alloc, moment)
 }
 
 /// Removes the header's key from the retransmission list of the neighbor at one interface.
@@ -75,11 +68,11 @@ pub fn remove_retransmission(
 ) -> Result<(), AllocError>
     requires first { 1 ≤ number }
     requires last { number ≤ length links.old }
-    ensures links { OnOk result (map present links.new
-        ≡ stepped_links (only_at number (λ n. no_sends (remove_retransmission (key_of header.now)
-        n)))
-        (map present links.old)) }
-    ensures settled { map settled_link links.new ≡ map settled_link links.old }
+    ensures { LinksDo
+        (stepped_links (only_at number (λ n. no_sends (remove_retransmission (key_of header.now)
+        n))))
+        (λ ls. [])
+        links.old links.new result }
 {
     let i = number - 1;
     links[i].remove_retransmission(header)
@@ -93,30 +86,22 @@ pub fn acknowledge_later(
 ) -> Result<(), AllocError>
     requires first { 1 ≤ number }
     requires last { number ≤ length links.old }
-    ensures links { OnOk result (map present links.new
-        ≡ change_link number (acknowledge_later header) (map present links.old)) }
-    ensures settled { map settled_link links.new ≡ map settled_link links.old }
+    ensures { LinksDo (change_link number (acknowledge_later header)) (λ ls. []) links.old
+        links.new result }
 {
     let i = number - 1;
     links[i].acknowledge_later(header)
 }
 
 /// Sends a direct acknowledgment at one interface.
-pub fn acknowledge(
-    number: usize,
-    header: Header,
-    links: &[Link],
-    drafts: &mut [Draft],
-) -> Result<(), AllocError>
+pub fn acknowledge(number: usize, header: Header, links: &mut [Link]) -> Result<(), AllocError>
     requires first { 1 ≤ number }
-    requires last { number ≤ length links.now }
-    requires drafts { length drafts.old ≡ length links.now }
-    ensures { OnOk result (drafts.new
-        ≡ drafts_with (sends_at number (Acknowledges header ∷ [])) (map present links.now)
-        drafts.old) }
+    requires last { number ≤ length links.old }
+    ensures { LinksDo (λ ls. ls) (λ ls. sends_at number (Acknowledges header ∷ [])) links.old
+        links.new result }
 {
     let i = number - 1;
-    drafts[i].acknowledge(header)
+    links[i].acknowledge_at_once(header)
 }
 
 /// Sends the copy in a Link State Update at one interface.
@@ -125,18 +110,14 @@ pub fn update(
     moment: Second,
     number: usize,
     copy: &DatabaseCopy<'_>,
-    links: &[Link],
-    drafts: &mut [Draft],
+    links: &mut [Link],
 ) -> Result<(), AllocError>
     requires first { 1 ≤ number }
-    requires last { number ≤ length links.now }
-    requires drafts { length drafts.old ≡ length links.now }
-    ensures { OnOk result (drafts.new
-        ≡ drafts_with (sends_at number (Updates (lsa_now moment copy.now) ∷ []))
-        (map present links.now)
-        drafts.old) }
+    requires last { number ≤ length links.old }
+    ensures { LinksDo (λ ls. ls)
+        (λ ls. sends_at number (Updates (lsa_now moment copy.now) ∷ []))
+        links.old links.new result }
 {
     let i = number - 1;
-    let delay = links[i].interface().delay;
-    drafts[i].update(alloc, delay, moment, copy)
+    links[i].send_copy(alloc, moment, copy)
 }

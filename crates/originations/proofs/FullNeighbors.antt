@@ -16,7 +16,8 @@ use Rattle.lsa.specs.declared.body.LsaBody.{LsaBody}
 use Rattle.lsa.specs.declared.body.LsaBody.TheVariants as body
 use Rattle.lsa.specs.declared.body.LinkKind.TheVariants.{PointToPoint}
 use Rattle.lsa.specs.declared.body.RouterLink.{RouterLink}
-use Rattle.flooding.specs.adjacency.Kept.{Kept}
+use Rattle.flooding.specs.Kept.{KeptLink}
+use Rattle.flooding.specs.adjacency.Drafts.{nothing_drafted}
 use Rattle.flooding.specs.adjacency.Neighbors.{Neighbor, fresh, is_full}
 use Rattle.flooding.specs.adjacency.declared.interface.Interface.{Interface}
 use Rattle.flooding.specs.adjacency.declared.state.NeighborState.TheVariants.{Full}
@@ -80,12 +81,13 @@ link_with i f = record {
   last_hello_sent = None;
 }
 
-abbrev links_with : List Interface → List (Option ℕ) → List (Kept Link)
+abbrev links_with : List Interface → List (Option ℕ) → List KeptLink
 links_with [] fs = []
 links_with (i ∷ is) [] = []
 links_with (i ∷ is) (f ∷ fs) = record {
   present = link_with i f;
   settled = link_with i f;
+  drafted = nothing_drafted;
 } ∷ links_with is fs
 
 one_with : (i : Interface) (f : Option ℕ) → interface_links i f ≡ links_of (link_with i f)
@@ -146,17 +148,17 @@ described_end is fs n said whole end so_far =
 
 -- ---- what the code reads at an index
 
-pub interface_here : (links : List (Kept Link)) (i : ℕ) (link : Kept Link) (x : Interface)
+pub interface_here : (links : List KeptLink) (i : ℕ) (link : KeptLink) (x : Interface)
     → i < length links → x ≡ link.present.interface → link ≡ get_or links i link
     → x ≡ get_or (interfaces (map present links)) i x
 interface_here links i link x lt is read =
     is
-    ∙ ap (λ (k : Kept Link). k.present.interface) read
+    ∙ ap (λ (k : KeptLink). k.present.interface) read
     ∙ ap (λ (l : Link). l.interface) (sym (get_or-map present links i link link.present lt))
     ∙ sym (get_or-map (λ (l : Link). l.interface) (map present links) i link.present x
     (omega (arith, lt, length-map links present)))
 
-pub count_of : (links : List (Kept Link)) → length (interfaces (map present links)) ≡ length links
+pub count_of : (links : List KeptLink) → length (interfaces (map present links)) ≡ length links
 count_of links = length-map (map present links) (λ (l : Link). l.interface)
     ∙ length-map links present
 

@@ -10,7 +10,7 @@ use Rattle.lsa.specs.Text.{body_text}
 use Rattle.lsa.specs.declared.body.LsaBody.{LsaBody}
 use Rattle.lsa.specs.declared.body.RouterLink.{RouterLink}
 use Rattle.lsa.specs.declared.body.LinkKind.TheVariants.{PointToPoint}
-use Rattle.flooding.specs.adjacency.Kept.{Kept}
+use Rattle.flooding.specs.Kept.{KeptLink}
 use Rattle.flooding.specs.adjacency.Neighbors.{Neighbor, is_full}
 use Rattle.flooding.specs.received.Links.{Link}
 use Rattle.events.specs.Originations.{links_of, point_to_point, router_body, stub}
@@ -20,22 +20,22 @@ use Rattle.flooding.specs.Links.{present}
 
 -- ---- one more interface
 
-pub more_said : (links : List (Kept Link)) (i : ℕ) (link : Kept Link)
+pub more_said : (links : List KeptLink) (i : ℕ) (link : KeptLink)
     (said longer : List RouterLink) → i < length links → link ≡ get_or links i link
-    → said ≡ flat_map (λ (l : Kept Link). links_of l.present) (take i links)
+    → said ≡ flat_map (λ (l : KeptLink). links_of l.present) (take i links)
     → longer ≡ said ++ links_of link.present
-    → longer ≡ flat_map (λ (l : Kept Link). links_of l.present) (take (i + 1) links)
+    → longer ≡ flat_map (λ (l : KeptLink). links_of l.present) (take (i + 1) links)
 more_said links i link said longer lt is before now =
     now ∙ ap (λ ls. ls ++ links_of link.present) before
-    ∙ flat_map_more (λ (l : Kept Link). links_of l.present) [] (take i links) link
-    ∙ ap (λ ls. flat_map (λ (l : Kept Link). links_of l.present) ls)
+    ∙ flat_map_more (λ (l : KeptLink). links_of l.present) [] (take i links) link
+    ∙ ap (λ ls. flat_map (λ (l : KeptLink). links_of l.present) ls)
     (sym (take_more links i link lt ∙ ap (λ l. take i links ++ l ∷ []) (sym is)))
 
-pub all_said : (links : List (Kept Link)) (i : ℕ) (said : List RouterLink)
-    → said ≡ flat_map (λ (l : Kept Link). links_of l.present) (take i links) → length links ≤ i
+pub all_said : (links : List KeptLink) (i : ℕ) (said : List RouterLink)
+    → said ≡ flat_map (λ (l : KeptLink). links_of l.present) (take i links) → length links ≤ i
     → said ≡ flat_map links_of (map present links)
 all_said links i said is end =
-    is ∙ ap (λ ls. flat_map (λ (l : Kept Link). links_of l.present) ls) (take_all i links end)
+    is ∙ ap (λ ls. flat_map (λ (l : KeptLink). links_of l.present) ls) (take_all i links end)
     ∙ sym (flat_map-map links_of present links)
 
 -- ---- the links fit
@@ -90,7 +90,7 @@ all_few (l ∷ ls) = omega (
 )
 
 -- for at most 63 interfaces
-pub router_fits : (links : List (Kept Link)) (says : LsaBody)
+pub router_fits : (links : List KeptLink) (says : LsaBody)
     → says ≡ router_body (map present links) → length links ≤ 63 → BodyFits says
 router_fits links says is few =
     let own : List Link = map present links in
@@ -100,7 +100,7 @@ router_fits links says is few =
     } in
     subst BodyFits (sym is) fits
 
-pub router_size : (links : List (Kept Link)) (says : LsaBody)
+pub router_size : (links : List KeptLink) (says : LsaBody)
     → says ≡ router_body (map present links) → length links ≤ 63 → length (body_text says) ≤ 65515
 router_size links says is few =
     let own : List Link = map present links in

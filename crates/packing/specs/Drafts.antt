@@ -1,16 +1,13 @@
 -- The draft of what an event sends at an interface.
-use Rattle.std.specs.Prelude.{◌≡◌, List, []}
+use Rattle.std.specs.Prelude.{◌≡◌, List}
 use Rattle.std.specs.List.{AllByRecursion, filter_map}
 use Rattle.words.specs.Numbers.{InterfaceNumber}
 use Rattle.adjacency.specs.Drafts.{Drafted, drafting}
+pub use Rattle.adjacency.specs.Drafts.{nothing_drafted}
 use Rattle.adjacency.specs.Rooms.{HasRoom}
 use Rattle.received.specs.Links.{Link}
 use Rattle.received.specs.Outcomes.{Send}
 use Rattle.events.specs.Packing.{at_interface}
-
-abbrev pub nothing_drafted : Drafted
-nothing_drafted =
-    record { hellos = []; descriptions = []; requests = []; updates = []; acknowledgments = [] }
 
 -- the draft of what is sent at the interface with this number, which is the link's; each content
 -- fits into a packet

@@ -1,6 +1,7 @@
 //! Copies of links and database.
 ghost use Rattle.std.specs.Prelude.{◌≡◌, IfOk, map};
-ghost use Rattle.flooding.specs.Links.{present, settled_link};
+ghost use Rattle.flooding.specs.Drafted.{nothing_at};
+ghost use Rattle.flooding.specs.Links.{draft_of, present, settled_link};
 
 use super::Area;
 use crate::link::Link;
@@ -9,6 +10,8 @@ use std::alloc::{AllocError, Global};
 fn copy_links(alloc: Global, links: &[Link]) -> Result<Vec<Link>, AllocError>
     ensures present { IfOk result (λ made. map present made.items ≡ map present links.now) }
     ensures settled { IfOk result (λ made. map settled_link made.items ≡ map present links.now) }
+    ensures drafts { IfOk result (λ made. map draft_of made.items
+        ≡ nothing_at (map present links.now)) }
 {
     let mut made = Vec::new(alloc);
     for i in 0..links.len() {
@@ -18,11 +21,14 @@ fn copy_links(alloc: Global, links: &[Link]) -> Result<Vec<Link>, AllocError>
 }
 
 impl Area {
-    /// A copy of the links and the database, settled.
+    /// A copy of the links and the database, settled, with nothing drafted.
     ///
     /// Errors with `AllocError` if an allocation is refused.
     pub fn copy(&self, alloc: Global) -> Result<Self, AllocError>
-        ensures { IfOk result (λ made. made ≡ record self.now { settled = self.now.present }) }
+        ensures { IfOk result (λ made. made ≡ record self.now {
+          settled = self.now.present;
+          drafted = nothing_at self.now.present.links;
+        }) }
     {
         let links = copy_links(alloc, &self.links)?;
         let database = self.database.copy(alloc)?;

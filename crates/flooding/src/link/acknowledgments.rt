@@ -1,9 +1,10 @@
 //! Sending delayed acknowledgments (RFC 2328, section 13.5).
-ghost use Rattle.std.specs.Prelude.{◌≡◌, ℕ, OnOk, map};
+ghost use Rattle.std.specs.Prelude.{◌≡◌, ◌∷◌, [], ℕ, OnOk, map};
 ghost use Rattle.std.specs.List.{fold};
 ghost use Rattle.std.specs.FinMap as finite;
 ghost use Rattle.adjacency.specs.Contents.{Acknowledges};
 ghost use Rattle.adjacency.specs.Drafts.{drafting};
+ghost use Rattle.flooding.specs.Doing.{LinkDoes};
 
 use super::Link;
 use adjacency::Draft;
@@ -36,20 +37,28 @@ fn remove_headers(keys: &[Key], headers: &mut KeyedMap<Header>) -> Result<(), Al
 }
 
 impl Link {
-    /// Adds the delayed acknowledgments to the draft in the order of their keys, and clears them
-    /// (RFC 2328, section 13.5).
+    /// Sends the delayed acknowledgments, in the order of their keys, and clears them (RFC 2328,
+    /// section 13.5).
     ///
-    /// Errors with `AllocError` if an allocation is refused; the caller then rolls the link back.
-    pub fn acknowledge(&mut self, alloc: Global, draft: &mut Draft) -> Result<(), AllocError>
-        ensures ok { OnOk result (self.new.present
-            ≡ record self.old.present { acknowledgments = finite.empty }) }
-        ensures draft { OnOk result ((delay : ℕ) → draft.new ≡ drafting delay
-            (map Acknowledges (finite.values self.old.present.acknowledgments)) draft.old) }
-        ensures settled { self.new.settled ≡ self.old.settled }
+    /// Errors with `AllocError` if an allocation is refused.
+    pub fn acknowledge(&mut self, alloc: Global) -> Result<(), AllocError>
+        ensures { LinkDoes (λ link. record link { acknowledgments = finite.empty })
+            (λ link. map Acknowledges (finite.values link.acknowledgments))
+            self.old self.new result }
     {
         let count = self.acknowledgments.len();
         let keys = self.acknowledgments.first(alloc, count)?;
-        draft_headers(&self.acknowledgments, draft)?;
+        draft_headers(&self.acknowledgments, &mut self.draft)?;
         remove_headers(&keys, &mut self.acknowledgments)
+    }
+
+    /// Sends an acknowledgment of the instance at once (RFC 2328, section 13.5).
+    ///
+    /// Errors with `AllocError` if an allocation is refused.
+    pub fn acknowledge_at_once(&mut self, header: Header) -> Result<(), AllocError>
+        ensures { LinkDoes (λ link. link) (λ link. Acknowledges header ∷ []) self.old self.new
+            result }
+    {
+        self.draft.acknowledge(header)
     }
 }

@@ -1,17 +1,19 @@
 //! Copies of links.
 ghost use Rattle.std.specs.Prelude.{◌≡◌, IfOk};
+ghost use Rattle.adjacency.specs.Drafts.{nothing_drafted};
 
 use super::Link;
-use adjacency::Saved;
+use adjacency::{Draft, Saved};
 use std::alloc::{AllocError, Global};
 
 impl Link {
-    /// A copy of the link, settled.
+    /// A copy of the link, settled, with nothing drafted.
     ///
     /// Errors with `AllocError` if an allocation is refused.
     pub fn copy(&self, alloc: Global) -> Result<Self, AllocError>
         ensures present { IfOk result (λ made. made.present ≡ self.now.present) }
         ensures settled { IfOk result (λ made. made.settled ≡ self.now.present) }
+        ensures draft { IfOk result (λ made. made.drafted ≡ nothing_drafted) }
     {
         let place = self.place.copy(alloc)?;
         let acknowledgments = self.acknowledgments.copied(alloc)?;
@@ -21,6 +23,7 @@ impl Link {
             place,
             acknowledgments,
             last_hello_sent: Saved::new(last),
+            draft: Draft::new(alloc),
         })
     }
 }

@@ -1,7 +1,11 @@
 //! The last Hello of an interface (RFC 2328, section 9.5).
-ghost use Rattle.std.specs.Prelude.{◌≡◌, Some};
+ghost use Rattle.std.specs.Prelude.{◌≡◌, ◌∷◌, [], Some};
+ghost use Rattle.adjacency.specs.Contents.{SendsHello};
+ghost use Rattle.flooding.specs.Doing.{LinkDoes};
 
 use super::Link;
+use packet::Hello;
+use std::alloc::AllocError;
 use words::Second;
 
 impl Link {
@@ -12,12 +16,15 @@ impl Link {
         *self.last_hello_sent.get()
     }
 
-    /// Notes that a Hello was sent at this moment. It doesn't allocate.
-    pub fn hello_sent(&mut self, moment: Second)
-        ensures { self.new ≡ record self.old {
-          present = record self.old.present { last_hello_sent = Some moment };
-        } }
+    /// Sends a Hello at this moment.
+    ///
+    /// Errors with `AllocError` if an allocation is refused.
+    pub fn greet(&mut self, moment: Second, hello: Hello) -> Result<(), AllocError>
+        ensures { LinkDoes (λ link. record link { last_hello_sent = Some moment })
+            (λ link. SendsHello hello ∷ [])
+            self.old self.new result }
     {
         self.last_hello_sent.set(Some(moment));
+        self.draft.greet(hello)
     }
 }

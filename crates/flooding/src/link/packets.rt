@@ -1,14 +1,14 @@
 //! What packets from the neighbor do to the conversation with it (RFC 2328, sections 10.5 to 10.7
 //! and 13.7).
-ghost use Rattle.std.specs.Prelude.{◌≡◌, ℕ, OnOk, Some};
+ghost use Rattle.std.specs.Prelude.{◌≡◌, Some};
 ghost use Rattle.adjacency.specs.Adjacencies.{after_hello};
-ghost use Rattle.adjacency.specs.Drafts.{drafting};
 ghost use Rattle.adjacency.specs.Views.{begins};
+ghost use Rattle.flooding.specs.Doing.{LinkDoes};
 ghost use Rattle.flooding.specs.Links.{with_neighbor};
 
 use super::Link;
 use crate::steps::LinkStep;
-use adjacency::{Draft, Lsdb, NeighborState};
+use adjacency::{Lsdb, NeighborState};
 use lsa::Header;
 use packet::Description;
 use std::alloc::{AllocError, Global};
@@ -36,33 +36,33 @@ impl Link {
     /// sent. If it doesn't, each later state goes back to Init (1-WayReceived), and the lists are
     /// cleared in constant time.
     ///
-    /// Errors with `AllocError` if an allocation is refused; the caller then rolls the link back.
+    /// Errors with `AllocError` if an allocation is refused.
     pub fn hello(
         &mut self,
         alloc: Global,
         moment: Second,
         from: RouterId,
         names: bool,
-        draft: &mut Draft,
     ) -> Result<(), AllocError>
-        ensures ok { OnOk result (self.new.present ≡ with_neighbor
-            (Some
-            (after_hello moment from names self.old.present.neighbor).neighbor)
-            self.old.present) }
-        ensures draft { OnOk result ((delay : ℕ) → draft.new ≡ drafting delay
-            (after_hello moment from names self.old.present.neighbor).sends
-            draft.old) }
-        ensures settled { self.new.settled ≡ self.old.settled }
+        ensures { LinkDoes
+            (λ link. with_neighbor (Some (after_hello moment from names link.neighbor).neighbor)
+            link)
+            (λ link. (after_hello moment from names link.neighbor).sends)
+            self.old self.new result }
     {
         let Some(neighbor) = &mut self.place.neighbor else {
-            return self.place.begin(alloc, moment, from, None, names, draft);
+            return self
+                .place
+                .begin(alloc, moment, from, None, names, &mut self.draft);
         };
         let standing = neighbor.standing();
         let begins = begins(standing.state, names);
         if begins {
             let router = standing.router;
             let start = standing.dd_sequence_start;
-            return self.place.begin(alloc, moment, router, start, names, draft);
+            return self
+                .place
+                .begin(alloc, moment, router, start, names, &mut self.draft);
         }
         neighbor.restart_inactivity_timer(moment);
         Ok(())
@@ -79,34 +79,23 @@ pub struct Describing<'a> {
 }
 
 impl<'a> LinkStep for Describing<'a> {
-    ghost use Rattle.adjacency.specs.Contents.{sent_on, step_on};
     ghost use Rattle.adjacency.specs.Descriptions.{after_description};
-    ghost use Rattle.flooding.specs.Links.{with_neighbor};
+    ghost use Rattle.flooding.specs.Links.{neighbor_sends, neighbor_step};
 
-    ghost after = { λ a database link. with_neighbor
-        (step_on
-        (after_description a.own a.moment database a.description.now)
-        link.neighbor)
-        link };
+    ghost after = { λ a database.
+        neighbor_step (after_description a.own a.moment database a.description.now) };
 
-    ghost sends = { λ a database link. sent_on
-        (after_description a.own a.moment database a.description.now)
-        link.neighbor };
+    ghost sends = { λ a database.
+        neighbor_sends (after_description a.own a.moment database a.description.now) };
 
-    fn take(
-        &self,
-        alloc: Global,
-        database: &Lsdb,
-        link: &mut Link,
-        draft: &mut Draft,
-    ) -> Result<(), AllocError> {
+    fn take(&self, alloc: Global, database: &Lsdb, link: &mut Link) -> Result<(), AllocError> {
         link.place.description(
             alloc,
             self.own,
             self.moment,
             database,
             self.description,
-            draft,
+            &mut link.draft,
         )
     }
 }
@@ -120,26 +109,23 @@ pub struct Answering<'a> {
 }
 
 impl<'a> LinkStep for Answering<'a> {
-    ghost use Rattle.adjacency.specs.Contents.{sent_on, step_on};
     ghost use Rattle.adjacency.specs.Steps.{after_request};
-    ghost use Rattle.flooding.specs.Links.{with_neighbor};
+    ghost use Rattle.flooding.specs.Links.{neighbor_sends, neighbor_step};
 
-    ghost after = { λ a database link. with_neighbor
-        (step_on (after_request a.moment database a.keys.now) link.neighbor) link };
+    ghost after = { λ a database. neighbor_step (after_request a.moment database a.keys.now) };
 
-    ghost sends = { λ a database link.
-        sent_on (after_request a.moment database a.keys.now) link.neighbor };
+    ghost sends = { λ a database. neighbor_sends (after_request a.moment database a.keys.now) };
 
-    fn take(
-        &self,
-        alloc: Global,
-        database: &Lsdb,
-        link: &mut Link,
-        draft: &mut Draft,
-    ) -> Result<(), AllocError> {
+    fn take(&self, alloc: Global, database: &Lsdb, link: &mut Link) -> Result<(), AllocError> {
         let delay = link.interface.delay;
-        link.place
-            .answer(alloc, self.moment, delay, database, self.keys, draft)
+        link.place.answer(
+            alloc,
+            self.moment,
+            delay,
+            database,
+            self.keys,
+            &mut link.draft,
+        )
     }
 }
 
@@ -152,24 +138,17 @@ pub struct Acknowledging<'a> {
 }
 
 impl<'a> LinkStep for Acknowledging<'a> {
-    ghost use Rattle.adjacency.specs.Contents.{no_sends, sent_on, step_on};
+    ghost use Rattle.adjacency.specs.Contents.{no_sends};
     ghost use Rattle.adjacency.specs.Retransmissions.{after_acknowledgment};
-    ghost use Rattle.flooding.specs.Links.{with_neighbor};
+    ghost use Rattle.flooding.specs.Links.{neighbor_sends, neighbor_step};
 
-    ghost after = { λ a database link. with_neighbor
-        (step_on (λ n. no_sends (after_acknowledgment a.moment a.headers.now n)) link.neighbor)
-        link };
+    ghost after = { λ a database.
+        neighbor_step (λ n. no_sends (after_acknowledgment a.moment a.headers.now n)) };
 
-    ghost sends = { λ a database link.
-        sent_on (λ n. no_sends (after_acknowledgment a.moment a.headers.now n)) link.neighbor };
+    ghost sends = { λ a database.
+        neighbor_sends (λ n. no_sends (after_acknowledgment a.moment a.headers.now n)) };
 
-    fn take(
-        &self,
-        _alloc: Global,
-        _database: &Lsdb,
-        link: &mut Link,
-        _draft: &mut Draft,
-    ) -> Result<(), AllocError> {
+    fn take(&self, _alloc: Global, _database: &Lsdb, link: &mut Link) -> Result<(), AllocError> {
         let Some(neighbor) = &mut link.place.neighbor else {
             return Ok(());
         };

@@ -4,7 +4,7 @@ ghost use Rattle.std.specs.Prelude.{◌≡◌, None};
 
 use super::Link;
 use crate::steps::{LinkChange, LinkStep};
-use adjacency::{Draft, Lsdb};
+use adjacency::Lsdb;
 use std::alloc::{AllocError, Global};
 use words::Second;
 
@@ -65,26 +65,18 @@ pub struct NextRequest {
 }
 
 impl LinkStep for NextRequest {
-    ghost use Rattle.adjacency.specs.Contents.{sent_on, step_on};
     ghost use Rattle.adjacency.specs.Requests.{request_next};
-    ghost use Rattle.flooding.specs.Links.{with_neighbor};
+    ghost use Rattle.flooding.specs.Links.{neighbor_sends, neighbor_step};
 
-    ghost after = { λ a database link. with_neighbor (step_on (request_next a.moment) link.neighbor)
-        link };
+    ghost after = { λ a database. neighbor_step (request_next a.moment) };
 
-    ghost sends = { λ a database link. sent_on (request_next a.moment) link.neighbor };
+    ghost sends = { λ a database. neighbor_sends (request_next a.moment) };
 
-    fn take(
-        &self,
-        alloc: Global,
-        _database: &Lsdb,
-        link: &mut Link,
-        draft: &mut Draft,
-    ) -> Result<(), AllocError> {
+    fn take(&self, alloc: Global, _database: &Lsdb, link: &mut Link) -> Result<(), AllocError> {
         let Some(neighbor) = &mut link.place.neighbor else {
             return Ok(());
         };
-        neighbor.request(alloc, self.moment, draft)
+        neighbor.request(alloc, self.moment, &mut link.draft)
     }
 }
 
@@ -102,18 +94,19 @@ impl LinkStep for SendingAgain {
 
     ghost sends = { λ a database link. sent_again a.moment database link };
 
-    fn take(
-        &self,
-        alloc: Global,
-        database: &Lsdb,
-        link: &mut Link,
-        draft: &mut Draft,
-    ) -> Result<(), AllocError> {
+    fn take(&self, alloc: Global, database: &Lsdb, link: &mut Link) -> Result<(), AllocError> {
         let interval = link.interface.retransmit_interval;
         let delay = link.interface.delay;
         let Some(neighbor) = &mut link.place.neighbor else {
             return Ok(());
         };
-        neighbor.send_again(alloc, self.moment, interval, database, delay, draft)
+        neighbor.send_again(
+            alloc,
+            self.moment,
+            interval,
+            database,
+            delay,
+            &mut link.draft,
+        )
     }
 }

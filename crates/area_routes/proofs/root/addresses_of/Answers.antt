@@ -1,12 +1,11 @@
 use Rattle.std.proofs.Common.{ℕ, ◌∷◌, [], ◌++◌, map, take, ap, sym, ◌∙◌}
 use Rattle.std.proofs.lemmas.List.{take_all}
-use Rattle.flooding.specs.adjacency.Kept.{Kept}
-use Rattle.flooding.specs.received.Links.{Link}
+use Rattle.flooding.specs.Kept.{KeptLink}
 use Rattle.flooding.specs.Links.{present}
 use Rattle.area_routes.proofs.Roots.{mapped_more}
 use Rattle.area_routes.proofs.root.addresses_of.Goals as goal
 
-abbrev address : Kept Link → ℕ
+abbrev address : KeptLink → ℕ
 address k = (present k).interface.address
 
 pub loop-link-preserved : goal.loop-link-preserved

@@ -1,9 +1,8 @@
 use Rattle.std.proofs.Common.{◌≡◌, map, take}
-use Rattle.flooding.specs.adjacency.Kept.{Kept}
-use Rattle.flooding.specs.received.Links.{Link}
+use Rattle.flooding.specs.Kept.{KeptLink}
 use Rattle.flooding.specs.Links.{present}
 use Rattle.area_routes.proofs.root.are_addresses.Given as goal
 
 abbrev pub invariant-loop-at : goal.invariant-loop-at
 invariant-loop-at l = take l.at l.addresses
-    ≡ map (λ (k : Kept Link). (present k).interface.address) (take l.at l.links)
+    ≡ map (λ (k : KeptLink). (present k).interface.address) (take l.at l.links)

@@ -5,7 +5,7 @@ use Rattle.adjacency.specs.Drafts.{drafting}
 use Rattle.adjacency.specs.Floods.{flood_step, is_any}
 use Rattle.received.specs.Outcomes.{stepped_links, stepping_sends}
 use Rattle.flooding.specs.Drafted.{drafted_from}
-use Rattle.flooding.specs.Links.{present, settled_link, with_neighbor}
+use Rattle.flooding.specs.Links.{draft_of, present, settled_link, with_neighbor}
 use Rattle.flooding.proofs.Finish.{finished_counts, finished_drafts, finished_items, finishes_next}
 use Rattle.flooding.proofs.Flooded.{after_draft, after_step, begins, counts, sent_is, step, step_is}
 use Rattle.flooding.proofs.Kept.{shows_kept}
@@ -14,22 +14,27 @@ use Rattle.flooding.proofs.flood.flood_links.Goals as goal
 pub loop-i-init : goal.loop-i-init
 loop-i-init c = record {
   floods = begins c.args.moment c.args.sender (lsa_now c.args.moment c.args.copy.now)
-      c.args.links.now c.args.drafts.now;
+      c.args.links.now;
   settled = refl;
 }
 
-pub returns-in_err-one-clause-settled : goal.returns-in_err-one-clause-settled
-returns-in_err-one-clause-settled c =
-    shows_kept settled_link c.loop-i.links c.loop-i.i c.index-links-i.result c.flood.new.self
-    c.index-links-i.is c.in_err-one.ensures.settled ∙ c.loop-i.invariant.settled
+pub returns-in_err-one-clause-does : goal.returns-in_err-one-clause-does
+returns-in_err-one-clause-does c = record {
+  links = tt;
+  drafts = tt;
+  settled =
+      shows_kept settled_link c.loop-i.links c.loop-i.i c.index-links-i.result c.flood.new.self
+      c.index-links-i.is c.in_err-one.ensures.does.settled
+      ∙ c.loop-i.invariant.settled;
+}
 
 pub loop-i-preserved : goal.loop-i-preserved
 loop-i-preserved c =
     let lsa = lsa_now c.args.moment c.args.copy.now in
     let P = map present c.args.links.now in
+    let D = map draft_of c.args.links.now in
     let F = step c.args.moment c.args.sender lsa in
     let old = get_or c.loop-i.links c.loop-i.i c.index-links-i.result in
-    let draft = get_or c.loop-i.drafts c.loop-i.i c.index-drafts-i.result in
     let stepping = ap (λ b. neighbor.step_on (flood_step c.args.moment b lsa) old.present.neighbor)
     c.is_sender-from.ensures ∙ step_is c.args.moment c.args.sender lsa (c.loop-i.i + 1)
     old.present old.present.neighbor in
@@ -37,61 +42,57 @@ loop-i-preserved c =
     c.is_sender-from.ensures ∙ sent_is c.args.moment c.args.sender lsa (c.loop-i.i + 1)
     old.present old.present.neighbor in
     record {
-      floods = finishes_next present (after_step c.args.moment c.args.sender lsa)
+      floods = finishes_next present draft_of (after_step c.args.moment c.args.sender lsa)
           (after_draft c.args.moment c.args.sender lsa) (counts c.args.moment c.args.sender lsa)
-          c.loop-i.i c.loop-i.links c.loop-i.drafts c.loop-i.sent
-          (stepped_links F P) (drafted_from 1 (stepping_sends F P) P c.args.drafts.now)
+          c.loop-i.i c.loop-i.links c.loop-i.sent
+          (stepped_links F P) (drafted_from 1 (stepping_sends F P) P D)
           (is_any (stepping_sends F P))
-          c.flood.new.self c.index-links-i.result c.flood.new.draft c.index-drafts-i.result
-          c.in_ok-one.one c.was_sent-sent.result
+          c.flood.new.self c.index-links-i.result c.in_ok-one.one c.was_sent-sent.result
           (omega (arith, c.loop-i-test.true, c.loop-i.auto.links))
-          (omega (arith, c.loop-i-test.true, c.loop-i.auto.drafts, c.requires))
-          (c.in_ok-one.ensures.ok ∙ ap (λ o. with_neighbor o old.present) stepping)
-          (c.in_ok-one.ensures.draft ∙ ap (λ cs. drafting old.present.interface.delay cs draft)
-          sending)
+          (c.in_ok-one.ensures.does.link ∙ ap (λ o. with_neighbor o old.present) stepping)
+          (c.in_ok-one.ensures.does.draft
+          ∙ ap (λ cs. drafting old.present.interface.delay cs old.drafted) sending)
           (c.in_ok-one.ensures.sent ∙ ap is_any sending)
           c.was_sent-sent.ensures c.loop-i.invariant.floods;
       settled = shows_kept settled_link c.loop-i.links c.loop-i.i c.index-links-i.result
-          c.flood.new.self c.index-links-i.is c.in_ok-one.ensures.settled
+          c.flood.new.self c.index-links-i.is c.in_ok-one.ensures.does.settled
           ∙ c.loop-i.invariant.settled;
     }
 
-pub returns-clause-links : goal.returns-clause-links
-returns-clause-links c =
+pub returns-clause-does : goal.returns-clause-does
+returns-clause-does c =
     let lsa = lsa_now c.args.moment c.args.copy.now in
     let P = map present c.args.links.now in
+    let D = map draft_of c.args.links.now in
     let F = step c.args.moment c.args.sender lsa in
-    finished_items present (after_step c.args.moment c.args.sender lsa)
-    (after_draft c.args.moment c.args.sender lsa) (counts c.args.moment c.args.sender lsa)
-    c.loop-i.i c.loop-i.links c.loop-i.drafts c.loop-i.sent
-    (stepped_links F P) (drafted_from 1 (stepping_sends F P) P c.args.drafts.now)
-    (is_any (stepping_sends F P))
-    (omega (arith, c.loop-i-test.false, c.loop-i.auto.i-end, c.loop-i.auto.links))
-    c.loop-i.invariant.floods
-
-pub returns-clause-drafts : goal.returns-clause-drafts
-returns-clause-drafts c =
-    let lsa = lsa_now c.args.moment c.args.copy.now in
-    let P = map present c.args.links.now in
-    let F = step c.args.moment c.args.sender lsa in
-    finished_drafts present (after_step c.args.moment c.args.sender lsa)
-    (after_draft c.args.moment c.args.sender lsa) (counts c.args.moment c.args.sender lsa)
-    c.loop-i.i c.loop-i.links c.loop-i.drafts c.loop-i.sent
-    (stepped_links F P) (drafted_from 1 (stepping_sends F P) P c.args.drafts.now)
-    (is_any (stepping_sends F P))
-    (omega (arith, c.loop-i-test.false, c.loop-i.auto.i-end, c.loop-i.auto.links))
-    (omega (arith, c.loop-i-test.false, c.loop-i.auto.i-end, c.loop-i.auto.drafts, c.requires))
-    c.loop-i.invariant.floods
+    record {
+      links = finished_items present draft_of (after_step c.args.moment c.args.sender lsa)
+          (after_draft c.args.moment c.args.sender lsa) (counts c.args.moment c.args.sender lsa)
+          c.loop-i.i c.loop-i.links c.loop-i.sent
+          (stepped_links F P) (drafted_from 1 (stepping_sends F P) P D)
+          (is_any (stepping_sends F P))
+          (omega (arith, c.loop-i-test.false, c.loop-i.auto.i-end, c.loop-i.auto.links))
+          c.loop-i.invariant.floods;
+      drafts = finished_drafts present draft_of (after_step c.args.moment c.args.sender lsa)
+          (after_draft c.args.moment c.args.sender lsa) (counts c.args.moment c.args.sender lsa)
+          c.loop-i.i c.loop-i.links c.loop-i.sent
+          (stepped_links F P) (drafted_from 1 (stepping_sends F P) P D)
+          (is_any (stepping_sends F P))
+          (omega (arith, c.loop-i-test.false, c.loop-i.auto.i-end, c.loop-i.auto.links))
+          c.loop-i.invariant.floods;
+      settled = c.loop-i.invariant.settled;
+    }
 
 pub returns-clause-sent : goal.returns-clause-sent
 returns-clause-sent c =
     let lsa = lsa_now c.args.moment c.args.copy.now in
     let P = map present c.args.links.now in
+    let D = map draft_of c.args.links.now in
     let F = step c.args.moment c.args.sender lsa in
-    finished_counts present (after_step c.args.moment c.args.sender lsa)
+    finished_counts present draft_of (after_step c.args.moment c.args.sender lsa)
     (after_draft c.args.moment c.args.sender lsa) (counts c.args.moment c.args.sender lsa)
-    c.loop-i.i c.loop-i.links c.loop-i.drafts c.loop-i.sent
-    (stepped_links F P) (drafted_from 1 (stepping_sends F P) P c.args.drafts.now)
+    c.loop-i.i c.loop-i.links c.loop-i.sent
+    (stepped_links F P) (drafted_from 1 (stepping_sends F P) P D)
     (is_any (stepping_sends F P))
     (omega (arith, c.loop-i-test.false, c.loop-i.auto.i-end, c.loop-i.auto.links))
     c.loop-i.invariant.floods

@@ -1,12 +1,12 @@
 use Rattle.std.proofs.Common.{◌≡◌, map}
 use Rattle.adjacency.specs.lsdb.Copies.{lsa_now}
-use Rattle.flooding.specs.Links.{present, settled_link}
+use Rattle.flooding.specs.Links.{draft_of, present, settled_link}
 use Rattle.flooding.proofs.Flooded.{Floods}
 use Rattle.flooding.proofs.flood.flood_links.Given as goal
 
 abbrev pub invariant-loop-i : goal.invariant-loop-i
 invariant-loop-i l = record {
-  floods : Floods l.moment l.sender (lsa_now l.moment l.copy) l.i l.links l.drafts l.sent
-      (map present l.fn.links) l.fn.drafts;
+  floods : Floods l.moment l.sender (lsa_now l.moment l.copy) l.i l.links l.sent
+      (map present l.fn.links) (map draft_of l.fn.links);
   settled : map settled_link l.links ≡ map settled_link l.fn.links;
 }

@@ -5,7 +5,7 @@ use Rattle.adjacency.specs.lsdb.Copies.{copy_of, lsa_now}
 use Rattle.adjacency.specs.lsdb.Headers.{Header, Lsa}
 use Rattle.received.specs.Flooding.{flood_to}
 use Rattle.received.specs.Outcomes.{stepped_links, stepping_sends}
-use Rattle.flooding.specs.Drafted.{drafted_from}
+use Rattle.flooding.specs.Doing.{LinksDo}
 use Rattle.flooding.specs.Links.{present}
 use Rattle.flooding.proofs.Installed.{at_once}
 use Rattle.flooding.proofs.flood.flood_received.Goals as goal
@@ -28,15 +28,11 @@ returns c =
       installed = Some m;
       sent = None;
     }))) c.header-header.ensures
-    ∙ at_once m lsa (Some m) c.requires.age in
+    ∙ at_once m lsa (Some m) c.requires in
     record {
-      links = subst (λ (l : Lsa). IfOk c.flood_links.result
-          (λ _. map present c.flood_links.new.links
-          ≡ stepped_links (flood_to m sender l) P)) same c.flood_links.ensures.links;
-      drafts = subst (λ (l : Lsa). IfOk c.flood_links.result (λ _. c.flood_links.new.drafts
-          ≡ drafted_from 1 (stepping_sends (flood_to m sender l) P) P c.args.drafts.now)) same
-          c.flood_links.ensures.drafts;
+      does = subst (λ (l : Lsa). LinksDo (stepped_links (flood_to m sender l))
+          (stepping_sends (flood_to m sender l)) c.args.links.now c.flood_links.new.links
+          c.flood_links.result) same c.flood_links.ensures.does;
       sent = subst (λ (l : Lsa). IfOk c.flood_links.result (λ sent. sent
           ≡ is_any (stepping_sends (flood_to m sender l) P))) same c.flood_links.ensures.sent;
-      settled = c.flood_links.ensures.settled;
     }

@@ -1,6 +1,6 @@
 use Rattle.std.proofs.Common.{false, map, refl, ◌∙◌, arith}
 use Rattle.flooding.specs.Drafted.{drafts_with}
-use Rattle.flooding.specs.Links.{present, settled_link}
+use Rattle.flooding.specs.Links.{draft_of, present, settled_link}
 use Rattle.flooding.specs.Steps.{sends_of}
 use Rattle.flooding.proofs.Changes.{after, after_draft, begins, counts}
 use Rattle.flooding.proofs.Finish.{finished_drafts, finished_items, finishes_next}
@@ -10,8 +10,7 @@ use Rattle.flooding.proofs.steps.step_links.Goals as goal
 pub loop-i-init : goal.loop-i-init
 loop-i-init g c = record {
   steps = begins (g.S.LinkStep.after c.args.step.now c.args.database.now.present)
-      (g.S.LinkStep.sends c.args.step.now c.args.database.now.present) c.args.links.now
-      c.args.drafts.now;
+      (g.S.LinkStep.sends c.args.step.now c.args.database.now.present) c.args.links.now;
   settled = refl;
 }
 
@@ -20,42 +19,41 @@ loop-i-preserved g c =
     let A = g.S.LinkStep.after c.args.step.now c.args.database.now.present in
     let S = g.S.LinkStep.sends c.args.step.now c.args.database.now.present in
     let P = map present c.args.links.now in
+    let D = map draft_of c.args.links.now in
     record {
-      steps = finishes_next present (after A S) (after_draft A S) (counts A S) c.loop-i.i
-          c.loop-i.links c.loop-i.drafts false
-          (map A P) (drafts_with (sends_of S P) P c.args.drafts.now) false
-          c.take.new.link c.index-links-i.result c.take.new.draft c.index-drafts-i.result false
-          false
+      steps = finishes_next present draft_of (after A S) (after_draft A S) (counts A S) c.loop-i.i
+          c.loop-i.links false (map A P) (drafts_with (sends_of S P) P D) false
+          c.take.new.link c.index-links-i.result false false
           (omega (arith, c.loop-i-test.true, c.loop-i.auto.links))
-          (omega (arith, c.loop-i-test.true, c.loop-i.auto.drafts, c.requires))
-          c.in_ok-take.ensures.ok c.in_ok-take.ensures.draft refl refl c.loop-i.invariant.steps;
+          c.in_ok-take.ensures.link c.in_ok-take.ensures.draft refl refl c.loop-i.invariant.steps;
       settled = shows_kept settled_link c.loop-i.links c.loop-i.i c.index-links-i.result
           c.take.new.link c.index-links-i.is c.in_ok-take.ensures.settled
           ∙ c.loop-i.invariant.settled;
     }
 
-pub returns-clause-links : goal.returns-clause-links
-returns-clause-links g c =
+pub returns : goal.returns
+returns g c =
     let A = g.S.LinkStep.after c.args.step.now c.args.database.now.present in
     let S = g.S.LinkStep.sends c.args.step.now c.args.database.now.present in
     let P = map present c.args.links.now in
-    finished_items present (after A S) (after_draft A S) (counts A S) c.loop-i.i c.loop-i.links
-    c.loop-i.drafts false (map A P) (drafts_with (sends_of S P) P c.args.drafts.now) false
-    (omega (arith, c.loop-i-test.false, c.loop-i.auto.i-end, c.loop-i.auto.links))
-    c.loop-i.invariant.steps
+    let D = map draft_of c.args.links.now in
+    record {
+      links = finished_items present draft_of (after A S) (after_draft A S) (counts A S) c.loop-i.i
+          c.loop-i.links false (map A P) (drafts_with (sends_of S P) P D) false
+          (omega (arith, c.loop-i-test.false, c.loop-i.auto.i-end, c.loop-i.auto.links))
+          c.loop-i.invariant.steps;
+      drafts = finished_drafts present draft_of (after A S) (after_draft A S) (counts A S)
+          c.loop-i.i c.loop-i.links false (map A P) (drafts_with (sends_of S P) P D) false
+          (omega (arith, c.loop-i-test.false, c.loop-i.auto.i-end, c.loop-i.auto.links))
+          c.loop-i.invariant.steps;
+      settled = c.loop-i.invariant.settled;
+    }
 
-pub returns-clause-drafts : goal.returns-clause-drafts
-returns-clause-drafts g c =
-    let A = g.S.LinkStep.after c.args.step.now c.args.database.now.present in
-    let S = g.S.LinkStep.sends c.args.step.now c.args.database.now.present in
-    let P = map present c.args.links.now in
-    finished_drafts present (after A S) (after_draft A S) (counts A S) c.loop-i.i c.loop-i.links
-    c.loop-i.drafts false (map A P) (drafts_with (sends_of S P) P c.args.drafts.now) false
-    (omega (arith, c.loop-i-test.false, c.loop-i.auto.i-end, c.loop-i.auto.links))
-    (omega (arith, c.loop-i-test.false, c.loop-i.auto.i-end, c.loop-i.auto.drafts, c.requires))
-    c.loop-i.invariant.steps
-
-pub returns-in_err-take-clause-settled : goal.returns-in_err-take-clause-settled
-returns-in_err-take-clause-settled g c =
-    shows_kept settled_link c.loop-i.links c.loop-i.i c.index-links-i.result c.take.new.link
-    c.index-links-i.is c.in_err-take.ensures.settled ∙ c.loop-i.invariant.settled
+pub returns-in_err-take : goal.returns-in_err-take
+returns-in_err-take g c = record {
+  links = tt;
+  drafts = tt;
+  settled =
+      shows_kept settled_link c.loop-i.links c.loop-i.i c.index-links-i.result c.take.new.link
+      c.index-links-i.is c.in_err-take.ensures.settled ∙ c.loop-i.invariant.settled;
+}

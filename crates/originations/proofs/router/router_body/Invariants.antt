@@ -1,10 +1,9 @@
 use Rattle.std.proofs.Common.{◌≡◌, take}
 use Rattle.std.specs.List.{flat_map}
-use Rattle.flooding.specs.adjacency.Kept.{Kept}
-use Rattle.flooding.specs.received.Links.{Link}
+use Rattle.flooding.specs.Kept.{KeptLink}
 use Rattle.events.specs.Originations.{links_of}
 use Rattle.originations.proofs.router.router_body.Given as goal
 
 abbrev pub invariant-loop-link : goal.invariant-loop-link
 invariant-loop-link l = l.said.items
-    ≡ flat_map (λ (k : Kept Link). links_of k.present) (take l.link-index l.links)
+    ≡ flat_map (λ (k : KeptLink). links_of k.present) (take l.link-index l.links)

@@ -4,8 +4,8 @@ use Rattle.std.specs.FinMap as finite
 use Rattle.lsa.specs.Headers.{key_of}
 use Rattle.adjacency.specs.lsdb.Headers.{lsa_key}
 use Rattle.received.specs.Cases.{case_of_readable}
-use Rattle.adjacency.specs.Kept.{Kept}
 use Rattle.received.specs.Links.{Link, any_exchange_or_loading, neighbor_at}
+use Rattle.flooding.specs.Kept.{KeptLink}
 use Rattle.flooding.specs.Links.{present}
 use Rattle.flooding.proofs.Synchronizing.{shown_neighbor}
 use Rattle.flooding.proofs.area.Area.case_at.Goals as goal
@@ -28,7 +28,7 @@ returns c =
       ap length c.links-links.ensures.present,
     ) in
     c.case_on.ensures
-    ∙ ap (λ (l : Kept Link). case_of_readable m c.get-copy.result l.present.neighbor
+    ∙ ap (λ (l : KeptLink). case_of_readable m c.get-copy.result l.present.neighbor
     c.any_exchange_or_loading-synchronizing.result lsa) c.index-links-i.is
     ∙ ap (λ o. case_of_readable m o neighbor c.any_exchange_or_loading-synchronizing.result lsa)
     copy

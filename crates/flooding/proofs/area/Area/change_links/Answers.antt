@@ -1,7 +1,7 @@
-use Rattle.std.proofs.Common.{◌≡◌, ◌<◌, ◌≤◌, length, map, refl, sym, ap, ◌∙◌, arith}
+use Rattle.std.proofs.Common.{◌≡◌, ◌<◌, length, map, refl, sym, ap, ◌∙◌, arith}
 use Rattle.std.proofs.lemmas.List.{length-set}
 use Rattle.flooding.specs.Kept.{RouterArea}
-use Rattle.flooding.specs.Links.{present, settled_link}
+use Rattle.flooding.specs.Links.{draft_of, present, settled_link}
 use Rattle.flooding.proofs.Changes.{changes_begin}
 use Rattle.flooding.proofs.Kept.{mixed_all, mixed_next, shows_kept}
 use Rattle.flooding.proofs.Marking.{area_is, router_area_is}
@@ -11,6 +11,7 @@ pub loop-i-init : goal.loop-i-init
 loop-i-init g c = record {
   count = refl;
   stays = refl;
+  drafts = refl;
   comes = changes_begin present (g.C.LinkChange.after c.args.change.now) c.self.inside.links.items;
   database = refl;
 }
@@ -27,6 +28,9 @@ loop-i-preserved g c =
       stays = shows_kept settled_link links i link c.change.new.link c.index_mut.ensures.value
           (ap settled_link c.change.ensures ∙ ap settled_link c.index_mut.ensures.value)
           ∙ c.loop-i.invariant.stays;
+      drafts = shows_kept draft_of links i link c.change.new.link c.index_mut.ensures.value
+          (ap draft_of c.change.ensures ∙ ap draft_of c.index_mut.ensures.value)
+          ∙ c.loop-i.invariant.drafts;
       comes = mixed_next present (λ n. g.C.LinkChange.after c.args.change.now (present n)) i links
           c.change.new.link link
           (ap present c.change.ensures
@@ -52,6 +56,8 @@ returns g c =
     router_area_is (ap (λ d. d.router) same)
     (area_is (sym (mixed_all present (λ n. A (present n)) i links all)
     ∙ c.loop-i.invariant.comes) (ap (λ d. d.present) same))
-    (area_is c.loop-i.invariant.stays (ap (λ d. d.settled) same))
-    ∙ ap (λ (v : RouterArea). record v { present = record v.present { links = map A v.present.links } })
+    (area_is c.loop-i.invariant.stays (ap (λ d. d.settled) same)) c.loop-i.invariant.drafts
+    ∙ ap (λ (v : RouterArea). record v {
+      present = record v.present { links = map A v.present.links };
+    })
     c.self.view_is

@@ -1,5 +1,5 @@
 use Rattle.std.proofs.Common.{◌≡◌, length, map}
-use Rattle.flooding.specs.Links.{present, settled_link}
+use Rattle.flooding.specs.Links.{draft_of, present, settled_link}
 use Rattle.flooding.proofs.Kept.{mixed}
 use Rattle.flooding.proofs.area.Area.change_links.Given as goal
 
@@ -8,6 +8,8 @@ invariant-loop-i g l = record {
   count : length l.self-inside.links.items ≡ length l.initial.self-inside.links.items;
   stays : map settled_link l.self-inside.links.items
       ≡ map settled_link l.initial.self-inside.links.items;
+  drafts : map draft_of l.self-inside.links.items
+      ≡ map draft_of l.initial.self-inside.links.items;
   comes : mixed present (λ n. g.C.LinkChange.after l.change (present n)) l.i
       l.self-inside.links.items
       ≡ map (g.C.LinkChange.after l.change) (map present l.initial.self-inside.links.items);

@@ -1,4 +1,5 @@
-use Rattle.std.proofs.Common.{◌≡◌, ◌++◌, cond, drop, length, map, take, refl, ap, sym, ◌∙◌, arith}
+use Rattle.std.proofs.Common.{◌≡◌, ◌++◌, List, cond, drop, length, map, take, refl, ap, sym, ◌∙◌}
+use Rattle.std.proofs.Common.{arith}
 use Rattle.std.proofs.lemmas.List.{length-map}
 use Rattle.std.specs.Prelude.{Some}
 use Rattle.adjacency.specs.lsdb.Copies.{install_flooded, mark_sent}
@@ -9,10 +10,12 @@ use Rattle.received.specs.Links.{acknowledge_later, change_link}
 use Rattle.received.specs.Outcomes.{stepped_links}
 use Rattle.received.specs.Updates.{install}
 use Rattle.flooding.specs.Drafted.{drafts_with}
-use Rattle.flooding.specs.Links.{area_of, present, start}
+use Rattle.flooding.specs.Kept.{KeptLink, RouterArea}
+use Rattle.flooding.specs.Links.{area_of, draft_of, present, start}
 use Rattle.flooding.proofs.Flooded.{marks_once}
 use Rattle.flooding.proofs.Lent.{given_back, settled_back}
 use Rattle.flooding.proofs.Marking.{area_is}
+use Rattle.flooding.proofs.Sends.{drafted_none}
 use Rattle.flooding.proofs.area.Area.install.Goals as goal
 
 pub acknowledge_later-requires-clause-last : goal.acknowledge_later-requires-clause-last
@@ -29,41 +32,57 @@ acknowledge_later-requires-clause-last c =
       shown,
     )
 
-pub returns-in_err-sent-clause-settled : goal.returns-in_err-sent-clause-settled
-returns-in_err-sent-clause-settled c =
-    area_is (settled_back c.self.inside.links.items c.deref_mut.result.now
-    c.flood_received.new.links c.self.inside.links.len c.deref_mut.ensures.value
-    c.deref_mut.ensures.len c.flood_received.ensures.settled) refl
-    ∙ ap (λ v. v.settled) c.self.view_is
+pub returns-in_err-sent : goal.returns-in_err-sent
+returns-in_err-sent c = record {
+  area = tt;
+  drafts = tt;
+  settled = area_is (settled_back c.self.inside.links.items c.deref_mut.result.now
+      c.flood_received.new.links c.self.inside.links.len c.deref_mut.ensures.value
+      c.deref_mut.ensures.len c.in_err-sent.ensures.does.settled) refl
+      ∙ ap (λ (v : RouterArea). v.settled) c.self.view_is;
+  router = ap (λ (v : RouterArea). v.router) c.self.view_is;
+}
 
-pub returns-in_err-acknowledge_later-clause-settled :
-    goal.returns-in_err-acknowledge_later-clause-settled
-returns-in_err-acknowledge_later-clause-settled c =
+pub returns-in_err-acknowledge_later : goal.returns-in_err-acknowledge_later
+returns-in_err-acknowledge_later c =
     let items = c.self.inside.links.items in
     let n = c.self.inside.links.len in
     let made = c.flood_received.new.links in
     let between = take n (made ++ drop (length made) items) in
-    area_is (settled_back between c.deref_mut-2.result.now c.acknowledge_later.new.links n
-    c.deref_mut-2.ensures.value c.deref_mut-2.ensures.len c.acknowledge_later.ensures.settled
-    ∙ settled_back items c.deref_mut.result.now made n c.deref_mut.ensures.value
-    c.deref_mut.ensures.len c.flood_received.ensures.settled) refl
-    ∙ ap (λ v. v.settled) c.self.view_is
+    record {
+      area = tt;
+      drafts = tt;
+      settled = area_is (settled_back between c.deref_mut-2.result.now c.acknowledge_later.new.links
+          n c.deref_mut-2.ensures.value c.deref_mut-2.ensures.len
+          c.in_err-acknowledge_later.ensures.settled
+          ∙ settled_back items c.deref_mut.result.now made n c.deref_mut.ensures.value
+          c.deref_mut.ensures.len c.in_ok-sent.ensures.does.settled) refl
+          ∙ ap (λ (v : RouterArea). v.settled) c.self.view_is;
+      router = ap (λ (v : RouterArea). v.router) c.self.view_is;
+    }
 
-pub returns-in_err-install_flooded-clause-settled :
-    goal.returns-in_err-install_flooded-clause-settled
-returns-in_err-install_flooded-clause-settled c =
+pub returns-in_err-install_flooded : goal.returns-in_err-install_flooded
+returns-in_err-install_flooded c =
     let items = c.self.inside.links.items in
     let n = c.self.inside.links.len in
     let made = c.flood_received.new.links in
     let between = take n (made ++ drop (length made) items) in
-    area_is (settled_back between c.deref_mut-2.result.now c.acknowledge_later.new.links n
-    c.deref_mut-2.ensures.value c.deref_mut-2.ensures.len c.acknowledge_later.ensures.settled
-    ∙ settled_back items c.deref_mut.result.now made n c.deref_mut.ensures.value
-    c.deref_mut.ensures.len c.flood_received.ensures.settled) c.install_flooded.ensures.settled
-    ∙ ap (λ v. v.settled) c.self.view_is
+    record {
+      area = tt;
+      drafts = tt;
+      settled = area_is (settled_back between c.deref_mut-2.result.now c.acknowledge_later.new.links
+          n c.deref_mut-2.ensures.value c.deref_mut-2.ensures.len
+          c.in_ok-acknowledge_later.ensures.settled
+          ∙ settled_back items c.deref_mut.result.now made n c.deref_mut.ensures.value
+          c.deref_mut.ensures.len c.in_ok-sent.ensures.does.settled)
+          c.in_err-install_flooded.ensures.settled
+          ∙ ap (λ (v : RouterArea). v.settled) c.self.view_is;
+      router = c.in_err-install_flooded.ensures.router
+          ∙ ap (λ (v : RouterArea). v.router) c.self.view_is;
+    }
 
-pub returns-then-sent-clause-ok : goal.returns-then-sent-clause-ok
-returns-then-sent-clause-ok c =
+pub returns-then-sent : goal.returns-then-sent
+returns-then-sent c =
     let m = c.args.moment in
     let k = c.args.number in
     let lsa = c.args.lsa in
@@ -71,58 +90,54 @@ returns-then-sent-clause-ok c =
     let n = c.self.inside.links.len in
     let lent = c.deref_mut.result.now in
     let made = c.flood_received.new.links in
+    let between = take n (made ++ drop (length made) items) in
+    let lent2 = c.deref_mut-2.result.now in
+    let made2 = c.acknowledge_later.new.links in
     let P = map present lent in
     let d = c.self.inside.database.present in
     let db = install_flooded m lsa d in
-    let first = given_back items lent made n c.deref_mut.ensures.len
-    c.flood_received.ensures.settled in
-    let back = given_back (take n (made ++ drop (length made) items)) c.deref_mut-2.result.now
-    c.acknowledge_later.new.links n c.deref_mut-2.ensures.len
-    c.acknowledge_later.ensures.settled in
+    let floods = c.in_ok-sent.ensures.does in
+    let later = c.in_ok-acknowledge_later.ensures in
+    let first = given_back items lent made n c.deref_mut.ensures.len floods.settled in
+    let back = given_back between lent2 made2 n c.deref_mut-2.ensures.len later.settled in
+    let again = c.deref_mut-2.ensures.value ∙ first in
     let mark = ap (λ b. cond b (mark_sent m (lsa_key lsa) db) db)
     (sym c.if-sent.true ∙ c.in_ok-sent.ensures.sent) ∙ sym (marks_once m (Some k) lsa P db) in
-    on_ok c.mark_sent.result (λ is.
-    area_is
-    (ap (map present) back ∙ c.in_ok-acknowledge_later.ensures.links
-    ∙ ap (change_link k (acknowledge_later c.header-header.result))
-    (ap (map present) (c.deref_mut-2.ensures.value ∙ first) ∙ c.in_ok-sent.ensures.links)
-    ∙ ap (λ (h : Header). change_link k (acknowledge_later h)
-    (stepped_links (flood_to m (Some k) lsa) P)) c.header-header.ensures)
-    (is ∙ ap (mark_sent m c.key-key.result) c.in_ok-install_flooded.ensures.ok
-    ∙ ap (λ j. mark_sent m j db) (c.key-key.ensures ∙ ap key_of c.header-header.ensures) ∙ mark)
-    ∙ ap (λ ls. (install m k lsa (start (area_of ls d))).area) c.deref_mut.ensures.value
-    ∙ ap (λ v. (install m k lsa (start v.present)).area) c.self.view_is)
-    c.mark_sent.ensures.ok
+    record {
+      area = on_ok c.mark_sent.result (λ is.
+          area_is
+          (ap (map present) back ∙ later.links
+          ∙ ap (change_link k (acknowledge_later c.header-header.result))
+          (ap (map present) again ∙ floods.links)
+          ∙ ap (λ (h : Header). change_link k (acknowledge_later h)
+          (stepped_links (flood_to m (Some k) lsa) P)) c.header-header.ensures)
+          (is ∙ ap (mark_sent m c.key-key.result) c.in_ok-install_flooded.ensures.ok
+          ∙ ap (λ j. mark_sent m j db) (c.key-key.ensures ∙ ap key_of c.header-header.ensures)
+          ∙ mark)
+          ∙ ap (λ (ls : List KeptLink). (install m k lsa (start (area_of ls d))).area)
+          c.deref_mut.ensures.value
+          ∙ ap (λ (v : RouterArea). (install m k lsa (start v.present)).area) c.self.view_is)
+          c.mark_sent.ensures.ok;
+      drafts = on_ok c.mark_sent.result (λ _.
+          ap (map draft_of) back ∙ later.drafts
+          ∙ sym (drafted_none 1 (map present lent2) (map draft_of lent2))
+          ∙ ap (map draft_of) again ∙ floods.drafts
+          ∙ ap (λ (ls : List KeptLink). drafts_with (install m k lsa (start (area_of ls d))).sends
+          (map present ls) (map draft_of ls)) c.deref_mut.ensures.value
+          ∙ ap (λ (v : RouterArea). drafts_with (install m k lsa (start v.present)).sends
+          v.present.links v.drafted) c.self.view_is) c.mark_sent.ensures.ok;
+      settled = area_is (settled_back between lent2 made2 n c.deref_mut-2.ensures.value
+          c.deref_mut-2.ensures.len later.settled
+          ∙ settled_back items lent made n c.deref_mut.ensures.value c.deref_mut.ensures.len
+          floods.settled)
+          (c.mark_sent.ensures.settled ∙ c.in_ok-install_flooded.ensures.settled)
+          ∙ ap (λ (v : RouterArea). v.settled) c.self.view_is;
+      router = c.mark_sent.ensures.router ∙ c.in_ok-install_flooded.ensures.router
+          ∙ ap (λ (v : RouterArea). v.router) c.self.view_is;
+    }
 
-pub returns-then-sent-clause-drafts : goal.returns-then-sent-clause-drafts
-returns-then-sent-clause-drafts c =
-    let m = c.args.moment in
-    let k = c.args.number in
-    let lsa = c.args.lsa in
-    let d = c.self.inside.database.present in
-    let ds = c.args.drafts.now in
-    on_ok c.mark_sent.result (λ _.
-    c.in_ok-sent.ensures.drafts
-    ∙ ap (λ ls. drafts_with (install m k lsa (start (area_of ls d))).sends (map present ls) ds)
-    c.deref_mut.ensures.value
-    ∙ ap (λ v. drafts_with (install m k lsa (start v.present)).sends v.present.links ds)
-    c.self.view_is) c.mark_sent.ensures.ok
-
-pub returns-then-sent-clause-settled : goal.returns-then-sent-clause-settled
-returns-then-sent-clause-settled c =
-    let items = c.self.inside.links.items in
-    let n = c.self.inside.links.len in
-    let made = c.flood_received.new.links in
-    let between = take n (made ++ drop (length made) items) in
-    area_is (settled_back between c.deref_mut-2.result.now c.acknowledge_later.new.links n
-    c.deref_mut-2.ensures.value c.deref_mut-2.ensures.len c.acknowledge_later.ensures.settled
-    ∙ settled_back items c.deref_mut.result.now made n c.deref_mut.ensures.value
-    c.deref_mut.ensures.len c.flood_received.ensures.settled)
-    (c.mark_sent.ensures.settled ∙ c.install_flooded.ensures.settled)
-    ∙ ap (λ v. v.settled) c.self.view_is
-
-pub returns-clause-ok : goal.returns-clause-ok
-returns-clause-ok c =
+pub returns : goal.returns
+returns c =
     let m = c.args.moment in
     let k = c.args.number in
     let lsa = c.args.lsa in
@@ -130,47 +145,45 @@ returns-clause-ok c =
     let n = c.self.inside.links.len in
     let lent = c.deref_mut.result.now in
     let made = c.flood_received.new.links in
+    let between = take n (made ++ drop (length made) items) in
+    let lent2 = c.deref_mut-2.result.now in
+    let made2 = c.acknowledge_later.new.links in
     let P = map present lent in
     let d = c.self.inside.database.present in
     let db = install_flooded m lsa d in
-    let first = given_back items lent made n c.deref_mut.ensures.len
-    c.flood_received.ensures.settled in
-    let back = given_back (take n (made ++ drop (length made) items)) c.deref_mut-2.result.now
-    c.acknowledge_later.new.links n c.deref_mut-2.ensures.len
-    c.acknowledge_later.ensures.settled in
+    let floods = c.in_ok-sent.ensures.does in
+    let later = c.in_ok-acknowledge_later.ensures in
+    let first = given_back items lent made n c.deref_mut.ensures.len floods.settled in
+    let back = given_back between lent2 made2 n c.deref_mut-2.ensures.len later.settled in
+    let again = c.deref_mut-2.ensures.value ∙ first in
     let mark = ap (λ b. cond b (mark_sent m (lsa_key lsa) db) db)
     (sym c.if-sent.false ∙ c.in_ok-sent.ensures.sent) ∙ sym (marks_once m (Some k) lsa P db) in
-    area_is
-    (ap (map present) back ∙ c.in_ok-acknowledge_later.ensures.links
-    ∙ ap (change_link k (acknowledge_later c.header-header.result))
-    (ap (map present) (c.deref_mut-2.ensures.value ∙ first) ∙ c.in_ok-sent.ensures.links)
-    ∙ ap (λ (h : Header). change_link k (acknowledge_later h)
-    (stepped_links (flood_to m (Some k) lsa) P)) c.header-header.ensures)
-    (c.in_ok-install_flooded.ensures.ok ∙ mark)
-    ∙ ap (λ ls. (install m k lsa (start (area_of ls d))).area) c.deref_mut.ensures.value
-    ∙ ap (λ v. (install m k lsa (start v.present)).area) c.self.view_is
-
-pub returns-clause-drafts : goal.returns-clause-drafts
-returns-clause-drafts c =
-    let m = c.args.moment in
-    let k = c.args.number in
-    let lsa = c.args.lsa in
-    let d = c.self.inside.database.present in
-    let ds = c.args.drafts.now in
-    c.in_ok-sent.ensures.drafts
-    ∙ ap (λ ls. drafts_with (install m k lsa (start (area_of ls d))).sends (map present ls) ds)
-    c.deref_mut.ensures.value
-    ∙ ap (λ v. drafts_with (install m k lsa (start v.present)).sends v.present.links ds)
-    c.self.view_is
-
-pub returns-clause-settled : goal.returns-clause-settled
-returns-clause-settled c =
-    let items = c.self.inside.links.items in
-    let n = c.self.inside.links.len in
-    let made = c.flood_received.new.links in
-    let between = take n (made ++ drop (length made) items) in
-    area_is (settled_back between c.deref_mut-2.result.now c.acknowledge_later.new.links n
-    c.deref_mut-2.ensures.value c.deref_mut-2.ensures.len c.acknowledge_later.ensures.settled
-    ∙ settled_back items c.deref_mut.result.now made n c.deref_mut.ensures.value
-    c.deref_mut.ensures.len c.flood_received.ensures.settled) c.install_flooded.ensures.settled
-    ∙ ap (λ v. v.settled) c.self.view_is
+    record {
+      area =
+          area_is
+          (ap (map present) back ∙ later.links
+          ∙ ap (change_link k (acknowledge_later c.header-header.result))
+          (ap (map present) again ∙ floods.links)
+          ∙ ap (λ (h : Header). change_link k (acknowledge_later h)
+          (stepped_links (flood_to m (Some k) lsa) P)) c.header-header.ensures)
+          (c.in_ok-install_flooded.ensures.ok ∙ mark)
+          ∙ ap (λ (ls : List KeptLink). (install m k lsa (start (area_of ls d))).area)
+          c.deref_mut.ensures.value
+          ∙ ap (λ (v : RouterArea). (install m k lsa (start v.present)).area) c.self.view_is;
+      drafts =
+          ap (map draft_of) back ∙ later.drafts
+          ∙ sym (drafted_none 1 (map present lent2) (map draft_of lent2))
+          ∙ ap (map draft_of) again ∙ floods.drafts
+          ∙ ap (λ (ls : List KeptLink). drafts_with (install m k lsa (start (area_of ls d))).sends
+          (map present ls) (map draft_of ls)) c.deref_mut.ensures.value
+          ∙ ap (λ (v : RouterArea). drafts_with (install m k lsa (start v.present)).sends
+          v.present.links v.drafted) c.self.view_is;
+      settled = area_is (settled_back between lent2 made2 n c.deref_mut-2.ensures.value
+          c.deref_mut-2.ensures.len later.settled
+          ∙ settled_back items lent made n c.deref_mut.ensures.value c.deref_mut.ensures.len
+          floods.settled)
+          c.in_ok-install_flooded.ensures.settled
+          ∙ ap (λ (v : RouterArea). v.settled) c.self.view_is;
+      router = c.in_ok-install_flooded.ensures.router
+          ∙ ap (λ (v : RouterArea). v.router) c.self.view_is;
+    }

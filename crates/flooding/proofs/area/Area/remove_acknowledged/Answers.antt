@@ -2,24 +2,41 @@ use Rattle.std.proofs.Common.{cond, sym, ap, ◌∙◌}
 use Rattle.std.specs.FinMap as finite
 use Rattle.keyed_map.proofs.Helds.{on_ok}
 use Rattle.received.specs.Links.{Area, any_has_retransmission}
+use Rattle.flooding.specs.Kept.{RouterArea}
+use Rattle.flooding.specs.Links.{start, without_acknowledged}
+use Rattle.flooding.proofs.Doing.{area_rests}
 use Rattle.flooding.proofs.Marking.{area_is}
+use Rattle.flooding.proofs.Sends.{drafted_none}
 use Rattle.flooding.proofs.area.Area.remove_acknowledged.Goals as goal
 
-pub returns-then-listed-clause-ok : goal.returns-then-listed-clause-ok
-returns-then-listed-clause-ok c =
+pub returns-then-listed : goal.returns-then-listed
+returns-then-listed c =
     let a : Area = c.args.self.now.present in
     let k = c.args.key.now in
-    ap (λ b. record a { database = cond b a.database (finite.remove a.database k) })
+    area_rests
+    (λ (x : Area). start (record x { database = without_acknowledged x.links x.database k }))
+    c.args.self.now _
+    (ap (λ b. start (record a { database = cond b a.database (finite.remove a.database k) }))
     (sym c.if-listed.true ∙ c.any_has_retransmission-listed.ensures
-    ∙ ap (any_has_retransmission k) c.links.ensures.present)
+    ∙ ap (any_has_retransmission k) c.links.ensures.present))
 
-pub returns-clause-ok : goal.returns-clause-ok
-returns-clause-ok c =
-    let a : Area = c.args.self.now.present in
+pub returns : goal.returns
+returns c =
+    let old = c.args.self.now in
+    let a : Area = old.present in
     let k = c.args.key.now in
-    on_ok c.remove.result (λ is.
-    area_is (ap (λ v. v.present.links) c.self.view_is)
-    (is ∙ ap (λ v. finite.remove v.present.database k) c.self.view_is)
-    ∙ ap (λ b. record a { database = cond b a.database (finite.remove a.database k) })
-    (sym c.if-listed.false ∙ c.any_has_retransmission-listed.ensures
-    ∙ ap (any_has_retransmission k) c.links.ensures.present)) c.remove.ensures.ok
+    record {
+      area = on_ok c.remove.result (λ is.
+          area_is (ap (λ (v : RouterArea). v.present.links) c.self.view_is)
+          (is ∙ ap (λ (v : RouterArea). finite.remove v.present.database k) c.self.view_is)
+          ∙ ap (λ b. record a { database = cond b a.database (finite.remove a.database k) })
+          (sym c.if-listed.false ∙ c.any_has_retransmission-listed.ensures
+          ∙ ap (any_has_retransmission k) c.links.ensures.present)) c.remove.ensures.ok;
+      drafts = on_ok c.remove.result (λ _.
+          ap (λ (v : RouterArea). v.drafted) c.self.view_is
+          ∙ drafted_none 1 a.links old.drafted) c.remove.ensures.ok;
+      settled = area_is (ap (λ (v : RouterArea). v.settled.links) c.self.view_is)
+          (c.remove.ensures.settled
+          ∙ ap (λ (v : RouterArea). v.settled.database) c.self.view_is);
+      router = c.remove.ensures.router ∙ ap (λ (v : RouterArea). v.router) c.self.view_is;
+    }

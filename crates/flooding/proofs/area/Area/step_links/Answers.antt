@@ -1,76 +1,82 @@
-use Rattle.std.proofs.Common.{◌≡◌, length, map, refl, sym, ap, ◌∙◌}
+use Rattle.std.proofs.Common.{◌≡◌, List, length, map, refl, sym, ap, ◌∙◌}
 use Rattle.std.proofs.lemmas.List.{length-map}
 use Rattle.keyed_map.proofs.Helds.{on_ok}
 use Rattle.flooding.specs.Drafted.{drafts_with}
-use Rattle.flooding.specs.Links.{area_of, present, start}
-use Rattle.flooding.specs.Steps.{all_links, keys_behind, mark_each, update_count}
-use Rattle.flooding.proofs.Lent.{given_back, lent_number, settled_back}
-use Rattle.flooding.proofs.Marked.{length-drafts, marks_are, sent_at}
+use Rattle.flooding.specs.Kept.{KeptLink, RouterArea}
+use Rattle.flooding.specs.Links.{area_of, draft_of, present, settled_link, start}
+use Rattle.flooding.specs.Steps.{all_links, keys_behind, mark_each, update_count, update_count_on}
+use Rattle.flooding.proofs.Lent.{given_back, settled_back}
+use Rattle.flooding.proofs.Marked.{counts_on, marks_are, sent_at}
 use Rattle.flooding.proofs.Marking.{area_is}
 use Rattle.flooding.proofs.Sends.{drafts_are}
 use Rattle.flooding.proofs.area.Area.step_links.Goals as goal
 
 pub mark_all-requires : goal.mark_all-requires
 mark_all-requires g c =
-    let m = c.args.moment in
+    let items = c.self.inside.links.items in
     let lent = c.deref_mut.result.now in
-    let ls = map present lent in
-    let ds = c.args.drafts.now in
-    let S = g.S.LinkStep.sends c.args.step.now c.self.inside.database.present in
-    let count : length ds ≡ length ls =
-    c.requires ∙ sym (lent_number c.self.inside.links.items lent c.args.self.now.present.links
-    c.deref_mut.ensures.value (ap (λ v. v.present.links) c.self.view_is))
-    ∙ sym (length-map lent present) in
-    ap length (c.deref.ensures.value ∙ c.in_ok-counts.ensures) ∙ length-map ds update_count
-    ∙ sym (ap length (c.in_ok-step_links.ensures.drafts ∙ drafts_are (sent_at m S) ls ds)
-    ∙ length-drafts m S 1 ls ds count)
+    let made = c.step_links.new.links in
+    let kept = c.in_ok-step_links.ensures.settled in
+    let back = given_back items lent made c.self.inside.links.len c.deref_mut.ensures.len kept in
+    let counted : length c.deref-2.result.now ≡ length items =
+    ap length (c.deref-2.ensures.value ∙ c.in_ok-counts.ensures)
+    ∙ length-map c.deref.result.now update_count_on ∙ ap length c.deref.ensures.value in
+    let linked : length c.deref-3.result.now ≡ length items =
+    ap length (c.deref-3.ensures.value ∙ back) ∙ sym (length-map made settled_link)
+    ∙ ap length kept ∙ length-map lent settled_link ∙ ap length c.deref_mut.ensures.value in
+    counted ∙ sym linked
 
-pub returns-in_err-step_links-clause-settled : goal.returns-in_err-step_links-clause-settled
-returns-in_err-step_links-clause-settled g c =
-    area_is (settled_back c.self.inside.links.items c.deref_mut.result.now c.step_links.new.links
-    c.self.inside.links.len c.deref_mut.ensures.value c.deref_mut.ensures.len
-    c.step_links.ensures.settled) refl ∙ ap (λ v. v.settled) c.self.view_is
+pub returns-in_err-step_links : goal.returns-in_err-step_links
+returns-in_err-step_links g c = record {
+  area = tt;
+  drafts = tt;
+  settled = area_is (settled_back c.self.inside.links.items c.deref_mut.result.now
+      c.step_links.new.links c.self.inside.links.len c.deref_mut.ensures.value
+      c.deref_mut.ensures.len c.in_err-step_links.ensures.settled) refl
+      ∙ ap (λ (v : RouterArea). v.settled) c.self.view_is;
+  router = ap (λ (v : RouterArea). v.router) c.self.view_is;
+}
 
-pub returns-clause-ok : goal.returns-clause-ok
-returns-clause-ok g c =
+pub returns : goal.returns
+returns g c =
     let m = c.args.moment in
+    let items = c.self.inside.links.items in
     let lent = c.deref_mut.result.now in
+    let made = c.step_links.new.links in
     let ls = map present lent in
-    let ds = c.args.drafts.now in
+    let ds = map draft_of lent in
     let d = c.self.inside.database.present in
     let A = g.S.LinkStep.after c.args.step.now in
     let S = g.S.LinkStep.sends c.args.step.now in
-    let count : length ds ≡ length ls =
-    c.requires ∙ sym (lent_number c.self.inside.links.items lent c.args.self.now.present.links
-    c.deref_mut.ensures.value (ap (λ v. v.present.links) c.self.view_is))
-    ∙ sym (length-map lent present) in
-    let counts = c.deref.ensures.value ∙ c.in_ok-counts.ensures in
-    let drafts = c.in_ok-step_links.ensures.drafts ∙ drafts_are (sent_at m (S d)) ls ds in
-    let back = given_back c.self.inside.links.items lent c.step_links.new.links
-    c.self.inside.links.len c.deref_mut.ensures.len c.step_links.ensures.settled in
-    on_ok c.mark_all.result (λ is.
-    area_is (ap (map present) back ∙ c.in_ok-step_links.ensures.links)
-    (is ∙ (λ j. mark_each m d (keys_behind (counts j) (drafts j)))
-    ∙ marks_are m (S d) 1 ls ds d count)
-    ∙ ap (λ xs. (all_links m A S (start (area_of xs d))).area) c.deref_mut.ensures.value
-    ∙ ap (λ v. (all_links m A S (start v.present)).area) c.self.view_is) c.mark_all.ensures.ok
-
-pub returns-clause-drafts : goal.returns-clause-drafts
-returns-clause-drafts g c =
-    let m = c.args.moment in
-    let ds = c.args.drafts.now in
-    let d = c.self.inside.database.present in
-    let A = g.S.LinkStep.after c.args.step.now in
-    let S = g.S.LinkStep.sends c.args.step.now in
-    on_ok c.mark_all.result (λ _.
-    c.in_ok-step_links.ensures.drafts
-    ∙ ap (λ xs. drafts_with (all_links m A S (start (area_of xs d))).sends (map present xs) ds)
-    c.deref_mut.ensures.value
-    ∙ ap (λ v. drafts_with (all_links m A S (start v.present)).sends v.present.links ds)
-    c.self.view_is) c.mark_all.ensures.ok
-
-pub returns-clause-settled : goal.returns-clause-settled
-returns-clause-settled g c =
-    area_is (settled_back c.self.inside.links.items c.deref_mut.result.now c.step_links.new.links
-    c.self.inside.links.len c.deref_mut.ensures.value c.deref_mut.ensures.len
-    c.step_links.ensures.settled) c.mark_all.ensures.settled ∙ ap (λ v. v.settled) c.self.view_is
+    let does = c.in_ok-step_links.ensures in
+    let count : length ds ≡ length ls = length-map lent draft_of ∙ sym (length-map lent present) in
+    let back = given_back items lent made c.self.inside.links.len c.deref_mut.ensures.len
+    does.settled in
+    let counts : c.deref-2.result.now ≡ map update_count ds =
+    c.deref-2.ensures.value ∙ c.in_ok-counts.ensures
+    ∙ ap (map update_count_on) (c.deref.ensures.value ∙ sym c.deref_mut.ensures.value)
+    ∙ counts_on lent in
+    let drafts = ap (map draft_of) (c.deref-3.ensures.value ∙ back) ∙ does.drafts
+    ∙ drafts_are (sent_at m (S d)) ls ds in
+    record {
+      area = on_ok c.mark_all.result (λ is.
+          area_is (ap (map present) back ∙ does.links)
+          (is ∙ (λ j. mark_each m d (keys_behind (counts j) (drafts j)))
+          ∙ marks_are m (S d) 1 ls ds d count)
+          ∙ ap (λ (xs : List KeptLink). (all_links m A S (start (area_of xs d))).area)
+          c.deref_mut.ensures.value
+          ∙ ap (λ (v : RouterArea). (all_links m A S (start v.present)).area) c.self.view_is)
+          c.mark_all.ensures.ok;
+      drafts = on_ok c.mark_all.result (λ _.
+          ap (map draft_of) back ∙ does.drafts
+          ∙ ap (λ (xs : List KeptLink). drafts_with
+          (all_links m A S (start (area_of xs d))).sends (map present xs) (map draft_of xs))
+          c.deref_mut.ensures.value
+          ∙ ap (λ (v : RouterArea). drafts_with (all_links m A S (start v.present)).sends
+          v.present.links v.drafted) c.self.view_is)
+          c.mark_all.ensures.ok;
+      settled = area_is (settled_back items lent made c.self.inside.links.len
+          c.deref_mut.ensures.value c.deref_mut.ensures.len does.settled)
+          c.mark_all.ensures.settled ∙ ap (λ (v : RouterArea). v.settled) c.self.view_is;
+      router = c.mark_all.ensures.router ∙ ap (λ (v : RouterArea). v.router) c.self.view_is;
+    }

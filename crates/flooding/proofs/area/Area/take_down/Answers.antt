@@ -2,7 +2,7 @@ use Rattle.std.proofs.Common.{◌≡◌, ◌-◌, ◌<◌, ◌+◌, length, map,
 use Rattle.std.proofs.lemmas.List.{length-map}
 use Rattle.received.specs.Links.{change_link}
 use Rattle.flooding.specs.Kept.{RouterArea}
-use Rattle.flooding.specs.Links.{present, settled_link, without_neighbor}
+use Rattle.flooding.specs.Links.{draft_of, present, settled_link, without_neighbor}
 use Rattle.flooding.proofs.Kept.{shows_kept}
 use Rattle.flooding.proofs.Marking.{area_is, router_area_is}
 use Rattle.flooding.proofs.OneLink.{changed_at}
@@ -38,6 +38,8 @@ returns c =
     ∙ ap (λ k. without_neighbor (present k)) c.index_mut.ensures.value)) refl)
     (area_is (shows_kept settled_link items i link c.take_down.new.self c.index_mut.ensures.value
     (ap settled_link c.take_down.ensures ∙ ap settled_link c.index_mut.ensures.value)) refl)
+    (shows_kept draft_of items i link c.take_down.new.self c.index_mut.ensures.value
+    (ap draft_of c.take_down.ensures ∙ ap draft_of c.index_mut.ensures.value))
     ∙ ap (λ (v : RouterArea). record v {
       present = record v.present { links = change_link n without_neighbor v.present.links };
     }) c.self.view_is

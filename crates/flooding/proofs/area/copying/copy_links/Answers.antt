@@ -1,5 +1,8 @@
-use Rattle.flooding.specs.Links.{present, settled_link}
+use Rattle.std.proofs.Common.{map, ◌∙◌, arith}
+use Rattle.std.proofs.lemmas.List.{length-map, take_all}
+use Rattle.flooding.specs.Links.{draft_of, present, settled_link}
 use Rattle.flooding.proofs.Copies.{copied_next}
+use Rattle.flooding.proofs.Taken.{emptied, nothing_each}
 use Rattle.flooding.proofs.area.copying.copy_links.Goals as goal
 
 pub loop-i-preserved : goal.loop-i-preserved
@@ -15,4 +18,15 @@ loop-i-preserved c =
       fresh = copied_next present settled_link links made longer c.loop-i.i link
           c.in_ok-copy.field-0 c.loop-i-test.true c.index-links-i.is c.in_ok-push.ensures.items
           c.in_ok-copy.ensures.settled c.loop-i.invariant.fresh;
+      empty = copied_next emptied draft_of links made longer c.loop-i.i link c.in_ok-copy.field-0
+          c.loop-i-test.true c.index-links-i.is c.in_ok-push.ensures.items
+          c.in_ok-copy.ensures.draft c.loop-i.invariant.empty;
     }
+
+pub returns-clause-drafts : goal.returns-clause-drafts
+returns-clause-drafts c =
+    let links = c.args.links.now in
+    c.loop-i.invariant.empty
+    ∙ take_all c.loop-i.i (map emptied links)
+    (omega (arith, c.loop-i-test.false, c.loop-i.auto.i-end, length-map links emptied))
+    ∙ nothing_each present links

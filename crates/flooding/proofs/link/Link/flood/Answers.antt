@@ -1,13 +1,22 @@
-use Rattle.std.proofs.Common.{◌≡◌, rules}
+use Rattle.std.proofs.Common.{◌≡◌, rules, arith, ap}
+use Rattle.std.proofs.lemmas.Grind.{common_steps}
 use Rattle.std.specs.Prelude.{None}
 use Rattle.adjacency.specs.lsdb.Copies.{lsa_now}
 use Rattle.adjacency.specs.Floods.{flood_step}
+use Rattle.flooding.specs.Kept.{KeptLink}
 use Rattle.flooding.proofs.Silent.{none_sent}
 use Rattle.flooding.proofs.link.Link.flood.Goals as goal
 
-pub returns-in_default-clause-draft : goal.returns-in_default-clause-draft
-returns-in_default-clause-draft c =
-    let l = c.args.self.now.present in
-    let none : l.neighbor ≡ None = search rules in
+pub returns-in_default-clause-does : goal.returns-in_default-clause-does
+returns-in_default-clause-does c =
+    let l = c.args.self.now in
+    let none : l.present.neighbor ≡ None = search rules in
+    let same = ap (λ (k : KeptLink). k.drafted) c.self.view_is in
+    let sent =
     none_sent (flood_step c.args.moment c.args.from (lsa_now c.args.moment c.args.copy.now))
-    l.neighbor l.interface.delay c.args.draft.now none
+    l.present.neighbor l.present.interface.delay l.drafted none in
+    record {
+      link = first_of (search rules, grind (arith, common_steps));
+      draft = cc;
+      settled = first_of (search rules, grind (arith, common_steps));
+    }

@@ -1,12 +1,20 @@
-use Rattle.std.proofs.Common.{◌≡◌, rules}
+use Rattle.std.proofs.Common.{◌≡◌, rules, arith, ap}
+use Rattle.std.proofs.lemmas.Grind.{common_steps}
 use Rattle.std.specs.Prelude.{None}
 use Rattle.adjacency.specs.Retransmissions.{send_again}
+use Rattle.flooding.specs.Kept.{KeptLink}
 use Rattle.flooding.proofs.Silent.{none_sent}
 use Rattle.flooding.proofs.link.timers.SendingAgainLinkStep.take.Goals as goal
 
-pub returns-in_default-clause-draft : goal.returns-in_default-clause-draft
-returns-in_default-clause-draft c =
-    let l = c.args.link.now.present in
-    let none : l.neighbor ≡ None = search rules in
-    none_sent (send_again c.args.self.now.moment l.interface.retransmit_interval
-    c.args.database.now.present) l.neighbor l.interface.delay c.args.draft.now none
+pub returns-in_default : goal.returns-in_default
+returns-in_default c =
+    let l = c.args.link.now in
+    let none : l.present.neighbor ≡ None = search rules in
+    let same = ap (λ (k : KeptLink). k.drafted) c.link.view_is in
+    let sent = none_sent (send_again c.args.self.now.moment l.present.interface.retransmit_interval
+    c.args.database.now.present) l.present.neighbor l.present.interface.delay l.drafted none in
+    record {
+      link = first_of (search rules, grind (arith, common_steps));
+      draft = cc;
+      settled = first_of (search rules, grind (arith, common_steps));
+    }

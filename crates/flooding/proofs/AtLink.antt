@@ -1,0 +1,102 @@
+-- What a call does to one link, as a part of all links: x is the link before, the one at this
+-- index, and y the link afterwards.
+use Rattle.std.proofs.Common.{◌≡◌, ℕ, ◌+◌, ◌<◌, List, [], length, map, get_or, set, Result, ap}
+use Rattle.std.proofs.Common.{◌∙◌}
+use Rattle.std.specs.Prelude.{Option, Some}
+use Rattle.keyed_map.proofs.Helds.{on_ok}
+use Rattle.adjacency.specs.Contents.{Content, Step}
+use Rattle.adjacency.specs.Neighbors.{Neighbor}
+use Rattle.adjacency.specs.Drafts.{drafting}
+use Rattle.received.specs.Links.{Link, change_link, link_at}
+use Rattle.received.specs.Outcomes.{Send, only_at, sends_at, stepped_links, stepping_sends}
+use Rattle.flooding.specs.Doing.{LinkDoes, LinksDo}
+use Rattle.flooding.specs.Drafted.{drafts_with}
+use Rattle.flooding.specs.Kept.{KeptLink}
+use Rattle.flooding.specs.Links.{draft_of, neighbor_sends, neighbor_step, present, settled_link}
+use Rattle.flooding.specs.Steps.{sent_by}
+use Rattle.flooding.proofs.Kept.{shows_kept}
+use Rattle.flooding.proofs.Only.{drafts_sent, links_changed, links_stepped, sends_stepped}
+use Rattle.flooding.proofs.Updates.{shown_link}
+
+module _ (ls : List KeptLink) (i k : ℕ) (d y : KeptLink) (lt : i < length ls) (at : k ≡ 1 + i)
+    (read : d ≡ get_or ls i d) where
+  abbrev pub x : KeptLink
+  x = get_or ls i d
+
+  settled_there : y.settled ≡ x.settled → map settled_link (set ls i y) ≡ map settled_link ls
+  settled_there is = shows_kept settled_link ls i d y read is
+
+  drafted_there : (cs : List Content)
+      → y.drafted ≡ drafting x.present.interface.delay cs x.drafted
+      → map draft_of (set ls i y) ≡ drafts_with (sends_at k cs) (map present ls) (map draft_of ls)
+  drafted_there cs is = drafts_sent ls i k y d lt at cs is
+
+  changed_there : (change : Link → Link) → y.present ≡ change x.present
+      → map present (set ls i y) ≡ change_link k change (map present ls)
+  changed_there change is = links_changed ls i k y d lt at change is
+
+  stepped_there : (f : Neighbor → Step) → y.present ≡ neighbor_step f x.present
+      → map present (set ls i y) ≡ stepped_links (only_at k f) (map present ls)
+  stepped_there f is = links_stepped ls i k y d lt at f is
+
+  sent_there : (f : Neighbor → Step) → sends_at k (neighbor_sends f x.present)
+      ≡ stepping_sends (only_at k f) (map present ls)
+  sent_there f = sends_stepped ls i k y d lt at f
+
+  here : Some x.present ≡ link_at k (map present ls)
+  here = shown_link ls i k d lt at
+
+  module _ {X E : Type 0} (r : Result X E) where
+    -- it sends this, and stays as it is
+    pub one_sends : (cs : List Content) → LinkDoes (λ (l : Link). l) (λ (l : Link). cs) x y r
+        → LinksDo (λ (ms : List Link). ms) (λ (ms : List Link). sends_at k cs) ls (set ls i y) r
+    one_sends cs does = record {
+      links = on_ok r (λ is. shows_kept present ls i d y read is) does.link;
+      drafts = on_ok r (λ is. drafted_there cs is) does.draft;
+      settled = settled_there does.settled;
+    }
+
+    -- it is changed, and sends nothing
+    pub one_changes : (change : Link → Link) → LinkDoes change (λ (l : Link). []) x y r
+        → LinksDo (change_link k change) (λ (ms : List Link). []) ls (set ls i y) r
+    one_changes change does = record {
+      links = on_ok r (λ is. changed_there change is) does.link;
+      drafts = on_ok r (λ is. drafted_there [] is) does.draft;
+      settled = settled_there does.settled;
+    }
+
+    -- it takes a step
+    pub one_does : (change : Link → Link) (S : Link → List Content) → LinkDoes change S x y r
+        → LinksDo (change_link k change)
+        (λ (ms : List Link). sends_at k (sent_by S (link_at k ms))) ls (set ls i y) r
+    one_does change S does = record {
+      links = on_ok r (λ is. changed_there change is) does.link;
+      drafts = on_ok r (λ is.
+          drafted_there (S x.present) is
+          ∙ ap (λ (o : Option Link). drafts_with (sends_at k (sent_by S o)) (map present ls)
+          (map draft_of ls)) here) does.draft;
+      settled = settled_there does.settled;
+    }
+
+    -- its neighbor takes a step
+    pub one_steps : (f : Neighbor → Step)
+        → LinkDoes (neighbor_step f) (neighbor_sends f) x y r
+        → LinksDo (stepped_links (only_at k f)) (stepping_sends (only_at k f)) ls (set ls i y) r
+    one_steps f does = record {
+      links = on_ok r (λ is. stepped_there f is) does.link;
+      drafts = on_ok r (λ is.
+          drafted_there (neighbor_sends f x.present) is
+          ∙ ap (λ (ss : List Send). drafts_with ss (map present ls) (map draft_of ls))
+          (sent_there f)) does.draft;
+      settled = settled_there does.settled;
+    }
+
+    -- its neighbor takes a step, and nothing is sent
+    pub one_steps_silently : (f : Neighbor → Step)
+        → LinkDoes (neighbor_step f) (λ (l : Link). []) x y r
+        → LinksDo (stepped_links (only_at k f)) (λ (ms : List Link). []) ls (set ls i y) r
+    one_steps_silently f does = record {
+      links = on_ok r (λ is. stepped_there f is) does.link;
+      drafts = on_ok r (λ is. drafted_there [] is) does.draft;
+      settled = settled_there does.settled;
+    }

@@ -1,0 +1,41 @@
+-- What calls do to a link, to several links, and to links and database: from one form to another.
+use Rattle.std.proofs.Common.{◌≡◌, Result, Ok, Err, OnOk, IfOk, refl, ap, ◌∙◌}
+use Rattle.keyed_map.proofs.Helds.{on_ok}
+use Rattle.received.specs.Links.{Area}
+use Rattle.received.specs.Outcomes.{Outcome}
+use Rattle.flooding.specs.Doing.{AreaDoes}
+use Rattle.flooding.specs.Drafted.{drafts_with}
+use Rattle.flooding.specs.Kept.{RouterArea}
+use Rattle.flooding.specs.Links.{start}
+use Rattle.flooding.proofs.Sends.{drafted_none}
+
+pub always : {A E P : Type 0} (r : Result A E) → P → OnOk r P
+always (Ok a) p = p
+always (Err e) p = tt
+
+pub if_ok : {A E : Type 0} {P Q : A → Type 0} (r : Result A E) → ((x : A) → P x → Q x) → IfOk r P
+    → IfOk r Q
+if_ok (Ok a) f p = f a p
+if_ok (Err e) f p = tt
+
+-- nothing changes
+pub area_rests : {X E : Type 0} (f : Area → Outcome) (a : RouterArea) (r : Result X E)
+    → start a.present ≡ f a.present → AreaDoes f a a r
+area_rests f a r is = record {
+  area = always r (ap (λ (o : Outcome). o.area) is);
+  drafts = always r (drafted_none 1 a.present.links a.drafted
+      ∙ ap (λ (o : Outcome). drafts_with o.sends a.present.links a.drafted) is);
+  settled = refl;
+  router = refl;
+}
+
+-- two definitions that agree for this area
+pub area_same : {X E : Type 0} (f g : Area → Outcome) (a b : RouterArea) (r : Result X E)
+    → f a.present ≡ g a.present → AreaDoes f a b r → AreaDoes g a b r
+area_same f g a b r same does = record {
+  area = on_ok r (λ is. is ∙ ap (λ (o : Outcome). o.area) same) does.area;
+  drafts = on_ok r (λ is.
+      is ∙ ap (λ (o : Outcome). drafts_with o.sends a.present.links a.drafted) same) does.drafts;
+  settled = does.settled;
+  router = does.router;
+}

@@ -1,0 +1,18 @@
+use Rattle.std.proofs.Common.{[], ◌∷◌, ap, ◌∙◌}
+use Rattle.keyed_map.proofs.Helds.{on_ok}
+use Rattle.adjacency.specs.Contents.{Acknowledges}
+use Rattle.adjacency.specs.Drafts.{drafting}
+use Rattle.flooding.specs.Kept.{KeptLink}
+use Rattle.flooding.proofs.link.Link.acknowledge_at_once.Goals as goal
+
+pub returns : goal.returns
+returns c = record {
+  link = on_ok c.acknowledge.result
+      (λ _. ap (λ (k : KeptLink). k.present) c.self.view_is) c.acknowledge.ensures;
+  draft = on_ok c.acknowledge.result
+      (λ sent. sent c.self.inside.interface.delay
+      ∙ ap (λ (k : KeptLink). drafting k.present.interface.delay
+      (Acknowledges c.args.header ∷ []) k.drafted) c.self.view_is)
+      c.acknowledge.ensures;
+  settled = ap (λ (k : KeptLink). k.settled) c.self.view_is;
+}

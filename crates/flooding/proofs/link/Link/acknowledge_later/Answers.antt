@@ -1,0 +1,36 @@
+use Rattle.std.proofs.Common.{ap, ◌∙◌}
+use Rattle.std.specs.FinMap as finite
+use Rattle.keyed_map.proofs.Helds.{on_ok}
+use Rattle.words.specs.declared.key.Key.{Key}
+use Rattle.received.specs.Links.{Link, acknowledge_later}
+use Rattle.flooding.specs.Kept.{KeptLink}
+use Rattle.flooding.proofs.Shown.{stays_drafted}
+use Rattle.flooding.proofs.link.Link.acknowledge_later.Goals as goal
+
+pub returns : goal.returns
+returns c =
+    let h = c.args.header in
+    let inside = c.self.inside in
+    let base : Link = record {
+      interface = inside.interface;
+      neighbor = inside.place.present;
+      acknowledgments = inside.acknowledgments.present;
+      last_hello_sent = inside.last_hello_sent.present;
+    } in
+    let before : Link = record {
+      interface = inside.interface;
+      neighbor = inside.place.settled;
+      acknowledgments = inside.acknowledgments.settled;
+      last_hello_sent = inside.last_hello_sent.settled;
+    } in
+    record {
+      link = on_ok c.insert.result
+          (λ is. ap (λ a. record base { acknowledgments = a })
+          (is ∙ ap (λ (k : Key). finite.insert inside.acknowledgments.present k h) c.key.ensures)
+          ∙ ap (λ (k : KeptLink). acknowledge_later h k.present) c.self.view_is)
+          c.insert.ensures.ok;
+      draft = on_ok c.insert.result
+          (λ _. stays_drafted _ c.args.self.now c.self.view_is) c.insert.ensures.ok;
+      settled = ap (λ a. record before { acknowledgments = a }) c.insert.ensures.settled
+          ∙ ap (λ (k : KeptLink). k.settled) c.self.view_is;
+    }

@@ -1,0 +1,27 @@
+use Rattle.std.proofs.Common.{rules, arith, ap}
+use Rattle.std.proofs.lemmas.Grind.{common_steps}
+use Rattle.keyed_map.proofs.Helds.{on_ok}
+use Rattle.adjacency.proofs.Floods.{drafting-none}
+use Rattle.flooding.specs.Kept.{KeptLink}
+use Rattle.flooding.proofs.Shown.{stays_drafted}
+use Rattle.flooding.proofs.link.Link.remove_retransmission.Goals as goal
+
+pub returns-in-None : goal.returns-in-None
+returns-in-None c =
+    let l = c.args.self.now in
+    let same = ap (λ (k : KeptLink). k.drafted) c.self.view_is in
+    let sent = drafting-none l.present.interface.delay l.drafted in
+    record {
+      link = first_of (search rules, grind (arith, common_steps));
+      draft = cc;
+      settled = first_of (search rules, grind (arith, common_steps));
+    }
+
+pub returns-in-Some : goal.returns-in-Some
+returns-in-Some c = record {
+  link = first_of (search rules, grind (arith, common_steps));
+  draft = on_ok c.remove_retransmission.result
+      (λ _. stays_drafted _ c.args.self.now c.self.view_is)
+      c.remove_retransmission.ensures.ok;
+  settled = first_of (search rules, grind (arith, common_steps));
+}

@@ -1,0 +1,20 @@
+use Rattle.std.proofs.Common.{[], ◌∷◌, ap, ◌∙◌}
+use Rattle.keyed_map.proofs.Helds.{on_ok}
+use Rattle.adjacency.specs.lsdb.Copies.{lsa_now}
+use Rattle.adjacency.specs.Contents.{Updates}
+use Rattle.adjacency.specs.Drafts.{drafting}
+use Rattle.flooding.specs.Kept.{KeptLink}
+use Rattle.flooding.proofs.link.Link.send_copy.Goals as goal
+
+pub returns : goal.returns
+returns c =
+    let cs = Updates (lsa_now c.args.moment c.args.copy.now) ∷ [] in
+    record {
+      link = on_ok c.update.result
+          (λ _. ap (λ (k : KeptLink). k.present) c.self.view_is) c.update.ensures;
+      draft = on_ok c.update.result
+          (λ sent. sent ∙ ap (λ (k : KeptLink). drafting k.present.interface.delay cs k.drafted)
+          c.self.view_is)
+          c.update.ensures;
+      settled = ap (λ (k : KeptLink). k.settled) c.self.view_is;
+    }

@@ -1,0 +1,38 @@
+-- What a call does in an event to a link, to several links, and to links and database.
+--
+-- It errors only if an allocation is refused, and may have done a part of its work then: the caller
+-- rolls the router back, which drops what was drafted, too. Whatever it answers, what was settled
+-- stays the same.
+use Rattle.std.specs.Prelude.{◌≡◌, List, map, OnOk, Result}
+use Rattle.adjacency.specs.Contents.{Content}
+use Rattle.adjacency.specs.Drafts.{drafting}
+use Rattle.received.specs.Links.{Area, Link}
+use Rattle.received.specs.Outcomes.{Outcome, Send}
+use Rattle.flooding.specs.Drafted.{drafts_with}
+use Rattle.flooding.specs.Kept.{KeptLink, RouterArea}
+use Rattle.flooding.specs.Links.{draft_of, present, settled_link}
+
+-- the link becomes what `after` says, and what it sends is drafted for its interface
+pub record LinkDoes {X E : Type 0} (after : Link → Link) (sends : Link → List Content)
+    (old new : KeptLink) (result : Result X E) : Type 0 where
+  pub link : OnOk result (new.present ≡ after old.present)
+  pub draft : OnOk result (new.drafted
+      ≡ drafting old.present.interface.delay (sends old.present) old.drafted)
+  pub settled : new.settled ≡ old.settled
+
+-- the links become what `after` says, and what is sent on each is drafted for its interface
+pub record LinksDo {X E : Type 0} (after : List Link → List Link) (sends : List Link → List Send)
+    (old new : List KeptLink) (result : Result X E) : Type 0 where
+  pub links : OnOk result (map present new ≡ after (map present old))
+  pub drafts : OnOk result (map draft_of new
+      ≡ drafts_with (sends (map present old)) (map present old) (map draft_of old))
+  pub settled : map settled_link new ≡ map settled_link old
+
+-- links and database become what `f` says of the area, and what that sends is drafted
+pub record AreaDoes {X E : Type 0} (f : Area → Outcome) (old new : RouterArea)
+    (result : Result X E) : Type 0 where
+  pub area : OnOk result (new.present ≡ (f old.present).area)
+  pub drafts : OnOk result (new.drafted
+      ≡ drafts_with (f old.present).sends old.present.links old.drafted)
+  pub settled : new.settled ≡ old.settled
+  pub router : new.router ≡ old.router
