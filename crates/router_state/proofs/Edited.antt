@@ -1,55 +1,134 @@
 -- Edits of a router's maps and sets: `shown` is the router from its fields.
-use Rattle.std.proofs.Common.{◌≡◌, ℕ, List, ap, ◌∙◌}
+use Rattle.std.proofs.Common.{◌≡◌, ℕ, List, Result, OnOk, refl, ap, ◌∙◌}
 use Rattle.std.specs.FinMap as finite
 use Rattle.std.specs.FinSet as set
 use Rattle.words.specs.declared.key.Key.{Key}
 use Rattle.words.specs.declared.route.External.{External}
 use Rattle.words.specs.declared.route.Route.{Route}
+use Rattle.keyed_map.proofs.Helds.{on_ok}
 use Rattle.flooding.specs.lsdb.Keys.{ByKey, KeySet}
-use Rattle.events.specs.Commands.{announce, unannounce}
+use Rattle.events.specs.Commands.{after_install, announce, unannounce}
+use Rattle.events.specs.EventState.{on_router}
 use Rattle.events.specs.Originations.{as_originated, forget_originations, is_recent, wait}
 use Rattle.events.specs.Routers.{Router}
+use Rattle.router_state.specs.Kept.{KeptRouter}
+use Rattle.router_state.specs.Making.{Does, Makes, interfaces_of}
+use Rattle.router_state.proofs.Making.{makes_on_router}
 
-module _ (shown old : Router) (key : Key) where
-  pub announces : (m : ByKey External) (e : External) → shown ≡ old
-      → m ≡ finite.insert shown.announced key e
-      → ◌≡◌ {A = Router} (record shown { announced = m }) (announce key e old)
-  announces m e view is = (λ i. record shown { announced = is i }) ∙ ap (announce key e) view
+abbrev KeepsLinks : (Router → Router) → Type 0
+KeepsLinks f = (r : Router) → interfaces_of (f r).area.links ≡ interfaces_of r.area.links
 
-  pub waits : (w : KeySet) → shown ≡ old → w ≡ set.insert shown.waiting key
-      → ◌≡◌ {A = Router} (record shown { waiting = w }) (wait key old)
-  waits w view is = (λ i. record shown { waiting = is i }) ∙ ap (wait key) view
+pub edit_makes : (f : Router → Router) → KeepsLinks f → (shown old new : KeptRouter) → shown ≡ old
+    → new.settled ≡ shown.settled → new.present ≡ f shown.present → new.drafted ≡ shown.drafted
+    → Makes (on_router f) old new
+edit_makes f keeps shown old new view settled is drafted =
+    makes_on_router f old new (keeps old.present)
+    (settled ∙ ap (λ (r : KeptRouter). r.settled) view)
+    (is ∙ ap (λ (r : KeptRouter). f r.present) view)
+    (drafted ∙ ap (λ (r : KeptRouter). r.drafted) view)
 
-  pub withdraws : (m : ByKey External) (w : KeySet) → shown ≡ old
-      → m ≡ finite.remove shown.announced key → w ≡ set.remove shown.waiting key
-      → ◌≡◌ {A = Router} (record shown { announced = m; waiting = w }) (unannounce key old)
-  withdraws m w view gone is = (λ i. record shown {
-    announced = gone i;
-    waiting = is i;
-  }) ∙ ap (unannounce key) view
+edit_does : {X E : Type 0} (f : Router → Router) → KeepsLinks f → (shown old new : KeptRouter)
+    (r : Result X E) → shown ≡ old → new.settled ≡ shown.settled
+    → OnOk r (new.present ≡ f shown.present) → new.drafted ≡ shown.drafted
+    → Does (on_router f) old new r
+edit_does f keeps shown old new r view settled is drafted = record {
+  settled = settled ∙ ap (λ (k : KeptRouter). k.settled) view;
+  makes = on_ok r (λ to. edit_makes f keeps shown old new view settled to drafted) is;
+}
 
-  pub notes : (moment : ℕ) (w : KeySet) (m : ByKey ℕ) → shown ≡ old
-      → w ≡ set.remove shown.waiting key → m ≡ finite.insert shown.originated key moment
-      → ◌≡◌ {A = Router} (record shown {
-        waiting = w;
-        originated = m;
-      }) (as_originated moment key old)
-  notes moment w m view gone is = (λ i. record shown {
-    waiting = gone i;
-    originated = is i;
-  }) ∙ ap (as_originated moment key) view
+module _ {X E : Type 0} (shown old : KeptRouter) (r : Result X E) (view : shown ≡ old) where
+  -- the destinations that are announced, and as they were when last settled
+  module _ (m s : ByKey External) (stays : s ≡ shown.settled.announced) (key : Key) where
+    pub announces : (e : External) → OnOk r (m ≡ finite.insert shown.present.announced key e)
+        → Does (on_router (announce key e)) old (record {
+          present = record shown.present { announced = m };
+          settled = record shown.settled { announced = s };
+          drafted = shown.drafted;
+        }) r
+    announces e is =
+        edit_does (announce key e) (λ x. refl) shown old (record {
+          present = record shown.present { announced = m };
+          settled = record shown.settled { announced = s };
+          drafted = shown.drafted;
+        }) r view (λ i. record shown.settled { announced = stays i })
+        (on_ok r (λ to i. record shown.present { announced = to i }) is) refl
 
-pub forgets : (shown old : Router) (moment : ℕ) (m : ByKey ℕ) → shown ≡ old
-    → m ≡ finite.retain_keys shown.originated
-    (λ key. is_recent moment (finite.get shown.originated key))
-    → ◌≡◌ {A = Router} (record shown { originated = m }) (forget_originations moment old)
-forgets shown old moment m view is = (λ i. record shown {
-  originated = is i;
-}) ∙ ap (forget_originations moment) view
+    pub withdraws : (w v : KeySet) → v ≡ shown.settled.waiting
+        → m ≡ finite.remove shown.present.announced key
+        → OnOk r (w ≡ set.remove shown.present.waiting key)
+        → Does (on_router (unannounce key)) old (record {
+          present = record shown.present { announced = m; waiting = w };
+          settled = record shown.settled { announced = s; waiting = v };
+          drafted = shown.drafted;
+        }) r
+    withdraws w v rests gone is =
+        edit_does (unannounce key) (λ x. refl) shown old (record {
+          present = record shown.present { announced = m; waiting = w };
+          settled = record shown.settled { announced = s; waiting = v };
+          drafted = shown.drafted;
+        }) r view (λ i. record shown.settled { announced = stays i; waiting = rests i })
+        (on_ok r (λ to i. record shown.present { announced = gone i; waiting = to i }) is) refl
+
+  -- the keys that wait, and as they were when last settled
+  module _ (w v : KeySet) (rests : v ≡ shown.settled.waiting) (key : Key) where
+    pub waits : OnOk r (w ≡ set.insert shown.present.waiting key)
+        → Does (on_router (wait key)) old (record {
+          present = record shown.present { waiting = w };
+          settled = record shown.settled { waiting = v };
+          drafted = shown.drafted;
+        }) r
+    waits is =
+        edit_does (wait key) (λ x. refl) shown old (record {
+          present = record shown.present { waiting = w };
+          settled = record shown.settled { waiting = v };
+          drafted = shown.drafted;
+        }) r view (λ i. record shown.settled { waiting = rests i })
+        (on_ok r (λ to i. record shown.present { waiting = to i }) is) refl
+
+    pub notes : (moment : ℕ) (m s : ByKey ℕ) → s ≡ shown.settled.originated
+        → w ≡ set.remove shown.present.waiting key
+        → OnOk r (m ≡ finite.insert shown.present.originated key moment)
+        → Does (on_router (as_originated moment key)) old (record {
+          present = record shown.present { waiting = w; originated = m };
+          settled = record shown.settled { waiting = v; originated = s };
+          drafted = shown.drafted;
+        }) r
+    notes moment m s stays gone is =
+        edit_does (as_originated moment key) (λ x. refl) shown old (record {
+          present = record shown.present { waiting = w; originated = m };
+          settled = record shown.settled { waiting = v; originated = s };
+          drafted = shown.drafted;
+        }) r view (λ i. record shown.settled { waiting = rests i; originated = stays i })
+        (on_ok r (λ to i. record shown.present { waiting = gone i; originated = to i }) is) refl
+
+  pub forgets : (moment : ℕ) (m s : ByKey ℕ) → s ≡ shown.settled.originated
+      → OnOk r (m ≡ finite.retain_keys shown.present.originated
+      (λ key. is_recent moment (finite.get shown.present.originated key)))
+      → Does (on_router (forget_originations moment)) old (record {
+        present = record shown.present { originated = m };
+        settled = record shown.settled { originated = s };
+        drafted = shown.drafted;
+      }) r
+  forgets moment m s stays is =
+      edit_does (forget_originations moment) (λ x. refl) shown old (record {
+        present = record shown.present { originated = m };
+        settled = record shown.settled { originated = s };
+        drafted = shown.drafted;
+      }) r view (λ i. record shown.settled { originated = stays i })
+      (on_ok r (λ to i. record shown.present { originated = to i }) is) refl
 
 -- the answers of an Install
-pub answers_are : (shown old : Router) (answers now : List (Route × ℕ)) → shown ≡ old
-    → now ≡ answers
-    → ◌≡◌ {A = Router} (record shown { answers = now }) (record old { answers = answers })
-answers_are shown old answers now view is = (λ i. record shown { answers = is i })
-    ∙ ap (λ (r : Router). record r { answers = answers }) view
+pub answers_are : (shown old : KeptRouter) (answers now before : List (Route × ℕ)) → shown ≡ old
+    → now ≡ answers → before ≡ shown.settled.answers
+    → Makes (after_install answers) old (record {
+      present = record shown.present { answers = now };
+      settled = record shown.settled { answers = before };
+      drafted = shown.drafted;
+    })
+answers_are shown old answers now before view is stays =
+    edit_makes (λ (r : Router). record r { answers = answers }) (λ x. refl) shown old (record {
+      present = record shown.present { answers = now };
+      settled = record shown.settled { answers = before };
+      drafted = shown.drafted;
+    }) view (λ i. record shown.settled { answers = stays i })
+    (λ i. record shown.present { answers = is i }) refl

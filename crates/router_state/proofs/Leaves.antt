@@ -219,14 +219,6 @@ module _ (moment : ℕ) where
   pub keeps_removal : KeepsInterfaces (remove_aged moment)
   keeps_removal a = remains_by a (any_exchange_or_loading a.links)
 
-  -- nothing is sent
-  removes_by : (a : Area) (b : Bool) → (cond b (start a) (without_aged a (start a))).sends ≡ []
-  removes_by a true = refl
-  removes_by a false = refl
-
-  pub removal_sends_nothing : (a : Area) → (remove_aged moment (start a)).sends ≡ []
-  removal_sends_nothing a = removes_by a (any_exchange_or_loading a.links)
-
   pub appends_expiry : Appends (on_links (map (run_out moment)))
   appends_expiry o = appends_links (map (run_out moment)) o
 

@@ -1,77 +1,74 @@
 -- The parts of an event in turn, and one part at one router.
-use Rattle.std.proofs.Common.{◌≡◌, Bool, true, false, cond, List, [], ◌∷◌, ◌++◌, refl, sym, ap}
-use Rattle.std.proofs.Common.{subst, ◌∙◌}
+use Rattle.std.proofs.Common.{◌≡◌, Bool, true, false, cond, List, [], ◌∷◌, ◌++◌, length, Result}
+use Rattle.std.proofs.Common.{Err, refl, sym, ap, subst, ◌∙◌}
+use Rattle.std.proofs.lemmas.List.{length-map}
 use Rattle.std.specs.List.{fold}
+use Rattle.keyed_map.proofs.Helds.{on_ok}
 use Rattle.flooding.specs.adjacency.Drafts.{Drafted}
-use Rattle.flooding.specs.received.Links.{Area}
+use Rattle.flooding.specs.received.Links.{Area, Link}
 use Rattle.flooding.specs.received.Outcomes.{Outcome}
 use Rattle.events.specs.EventState.{EventState, on_area, on_router}
 use Rattle.events.specs.Routers.{Router}
 use Rattle.flooding.specs.Drafted.{drafts_with}
 use Rattle.flooding.specs.Links.{start}
+use Rattle.flooding.proofs.Doing.{always}
 use Rattle.flooding.proofs.Sends.{drafted_none}
 use Rattle.router_state.specs.Aging.{outcomes_in_turn}
-use Rattle.router_state.specs.Making.{IsMaking, Makes, interfaces_of}
+use Rattle.router_state.specs.Kept.{KeptRouter}
+use Rattle.router_state.specs.Making.{Does, IsMaking, Makes, interfaces_of}
 use Rattle.router_state.proofs.Drafts.{drafted_append, drafted_same}
 
--- ---- the start of an event: nothing was drafted yet
+-- ---- the start of an event: nothing was sent yet
 
-pub making_starts : (r : Router) (ds : List Drafted) → IsMaking (record {
-  router = r;
+pub making_starts : (r : KeptRouter) → IsMaking (record {
+  router = r.present;
   sends = [];
-}) ds r ds
-making_starts r ds = record { router = refl; drafts = drafted_none 1 r.area.links ds }
+}) r.drafted r
+making_starts r = record {
+  router = refl;
+  drafts = drafted_none 1 r.present.area.links r.drafted;
+}
 
 -- ---- one part after another
 
-pub makes_nothing : (r : Router) (ds : List Drafted) → Makes (λ p. p) r r ds ds
-makes_nothing r ds = record { interfaces = refl; part = λ p first is. is }
+pub makes_nothing : (r : KeptRouter) → Makes (λ p. p) r r
+makes_nothing r = record { settled = refl; interfaces = refl; part = λ p first is. is }
 
-pub makes_then : {f g : EventState → EventState} {old middle new : Router}
-    {before between after : List Drafted} → Makes f old middle before between
-    → Makes g middle new between after → Makes (λ p. g (f p)) old new before after
-makes_then {f} {g} {old} {middle} {new} {before} {between} {after} a b = record {
+pub makes_then : {f g : EventState → EventState} {old middle new : KeptRouter}
+    → Makes f old middle → Makes g middle new → Makes (λ p. g (f p)) old new
+makes_then {f} {g} {old} {middle} {new} a b = record {
+  settled = b.settled ∙ a.settled;
   interfaces = b.interfaces ∙ a.interfaces;
   part = λ p first is. b.part (f p) first (a.part p first is);
 }
 
 -- parts that agree for this router
-pub makes_same : {f g : EventState → EventState} {old new : Router} {before after : List Drafted}
-    → ((p : EventState) → p.router ≡ old → f p ≡ g p) → Makes f old new before after
-    → Makes g old new before after
-makes_same {f} {g} {old} {new} {before} {after} agree a = record {
+pub makes_same : {f g : EventState → EventState} {old new : KeptRouter}
+    → ((p : EventState) → p.router ≡ old.present → f p ≡ g p) → Makes f old new → Makes g old new
+makes_same {f} {g} {old} {new} agree a = record {
+  settled = a.settled;
   interfaces = a.interfaces;
-  part = λ p first is. subst (λ q. IsMaking q first new after) (agree p (sym is.router))
+  part = λ p first is. subst (λ q. IsMaking q first new) (agree p (sym is.router))
       (a.part p first is);
 }
 
-pub makes_if_true : (f g : EventState → EventState) {old new : Router} {before after : List Drafted}
-    (test : Router → Bool) → test old ≡ true → Makes f old new before after
-    → Makes (λ p. cond (test p.router) (f p) (g p)) old new before after
-makes_if_true f g {old} {new} {before} {after} test holds a =
+pub makes_if_true : (f g : EventState → EventState) {old new : KeptRouter} (test : Router → Bool)
+    → test old.present ≡ true → Makes f old new
+    → Makes (λ p. cond (test p.router) (f p) (g p)) old new
+makes_if_true f g {old} {new} test holds a =
     makes_same (λ p is. ap (λ b. cond b (f p) (g p)) (sym (ap test is ∙ holds))) a
 
-pub makes_if_false : (f g : EventState → EventState) {old new : Router}
-    {before after : List Drafted} (test : Router → Bool) → test old ≡ false
-    → Makes g old new before after → Makes (λ p. cond (test p.router) (f p) (g p)) old new
-    before after
-makes_if_false f g {old} {new} {before} {after} test fails a =
+pub makes_if_false : (f g : EventState → EventState) {old new : KeptRouter} (test : Router → Bool)
+    → test old.present ≡ false → Makes g old new
+    → Makes (λ p. cond (test p.router) (f p) (g p)) old new
+makes_if_false f g {old} {new} test fails a =
     makes_same (λ p is. ap (λ b. cond b (f p) (g p)) (sym (ap test is ∙ fails))) a
 
--- the code's test of the router is that of the definition
-pub makes_by_test : (f g : EventState → EventState) {old new : Router} {before after : List Drafted}
-    (test : Router → Bool) (b : Bool) → test old ≡ b → Makes (cond b f g) old new before after
-    → Makes (λ p. cond (test p.router) (f p) (g p)) old new before after
-makes_by_test f g test true is a = makes_if_true f g test is a
-makes_by_test f g test false is a = makes_if_false f g test is a
-
--- ---- the same values under other names
-
-pub makes_from : {f : EventState → EventState} {old new r s : Router}
-    {before after ds es : List Drafted} → r ≡ old → s ≡ new → ds ≡ before → es ≡ after
-    → Makes f old new before after → Makes f r s ds es
-makes_from {f} {old} {new} {r} {s} {before} {after} {ds} {es} from to first last a =
-    subst (λ t. t) (λ i. Makes f (sym from i) (sym to i) (sym first i) (sym last i)) a
+pub as_many_links : {f : EventState → EventState} {old new : KeptRouter} → Makes f old new
+    → length new.present.area.links ≡ length old.present.area.links
+as_many_links {f} {old} {new} a =
+    sym (length-map new.present.area.links (λ (l : Link). l.interface))
+    ∙ ap length a.interfaces ∙ length-map old.present.area.links (λ (l : Link). l.interface)
 
 -- ---- a part for each of a list
 
@@ -79,33 +76,72 @@ module _ {X : Type 0} (step : EventState → X → EventState) where
   abbrev pub each : List X → EventState → EventState
   each xs p = fold step p xs
 
-  pub makes_first : (x : X) (xs : List X) {old middle new : Router}
-      {before between after : List Drafted} → Makes (λ p. step p x) old middle before between
-      → Makes (each xs) middle new between after → Makes (each (x ∷ xs)) old new before after
-  makes_first x xs a b = makes_then a b
-
   fold_append : (xs ys : List X) (p : EventState)
       → fold step p (xs ++ ys) ≡ fold step (fold step p xs) ys
   fold_append [] ys p = refl
   fold_append (x ∷ xs) ys p = fold_append xs ys (step p x)
 
-  pub makes_last : (xs : List X) (x : X) {old middle new : Router}
-      {before between after : List Drafted} → Makes (each xs) old middle before between
-      → Makes (λ p. step p x) middle new between after
-      → Makes (each (xs ++ x ∷ [])) old new before after
+  pub makes_last : (xs : List X) (x : X) {old middle new : KeptRouter}
+      → Makes (each xs) old middle → Makes (λ p. step p x) middle new
+      → Makes (each (xs ++ x ∷ [])) old new
   makes_last xs x a b = makes_same (λ p is. sym (fold_append xs (x ∷ []) p)) (makes_then a b)
+
+-- ---- calls that may be refused an allocation
+
+-- nothing more is to be done
+pub done : {X E : Type 0} {f : EventState → EventState} {old new : KeptRouter} (r : Result X E)
+    → Makes f old new → Does f old new r
+done r a = record { settled = a.settled; makes = always r a }
+
+pub refused : {X E : Type 0} {f : EventState → EventState} {old new : KeptRouter} (e : E)
+    → new.settled ≡ old.settled → Does {X = X} f old new (Err e)
+refused e stays = record { settled = stays; makes = tt }
+
+-- the call comes after a part
+pub then_does : {X E : Type 0} {f g : EventState → EventState} {old middle new : KeptRouter}
+    (r : Result X E) → Makes f old middle → Does g middle new r → Does (λ p. g (f p)) old new r
+then_does r a b = record {
+  settled = b.settled ∙ a.settled;
+  makes = on_ok r (λ m. makes_then a m) b.makes;
+}
+
+pub does_same : {X E : Type 0} {f g : EventState → EventState} {old new : KeptRouter}
+    (r : Result X E) → ((p : EventState) → p.router ≡ old.present → f p ≡ g p) → Does f old new r
+    → Does g old new r
+does_same r agree a = record {
+  settled = a.settled;
+  makes = on_ok r (λ m. makes_same agree m) a.makes;
+}
+
+pub does_if_true : {X E : Type 0} (f g : EventState → EventState) {old new : KeptRouter}
+    (r : Result X E) (test : Router → Bool) → test old.present ≡ true → Does f old new r
+    → Does (λ p. cond (test p.router) (f p) (g p)) old new r
+does_if_true f g {old} {new} r test holds a = record {
+  settled = a.settled;
+  makes = on_ok r (λ m. makes_if_true f g test holds m) a.makes;
+}
+
+pub does_if_false : {X E : Type 0} (f g : EventState → EventState) {old new : KeptRouter}
+    (r : Result X E) (test : Router → Bool) → test old.present ≡ false → Does g old new r
+    → Does (λ p. cond (test p.router) (f p) (g p)) old new r
+does_if_false f g {old} {new} r test fails a = record {
+  settled = a.settled;
+  makes = on_ok r (λ m. makes_if_false f g test fails m) a.makes;
+}
 
 -- ---- a change of the router that keeps the interfaces of its links
 
-pub makes_on_router : (f : Router → Router) (old new : Router) (ds : List Drafted)
-    → interfaces_of (f old).area.links ≡ interfaces_of old.area.links → new ≡ f old
-    → Makes (on_router f) old new ds ds
-makes_on_router f old new ds stays is = record {
+pub makes_on_router : (f : Router → Router) (old new : KeptRouter)
+    → interfaces_of (f old.present).area.links ≡ interfaces_of old.present.area.links
+    → new.settled ≡ old.settled → new.present ≡ f old.present → new.drafted ≡ old.drafted
+    → Makes (on_router f) old new
+makes_on_router f old new stays settled is drafted = record {
+  settled = settled;
   interfaces = ap (λ (r : Router). interfaces_of r.area.links) is ∙ stays;
   part = λ p first made. record {
     router = is ∙ ap f made.router;
     drafts =
-        made.drafts
+        drafted ∙ made.drafts
         ∙ drafted_same p.sends p.router.area.links (f p.router).area.links first
         (sym (subst (λ (r : Router). interfaces_of (f r).area.links ≡ interfaces_of r.area.links)
         made.router stays));
@@ -141,13 +177,14 @@ module _ (F : Outcome → Outcome) (appends : Appends F) (keeps : KeepsInterface
       let o : Outcome = record { area = p.router.area; sends = p.sends } in
       ap (λ (q : Outcome). record p.router { area = q.area }) (sym (appends o))
 
-  pub makes_on_area : (old new : Router) (before after : List Drafted) → new ≡ record old {
-    area = (F (start old.area)).area;
-  }
-      → after ≡ drafts_with (F (start old.area)).sends old.area.links before
-      → Makes (on_area F) old new before after
-  makes_on_area old new before after is drafts = record {
-    interfaces = ap (λ (r : Router). interfaces_of r.area.links) is ∙ keeps old.area;
+  pub makes_on_area : (old new : KeptRouter) → new.settled ≡ old.settled
+      → new.present ≡ record old.present { area = (F (start old.present.area)).area }
+      → new.drafted ≡ drafts_with (F (start old.present.area)).sends old.present.area.links
+      old.drafted
+      → Makes (on_area F) old new
+  makes_on_area old new settled is drafts = record {
+    settled = settled;
+    interfaces = ap (λ (r : Router). interfaces_of r.area.links) is ∙ keeps old.present.area;
     part = λ p first made. record {
       router = is ∙ ap (λ (r : Router). record r {
         area = (F (start r.area)).area;

@@ -1,8 +1,7 @@
 -- Flooding the copies with the keys at MaxAge, in turn, is flooding for all entries of the
 -- database.
-use Rattle.std.proofs.Common.{◌≡◌, ℕ, suc, ◌+◌, ◌==◌, Bool, true, false, cond, not, ◌&&◌, List, []}
-use Rattle.std.proofs.Common.{◌∷◌, ◌++◌, length, map, Option, None, Some, refl, sym, ap, ◌∙◌, arith}
-use Rattle.std.proofs.Common.{append_assoc}
+use Rattle.std.proofs.Common.{◌≡◌, ℕ, ◌+◌, ◌==◌, Bool, true, false, cond, not, ◌&&◌, List, [], ◌∷◌}
+use Rattle.std.proofs.Common.{◌++◌, map, Option, None, Some, refl, sym, ap, ◌∙◌, append_assoc}
 use Rattle.std.specs.List.{AllByRecursion, cons_option, enumerate_from, filter, filter_map, fold}
 use Rattle.std.specs.FinMap as finite
 use Rattle.words.specs.declared.key.Key.{Key}
@@ -153,13 +152,6 @@ module _ (N : ℕ → Link → Option Neighbor) where
       ∙ ap (λ cs. drafting delay cs d) (sym (picked_append n xs ys)) in
       λ i. here i ∷ drafted_then (n + 1) xs ys ls ds i
 
-  length_then : (n : ℕ) (xs : List Send) (ls : List Link) (ds : List Drafted)
-      → length ds ≡ length ls → length (drafted_from n xs ls ds) ≡ length (by_then n ls)
-  length_then n xs [] ds same = same
-  length_then n xs (l ∷ ls) [] same = absurd (omega (arith, same))
-  length_then n xs (l ∷ ls) (d ∷ ds) same =
-      ap suc (length_then (n + 1) xs ls ds (omega (arith, same)))
-
 module _ (before moment : ℕ) (a : Area) (ds : List Drafted) where
   abbrev flooded_now : Lsa → Outcome
   flooded_now lsa = flood moment None lsa (start a)
@@ -168,14 +160,8 @@ module _ (before moment : ℕ) (a : Area) (ds : List Drafted) where
   DraftedAfter more p = drafts_with more p.area.links (drafts_with p.sends a.links ds)
       ≡ drafts_with (p.sends ++ more) a.links ds
 
-  abbrev CountedAfter : Outcome → Type 0
-  CountedAfter p = length (drafts_with p.sends a.links ds) ≡ length p.area.links
-
   unchanged : (more : List Send) → DraftedAfter more (start a)
   unchanged more = ap (drafts_with more a.links) (sym (drafted_none 1 a.links ds))
-
-  uncounted : length ds ≡ length a.links → CountedAfter (start a)
-  uncounted same = ap length (sym (drafted_none 1 a.links ds)) ∙ same
 
   drafted_by_test : (more : List Send) (lsa : Lsa) (b : Bool)
       → DraftedAfter more (cond b (flooded_now lsa) (start a))
@@ -184,29 +170,12 @@ module _ (before moment : ℕ) (a : Area) (ds : List Drafted) where
       a.links ds
   drafted_by_test more lsa false = unchanged more
 
-  counted_by_test : length ds ≡ length a.links → (lsa : Lsa) (b : Bool)
-      → CountedAfter (cond b (flooded_now lsa) (start a))
-  counted_by_test same lsa true = length_then
-      (λ n l. step_on (flood_to moment None lsa n l) l.neighbor) 1 (flooded_now lsa).sends a.links
-      ds same
-  counted_by_test same lsa false = uncounted same
-
   by_copy : (more : List Send) (c : Option DatabaseCopy)
       → DraftedAfter more (come_of_age_copy before moment c (start a))
   by_copy more None = unchanged more
   by_copy more (Some c) = drafted_by_test more (lsa_now moment c)
       (has_just_aged_out before moment c)
 
-  counted_by_copy : length ds ≡ length a.links → (c : Option DatabaseCopy)
-      → CountedAfter (come_of_age_copy before moment c (start a))
-  counted_by_copy same None = uncounted same
-  counted_by_copy same (Some c) = counted_by_test same (lsa_now moment c)
-      (has_just_aged_out before moment c)
-
   pub drafted_after : (more : List Send) (key : Key)
       → DraftedAfter more (come_of_age before moment key a)
   drafted_after more key = by_copy more (finite.get a.database key)
-
-  pub counted_after : length ds ≡ length a.links → (key : Key)
-      → CountedAfter (come_of_age before moment key a)
-  counted_after same key = counted_by_copy same (finite.get a.database key)

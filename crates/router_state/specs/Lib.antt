@@ -1,3 +1,4 @@
+pub mod Kept
 pub mod Making
 pub mod Owned
 pub mod Heard

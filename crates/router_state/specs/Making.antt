@@ -1,25 +1,34 @@
--- An event in progress, as a router and one draft for each of its interfaces.
-use Rattle.std.specs.Prelude.{◌≡◌, List, map}
+-- An event in progress, and what a call that is a part of it does to the router.
+--
+-- A call errors only if an allocation is refused, and may have done a part of its work then: the
+-- caller rolls the router back, which drops what was drafted, too. Whatever it answers, what was
+-- settled stays the same.
+use Rattle.std.specs.Prelude.{◌≡◌, List, map, OnOk, Result}
 use Rattle.flooding.specs.adjacency.Drafts.{Drafted}
 use Rattle.flooding.specs.adjacency.declared.interface.Interface.{Interface}
 use Rattle.flooding.specs.received.Links.{Link}
 use Rattle.flooding.specs.Drafted.{drafts_with}
 use Rattle.events.specs.EventState.{EventState}
-use Rattle.events.specs.Routers.{Router}
+use Rattle.router_state.specs.Kept.{KeptRouter}
 
--- the router is that of the event so far, and the drafts, which began as `first`, have what was
+-- the router is that of the event so far, and its drafts, which began as `first`, have what was
 -- sent
-pub record IsMaking (p : EventState) (first : List Drafted) (r : Router) (ds : List Drafted)
-    : Type 0 where
-  pub router : r ≡ p.router
-  pub drafts : ds ≡ drafts_with p.sends p.router.area.links first
+pub record IsMaking (p : EventState) (first : List Drafted) (r : KeptRouter) : Type 0 where
+  pub router : r.present ≡ p.router
+  pub drafts : r.drafted ≡ drafts_with p.sends p.router.area.links first
 
 abbrev pub interfaces_of : List Link → List Interface
 interfaces_of links = map (λ (link : Link). link.interface) links
 
--- the function f, as a part of any event, leads from the old router and drafts to the new ones
-pub record Makes (f : EventState → EventState) (old new : Router) (before after : List Drafted)
-    : Type 0 where
-  pub interfaces : interfaces_of new.area.links ≡ interfaces_of old.area.links
-  pub part : (p : EventState) (first : List Drafted) → IsMaking p first old before
-      → IsMaking (f p) first new after
+-- the function f, as a part of any event, leads from the old router to the new one
+pub record Makes (f : EventState → EventState) (old new : KeptRouter) : Type 0 where
+  pub settled : new.settled ≡ old.settled
+  pub interfaces : interfaces_of new.present.area.links ≡ interfaces_of old.present.area.links
+  pub part : (p : EventState) (first : List Drafted) → IsMaking p first old
+      → IsMaking (f p) first new
+
+-- a call that may be refused an allocation does this part of an event
+pub record Does {X E : Type 0} (f : EventState → EventState) (old new : KeptRouter)
+    (result : Result X E) : Type 0 where
+  pub settled : new.settled ≡ old.settled
+  pub makes : OnOk result (Makes f old new)

@@ -1,16 +1,15 @@
 //! What packets from a neighbor do to the conversation with it (RFC 2328, sections 10.5 to 10.7 and
 //! 13.7).
-ghost use Rattle.std.specs.Prelude.{◌≡◌, ◌≤◌, OnOk, length, true};
+ghost use Rattle.std.specs.Prelude.{◌≡◌, ◌≤◌, length, true};
 ghost use Rattle.flooding.specs.received.Links.{neighbor_at};
 ghost use Rattle.events.specs.EventState.{on_area};
-ghost use Rattle.events.specs.Packets.{acknowledged_by, after_hello, describe_to};
-ghost use Rattle.events.specs.Packets.{is_in_exchange};
+ghost use Rattle.events.specs.Packets.{acknowledged_by, after_hello, describe_to, is_in_exchange};
 ghost use Rattle.events.specs.Packets.{requested_from};
-ghost use Rattle.router_state.specs.Making.{Makes};
+ghost use Rattle.router_state.specs.Making.{Does};
 
 use crate::hearing::Hearing;
 use crate::router::Router;
-use flooding::{Acknowledging, Answering, Describing, Draft};
+use flooding::{Acknowledging, Answering, Describing};
 use lsa::Header;
 use packet::{Description, Hello};
 use std::alloc::{AllocError, Global};
@@ -21,8 +20,7 @@ impl Router {
     /// It is discarded if the interface and it differ in HelloInterval, RouterDeadInterval or the
     /// E-bit, or if the interface has another neighbor.
     ///
-    /// Errors with `AllocError` if an allocation is refused; the caller then rolls the router back
-    /// and drops the drafts.
+    /// Errors with `AllocError` if an allocation is refused.
     pub fn hear(
         &mut self,
         alloc: Global,
@@ -30,17 +28,11 @@ impl Router {
         number: usize,
         from: RouterId,
         hello: &Hello,
-        drafts: &mut [Draft],
     ) -> Result<(), AllocError>
         requires first { 1 ≤ number }
         requires last { number ≤ length self.old.present.area.links }
-        requires drafts { length drafts.old ≡ length self.old.present.area.links }
-        ensures makes { OnOk result (Makes
-            (on_area (after_hello self.old.present.id moment number from
-            hello.now))
-            self.old.present self.new.present drafts.old drafts.new) }
-        ensures drafts { OnOk result (length drafts.new ≡ length self.new.present.area.links) }
-        ensures settled { self.new.settled ≡ self.old.settled }
+        ensures { Does (on_area (after_hello self.old.present.id moment number from hello.now))
+            self.old self.new result }
     {
         let hearing = Hearing {
             own: self.id,
@@ -48,95 +40,72 @@ impl Router {
             from,
             hello,
         };
-        self.area.step_link(alloc, moment, number, &hearing, drafts)
+        self.area.step_link(alloc, moment, number, &hearing)
     }
 
     /// A Database Description from the neighbor at the interface with this number (RFC 2328,
     /// section 10.6).
     ///
-    /// Errors with `AllocError` if an allocation is refused; the caller then rolls the router back
-    /// and drops the drafts.
+    /// Errors with `AllocError` if an allocation is refused.
     pub fn describe(
         &mut self,
         alloc: Global,
         moment: Second,
         number: usize,
         description: &Description,
-        drafts: &mut [Draft],
     ) -> Result<(), AllocError>
         requires first { 1 ≤ number }
         requires last { number ≤ length self.old.present.area.links }
-        requires drafts { length drafts.old ≡ length self.old.present.area.links }
-        ensures makes { OnOk result (Makes
-            (on_area (describe_to self.old.present.id moment number
-            description.now))
-            self.old.present self.new.present drafts.old drafts.new) }
-        ensures drafts { OnOk result (length drafts.new ≡ length self.new.present.area.links) }
-        ensures settled { self.new.settled ≡ self.old.settled }
+        ensures { Does (on_area (describe_to self.old.present.id moment number description.now))
+            self.old self.new result }
     {
         let describing = Describing {
             own: self.id,
             moment,
             description,
         };
-        self.area
-            .step_link(alloc, moment, number, &describing, drafts)
+        self.area.step_link(alloc, moment, number, &describing)
     }
 
     /// A Link State Request for these keys from the neighbor at the interface with this number,
     /// which is in Exchange or later (RFC 2328, section 10.7): the copies are sent and marked as
     /// sent; if one is missing, none is sent (BadLSReq).
     ///
-    /// Errors with `AllocError` if an allocation is refused; the caller then rolls the router back
-    /// and drops the drafts.
+    /// Errors with `AllocError` if an allocation is refused.
     pub fn answer(
         &mut self,
         alloc: Global,
         moment: Second,
         number: usize,
         keys: &[Key],
-        drafts: &mut [Draft],
     ) -> Result<(), AllocError>
         requires first { 1 ≤ number }
         requires last { number ≤ length self.old.present.area.links }
         requires exchange { is_in_exchange
             (neighbor_at number self.old.present.area.links) ≡ true }
-        requires drafts { length drafts.old ≡ length self.old.present.area.links }
-        ensures makes { OnOk result (Makes
-            (on_area (requested_from moment number keys.now))
-            self.old.present self.new.present drafts.old drafts.new) }
-        ensures drafts { OnOk result (length drafts.new ≡ length self.new.present.area.links) }
-        ensures settled { self.new.settled ≡ self.old.settled }
+        ensures { Does (on_area (requested_from moment number keys.now)) self.old self.new result }
     {
         let answering = Answering { moment, keys };
-        self.area
-            .step_link(alloc, moment, number, &answering, drafts)
+        self.area.step_link(alloc, moment, number, &answering)
     }
 
     /// A Link State Acknowledgment of these instances from the neighbor at the interface with this
     /// number (RFC 2328, section 13.7).
     ///
-    /// Errors with `AllocError` if an allocation is refused; the caller then rolls the router back
-    /// and drops the drafts.
+    /// Errors with `AllocError` if an allocation is refused.
     pub fn acknowledged(
         &mut self,
         alloc: Global,
         moment: Second,
         number: usize,
         headers: &[Header],
-        drafts: &mut [Draft],
     ) -> Result<(), AllocError>
         requires first { 1 ≤ number }
         requires last { number ≤ length self.old.present.area.links }
-        requires drafts { length drafts.old ≡ length self.old.present.area.links }
-        ensures makes { OnOk result (Makes
-            (on_area (acknowledged_by moment number headers.now))
-            self.old.present self.new.present drafts.old drafts.new) }
-        ensures drafts { OnOk result (length drafts.new ≡ length self.new.present.area.links) }
-        ensures settled { self.new.settled ≡ self.old.settled }
+        ensures { Does (on_area (acknowledged_by moment number headers.now))
+            self.old self.new result }
     {
         let acknowledging = Acknowledging { moment, headers };
-        self.area
-            .step_link(alloc, moment, number, &acknowledging, drafts)
+        self.area.step_link(alloc, moment, number, &acknowledging)
     }
 }

@@ -1,5 +1,6 @@
 //! Copies of routers.
 ghost use Rattle.std.specs.Prelude.{◌≡◌, IfOk};
+ghost use Rattle.flooding.specs.Drafted.{nothing_at};
 
 use crate::router::Router;
 use flooding::Saved;
@@ -23,12 +24,15 @@ fn copy_moment(saved: &Saved<Second>) -> Saved<Second>
 }
 
 impl Router {
-    /// A copy of the router, settled.
+    /// A copy of the router, settled, with nothing drafted.
     ///
     /// Errors with `AllocError` if an allocation is refused.
     pub fn copy(&self, alloc: Global) -> Result<Self, AllocError>
-        ensures { IfOk result (λ made. made
-            ≡ record { present = self.now.present; settled = self.now.present }) }
+        ensures { IfOk result (λ made. made ≡ record {
+          present = self.now.present;
+          settled = self.now.present;
+          drafted = nothing_at self.now.present.area.links;
+        }) }
     {
         // For the prover alone, by what the call ensures.
         let _links = self.area.links();

@@ -4,7 +4,9 @@ ghost use Rattle.std.specs.Prelude.{◌≡◌, ◌<◌, ◌^◌, OnOk};
 ghost use Rattle.std.specs.List.{fold};
 ghost use Rattle.std.specs.FinMap as finite;
 ghost use Rattle.events.specs.Commands.{announce, unannounce};
+ghost use Rattle.events.specs.EventState.{on_router};
 ghost use Rattle.events.specs.Originations.{external_key, forget_originations, wait};
+ghost use Rattle.router_state.specs.Making.{Does};
 
 use crate::router::Router;
 use keyed_map::{KeyTest, KeyedMap};
@@ -55,13 +57,13 @@ fn remove_each(keys: &[Key], moments: &mut KeyedMap<Second>) -> Result<(), Alloc
 impl Router {
     /// Announces the destination from now on, under the key of its AS-external-LSA.
     ///
-    /// Errors with `AllocError` if an allocation is refused; the caller then rolls the router back.
+    /// Errors with `AllocError` if an allocation is refused.
     pub fn announce(&mut self, external: External) -> Result<(), AllocError>
         // A metric has 24 bits.
         requires metric { external.metric < 2 ^ 24 }
-        ensures ok { OnOk result (self.new.present ≡ announce
-            (external_key self.old.present.id external.prefix) external self.old.present) }
-        ensures settled { self.new.settled ≡ self.old.settled }
+        ensures { Does (on_router (announce
+            (external_key self.old.present.id external.prefix) external))
+            self.old self.new result }
     {
         let key = external_key(self.id, external.prefix);
         self.announced.insert(key, external)
@@ -69,10 +71,9 @@ impl Router {
 
     /// The destination of this key is no longer announced, and its LSA no longer waits.
     ///
-    /// Errors with `AllocError` if an allocation is refused; the caller then rolls the router back.
+    /// Errors with `AllocError` if an allocation is refused.
     pub fn unannounce(&mut self, key: &Key) -> Result<(), AllocError>
-        ensures ok { OnOk result (self.new.present ≡ unannounce key.now self.old.present) }
-        ensures settled { self.new.settled ≡ self.old.settled }
+        ensures { Does (on_router (unannounce key.now)) self.old self.new result }
     {
         self.announced.remove(key)?;
         self.waiting.remove(key)
@@ -80,21 +81,18 @@ impl Router {
 
     /// The self-originated LSA of this key waits for a Tick.
     ///
-    /// Errors with `AllocError` if an allocation is refused; the caller then rolls the router back.
+    /// Errors with `AllocError` if an allocation is refused.
     pub fn wait(&mut self, key: &Key) -> Result<(), AllocError>
-        ensures ok { OnOk result (self.new.present ≡ wait key.now self.old.present) }
-        ensures settled { self.new.settled ≡ self.old.settled }
+        ensures { Does (on_router (wait key.now)) self.old self.new result }
     {
         self.waiting.insert(*key, ())
     }
 
     /// Forgets the originations since which MinLSInterval has passed.
     ///
-    /// Errors with `AllocError` if an allocation is refused; the caller then rolls the router back.
+    /// Errors with `AllocError` if an allocation is refused.
     pub fn forget_originations(&mut self, alloc: Global, moment: Second) -> Result<(), AllocError>
-        ensures ok { OnOk result (self.new.present
-            ≡ forget_originations moment self.old.present) }
-        ensures settled { self.new.settled ≡ self.old.settled }
+        ensures { Does (on_router (forget_originations moment)) self.old self.new result }
     {
         let keys = self.originated.keys_where(alloc, &IsOver { moment })?;
         remove_each(&keys, &mut self.originated)

@@ -5,7 +5,7 @@ ghost use Rattle.flooding.specs.adjacency.Adjacencies.{has_passed};
 ghost use Rattle.events.specs.Hellos.{heard_of, hello_is_due, hello_on, is_due};
 ghost use Rattle.router_state.specs.Greetings.{routers_of};
 
-use flooding::{Draft, Link, LinkStep, Lsdb, NeighborState};
+use flooding::{Link, LinkStep, Lsdb, NeighborState};
 use packet::Hello;
 use std::alloc::{AllocError, Global};
 use words::{E_BIT, RouterId, Second, Sequence};
@@ -102,18 +102,11 @@ impl LinkStep for Greeting {
 
     ghost sends = { λ a database link. hello_sent_on a.moment link };
 
-    fn take(
-        &self,
-        alloc: Global,
-        _database: &Lsdb,
-        link: &mut Link,
-        draft: &mut Draft,
-    ) -> Result<(), AllocError> {
+    fn take(&self, alloc: Global, _database: &Lsdb, link: &mut Link) -> Result<(), AllocError> {
         let due = hello_is_due(self.moment, link);
         if due {
             let hello = hello_on(alloc, link)?;
-            link.hello_sent(self.moment);
-            return draft.greet(hello);
+            return link.greet(self.moment, hello);
         }
         Ok(())
     }

@@ -4,7 +4,7 @@ ghost use Rattle.std.specs.List.{list_any};
 ghost use Rattle.events.specs.Hellos.{accepts, agrees, agrees_on, is_foreign, may_be, names};
 ghost use Rattle.router_state.specs.Heard.{may_be_named};
 
-use flooding::{Draft, Interface, Link, LinkStep, Lsdb, NeighborState};
+use flooding::{Interface, Link, LinkStep, Lsdb, NeighborState};
 use packet::Hello;
 use std::alloc::{AllocError, Global};
 use words::{E_BIT, RouterId, Second};
@@ -96,17 +96,11 @@ impl<'a> LinkStep for Hearing<'a> {
 
     ghost sends = { λ a database link. sent_heard a.own a.moment a.from a.hello.now link };
 
-    fn take(
-        &self,
-        alloc: Global,
-        _database: &Lsdb,
-        link: &mut Link,
-        draft: &mut Draft,
-    ) -> Result<(), AllocError> {
+    fn take(&self, alloc: Global, _database: &Lsdb, link: &mut Link) -> Result<(), AllocError> {
         let accepted = accepts(self.own, self.from, self.hello, link);
         if accepted {
             let named = names(self.own, self.hello);
-            return link.hello(alloc, self.moment, self.from, named, draft);
+            return link.hello(alloc, self.moment, self.from, named);
         }
         Ok(())
     }

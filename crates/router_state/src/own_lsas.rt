@@ -1,11 +1,11 @@
 //! Self-originated LSAs (RFC 2328, sections 12.4 and 14.1).
-ghost use Rattle.std.specs.Prelude.{◌≡◌, ◌≤◌, OnOk, length};
+ghost use Rattle.std.specs.Prelude.{◌≡◌};
 ghost use Rattle.events.specs.Originations.{flush, is_due, is_stale};
-ghost use Rattle.router_state.specs.Making.{Makes};
+ghost use Rattle.router_state.specs.Making.{Does};
 ghost use Rattle.router_state.specs.Parts.{put_out};
 
 use crate::router::Router;
-use flooding::{DatabaseCopy, Draft};
+use flooding::DatabaseCopy;
 use lsa::Lsa;
 use std::alloc::{AllocError, Global};
 use words::{Key, Second};
@@ -39,23 +39,17 @@ impl Router {
     /// Installs an LSA of this key that this router originated, and floods it to every neighbor. It
     /// no longer waits, and MinLSInterval starts.
     ///
-    /// Errors with `AllocError` if an allocation is refused; the caller then rolls the router back
-    /// and drops the drafts.
+    /// Errors with `AllocError` if an allocation is refused.
     pub fn originate(
         &mut self,
         alloc: Global,
         moment: Second,
         key: &Key,
         lsa: Lsa,
-        drafts: &mut [Draft],
     ) -> Result<(), AllocError>
-        requires drafts { length drafts.old ≡ length self.old.present.area.links }
-        ensures makes { OnOk result (Makes (put_out moment key.now lsa)
-            self.old.present self.new.present drafts.old drafts.new) }
-        ensures drafts { OnOk result (length drafts.new ≡ length self.new.present.area.links) }
-        ensures settled { self.new.settled ≡ self.old.settled }
+        ensures { Does (put_out moment key.now lsa) self.old self.new result }
     {
-        self.area.originate(alloc, moment, lsa, drafts)?;
+        self.area.originate(alloc, moment, lsa)?;
         self.waiting.remove(key)?;
         self.originated.insert(*key, moment)
     }
@@ -63,21 +57,9 @@ impl Router {
     /// Premature aging (RFC 2328, section 14.1): a copy of this key that is younger than MaxAge is
     /// set to MaxAge and flooded to every neighbor. Without such a copy nothing changes.
     ///
-    /// Errors with `AllocError` if an allocation is refused; the caller then rolls the router back
-    /// and drops the drafts.
-    pub fn flush(
-        &mut self,
-        alloc: Global,
-        moment: Second,
-        key: &Key,
-        drafts: &mut [Draft],
-    ) -> Result<(), AllocError>
-        requires drafts { length drafts.old ≡ length self.old.present.area.links }
-        ensures makes { OnOk result (Makes
-            (flush moment key.now)
-            self.old.present self.new.present drafts.old drafts.new) }
-        ensures drafts { OnOk result (length drafts.new ≡ length self.new.present.area.links) }
-        ensures settled { self.new.settled ≡ self.old.settled }
+    /// Errors with `AllocError` if an allocation is refused.
+    pub fn flush(&mut self, alloc: Global, moment: Second, key: &Key) -> Result<(), AllocError>
+        ensures { Does (flush moment key.now) self.old self.new result }
     {
         let Some(copy) = self.area.database().get(key) else {
             return Ok(());
@@ -86,6 +68,6 @@ impl Router {
         if aged {
             return Ok(());
         }
-        self.area.age_out(alloc, moment, key, drafts)
+        self.area.age_out(alloc, moment, key)
     }
 }

@@ -1,20 +1,21 @@
 //! The router.
-ghost use Rattle.std.specs.Prelude.{◌≡◌, ◌≤◌, List, length, map};
+ghost use Rattle.std.specs.Prelude.{◌≡◌, ◌≤◌, IfOk, OnOk, length, map};
 ghost use Rattle.std.specs.FinMap as finite;
-ghost use Rattle.flooding.specs.adjacency.Drafts.{Drafted};
 ghost use Rattle.events.specs.Commands.{after_install};
 ghost use Rattle.events.specs.Routers.{with_links};
-ghost use Rattle.flooding.specs.Links.{present, settled_link};
+ghost use Rattle.flooding.specs.Drafted.{nothing_at};
+ghost use Rattle.flooding.specs.Links.{draft_of, present, settled_link};
 ghost use Rattle.router_state.specs.Making.{Makes};
 ghost use Rattle.router_state.specs.Owned.{AreOwn};
 
-use flooding::{Area, Link, Saved};
+use flooding::{Area, Draft, Link, Saved};
 use keyed_map::KeyedMap;
-use std::alloc::Global;
+use std::alloc::{AllocError, Global};
 use std::marker::Model;
 use words::{External, Key, Route, RouterId, Second, Sequence};
 
-/// A router between and within events, and its state when it was last settled.
+/// A router between and within events, its state when it was last settled, and what was drafted
+/// since.
 #[derive(Drop)]
 pub struct Router {
     pub(crate) id: RouterId,
@@ -37,16 +38,14 @@ impl Model for Router {
     ghost use Rattle.words.specs.declared.route.External.{External as Destination};
     ghost use Rattle.flooding.specs.lsdb.Copies.{DatabaseCopy};
     ghost use Rattle.flooding.specs.lsdb.Keys.{coded_key, key_cmp};
-    ghost use Rattle.flooding.specs.adjacency.Codes.{coded_headers, coded_kept, coded_keys};
-    ghost use Rattle.flooding.specs.adjacency.Codes.{coded_lists};
-    ghost use Rattle.flooding.specs.adjacency.Kept.{Kept};
+    ghost use Rattle.flooding.specs.adjacency.Codes.{coded_headers, coded_keys, coded_lists};
     ghost use Rattle.flooding.specs.adjacency.Views.{keys_of};
-    ghost use Rattle.events.specs.Routers.{Router as Shown};
+    ghost use Rattle.router_state.specs.Kept.{KeptRouter, coded_router};
     ghost use Rattle.router_state.specs.Owned.{AreOwn};
 
-    ghost Value = { Kept Shown };
+    ghost Value = { KeptRouter };
 
-    ghost coded = { coded_kept (Prim.hlevel (
+    ghost coded = { coded_router (Prim.hlevel (
       codes,
       coded_lists,
       coded_keys,
@@ -54,7 +53,7 @@ impl Model for Router {
       finite.code {X = DatabaseCopy} {R = key_cmp} coded_key (Prim.hlevel codes),
       finite.code {X = Destination} {R = key_cmp} coded_key (Prim.hlevel codes),
       finite.code {X = ℕ} {R = key_cmp} coded_key (Prim.hlevel codes),
-    )) };
+    )) (Prim.hlevel codes) };
 
     ghost view = { λ a. record {
       present = record {
@@ -75,6 +74,7 @@ impl Model for Router {
         answers = a.answers.settled;
         moment = a.moment.settled;
       };
+      drafted = a.area.drafted;
     } };
 
     ghost invariant = { λ a.
@@ -91,6 +91,7 @@ impl Router {
         requires few { length links.items ≤ 63 }
         ensures present { result.present ≡ with_links id (map present links.items) moment }
         ensures settled { result.settled ≡ with_links id (map settled_link links.items) moment }
+        ensures drafted { result.drafted ≡ map draft_of links.items }
     {
         Router {
             id,
@@ -116,6 +117,7 @@ impl Router {
           router = self.now.present.id;
           present = self.now.present.area;
           settled = self.now.settled.area;
+          drafted = self.now.drafted;
         } }
         ensures few { length self.now.present.area.links ≤ 63 }
     {
@@ -162,18 +164,17 @@ impl Router {
 
     /// Replaces the routes and the programs' answers of the last `Install`. It doesn't allocate.
     pub fn install(&mut self, answers: Sequence<(Route, u64)>)
-        ensures makes { (first : List Drafted)
-            → Makes (after_install answers) self.old.present self.new.present first first }
-        ensures links { length self.new.present.area.links
-            ≡ length self.old.present.area.links }
-        ensures settled { self.new.settled ≡ self.old.settled }
+        ensures { Makes (after_install answers) self.old self.new }
     {
         self.answers.set(answers);
     }
 
-    /// Makes the changes so far final. It doesn't allocate.
+    /// Makes the changes so far final, and drops what was drafted. It doesn't allocate.
     pub fn settle(&mut self)
-        ensures { self.new ≡ record { present = self.old.present; settled = self.old.present } }
+        ensures { self.new ≡ record self.old {
+          settled = self.old.present;
+          drafted = nothing_at self.old.present.area.links;
+        } }
     {
         // For the prover alone, by what the call ensures.
         let _links = self.area.links();
@@ -189,7 +190,10 @@ impl Router {
     /// moment, so that the next event needn't. If an allocation for that is refused, it tries again
     /// the next time.
     pub fn settle_at(&mut self, alloc: Global, moment: Second)
-        ensures { self.new ≡ record { present = self.old.present; settled = self.old.present } }
+        ensures { self.new ≡ record self.old {
+          settled = self.old.present;
+          drafted = nothing_at self.old.present.area.links;
+        } }
     {
         // For the prover alone, by what the call ensures.
         let _links = self.area.links();
@@ -201,9 +205,13 @@ impl Router {
         self.moment.settle();
     }
 
-    /// Undoes all changes since the router was last settled. It doesn't allocate.
+    /// Undoes all changes since the router was last settled, and drops what was drafted. It doesn't
+    /// allocate.
     pub fn roll_back(&mut self)
-        ensures { self.new ≡ record { present = self.old.settled; settled = self.old.settled } }
+        ensures { self.new ≡ record self.old {
+          present = self.old.settled;
+          drafted = nothing_at self.old.settled.area.links;
+        } }
     {
         self.area.roll_back();
         self.announced.roll_back();
@@ -211,6 +219,19 @@ impl Router {
         self.originated.roll_back();
         self.answers.roll_back();
         self.moment.roll_back();
+    }
+
+    /// Takes what was drafted away, in the order of the interfaces, so that nothing is left.
+    ///
+    /// Errors with `AllocError` if an allocation is refused.
+    pub fn take_drafts(&mut self, alloc: Global) -> Result<Vec<Draft>, AllocError>
+        ensures drafts { IfOk result (λ drafts. drafts.items ≡ self.old.drafted) }
+        ensures rest { OnOk result (self.new ≡ record self.old {
+          drafted = nothing_at self.old.present.area.links;
+        }) }
+        ensures settled { self.new.settled ≡ self.old.settled }
+    {
+        self.area.take_drafts(alloc)
     }
 
     /// Drops the router. A function above that drops one itself would have to prove the drop of

@@ -1,19 +1,18 @@
 //! What a Tick and the end of an event do to the links and the database (RFC 2328, sections 9.5,
 //! 10.3, 10.8, 10.9, 13.5, 13.6 and 14).
-ghost use Rattle.std.specs.Prelude.{◌≡◌, List, OnOk, length, map};
-ghost use Rattle.flooding.specs.adjacency.Drafts.{Drafted};
+ghost use Rattle.std.specs.Prelude.{map};
 ghost use Rattle.flooding.specs.received.Outcomes.{on_links};
 ghost use Rattle.events.specs.Commands.{after_link_down};
 ghost use Rattle.events.specs.EventState.{on_area};
 ghost use Rattle.events.specs.Endings.{loading_done, with_ages};
 ghost use Rattle.events.specs.Ticks.{run_out};
-ghost use Rattle.router_state.specs.Making.{Makes};
+ghost use Rattle.router_state.specs.Making.{Does, Makes};
 ghost use Rattle.router_state.specs.Parts.{finish, send_what_is_due};
 
 use crate::aging::{remove_aged, with_ages};
 use crate::greeting::Greeting;
 use crate::router::Router;
-use flooding::{Draft, EndLoading, Link, LinkStep, Lsdb, NextRequest, RunOut, SendingAgain};
+use flooding::{EndLoading, Link, LinkStep, Lsdb, NextRequest, RunOut, SendingAgain};
 use std::alloc::{AllocError, Global};
 use words::Second;
 
@@ -28,14 +27,8 @@ impl LinkStep for Acknowledgments {
 
     ghost sends = { λ a database link. acknowledgments_on link };
 
-    fn take(
-        &self,
-        alloc: Global,
-        _database: &Lsdb,
-        link: &mut Link,
-        draft: &mut Draft,
-    ) -> Result<(), AllocError> {
-        link.acknowledge(alloc, draft)
+    fn take(&self, alloc: Global, _database: &Lsdb, link: &mut Link) -> Result<(), AllocError> {
+        link.acknowledge(alloc)
     }
 }
 
@@ -43,49 +36,28 @@ impl Router {
     /// Floods each copy that has reached MaxAge since the moment of the last event to every
     /// neighbor (RFC 2328, section 14).
     ///
-    /// Errors with `AllocError` if an allocation is refused; the caller then rolls the router back
-    /// and drops the drafts.
-    pub fn age(
-        &mut self,
-        alloc: Global,
-        moment: Second,
-        drafts: &mut [Draft],
-    ) -> Result<(), AllocError>
-        requires drafts { length drafts.old ≡ length self.old.present.area.links }
-        ensures makes { OnOk result (Makes
-            (on_area (with_ages self.old.present.moment moment))
-            self.old.present self.new.present drafts.old drafts.new) }
-        ensures drafts { OnOk result (length drafts.new ≡ length self.new.present.area.links) }
-        ensures settled { self.new.settled ≡ self.old.settled }
+    /// Errors with `AllocError` if an allocation is refused.
+    pub fn age(&mut self, alloc: Global, moment: Second) -> Result<(), AllocError>
+        ensures { Does (on_area (with_ages self.old.present.moment moment))
+            self.old self.new result }
     {
         let before = self.moment();
-        with_ages(&mut self.area, alloc, before, moment, drafts)
+        with_ages(&mut self.area, alloc, before, moment)
     }
 
     /// What a Tick sends: what is retransmitted if RxmtInterval has passed (RFC 2328, sections
     /// 10.8, 10.9 and 13.6), then each link's delayed acknowledgments (section 13.5), then a Hello
     /// at each interface at which none was sent for HelloInterval (section 9.5).
     ///
-    /// Errors with `AllocError` if an allocation is refused; the caller then rolls the router back
-    /// and drops the drafts.
-    pub fn send_what_is_due(
-        &mut self,
-        alloc: Global,
-        moment: Second,
-        drafts: &mut [Draft],
-    ) -> Result<(), AllocError>
-        requires drafts { length drafts.old ≡ length self.old.present.area.links }
-        ensures makes { OnOk result (Makes (send_what_is_due moment)
-            self.old.present self.new.present drafts.old drafts.new) }
-        ensures drafts { OnOk result (length drafts.new ≡ length self.new.present.area.links) }
-        ensures settled { self.new.settled ≡ self.old.settled }
+    /// Errors with `AllocError` if an allocation is refused.
+    pub fn send_what_is_due(&mut self, alloc: Global, moment: Second) -> Result<(), AllocError>
+        ensures { Does (send_what_is_due moment) self.old self.new result }
     {
         let again = SendingAgain { moment };
-        self.area.step_links(alloc, moment, &again, drafts)?;
-        self.area
-            .step_links(alloc, moment, &Acknowledgments, drafts)?;
+        self.area.step_links(alloc, moment, &again)?;
+        self.area.step_links(alloc, moment, &Acknowledgments)?;
         let greeting = Greeting { moment };
-        self.area.step_links(alloc, moment, &greeting, drafts)
+        self.area.step_links(alloc, moment, &greeting)
     }
 
     /// The end of an event on links and database: the next LSAs are requested from each neighbor
@@ -93,22 +65,12 @@ impl Router {
     /// retransmission list are removed from the database, unless some neighbor is in Exchange or
     /// Loading (section 14), and the moment is noted.
     ///
-    /// Errors with `AllocError` if an allocation is refused; the caller then rolls the router back
-    /// and drops the drafts.
-    pub fn finish(
-        &mut self,
-        alloc: Global,
-        moment: Second,
-        drafts: &mut [Draft],
-    ) -> Result<(), AllocError>
-        requires drafts { length drafts.old ≡ length self.old.present.area.links }
-        ensures makes { OnOk result (Makes (finish moment)
-            self.old.present self.new.present drafts.old drafts.new) }
-        ensures drafts { OnOk result (length drafts.new ≡ length self.new.present.area.links) }
-        ensures settled { self.new.settled ≡ self.old.settled }
+    /// Errors with `AllocError` if an allocation is refused.
+    pub fn finish(&mut self, alloc: Global, moment: Second) -> Result<(), AllocError>
+        ensures { Does (finish moment) self.old self.new result }
     {
         let requests = NextRequest { moment };
-        self.area.step_links(alloc, moment, &requests, drafts)?;
+        self.area.step_links(alloc, moment, &requests)?;
         remove_aged(&mut self.area, alloc, moment)?;
         self.moment.set(moment);
         Ok(())
@@ -118,12 +80,7 @@ impl Router {
     /// RouterDeadInterval goes Down, and the last Database Description is discarded that long after
     /// the exchange. It doesn't allocate.
     pub fn run_out(&mut self, moment: Second)
-        ensures makes { (first : List Drafted)
-            → Makes (on_area (on_links (map (run_out moment)))) self.old.present self.new.present
-            first first }
-        ensures links { length self.new.present.area.links
-            ≡ length self.old.present.area.links }
-        ensures settled { self.new.settled ≡ self.old.settled }
+        ensures { Makes (on_area (on_links (map (run_out moment)))) self.old self.new }
     {
         self.area.change_links(&RunOut { moment });
     }
@@ -131,11 +88,7 @@ impl Router {
     /// LoadingDone (RFC 2328, section 10.3): each neighbor goes from Loading to Full if its request
     /// list is empty. It doesn't allocate.
     pub fn end_loading(&mut self)
-        ensures makes { (first : List Drafted)
-            → Makes loading_done self.old.present self.new.present first first }
-        ensures links { length self.new.present.area.links
-            ≡ length self.old.present.area.links }
-        ensures settled { self.new.settled ≡ self.old.settled }
+        ensures { Makes loading_done self.old self.new }
     {
         self.area.change_links(&EndLoading);
     }
@@ -143,11 +96,7 @@ impl Router {
     /// The neighbor at the interface with this number goes Down. It doesn't allocate. If there is
     /// no such interface, nothing changes.
     pub fn take_down(&mut self, number: usize)
-        ensures makes { (first : List Drafted)
-            → Makes (after_link_down number) self.old.present self.new.present first first }
-        ensures links { length self.new.present.area.links
-            ≡ length self.old.present.area.links }
-        ensures settled { self.new.settled ≡ self.old.settled }
+        ensures { Makes (after_link_down number) self.old self.new }
     {
         if number == 0 {
             return;

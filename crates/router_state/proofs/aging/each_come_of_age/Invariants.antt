@@ -1,4 +1,4 @@
-use Rattle.std.proofs.Common.{◌≡◌, length}
+use Rattle.std.proofs.Common.{◌≡◌}
 use Rattle.flooding.specs.Drafted.{drafts_with}
 use Rattle.flooding.proofs.Acknowledged.{from}
 use Rattle.router_state.specs.Aging.{each_come_of_age}
@@ -9,10 +9,9 @@ invariant-loop-i l = record {
   area : (each_come_of_age l.before l.moment (from l.i l.keys) l.area.present).area
       ≡ (each_come_of_age l.before l.moment l.keys l.fn.area.present).area;
   drafts : drafts_with (each_come_of_age l.before l.moment (from l.i l.keys) l.area.present).sends
-      l.area.present.links l.drafts
+      l.area.present.links l.area.drafted
       ≡ drafts_with (each_come_of_age l.before l.moment l.keys l.fn.area.present).sends
-      l.fn.area.present.links l.fn.drafts;
-  counted : length l.drafts ≡ length l.area.present.links;
+      l.fn.area.present.links l.fn.area.drafted;
   settled : l.area.settled ≡ l.fn.area.settled;
   router : l.area.router ≡ l.fn.area.router;
 }

@@ -8,6 +8,7 @@ invariant-loop-i l = record {
   links : l.area.present.links ≡ l.fn.area.present.links;
   leaves : without_each l.fn.area.present.links l.area.present.database (from l.i l.keys)
       ≡ without_each l.fn.area.present.links l.fn.area.present.database l.keys;
+  drafts : l.area.drafted ≡ l.fn.area.drafted;
   settled : l.area.settled ≡ l.fn.area.settled;
   router : l.area.router ≡ l.fn.area.router;
 }

@@ -1,35 +1,32 @@
-use Rattle.std.proofs.Common.{[], ◌∷◌, sym, ap, ◌∙◌}
+use Rattle.std.proofs.Common.{[], ◌∷◌, refl, sym, ap, ◌∙◌}
 use Rattle.flooding.specs.adjacency.Contents.{SendsHello}
 use Rattle.flooding.specs.adjacency.Drafts.{drafting}
 use Rattle.keyed_map.proofs.Helds.{on_ok}
 use Rattle.router_state.proofs.Greeted.{greeted, greeting_sent, nothing_sent, silent}
 use Rattle.router_state.proofs.greeting.GreetingLinkStep.take.Goals as goal
 
-pub returns-then-due-clause-ok : goal.returns-then-due-clause-ok
-returns-then-due-clause-ok c =
-    on_ok c.greet.result
-    (λ sent. ap (λ k. k.present) c.hello_sent.ensures
-    ∙ greeted c.args.self.now.moment c.args.link.now.present
-    (sym c.hello_is_due-due.ensures ∙ c.if-due.true))
-    c.greet.ensures
-
-pub returns-then-due-clause-draft : goal.returns-then-due-clause-draft
-returns-then-due-clause-draft c =
+pub returns-then-due : goal.returns-then-due
+returns-then-due c =
+    let m = c.args.self.now.moment in
     let l = c.args.link.now.present in
     let delay = l.interface.delay in
-    let d = c.args.draft.now in
-    on_ok c.greet.result
-    (λ sent. sent delay ∙ ap (λ h. drafting delay (SendsHello h ∷ []) d) c.in_ok-hello.ensures
-    ∙ greeting_sent c.args.self.now.moment l delay d
-    (sym c.hello_is_due-due.ensures ∙ c.if-due.true))
-    c.greet.ensures
+    let d = c.args.link.now.drafted in
+    let due = sym c.hello_is_due-due.ensures ∙ c.if-due.true in
+    record {
+      link = on_ok c.greet.result (λ is. is ∙ greeted m l due) c.greet.ensures.link;
+      draft = on_ok c.greet.result (λ sent.
+          sent ∙ ap (λ h. drafting delay (SendsHello h ∷ []) d) c.in_ok-hello.ensures
+          ∙ greeting_sent m l delay d due) c.greet.ensures.draft;
+      settled = c.greet.ensures.settled;
+    }
 
-pub returns-clause-ok : goal.returns-clause-ok
-returns-clause-ok c = silent c.args.self.now.moment c.args.link.now.present
-    (sym c.hello_is_due-due.ensures ∙ c.if-due.false)
-
-pub returns-clause-draft : goal.returns-clause-draft
-returns-clause-draft c =
+pub returns : goal.returns
+returns c =
+    let m = c.args.self.now.moment in
     let l = c.args.link.now.present in
-    nothing_sent c.args.self.now.moment l l.interface.delay c.args.draft.now
-    (sym c.hello_is_due-due.ensures ∙ c.if-due.false)
+    let early = sym c.hello_is_due-due.ensures ∙ c.if-due.false in
+    record {
+      link = silent m l early;
+      draft = nothing_sent m l l.interface.delay c.args.link.now.drafted early;
+      settled = refl;
+    }

@@ -1,12 +1,14 @@
 use Rattle.std.proofs.Common.{sym, ap, subst, ◌∙◌}
 use Rattle.std.specs.FinMap as finite
 use Rattle.words.specs.declared.key.Key.{Key}
-use Rattle.keyed_map.proofs.Helds.{after, on_ok}
+use Rattle.keyed_map.proofs.Helds.{after}
 use Rattle.events.specs.Commands.{announce}
+use Rattle.events.specs.EventState.{on_router}
 use Rattle.events.specs.Originations.{external_key}
 use Rattle.router_state.specs.Owned.{AreOwn}
 use Rattle.router_state.proofs.Announced.{insert_own}
 use Rattle.router_state.proofs.Edited.{announces}
+use Rattle.router_state.proofs.Making.{does_same}
 use Rattle.router_state.proofs.router.Router.announce.Goals as goal
 
 pub invariant_of-self : goal.invariant_of-self
@@ -26,12 +28,12 @@ invariant_of-self c =
       subst (AreOwn id) (sym c.insert.ensures.settled) c.self.invariant.3,
     )
 
-pub returns-clause-ok : goal.returns-clause-ok
-returns-clause-ok c =
-    let old = c.args.self.now.present in
+pub returns : goal.returns
+returns c =
     let e = c.args.external in
-    on_ok c.insert.result (λ is.
-    announces _ old c.external_key-key.result c.insert.new.self.present e
-    (ap (λ q. q.present) c.self.view_is) is
-    ∙ ap (λ (k : Key). announce k e old) (c.external_key-key.ensures
-    ∙ ap (λ v. external_key v.present.id e.prefix) c.self.view_is)) c.insert.ensures.ok
+    does_same c.insert.result
+    (λ p is. ap (λ (k : Key). on_router (announce k e) p) (c.external_key-key.ensures
+    ∙ ap (λ v. external_key v.present.id e.prefix) c.self.view_is))
+    (announces _ c.args.self.now c.insert.result c.self.view_is c.insert.new.self.present
+    c.insert.new.self.settled c.insert.ensures.settled c.external_key-key.result e
+    c.insert.ensures.ok)

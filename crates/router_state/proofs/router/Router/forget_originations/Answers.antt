@@ -6,12 +6,13 @@ use Rattle.router_state.proofs.Edited.{forgets}
 use Rattle.router_state.proofs.Forgotten.{forgotten}
 use Rattle.router_state.proofs.router.Router.forget_originations.Goals as goal
 
-pub returns-clause-ok : goal.returns-clause-ok
-returns-clause-ok c =
+pub returns : goal.returns
+returns c =
     let m = c.self.inside.originated.present in
-    on_ok c.remove_each.result
-    (λ is. forgets _ c.args.self.now.present c.args.moment c.remove_each.new.moments.present
-    (ap (λ q. q.present) c.self.view_is)
-    (is ∙ ap (fold finite.remove m) (c.deref.ensures.value ∙ c.in_ok-keys.ensures)
-    ∙ forgotten c.args.moment m))
-    c.remove_each.ensures.ok
+    forgets _ c.args.self.now c.remove_each.result c.self.view_is c.args.moment
+    c.remove_each.new.moments.present c.remove_each.new.moments.settled
+    c.remove_each.ensures.settled
+    (on_ok c.remove_each.result
+    (λ is. is ∙ ap (fold finite.remove m) (c.deref.ensures.value ∙ c.in_ok-keys.ensures)
+    ∙ forgotten c.args.moment m)
+    c.remove_each.ensures.ok)

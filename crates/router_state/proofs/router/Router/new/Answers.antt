@@ -2,6 +2,7 @@ use Rattle.std.proofs.Common.{◌≡◌, length, sym, ap, subst, ◌∙◌, arit
 use Rattle.std.proofs.lemmas.List.{length-map}
 use Rattle.flooding.specs.adjacency.Views.{keys_of}
 use Rattle.flooding.proofs.adjacency.Neighbors.{no_keys}
+use Rattle.flooding.specs.Kept.{RouterArea}
 use Rattle.flooding.specs.Links.{settled_link}
 use Rattle.router_state.specs.Owned.{AreOwn}
 use Rattle.router_state.proofs.Announced.{none_own}
@@ -48,3 +49,6 @@ returns-clause-settled c =
       answers = answers i;
       moment = (c.new-7.ensures i).settled;
     }
+
+pub returns-clause-drafted : goal.returns-clause-drafted
+returns-clause-drafted c = ap (λ (a : RouterArea). a.drafted) c.new.ensures

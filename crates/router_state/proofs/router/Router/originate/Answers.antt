@@ -1,48 +1,76 @@
 use Rattle.std.proofs.Common.{refl, ap, ◌∙◌}
-use Rattle.keyed_map.proofs.Helds.{on_ok}
 use Rattle.flooding.specs.adjacency.Views.{keys_of}
 use Rattle.events.specs.EventState.{on_area, on_router}
 use Rattle.events.specs.Originations.{as_originated, install_and_flood}
-use Rattle.events.specs.Routers.{Router}
+use Rattle.router_state.specs.Kept.{KeptRouter}
 use Rattle.router_state.proofs.Announced.{keys_remove}
-use Rattle.router_state.proofs.Answered.{drafts_are, makes_are}
+use Rattle.router_state.proofs.Answered.{area_does}
 use Rattle.router_state.proofs.Edited.{notes}
 use Rattle.router_state.proofs.Leaves.{appends_install, keeps_install}
-use Rattle.router_state.proofs.Making.{makes_on_router, makes_then}
+use Rattle.router_state.proofs.Making.{refused, then_does}
 use Rattle.router_state.proofs.router.Router.originate.Goals as goal
 
-pub returns-clause-makes : goal.returns-clause-makes
-returns-clause-makes c =
+pub returns-in_err-originate : goal.returns-in_err-originate
+returns-in_err-originate c =
+    let m = c.args.moment in
+    let lsa = c.args.lsa in
+    refused _
+    (area_does (install_and_flood m lsa) (keeps_install m lsa) (appends_install m lsa) _
+    c.args.self.now c.self.inside.area c.originate.new.self _ c.self.view_is refl
+    c.in_err-originate.ensures refl).settled
+
+pub returns-in_err-remove : goal.returns-in_err-remove
+returns-in_err-remove c =
+    let m = c.args.moment in
+    let lsa = c.args.lsa in
+    let flooded = area_does (install_and_flood m lsa) (keeps_install m lsa) (appends_install m lsa)
+    _ c.args.self.now c.self.inside.area c.originate.new.self _ c.self.view_is refl
+    c.in_ok-originate.ensures refl in
+    refused _
+    ((λ i. record c.args.self.now.settled {
+      id = c.self.inside.id;
+      area = c.originate.new.self.settled;
+      announced = c.self.inside.announced.settled;
+      waiting = keys_of (c.in_err-remove.ensures.settled i);
+      originated = c.self.inside.originated.settled;
+      answers = c.self.inside.answers.settled;
+      moment = c.self.inside.moment.settled;
+    }) ∙ flooded.settled)
+
+pub returns : goal.returns
+returns c =
     let m = c.args.moment in
     let k = c.args.key.now in
     let lsa = c.args.lsa in
     let inside = c.self.inside in
-    let flooded : Router = record {
-      id = inside.id;
-      area = c.originate.new.self.present;
-      announced = inside.announced.present;
-      waiting = keys_of inside.waiting.present;
-      originated = inside.originated.present;
-      answers = inside.answers.present;
-      moment = inside.moment.present;
+    let flooded : KeptRouter = record {
+      present = record {
+        id = inside.id;
+        area = c.originate.new.self.present;
+        announced = inside.announced.present;
+        waiting = keys_of inside.waiting.present;
+        originated = inside.originated.present;
+        answers = inside.answers.present;
+        moment = inside.moment.present;
+      };
+      settled = record {
+        id = inside.id;
+        area = c.originate.new.self.settled;
+        announced = inside.announced.settled;
+        waiting = keys_of inside.waiting.settled;
+        originated = inside.originated.settled;
+        answers = inside.answers.settled;
+        moment = inside.moment.settled;
+      };
+      drafted = c.originate.new.self.drafted;
     } in
-    on_ok c.insert.result (λ is.
-    makes_then {f = on_area (install_and_flood m lsa)} {g = on_router (as_originated m k)}
-    (makes_are (install_and_flood m lsa) (keeps_install m lsa) _ c.args.self.now.present
-    c.originate.new.self.present c.args.drafts.now c.originate.new.drafts (appends_install m lsa)
-    (ap (λ v. v.present) c.self.view_is) c.in_ok-originate.ensures.ok
-    c.in_ok-originate.ensures.drafts)
-    (makes_on_router (as_originated m k) flooded _ c.originate.new.drafts refl
-    (notes flooded flooded k m (keys_of c.remove.new.self.present) c.insert.new.self.present refl
-    (ap keys_of c.in_ok-remove.ensures.ok ∙ keys_remove inside.waiting.present k) is)))
-    c.insert.ensures.ok
-
-pub returns-clause-drafts : goal.returns-clause-drafts
-returns-clause-drafts c =
-    let m = c.args.moment in
-    let lsa = c.args.lsa in
-    on_ok c.insert.result (λ _.
-    drafts_are (install_and_flood m lsa) (keeps_install m lsa) _ c.args.self.now.present
-    c.originate.new.self.present c.args.drafts.now c.originate.new.drafts
-    (ap (λ v. v.present) c.self.view_is) c.requires.drafts c.in_ok-originate.ensures.ok
-    c.in_ok-originate.ensures.drafts) c.insert.ensures.ok
+    then_does {f = on_area (install_and_flood m lsa)} {g = on_router (as_originated m k)}
+    {middle = flooded} c.insert.result
+    (area_does (install_and_flood m lsa) (keeps_install m lsa) (appends_install m lsa) _
+    c.args.self.now c.self.inside.area c.originate.new.self _ c.self.view_is refl
+    c.in_ok-originate.ensures refl).makes
+    (notes flooded flooded c.insert.result refl (keys_of c.remove.new.self.present)
+    (keys_of c.remove.new.self.settled) (ap keys_of c.in_ok-remove.ensures.settled) k m
+    c.insert.new.self.present c.insert.new.self.settled c.insert.ensures.settled
+    (ap keys_of c.in_ok-remove.ensures.ok ∙ keys_remove inside.waiting.present k)
+    c.insert.ensures.ok)

@@ -1,9 +1,11 @@
 use Rattle.std.proofs.Common.{sym, ap, subst, ◌∙◌}
 use Rattle.keyed_map.proofs.Helds.{on_ok}
 use Rattle.flooding.specs.adjacency.Views.{keys_of}
+use Rattle.router_state.specs.Kept.{KeptRouter}
 use Rattle.router_state.specs.Owned.{AreOwn}
 use Rattle.router_state.proofs.Announced.{keys_remove, remove_own}
 use Rattle.router_state.proofs.Edited.{withdraws}
+use Rattle.router_state.proofs.Making.{refused}
 use Rattle.router_state.proofs.router.Router.unannounce.Goals as goal
 
 pub invariant_of-self-2 : goal.invariant_of-self-2
@@ -16,12 +18,25 @@ invariant_of-self-2 c =
       subst (AreOwn id) (sym c.in_ok-remove.ensures.settled) c.self.invariant.3,
     )
 
-pub returns-clause-ok : goal.returns-clause-ok
-returns-clause-ok c =
+pub returns-in_err-remove : goal.returns-in_err-remove
+returns-in_err-remove c =
+    refused _
+    ((λ i. record c.args.self.now.settled {
+      id = c.self.inside.id;
+      area = c.self.inside.area.settled;
+      announced = c.in_err-remove.ensures.settled i;
+      waiting = keys_of c.self.inside.waiting.settled;
+      originated = c.self.inside.originated.settled;
+      answers = c.self.inside.answers.settled;
+      moment = c.self.inside.moment.settled;
+    }) ∙ ap (λ (r : KeptRouter). r.settled) c.self.view_is)
+
+pub returns : goal.returns
+returns c =
     let k = c.args.key.now in
-    on_ok c.remove-2.result
-    (λ is. withdraws _ c.args.self.now.present k c.remove.new.self.present
-    (keys_of c.remove-2.new.self.present) (ap (λ q. q.present) c.self.view_is)
+    withdraws _ c.args.self.now c.remove-2.result c.self.view_is c.remove.new.self.present
+    c.remove.new.self.settled c.in_ok-remove.ensures.settled k (keys_of c.remove-2.new.self.present)
+    (keys_of c.remove-2.new.self.settled) (ap keys_of c.remove-2.ensures.settled)
     c.in_ok-remove.ensures.ok
-    (ap keys_of is ∙ keys_remove c.self.inside.waiting.present k))
-    c.remove-2.ensures.ok
+    (on_ok c.remove-2.result (λ is. ap keys_of is ∙ keys_remove c.self.inside.waiting.present k)
+    c.remove-2.ensures.ok)

@@ -5,11 +5,10 @@ use Rattle.flooding.proofs.adjacency.Sets.{keys_insert}
 use Rattle.router_state.proofs.Edited.{waits}
 use Rattle.router_state.proofs.router.Router.wait.Goals as goal
 
-pub returns-clause-ok : goal.returns-clause-ok
-returns-clause-ok c =
+pub returns : goal.returns
+returns c =
     let k = c.args.key.now in
-    on_ok c.insert.result
-    (λ is. waits _ c.args.self.now.present k (keys_of c.insert.new.self.present)
-    (ap (λ q. q.present) c.self.view_is)
-    (ap keys_of is ∙ keys_insert c.self.inside.waiting.present k tt))
-    c.insert.ensures.ok
+    waits _ c.args.self.now c.insert.result c.self.view_is (keys_of c.insert.new.self.present)
+    (keys_of c.insert.new.self.settled) (ap keys_of c.insert.ensures.settled) k
+    (on_ok c.insert.result (λ is. ap keys_of is ∙ keys_insert c.self.inside.waiting.present k tt)
+    c.insert.ensures.ok)
