@@ -1,5 +1,5 @@
 -- A received packet, by the Router ID and the state of the neighbor at its interface.
-use Rattle.std.proofs.Common.{◌≡◌, ℕ, Bool, true, false, cond, List, refl, sym, ap, ◌∙◌}
+use Rattle.std.proofs.Common.{◌≡◌, ℕ, Bool, true, false, cond, List, Result, refl, sym, ap, ◌∙◌}
 use Rattle.std.specs.Prelude.{◌&&◌, ◌||◌, Option, None, Some}
 use mathlib.Core.Bool.{false≢true}
 use Rattle.words.specs.declared.key.Key.{Key}
@@ -9,7 +9,6 @@ use Rattle.packet.specs.declared.model.PacketBody.TheVariants as body
 use Rattle.packet.specs.declared.model.Description.{Description}
 use Rattle.packet.specs.declared.model.Hello.{Hello}
 use Rattle.packet.specs.declared.model.Packet.{Packet}
-use Rattle.adjacency.specs.Drafts.{Drafted}
 use Rattle.adjacency.specs.Neighbors.{Neighbor}
 use Rattle.adjacency.specs.Steps.{named_neighbor}
 use Rattle.events.specs.received.Links.{neighbor_at}
@@ -18,8 +17,9 @@ use Rattle.events.specs.Packets.{acknowledged_by, after_hello, after_lsas, after
 use Rattle.events.specs.Packets.{describe_to, from_neighbor, is_from, is_heard, is_in_exchange}
 use Rattle.events.specs.Packets.{requested_from}
 use Rattle.events.specs.Routers.{Router}
-use Rattle.procedures.specs.Making.{Makes}
-use Rattle.procedures.proofs.Making.{makes_if_true, makes_nothing, makes_same}
+use Rattle.router_state.specs.Kept.{KeptRouter}
+use Rattle.procedures.specs.Making.{Does, Makes}
+use Rattle.procedures.proofs.Making.{does_if_true, does_same, makes_nothing, makes_same}
 use Rattle.procedures.specs.Received.{counts_before_exchange, is_from_named, is_in_exchange_named}
 use Rattle.procedures.specs.Received.{is_processed}
 
@@ -75,22 +75,23 @@ module _ (moment number : ℕ) (packet : Packet) where
   abbrev pub discarded : EventState → EventState
   discarded p = p
 
-  pub is_discarded : (r : Router) (ds : List Drafted) → is_processed_at r ≡ false
-      → Makes (after_packet moment number packet) r r ds ds
-  is_discarded r ds fails =
+  pub is_discarded : (r : KeptRouter) → is_processed_at r.present ≡ false
+      → Makes (after_packet moment number packet) r r
+  is_discarded r fails =
       makes_same
       (λ p here. unprocessed (is_heard_at p.router) (exchanges_at p.router) moment number
       packet.router packet.body p (ap is_processed_at here ∙ fails))
-      (makes_nothing r ds)
+      (makes_nothing r)
 
-  is_taken : {old new : Router} {before after : List Drafted} (b : Bool)
-      → is_processed_at old ≡ true → exchanges_at old ≡ b
-      → Makes (from_neighbor moment number packet.router b packet.body) old new before after
-      → Makes (after_packet moment number packet) old new before after
-  is_taken {old = old} b holds exchanges a =
-      makes_if_true heard discarded is_heard_at
-      (first_holds (is_heard_at old) (exchanges_at old || counts_before_exchange packet.body) holds)
-      (makes_same
+  is_taken : {X E : Type 0} {old new : KeptRouter} (r : Result X E) (b : Bool)
+      → is_processed_at old.present ≡ true → exchanges_at old.present ≡ b
+      → Does (from_neighbor moment number packet.router b packet.body) old new r
+      → Does (after_packet moment number packet) old new r
+  is_taken {old = old} r b holds exchanges a =
+      does_if_true heard discarded r is_heard_at
+      (first_holds (is_heard_at old.present)
+      (exchanges_at old.present || counts_before_exchange packet.body) holds)
+      (does_same r
       (λ p here. ap (λ c. from_neighbor moment number packet.router c packet.body p)
       (sym (ap exchanges_at here ∙ exchanges)))
       a)
@@ -102,65 +103,68 @@ module _ (moment number : ℕ) (packet : Packet) where
 
   -- ---- by the types of packets
 
-  pub greets : {old new : Router} {before after : List Drafted} (h : Hello)
-      → is_processed_at old ≡ true → packet.body ≡ body.Hello h
-      → Makes (on_area (after_hello old.id moment number packet.router h)) old new before after
-      → Makes (after_packet moment number packet) old new before after
-  greets {old = old} h holds is a =
-      is_taken (exchanges_at old) holds refl
-      (makes_same
+  pub greets : {X E : Type 0} {old new : KeptRouter} (r : Result X E) (h : Hello)
+      → is_processed_at old.present ≡ true → packet.body ≡ body.Hello h
+      → Does (on_area (after_hello old.present.id moment number packet.router h)) old new r
+      → Does (after_packet moment number packet) old new r
+  greets {old = old} r h holds is a =
+      is_taken r (exchanges_at old.present) holds refl
+      (does_same r
       (λ p here.
       ap (λ (own : ℕ). on_area (after_hello own moment number packet.router h) p)
       (sym (ap (λ (r : Router). r.id) here))
-      ∙ ap (λ (k : PacketBody). from_neighbor moment number packet.router (exchanges_at old) k p)
-      (sym is))
+      ∙ ap (λ (k : PacketBody). from_neighbor moment number packet.router
+      (exchanges_at old.present) k p) (sym is))
       a)
 
-  pub describes : {old new : Router} {before after : List Drafted} (d : Description)
-      → is_processed_at old ≡ true → packet.body ≡ body.Description d
-      → Makes (on_area (describe_to old.id moment number d)) old new before after
-      → Makes (after_packet moment number packet) old new before after
-  describes {old = old} d holds is a =
-      is_taken (exchanges_at old) holds refl
-      (makes_same
+  pub describes : {X E : Type 0} {old new : KeptRouter} (r : Result X E) (d : Description)
+      → is_processed_at old.present ≡ true → packet.body ≡ body.Description d
+      → Does (on_area (describe_to old.present.id moment number d)) old new r
+      → Does (after_packet moment number packet) old new r
+  describes {old = old} r d holds is a =
+      is_taken r (exchanges_at old.present) holds refl
+      (does_same r
       (λ p here.
       ap (λ (own : ℕ). on_area (describe_to own moment number d) p)
       (sym (ap (λ (r : Router). r.id) here))
-      ∙ ap (λ (k : PacketBody). from_neighbor moment number packet.router (exchanges_at old) k p)
-      (sym is))
+      ∙ ap (λ (k : PacketBody). from_neighbor moment number packet.router
+      (exchanges_at old.present) k p) (sym is))
       a)
 
-  pub requests : {old new : Router} {before after : List Drafted} (keys read : List Key)
-      → is_processed_at old ≡ true → packet.body ≡ body.Request keys → read ≡ keys
-      → Makes (on_area (requested_from moment number read)) old new before after
-      → Makes (after_packet moment number packet) old new before after
-  requests {old = old} keys read holds is same a =
-      is_taken true holds (came_in_exchange old holds (ap counts_before_exchange is))
-      (makes_same
+  pub requests : {X E : Type 0} {old new : KeptRouter} (r : Result X E)
+      (keys read : List Key)
+      → is_processed_at old.present ≡ true → packet.body ≡ body.Request keys → read ≡ keys
+      → Does (on_area (requested_from moment number read)) old new r
+      → Does (after_packet moment number packet) old new r
+  requests {old = old} r keys read holds is same a =
+      is_taken r true holds (came_in_exchange old.present holds (ap counts_before_exchange is))
+      (does_same r
       (λ p _.
       ap (λ (ks : List Key). on_area (requested_from moment number ks) p) same
       ∙ ap (λ (k : PacketBody). from_neighbor moment number packet.router true k p) (sym is))
       a)
 
-  pub updates : {old new : Router} {before after : List Drafted} (lsas read : List (List ℕ))
-      → is_processed_at old ≡ true → packet.body ≡ body.Update lsas → read ≡ lsas
-      → Makes (after_lsas moment number read) old new before after
-      → Makes (after_packet moment number packet) old new before after
-  updates {old = old} lsas read holds is same a =
-      is_taken true holds (came_in_exchange old holds (ap counts_before_exchange is))
-      (makes_same
+  pub updates : {X E : Type 0} {old new : KeptRouter} (r : Result X E)
+      (lsas read : List (List ℕ))
+      → is_processed_at old.present ≡ true → packet.body ≡ body.Update lsas → read ≡ lsas
+      → Does (after_lsas moment number read) old new r
+      → Does (after_packet moment number packet) old new r
+  updates {old = old} r lsas read holds is same a =
+      is_taken r true holds (came_in_exchange old.present holds (ap counts_before_exchange is))
+      (does_same r
       (λ p _.
       ap (λ (ls : List (List ℕ)). after_lsas moment number ls p) same
       ∙ ap (λ (k : PacketBody). from_neighbor moment number packet.router true k p) (sym is))
       a)
 
-  pub acknowledges : {old new : Router} {before after : List Drafted} (headers read : List Header)
-      → is_processed_at old ≡ true → packet.body ≡ body.Acknowledgment headers → read ≡ headers
-      → Makes (on_area (acknowledged_by moment number read)) old new before after
-      → Makes (after_packet moment number packet) old new before after
-  acknowledges {old = old} headers read holds is same a =
-      is_taken true holds (came_in_exchange old holds (ap counts_before_exchange is))
-      (makes_same
+  pub acknowledges : {X E : Type 0} {old new : KeptRouter} (r : Result X E)
+      (headers read : List Header) → is_processed_at old.present ≡ true
+      → packet.body ≡ body.Acknowledgment headers → read ≡ headers
+      → Does (on_area (acknowledged_by moment number read)) old new r
+      → Does (after_packet moment number packet) old new r
+  acknowledges {old = old} r headers read holds is same a =
+      is_taken r true holds (came_in_exchange old.present holds (ap counts_before_exchange is))
+      (does_same r
       (λ p _.
       ap (λ (hs : List Header). on_area (acknowledged_by moment number hs) p) same
       ∙ ap (λ (k : PacketBody). from_neighbor moment number packet.router true k p) (sym is))

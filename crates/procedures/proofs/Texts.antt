@@ -8,18 +8,18 @@ use Rattle.lsa.specs.declared.fault.LsaError.TheVariants as errors
 use Rattle.lsa.specs.Outcome.{Reads}
 use Rattle.lsa.specs.Reading.{lsa_in, lsa_of}
 use Rattle.adjacency.specs.lsdb.Headers.{Lsa}
-use Rattle.adjacency.specs.Drafts.{Drafted}
 use Rattle.events.specs.received.Cases.{Case}
-use Rattle.events.specs.received.Updates.{after_case, case_at, goes_on}
+use Rattle.events.specs.received.Updates.{after_case, case_at, goes_on, install}
 use Rattle.events.specs.EventState.{EventState, on_area}
 use Rattle.events.specs.Originations.{receive_self_originated}
-use Rattle.events.specs.Packets.{after_lsa, after_lsas, after_self_originated, after_unread}
-use Rattle.events.specs.Packets.{case_in}
+use Rattle.events.specs.Packets.{after_lsa, after_lsas, after_unread, case_in}
 use Rattle.events.specs.Routers.{Router}
+use Rattle.originations.specs.flooding.Cases.{is_newer}
 use Rattle.originations.proofs.flooding.Updates.{drop_end}
+use Rattle.router_state.specs.Kept.{KeptRouter}
 use Rattle.procedures.specs.Making.{Makes}
 use Rattle.procedures.proofs.Making.{makes_nothing, makes_same, makes_then}
-use Rattle.procedures.specs.Received.{goes_on_at, is_newer}
+use Rattle.procedures.specs.Received.{goes_on_at}
 
 -- ---- what bytes are parsed as
 
@@ -49,57 +49,58 @@ newer_goes_on Case.SequenceWraps is = refl
 newer_goes_on Case.SentJustNow is = refl
 newer_goes_on Case.Older is = refl
 
-module _ (moment : ℕ) (lsa : Lsa) (p : EventState) where
-  pub settled_self : (c : Case) → is_newer c ≡ true
-      → receive_self_originated moment lsa p ≡ after_self_originated c moment lsa p
-  settled_self Case.Unreadable is = absurd (false≢true is)
-  settled_self Case.NothingToFlush is = absurd (false≢true is)
-  settled_self Case.TooSoon is = absurd (false≢true is)
-  settled_self Case.Newer is = refl
-  settled_self Case.BadRequest is = absurd (false≢true is)
-  settled_self Case.ImpliedAcknowledgment is = absurd (false≢true is)
-  settled_self Case.Duplicate is = absurd (false≢true is)
-  settled_self Case.SequenceWraps is = absurd (false≢true is)
-  settled_self Case.SentJustNow is = absurd (false≢true is)
-  settled_self Case.Older is = absurd (false≢true is)
+module _ (moment number : ℕ) (lsa : Lsa) (p : EventState) where
+  -- an LSA that is newer is installed, and originated again or flushed if it is self-originated
+  after_newer : (c : Case) → is_newer c ≡ true
+      → receive_self_originated moment lsa (on_area (install moment number lsa) p)
+      ≡ after_lsa c moment number lsa p
+  after_newer Case.Unreadable is = absurd (false≢true is)
+  after_newer Case.NothingToFlush is = absurd (false≢true is)
+  after_newer Case.TooSoon is = absurd (false≢true is)
+  after_newer Case.Newer is = refl
+  after_newer Case.BadRequest is = absurd (false≢true is)
+  after_newer Case.ImpliedAcknowledgment is = absurd (false≢true is)
+  after_newer Case.Duplicate is = absurd (false≢true is)
+  after_newer Case.SequenceWraps is = absurd (false≢true is)
+  after_newer Case.SentJustNow is = absurd (false≢true is)
+  after_newer Case.Older is = absurd (false≢true is)
 
-  pub left_alone : (c : Case) → is_newer c ≡ false → p ≡ after_self_originated c moment lsa p
-  left_alone Case.Unreadable is = refl
-  left_alone Case.NothingToFlush is = refl
-  left_alone Case.TooSoon is = refl
-  left_alone Case.Newer is = absurd (false≢true (sym is))
-  left_alone Case.BadRequest is = refl
-  left_alone Case.ImpliedAcknowledgment is = refl
-  left_alone Case.Duplicate is = refl
-  left_alone Case.SequenceWraps is = refl
-  left_alone Case.SentJustNow is = refl
-  left_alone Case.Older is = refl
+  after_other : (c : Case) → is_newer c ≡ false
+      → on_area (after_case c moment number lsa) p ≡ after_lsa c moment number lsa p
+  after_other Case.Unreadable is = refl
+  after_other Case.NothingToFlush is = refl
+  after_other Case.TooSoon is = refl
+  after_other Case.Newer is = absurd (false≢true (sym is))
+  after_other Case.BadRequest is = refl
+  after_other Case.ImpliedAcknowledgment is = refl
+  after_other Case.Duplicate is = refl
+  after_other Case.SequenceWraps is = refl
+  after_other Case.SentJustNow is = refl
+  after_other Case.Older is = refl
 
 module _ (moment number : ℕ) (lsa : Lsa) (c : Case) where
-  pub lsa_settled : {old middle new : Router} {before between after : List Drafted}
-      → is_newer c ≡ true → Makes (on_area (after_case c moment number lsa)) old middle before
-      between → Makes (receive_self_originated moment lsa) middle new between after
-      → Makes (after_lsa c moment number lsa) old new before after
-  lsa_settled is a b = makes_same (λ p _. settled_self moment lsa
-      (on_area (after_case c moment number lsa) p) c is) (makes_then a b)
+  pub newer_received : {old middle new : KeptRouter} → is_newer c ≡ true
+      → Makes (on_area (install moment number lsa)) old middle
+      → Makes (receive_self_originated moment lsa) middle new
+      → Makes (after_lsa c moment number lsa) old new
+  newer_received is a b =
+      makes_same (λ p _. after_newer moment number lsa p c is) (makes_then a b)
 
-  pub lsa_left_alone : {old new : Router} {before after : List Drafted} → is_newer c ≡ false
-      → Makes (on_area (after_case c moment number lsa)) old new before after
-      → Makes (after_lsa c moment number lsa) old new before after
-  lsa_left_alone is a = makes_same (λ p _. left_alone moment lsa
-      (on_area (after_case c moment number lsa) p) c is) a
+  pub other_received : {old new : KeptRouter} → is_newer c ≡ false
+      → Makes (on_area (after_case c moment number lsa)) old new
+      → Makes (after_lsa c moment number lsa) old new
+  other_received is a = makes_same (λ p _. after_other moment number lsa p c is) a
 
-  pub text_read : {old new : Router} {before after : List Drafted}
-      → c ≡ case_at moment number lsa old.area
-      → Makes (after_lsa c moment number lsa) old new before after
-      → Makes (after_unread moment number (Some lsa)) old new before after
+  pub text_read : {old new : KeptRouter} → c ≡ case_at moment number lsa old.present.area
+      → Makes (after_lsa c moment number lsa) old new
+      → Makes (after_unread moment number (Some lsa)) old new
   text_read is a =
       makes_same (λ p here. ap (λ (k : Case). after_lsa k moment number lsa p)
       (is ∙ ap (λ (r : Router). case_at moment number lsa r.area) (sym here))) a
 
-pub text_skipped : (moment number : ℕ) (r : Router) (ds : List Drafted)
-    → Makes (after_unread moment number None) r r ds ds
-text_skipped moment number r ds = makes_same (λ p _. refl) (makes_nothing r ds)
+pub text_skipped : (moment number : ℕ) (r : KeptRouter)
+    → Makes (after_unread moment number None) r r
+text_skipped moment number r = makes_same (λ p _. refl) (makes_nothing r)
 
 -- ---- one after another
 
@@ -119,34 +120,34 @@ module _ (moment number : ℕ) where
       (after_unread moment number (lsa_in bytes) p))
       (sym (goes_here (lsa_in bytes) p r here ∙ is))
 
-  module _ (lsas : List (List ℕ)) (start : Router) (first : List Drafted) where
+  module _ (lsas : List (List ℕ)) (start : KeptRouter) where
     -- the result of continuing with the rest
-    abbrev pub Going : ℕ → Router → List Drafted → Type 0
-    Going i r ds =
-        (new : Router) (after : List Drafted)
-        → Makes (after_lsas moment number (drop i lsas)) r new ds after
-        → Makes (after_lsas moment number lsas) start new first after
+    abbrev pub Going : ℕ → KeptRouter → Type 0
+    Going i r =
+        (new : KeptRouter) → Makes (after_lsas moment number (drop i lsas)) r new
+        → Makes (after_lsas moment number lsas) start new
 
-    pub goes_further : (i : ℕ) (bytes : List ℕ) (r middle : Router) (ds between : List Drafted)
-        → drop i lsas ≡ bytes ∷ drop (i + 1) lsas → goes_on_at moment number (lsa_in bytes) r ≡ true
-        → Makes (after_unread moment number (lsa_in bytes)) r middle ds between → Going i r ds
-        → Going (i + 1) middle between
-    goes_further i bytes r middle ds between split is a going new after b =
-        going new after
-        (subst (λ xs. Makes (after_lsas moment number xs) r new ds after) (sym split)
-        (makes_same (after_by bytes (drop (i + 1) lsas) r true is) (makes_then a b)))
-
-    pub goes_no_further : (i : ℕ) (bytes : List ℕ) (r new : Router) (ds after : List Drafted)
+    pub goes_further : (i : ℕ) (bytes : List ℕ) (r middle : KeptRouter)
         → drop i lsas ≡ bytes ∷ drop (i + 1) lsas
-        → goes_on_at moment number (lsa_in bytes) r ≡ false
-        → Makes (after_unread moment number (lsa_in bytes)) r new ds after → Going i r ds
-        → Makes (after_lsas moment number lsas) start new first after
-    goes_no_further i bytes r new ds after split is a going =
-        going new after (subst (λ xs. Makes (after_lsas moment number xs) r new ds after)
-        (sym split) (makes_same (after_by bytes (drop (i + 1) lsas) r false is) a))
+        → goes_on_at moment number (lsa_in bytes) r.present ≡ true
+        → Makes (after_unread moment number (lsa_in bytes)) r middle → Going i r
+        → Going (i + 1) middle
+    goes_further i bytes r middle split is a going new b =
+        going new
+        (subst (λ xs. Makes (after_lsas moment number xs) r new) (sym split)
+        (makes_same (after_by bytes (drop (i + 1) lsas) r.present true is) (makes_then a b)))
 
-    pub goes_to_the_end : (i : ℕ) (r : Router) (ds : List Drafted) → length lsas ≤ i → Going i r ds
-        → Makes (after_lsas moment number lsas) start r first ds
-    goes_to_the_end i r ds all going =
-        going r ds (subst (λ xs. Makes (after_lsas moment number xs) r r ds ds)
-        (sym (drop_end i lsas all)) (makes_same (λ p _. refl) (makes_nothing r ds)))
+    pub goes_no_further : (i : ℕ) (bytes : List ℕ) (r new : KeptRouter)
+        → drop i lsas ≡ bytes ∷ drop (i + 1) lsas
+        → goes_on_at moment number (lsa_in bytes) r.present ≡ false
+        → Makes (after_unread moment number (lsa_in bytes)) r new → Going i r
+        → Makes (after_lsas moment number lsas) start new
+    goes_no_further i bytes r new split is a going =
+        going new (subst (λ xs. Makes (after_lsas moment number xs) r new) (sym split)
+        (makes_same (after_by bytes (drop (i + 1) lsas) r.present false is) a))
+
+    pub goes_to_the_end : (i : ℕ) (r : KeptRouter) → length lsas ≤ i → Going i r
+        → Makes (after_lsas moment number lsas) start r
+    goes_to_the_end i r all going =
+        going r (subst (λ xs. Makes (after_lsas moment number xs) r r)
+        (sym (drop_end i lsas all)) (makes_same (λ p _. refl) (makes_nothing r)))

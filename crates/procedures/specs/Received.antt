@@ -7,7 +7,6 @@ use Rattle.packet.specs.declared.model.PacketBody.TheVariants as body
 use Rattle.adjacency.specs.lsdb.Headers.{Lsa}
 use Rattle.adjacency.specs.Neighbors.{Neighbor, is_exchange_or_later}
 use Rattle.adjacency.specs.declared.state.NeighborState.{NeighborState}
-use Rattle.events.specs.received.Cases.{Case}
 use Rattle.events.specs.received.Updates.{goes_on}
 use Rattle.events.specs.Packets.{case_in, is_heard, is_in_exchange}
 use Rattle.events.specs.Routers.{Router}
@@ -38,18 +37,6 @@ is_processed own packet n =
     is_heard own packet n && (is_in_exchange n || counts_before_exchange packet.body)
 
 -- ---- LSAs of a Link State Update
-
-abbrev pub is_newer : Case → Bool
-is_newer Case.Unreadable = false
-is_newer Case.NothingToFlush = false
-is_newer Case.TooSoon = false
-is_newer Case.Newer = true
-is_newer Case.BadRequest = false
-is_newer Case.ImpliedAcknowledgment = false
-is_newer Case.Duplicate = false
-is_newer Case.SequenceWraps = false
-is_newer Case.SentJustNow = false
-is_newer Case.Older = false
 
 -- the Link State Update is processed further after this LSA, or after bytes that encode none
 abbrev pub goes_on_at : Moment → InterfaceNumber → Option Lsa → Router → Bool

@@ -1,13 +1,12 @@
 //! External destinations that an operator redistributes and withdraws (RFC 2328, section 12.4.4).
-ghost use Rattle.std.specs.Prelude.{◌≡◌, ◌<◌, ◌^◌, OnOk, length, option_copied};
+ghost use Rattle.std.specs.Prelude.{◌≡◌, ◌<◌, ◌^◌, option_copied};
 ghost use Rattle.events.specs.Commands.{after_redistribute, after_withdraw, announce_as};
 ghost use Rattle.events.specs.Commands.{answered_external, end_want, is_announced_as, is_for};
 ghost use Rattle.events.specs.Commands.{same_external, same_kind, same_network};
 ghost use Rattle.events.specs.Originations.{external_key};
-ghost use Rattle.procedures.specs.Making.{Makes};
+ghost use Rattle.procedures.specs.Making.{Does};
 
 use crate::origination::originate;
-use adjacency::Draft;
 use router_state::{Router, external_key};
 use std::alloc::{AllocError, Global};
 use words::{External, ExternalType, Key, Prefix, Second};
@@ -77,21 +76,11 @@ fn answered(external: External, tag: u64, price: u32) -> External
 }
 
 // The destination is no longer announced, and its LSA is flushed.
-fn end_want(
-    router: &mut Router,
-    alloc: Global,
-    moment: Second,
-    key: &Key,
-    drafts: &mut [Draft],
-) -> Result<(), AllocError>
-    requires drafts { length drafts.old ≡ length router.old.present.area.links }
-    ensures makes { OnOk result (Makes (end_want moment key.now)
-        router.old.present router.new.present drafts.old drafts.new) }
-    ensures drafts { OnOk result (length drafts.new ≡ length router.new.present.area.links) }
-    ensures settled { router.new.settled ≡ router.old.settled }
+fn end_want(router: &mut Router, alloc: Global, moment: Second, key: &Key) -> Result<(), AllocError>
+    ensures { Does (end_want moment key.now) router.old router.new result }
 {
     router.unannounce(key)?;
-    router.flush(alloc, moment, key, drafts)
+    router.flush(alloc, moment, key)
 }
 
 // Announces the destination, unless the same is announced already.
@@ -101,30 +90,24 @@ fn announce_as(
     moment: Second,
     key: &Key,
     external: External,
-    drafts: &mut [Draft],
 ) -> Result<(), AllocError>
     requires key { key.now ≡ external_key router.old.present.id external.prefix }
     requires metric { external.metric < 2 ^ 24 }
-    requires drafts { length drafts.old ≡ length router.old.present.area.links }
-    ensures makes { OnOk result (Makes (announce_as moment key.now external)
-        router.old.present router.new.present drafts.old drafts.new) }
-    ensures drafts { OnOk result (length drafts.new ≡ length router.new.present.area.links) }
-    ensures settled { router.new.settled ≡ router.old.settled }
+    ensures { Does (announce_as moment key.now external) router.old router.new result }
 {
     let announced = is_announced_as(&external, router.announced().get(key));
     if announced {
         return Ok(());
     }
     router.announce(external)?;
-    originate(router, alloc, true, moment, key, drafts)
+    originate(router, alloc, true, moment, key)
 }
 
 /// Announces the destination with the programs' answers for its tag and its metric. Only the low 32
 /// bits of the tag count; a metric of LSInfinity, 0xffffff, or more withholds the destination and
 /// flushes its LSA, if there is one. If exactly the same is announced already, nothing changes.
 ///
-/// Errors with `AllocError` if an allocation is refused; the caller then rolls the router back and
-/// drops the drafts.
+/// Errors with `AllocError` if an allocation is refused.
 pub fn redistribute(
     router: &mut Router,
     alloc: Global,
@@ -132,44 +115,33 @@ pub fn redistribute(
     external: External,
     tag: u64,
     price: u64,
-    drafts: &mut [Draft],
 ) -> Result<(), AllocError>
-    requires drafts { length drafts.old ≡ length router.old.present.area.links }
-    ensures makes { OnOk result (Makes (after_redistribute moment external tag price)
-        router.old.present router.new.present drafts.old drafts.new) }
-    ensures drafts { OnOk result (length drafts.new ≡ length router.new.present.area.links) }
-    ensures settled { router.new.settled ≡ router.old.settled }
+    ensures { Does (after_redistribute moment external tag price) router.old router.new result }
 {
     let key = external_key(router.id(), external.prefix);
     if LS_INFINITY <= price {
-        return end_want(router, alloc, moment, &key, drafts);
+        return end_want(router, alloc, moment, &key);
     }
     let external = answered(external, tag, price as u32);
-    announce_as(router, alloc, moment, &key, external, drafts)
+    announce_as(router, alloc, moment, &key, external)
 }
 
 /// The destination with this prefix is no longer announced, and its LSA is flushed (RFC 2328,
 /// section 14.1). Without such a destination nothing changes.
 ///
-/// Errors with `AllocError` if an allocation is refused; the caller then rolls the router back and
-/// drops the drafts.
+/// Errors with `AllocError` if an allocation is refused.
 pub fn withdraw(
     router: &mut Router,
     alloc: Global,
     moment: Second,
     prefix: Prefix,
-    drafts: &mut [Draft],
 ) -> Result<(), AllocError>
-    requires drafts { length drafts.old ≡ length router.old.present.area.links }
-    ensures makes { OnOk result (Makes (after_withdraw moment prefix)
-        router.old.present router.new.present drafts.old drafts.new) }
-    ensures drafts { OnOk result (length drafts.new ≡ length router.new.present.area.links) }
-    ensures settled { router.new.settled ≡ router.old.settled }
+    ensures { Does (after_withdraw moment prefix) router.old router.new result }
 {
     let key = external_key(router.id(), prefix);
     let is_announced = is_for(prefix, router.announced().get(&key));
     if is_announced {
-        return end_want(router, alloc, moment, &key, drafts);
+        return end_want(router, alloc, moment, &key);
     }
     Ok(())
 }

@@ -1,11 +1,10 @@
 //! The self-originated LSAs that a Tick originates.
-ghost use Rattle.std.specs.Prelude.{◌≡◌, ◌++◌, [], ◌∷◌, IfOk, OnOk, if◌then◌else◌, length};
+ghost use Rattle.std.specs.Prelude.{◌≡◌, ◌++◌, [], ◌∷◌, IfOk, OnOk, if◌then◌else◌};
 ghost use Rattle.events.specs.Originations.{due_keys, is_due, originate_due};
-ghost use Rattle.router_state.specs.Making.{Makes};
+ghost use Rattle.router_state.specs.Making.{Does};
 
 use crate::origination::originate_or_wait;
 use crate::wanted::router_key;
-use adjacency::Draft;
 use router_state::Router;
 use std::alloc::{AllocError, Global};
 use words::{Key, Second};
@@ -39,23 +38,17 @@ pub fn due_keys(router: &Router, alloc: Global, moment: Second) -> Result<Vec<Ke
 
 /// Originates the LSAs of these keys in turn, as in `originate_or_wait`.
 ///
-/// Errors with `AllocError` if an allocation is refused; the caller then rolls the router back and
-/// drops the drafts.
+/// Errors with `AllocError` if an allocation is refused.
 pub fn originate_due(
     router: &mut Router,
     alloc: Global,
     moment: Second,
     keys: &[Key],
-    drafts: &mut [Draft],
 ) -> Result<(), AllocError>
-    requires drafts { length drafts.old ≡ length router.old.present.area.links }
-    ensures makes { OnOk result (Makes (originate_due moment keys.now) router.old.present
-        router.new.present drafts.old drafts.new) }
-    ensures drafts { OnOk result (length drafts.new ≡ length router.new.present.area.links) }
-    ensures settled { router.new.settled ≡ router.old.settled }
+    ensures { Does (originate_due moment keys.now) router.old router.new result }
 {
     for key in keys {
-        originate_or_wait(router, alloc, moment, key, drafts)?;
+        originate_or_wait(router, alloc, moment, key)?;
     }
     Ok(())
 }

@@ -1,15 +1,13 @@
 //! The end of an event in its parts.
-ghost use Rattle.std.specs.Prelude.{◌≡◌, List, OnOk, length};
-ghost use Rattle.adjacency.specs.Drafts.{Drafted};
+ghost use Rattle.std.specs.Prelude.{◌≡◌, List, length};
 ghost use Rattle.events.specs.received.Links.{Link};
 ghost use Rattle.events.specs.Endings.{describe_router, describe_router_later, end_event};
 ghost use Rattle.procedures.specs.Full.{full_routers};
 ghost use Rattle.procedures.specs.EndingParts.{fill, refill};
-ghost use Rattle.procedures.specs.Making.{Makes, interfaces_of};
+ghost use Rattle.procedures.specs.Making.{Does, interfaces_of};
 
 use crate::origination::originate_or_wait;
 use crate::telling::{full_routers, has_changed, is_untold, router_key};
-use adjacency::Draft;
 use router_state::Router;
 use std::alloc::{AllocError, Global};
 use words::{RouterId, Second};
@@ -20,24 +18,19 @@ fn describe_router(
     alloc: Global,
     moment: Second,
     before: &[Option<RouterId>],
-    drafts: &mut [Draft],
 ) -> Result<(), AllocError>
-    requires drafts { length drafts.old ≡ length router.old.present.area.links }
     requires before { length before.now ≡ length router.old.present.area.links }
-    ensures makes { OnOk result ((old : List Link)
+    ensures { (old : List Link)
         → interfaces_of old ≡ interfaces_of router.old.present.area.links
         → full_routers old ≡ before.now
-        → Makes (describe_router old moment)
-        router.old.present router.new.present drafts.old drafts.new) }
-    ensures drafts { OnOk result (length drafts.new ≡ length router.new.present.area.links) }
-    ensures settled { router.new.settled ≡ router.old.settled }
+        → Does (describe_router old moment) router.old router.new result }
 {
     let untold = is_untold(router, alloc, moment, before)?;
     if !untold {
         return Ok(());
     }
     let key = router_key(router.id());
-    originate_or_wait(router, alloc, moment, &key, drafts)
+    originate_or_wait(router, alloc, moment, &key)
 }
 
 // If the body of the router-LSA has changed, it waits for a Tick.
@@ -47,14 +40,10 @@ fn describe_router_later(
     before: &[Option<RouterId>],
 ) -> Result<(), AllocError>
     requires before { length before.now ≡ length router.old.present.area.links }
-    ensures makes { OnOk result ((old : List Link) → (drafts : List Drafted)
+    ensures { (old : List Link)
         → interfaces_of old ≡ interfaces_of router.old.present.area.links
         → full_routers old ≡ before.now
-        → Makes (describe_router_later old)
-        router.old.present router.new.present drafts drafts) }
-    ensures links { OnOk result (length router.new.present.area.links
-        ≡ length router.old.present.area.links) }
-    ensures settled { router.new.settled ≡ router.old.settled }
+        → Does (describe_router_later old) router.old router.new result }
 {
     let differ = has_changed(router, alloc, before)?;
     if !differ {
@@ -71,30 +60,21 @@ fn fill(
     alloc: Global,
     moment: Second,
     before: &[Option<RouterId>],
-    drafts: &mut [Draft],
 ) -> Result<(), AllocError>
-    requires drafts { length drafts.old ≡ length router.old.present.area.links }
     requires before { length before.now ≡ length router.old.present.area.links }
-    ensures makes { OnOk result ((old : List Link)
+    ensures { (old : List Link)
         → interfaces_of old ≡ interfaces_of router.old.present.area.links
         → full_routers old ≡ before.now
-        → Makes (fill old moment)
-        router.old.present router.new.present drafts.old drafts.new) }
-    ensures drafts { OnOk result (length drafts.new ≡ length router.new.present.area.links) }
-    ensures settled { router.new.settled ≡ router.old.settled }
+        → Does (fill old moment) router.old router.new result }
 {
     router.end_loading();
-    describe_router(router, alloc, moment, before, drafts)
+    describe_router(router, alloc, moment, before)
 }
 
 // LoadingDone once more, since flooding the router-LSA may have satisfied requests; what that
 // changes waits for a Tick.
 fn refill(router: &mut Router, alloc: Global) -> Result<(), AllocError>
-    ensures makes { OnOk result ((drafts : List Drafted)
-        → Makes refill router.old.present router.new.present drafts drafts) }
-    ensures links { OnOk result (length router.new.present.area.links
-        ≡ length router.old.present.area.links) }
-    ensures settled { router.new.settled ≡ router.old.settled }
+    ensures { Does refill router.old router.new result }
 {
     let before = full_routers(router, alloc)?;
     router.end_loading();
@@ -107,25 +87,19 @@ fn refill(router: &mut Router, alloc: Global) -> Result<(), AllocError>
 /// database, unless some neighbor is in Exchange or Loading; the moment is noted. `before` are the
 /// neighbors that were Full when the event began.
 ///
-/// Errors with `AllocError` if an allocation is refused; the caller then rolls the router back and
-/// drops the drafts.
+/// Errors with `AllocError` if an allocation is refused.
 pub fn end_event(
     router: &mut Router,
     alloc: Global,
     moment: Second,
     before: &[Option<RouterId>],
-    drafts: &mut [Draft],
 ) -> Result<(), AllocError>
-    requires drafts { length drafts.old ≡ length router.old.present.area.links }
     requires before { before.now ≡ full_routers router.old.settled.area.links }
     requires interfaces { interfaces_of router.old.present.area.links
         ≡ interfaces_of router.old.settled.area.links }
-    ensures makes { OnOk result (Makes (end_event router.old.settled moment)
-        router.old.present router.new.present drafts.old drafts.new) }
-    ensures drafts { OnOk result (length drafts.new ≡ length router.new.present.area.links) }
-    ensures settled { router.new.settled ≡ router.old.settled }
+    ensures { Does (end_event router.old.settled moment) router.old router.new result }
 {
-    fill(router, alloc, moment, before, drafts)?;
+    fill(router, alloc, moment, before)?;
     refill(router, alloc)?;
-    router.finish(alloc, moment, drafts)
+    router.finish(alloc, moment)
 }

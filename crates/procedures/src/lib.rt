@@ -4,8 +4,8 @@
 //! destinations that an operator redistributes and withdraws (section 12.4.4), and the end that all
 //! events share (sections 10.3, 10.9, 12.4.1 and 14).
 //!
-//! A call that errors with `AllocError` may have done a part of its work. The caller then rolls
-//! back what it changes, and drops the drafts that it adds to.
+//! As in `router_state`, a call that errors with `AllocError` may have done a part of its work, and
+//! its caller then rolls the router back.
 #![tactic(auto)]
 
 mod announcements;

@@ -1,13 +1,12 @@
 //! New instances of self-originated LSAs.
-ghost use Rattle.std.specs.Prelude.{◌≡◌, OnOk, length};
+ghost use Rattle.std.specs.Prelude.{◌≡◌};
 ghost use Rattle.events.specs.Originations.{originate_or_wait, receive_self_originated};
 ghost use Rattle.adjacency.specs.lsdb.Headers.{Lsa};
 ghost use Rattle.originations.specs.Decisions.{after_origination};
-ghost use Rattle.router_state.specs.Making.{Makes};
+ghost use Rattle.router_state.specs.Making.{Does};
 ghost use Rattle.procedures.specs.Wanted.{originate_wanted};
 
 use crate::wanted::{is_wanted, wanted_origination};
-use adjacency::Draft;
 use lsa::Header;
 use originations::Origination;
 use router_state::Router;
@@ -21,96 +20,73 @@ fn carry_out(
     moment: Second,
     key: &Key,
     found: Origination,
-    drafts: &mut [Draft],
 ) -> Result<(), AllocError>
-    requires drafts { length drafts.old ≡ length router.old.present.area.links }
-    ensures makes { OnOk result (Makes (after_origination moment key.now found)
-        router.old.present router.new.present drafts.old drafts.new) }
-    ensures drafts { OnOk result (length drafts.new ≡ length router.new.present.area.links) }
-    ensures settled { router.new.settled ≡ router.old.settled }
+    ensures { Does (after_origination moment key.now found) router.old router.new result }
 {
     match found {
-        Origination::Flushes => router.flush(alloc, moment, key, drafts),
+        Origination::Flushes => router.flush(alloc, moment, key),
         Origination::Waits => router.wait(key),
-        Origination::Originates(lsa) => router.originate(alloc, moment, key, lsa, drafts),
+        Origination::Originates(lsa) => router.originate(alloc, moment, key, lsa),
     }
 }
 
 /// A new instance of the LSA of this key at once or at a Tick, if it is wanted; at once only if
 /// `may_now`.
 ///
-/// Errors with `AllocError` if an allocation is refused; the caller then rolls the router back and
-/// drops the drafts.
+/// Errors with `AllocError` if an allocation is refused.
 pub fn originate(
     router: &mut Router,
     alloc: Global,
     may_now: bool,
     moment: Second,
     key: &Key,
-    drafts: &mut [Draft],
 ) -> Result<(), AllocError>
-    requires drafts { length drafts.old ≡ length router.old.present.area.links }
-    ensures makes { OnOk result (Makes (originate_wanted may_now moment key.now)
-        router.old.present router.new.present drafts.old drafts.new) }
-    ensures drafts { OnOk result (length drafts.new ≡ length router.new.present.area.links) }
-    ensures settled { router.new.settled ≡ router.old.settled }
+    ensures { Does (originate_wanted may_now moment key.now) router.old router.new result }
 {
     let found = wanted_origination(router, alloc, may_now, moment, key)?;
     let Some(found) = found else {
         return Ok(());
     };
-    carry_out(router, alloc, moment, key, found, drafts)
+    carry_out(router, alloc, moment, key, found)
 }
 
 /// Originates the LSA of this key, if it is wanted: at once if the database has room for it and
 /// MinLSInterval allows it, else at a Tick; after MaxSequenceNumber the copy is flushed first (RFC
 /// 2328, sections 12.1.6 and 12.4).
 ///
-/// Errors with `AllocError` if an allocation is refused; the caller then rolls the router back and
-/// drops the drafts.
+/// Errors with `AllocError` if an allocation is refused.
 pub fn originate_or_wait(
     router: &mut Router,
     alloc: Global,
     moment: Second,
     key: &Key,
-    drafts: &mut [Draft],
 ) -> Result<(), AllocError>
-    requires drafts { length drafts.old ≡ length router.old.present.area.links }
-    ensures makes { OnOk result (Makes (originate_or_wait moment key.now) router.old.present
-        router.new.present drafts.old drafts.new) }
-    ensures drafts { OnOk result (length drafts.new ≡ length router.new.present.area.links) }
-    ensures settled { router.new.settled ≡ router.old.settled }
+    ensures { Does (originate_or_wait moment key.now) router.old router.new result }
 {
     let has_room = router.area().database().has_room(key);
-    originate(router, alloc, has_room, moment, key, drafts)
+    originate(router, alloc, has_room, moment, key)
 }
 
 /// Processes a self-originated LSA with this header that was received and installed (RFC 2328,
 /// section 13.4): a wanted one is originated again with the next sequence number; any other is
 /// flushed. An LSA of another router changes nothing.
 ///
-/// Errors with `AllocError` if an allocation is refused; the caller then rolls the router back and
-/// drops the drafts.
+/// Errors with `AllocError` if an allocation is refused.
 pub fn receive_self_originated(
     router: &mut Router,
     alloc: Global,
     moment: Second,
     header: &Header,
-    drafts: &mut [Draft],
 ) -> Result<(), AllocError>
-    requires drafts { length drafts.old ≡ length router.old.present.area.links }
-    ensures makes { OnOk result ((lsa : Lsa) → lsa.header ≡ header.now
-        → Makes (receive_self_originated moment lsa) router.old.present router.new.present
-        drafts.old drafts.new) }
-    ensures drafts { OnOk result (length drafts.new ≡ length router.new.present.area.links) }
-    ensures settled { router.new.settled ≡ router.old.settled }
+    ensures { (lsa : Lsa) → lsa.header ≡ header.now
+        → Does (receive_self_originated moment lsa) router.old router.new result }
 {
     if header.advertising_router != router.id() {
         return Ok(());
     }
     let key = header.key();
     if is_wanted(router, &key) {
-        return originate_or_wait(router, alloc, moment, &key, drafts);
+        return originate_or_wait(router, alloc, moment, &key);
     }
-    router.flush(alloc, moment, &key, drafts)
+    router.flush(alloc, moment, &key)
 }

@@ -1,14 +1,14 @@
 //! Received packets by their types.
-ghost use Rattle.std.specs.Prelude.{◌≡◌, ◌≤◌, OnOk, length};
+ghost use Rattle.std.specs.Prelude.{◌≡◌, ◌≤◌, length};
 ghost use Rattle.adjacency.specs.Steps.{named_neighbor};
 ghost use Rattle.events.specs.received.Links.{neighbor_at};
 ghost use Rattle.events.specs.Packets.{after_packet, is_from, is_heard, is_hello, is_in_exchange};
-ghost use Rattle.procedures.specs.Making.{Makes};
+ghost use Rattle.procedures.specs.Making.{Does};
 ghost use Rattle.procedures.specs.Received.{counts_before_exchange, is_from_named};
 ghost use Rattle.procedures.specs.Received.{is_in_exchange_named, is_processed};
 
 use crate::updates::receive_lsas;
-use adjacency::{Draft, NeighborState};
+use adjacency::NeighborState;
 use packet::{Packet, PacketBody};
 use router_state::{Router, is_foreign};
 use std::alloc::{AllocError, Global};
@@ -122,39 +122,31 @@ fn is_processed(packet: &Packet, router: &Router, number: usize) -> bool
 /// sender isn't the interface's neighbor. Link State Requests, Updates and Acknowledgments are
 /// discarded before Exchange.
 ///
-/// Errors with `AllocError` if an allocation is refused; the caller then rolls the router back and
-/// drops the drafts.
+/// Errors with `AllocError` if an allocation is refused.
 pub fn receive_packet(
     router: &mut Router,
     alloc: Global,
     moment: Second,
     number: usize,
     packet: &Packet,
-    drafts: &mut [Draft],
 ) -> Result<(), AllocError>
     requires first { 1 ≤ number }
     requires last { number ≤ length router.old.present.area.links }
-    requires drafts { length drafts.old ≡ length router.old.present.area.links }
-    ensures makes { OnOk result (Makes (after_packet moment number packet.now)
-        router.old.present router.new.present drafts.old drafts.new) }
-    ensures drafts { OnOk result (length drafts.new ≡ length router.new.present.area.links) }
-    ensures settled { router.new.settled ≡ router.old.settled }
+    ensures { Does (after_packet moment number packet.now) router.old router.new result }
 {
     if !is_processed(packet, router, number) {
         return Ok(());
     }
     let from = packet.router;
     match &packet.body {
-        PacketBody::Hello(hello) => router.hear(alloc, moment, number, from, hello, drafts),
+        PacketBody::Hello(hello) => router.hear(alloc, moment, number, from, hello),
         PacketBody::Description(description) => {
-            router.describe(alloc, moment, number, description, drafts)
+            router.describe(alloc, moment, number, description)
         }
-        PacketBody::Request(keys) => router.answer(alloc, moment, number, keys.as_slice(), drafts),
-        PacketBody::Update(lsas) => {
-            receive_lsas(router, alloc, moment, number, lsas.as_slice(), drafts)
-        }
+        PacketBody::Request(keys) => router.answer(alloc, moment, number, keys.as_slice()),
+        PacketBody::Update(lsas) => { receive_lsas(router, alloc, moment, number, lsas.as_slice()) }
         PacketBody::Acknowledgment(headers) => {
-            router.acknowledged(alloc, moment, number, headers.as_slice(), drafts)
+            router.acknowledged(alloc, moment, number, headers.as_slice())
         }
     }
 }

@@ -1,14 +1,13 @@
 //! The LSAs of a received Link State Update in turn (RFC 2328, section 13).
-ghost use Rattle.std.specs.Prelude.{◌≡◌, ◌≤◌, IfOk, OnOk, length};
+ghost use Rattle.std.specs.Prelude.{◌≡◌, ◌≤◌, IfOk, length};
 ghost use Rattle.lsa.specs.Reading.{lsa_in};
 ghost use Rattle.events.specs.received.Updates.{goes_on};
 ghost use Rattle.events.specs.Packets.{after_lsas, after_unread};
-ghost use Rattle.originations.specs.flooding.Cases.{case_of};
-ghost use Rattle.procedures.specs.Making.{Makes};
-ghost use Rattle.procedures.specs.Received.{goes_on_at, is_newer};
+ghost use Rattle.originations.specs.flooding.Cases.{case_of, is_newer};
+ghost use Rattle.procedures.specs.Making.{Does};
+ghost use Rattle.procedures.specs.Received.{goes_on_at};
 
 use crate::origination::receive_self_originated;
-use adjacency::Draft;
 use lsa::{Lsa, LsaError, read};
 use originations::Case;
 use router_state::Router;
@@ -19,7 +18,6 @@ fn is_newer(case: Case) -> bool
     ensures { result ≡ is_newer (case_of case) }
 {
     match case {
-        Case::Unreadable => false,
         Case::NothingToFlush => false,
         Case::TooSoon => false,
         Case::Newer => true,
@@ -37,7 +35,6 @@ fn goes_on(case: Case) -> bool
     ensures { result ≡ goes_on (case_of case) }
 {
     match case {
-        Case::Unreadable => true,
         Case::NothingToFlush => true,
         Case::TooSoon => true,
         Case::Newer => true,
@@ -70,29 +67,27 @@ fn receive_lsa(
     moment: Second,
     number: usize,
     bytes: &[u8],
-    drafts: &mut [Draft],
 ) -> Result<bool, AllocError>
     requires first { 1 ≤ number }
     requires last { number ≤ length router.old.present.area.links }
-    requires drafts { length drafts.old ≡ length router.old.present.area.links }
     ensures goes_on { IfOk result (λ goes. goes
         ≡ goes_on_at moment number (lsa_in bytes.now) router.old.present) }
-    ensures makes { OnOk result (Makes (after_unread moment number (lsa_in bytes.now))
-        router.old.present router.new.present drafts.old drafts.new) }
-    ensures drafts { OnOk result (length drafts.new ≡ length router.new.present.area.links) }
-    ensures settled { router.new.settled ≡ router.old.settled }
+    ensures does { Does (after_unread moment number (lsa_in bytes.now))
+        router.old router.new result }
 {
     let unread = read_lsa(alloc, bytes)?;
     let Some(lsa) = unread else {
         return Ok(true);
     };
     let header = lsa.header();
-    let case = router.receive(alloc, moment, number, lsa, drafts)?;
+    let case = router.area().case_at(moment, number, &lsa);
     let newer = is_newer(case);
     if newer {
-        receive_self_originated(router, alloc, moment, &header, drafts)?;
+        router.receive_newer(alloc, moment, number, lsa)?;
+        receive_self_originated(router, alloc, moment, &header)?;
         return Ok(true);
     }
+    router.receive_other(alloc, case, moment, number, &lsa)?;
     Ok(goes_on(case))
 }
 
@@ -101,27 +96,21 @@ fn receive_lsa(
 /// skipped: they aren't acknowledged, so the neighbor goes on sending them, and a request for such
 /// an LSA stays.
 ///
-/// Errors with `AllocError` if an allocation is refused; the caller then rolls the router back and
-/// drops the drafts.
+/// Errors with `AllocError` if an allocation is refused.
 pub fn receive_lsas(
     router: &mut Router,
     alloc: Global,
     moment: Second,
     number: usize,
     lsas: &[Sequence<u8>],
-    drafts: &mut [Draft],
 ) -> Result<(), AllocError>
     requires first { 1 ≤ number }
     requires last { number ≤ length router.old.present.area.links }
-    requires drafts { length drafts.old ≡ length router.old.present.area.links }
-    ensures makes { OnOk result (Makes (after_lsas moment number lsas.now)
-        router.old.present router.new.present drafts.old drafts.new) }
-    ensures drafts { OnOk result (length drafts.new ≡ length router.new.present.area.links) }
-    ensures settled { router.new.settled ≡ router.old.settled }
+    ensures { Does (after_lsas moment number lsas.now) router.old router.new result }
 {
     for i in 0..lsas.len() {
         let bytes = lsas[i].as_slice();
-        let goes = receive_lsa(router, alloc, moment, number, bytes, drafts)?;
+        let goes = receive_lsa(router, alloc, moment, number, bytes)?;
         if !goes {
             return Ok(());
         }

@@ -1,12 +1,8 @@
-use Rattle.std.proofs.Common.{◌≡◌, length, take}
+use Rattle.std.proofs.Common.{take}
 use Rattle.events.specs.Originations.{originate_due}
 use Rattle.router_state.specs.Making.{Makes}
 use Rattle.procedures.proofs.due.originate_due.Given as goal
 
 abbrev pub invariant-loop-key : goal.invariant-loop-key
-invariant-loop-key l = record {
-  makes : Makes (originate_due l.moment (take l.key-index l.keys)) l.fn.router.present
-      l.router.present l.fn.drafts l.drafts;
-  drafts : length l.drafts ≡ length l.router.present.area.links;
-  settled : l.router.settled ≡ l.fn.router.settled;
-}
+invariant-loop-key l =
+    Makes (originate_due l.moment (take l.key-index l.keys)) l.fn.router l.router

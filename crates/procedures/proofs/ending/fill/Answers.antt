@@ -1,14 +1,15 @@
 use Rattle.std.proofs.Common.{sym, ◌∙◌}
-use Rattle.keyed_map.proofs.Helds.{on_ok}
 use Rattle.events.specs.Endings.{describe_router, loading_done}
-use Rattle.procedures.proofs.Making.{makes_then}
+use Rattle.procedures.proofs.Making.{as_many_links, then_does}
 use Rattle.procedures.proofs.ending.fill.Goals as goal
 
-pub returns-clause-makes : goal.returns-clause-makes
-returns-clause-makes c =
-    let m = c.args.moment in
-    let done = c.end_loading.ensures.makes c.args.drafts.now in
-    on_ok c.describe_router.result
-    (λ described old same full. makes_then {f = loading_done} {g = describe_router old m} done
-    (described old (same ∙ sym done.interfaces) full))
-    c.describe_router.ensures.makes
+pub describe_router-requires : goal.describe_router-requires
+describe_router-requires c = record {
+  before = c.requires.before ∙ sym (as_many_links c.end_loading.ensures);
+}
+
+pub returns : goal.returns
+returns c old same full =
+    then_does {f = loading_done} {g = describe_router old c.args.moment} c.describe_router.result
+    c.end_loading.ensures
+    (c.describe_router.ensures old (same ∙ sym c.end_loading.ensures.interfaces) full)

@@ -1,9 +1,8 @@
 use Rattle.std.proofs.Common.{◌-◌, length, ap, ◌∙◌, arith}
 use Rattle.std.proofs.lemmas.List.{length-map}
-use Rattle.adjacency.specs.Kept.{Kept}
 use Rattle.adjacency.specs.Steps.{named_neighbor}
-use Rattle.events.specs.received.Links.{Link, neighbor_at}
-use Rattle.originations.specs.flooding.Kept.{RouterArea}
+use Rattle.events.specs.received.Links.{neighbor_at}
+use Rattle.originations.specs.flooding.Kept.{KeptLink, RouterArea}
 use Rattle.originations.specs.flooding.Links.{present}
 use Rattle.originations.proofs.flooding.Synchronizing.{shown_neighbor}
 use Rattle.procedures.proofs.packets.neighbor_at.Goals as goal
@@ -15,7 +14,7 @@ returns c =
     let same = c.links-links.ensures.present
     ∙ ap (λ (a : RouterArea). a.present.links) c.area.ensures.parts in
     c.neighbor.ensures
-    ∙ ap (λ (k : Kept Link). named_neighbor k.present.neighbor) c.index-links-i.is
+    ∙ ap (λ (k : KeptLink). named_neighbor k.present.neighbor) c.index-links-i.is
     ∙ ap named_neighbor (shown_neighbor ls (n - 1) n c.index-links-i.result
     (omega (arith, c.requires.first, c.requires.last, length-map ls present, ap length same))
     (omega (arith, c.requires.first)))

@@ -1,14 +1,14 @@
 use Rattle.std.proofs.Common.{sym, ap, ◌∙◌}
-use Rattle.keyed_map.proofs.Helds.{on_ok}
 use Rattle.procedures.specs.Received.{counts_before_exchange}
 use Rattle.procedures.proofs.Heard.{acknowledges, came_in_exchange, describes, greets, is_discarded}
 use Rattle.procedures.proofs.Heard.{requests, updates}
+use Rattle.procedures.proofs.Making.{done}
 use Rattle.procedures.proofs.packets.receive_packet.Goals as goal
 
-pub returns-then-not-is_processed-clause-makes : goal.returns-then-not-is_processed-clause-makes
-returns-then-not-is_processed-clause-makes c =
-    is_discarded c.args.moment c.args.number c.args.packet.now c.args.router.now.present
-    c.args.drafts.now (sym c.is_processed.ensures ∙ c.if-not-is_processed.true)
+pub returns-then-not-is_processed : goal.returns-then-not-is_processed
+returns-then-not-is_processed c =
+    done _ (is_discarded c.args.moment c.args.number c.args.packet.now c.args.router.now
+    (sym c.is_processed.ensures ∙ c.if-not-is_processed.true))
 
 pub answer-requires-clause-exchange : goal.answer-requires-clause-exchange
 answer-requires-clause-exchange c =
@@ -16,41 +16,32 @@ answer-requires-clause-exchange c =
     (sym c.is_processed.ensures ∙ c.if-not-is_processed.false)
     (ap counts_before_exchange c.in-Request.is)
 
-pub returns-in-Hello-clause-makes : goal.returns-in-Hello-clause-makes
-returns-in-Hello-clause-makes c =
-    on_ok c.hear.result
-    (greets c.args.moment c.args.number c.args.packet.now c.in-Hello.hello
-    (sym c.is_processed.ensures ∙ c.if-not-is_processed.false) c.in-Hello.is)
-    c.hear.ensures.makes
+pub returns-in-Hello : goal.returns-in-Hello
+returns-in-Hello c =
+    greets c.args.moment c.args.number c.args.packet.now c.hear.result c.in-Hello.hello
+    (sym c.is_processed.ensures ∙ c.if-not-is_processed.false) c.in-Hello.is c.hear.ensures
 
-pub returns-in-Description-clause-makes : goal.returns-in-Description-clause-makes
-returns-in-Description-clause-makes c =
-    on_ok c.describe.result
-    (describes c.args.moment c.args.number c.args.packet.now c.in-Description.description
-    (sym c.is_processed.ensures ∙ c.if-not-is_processed.false) c.in-Description.is)
-    c.describe.ensures.makes
+pub returns-in-Description : goal.returns-in-Description
+returns-in-Description c =
+    describes c.args.moment c.args.number c.args.packet.now c.describe.result
+    c.in-Description.description (sym c.is_processed.ensures ∙ c.if-not-is_processed.false)
+    c.in-Description.is c.describe.ensures
 
-pub returns-in-Request-clause-makes : goal.returns-in-Request-clause-makes
-returns-in-Request-clause-makes c =
-    on_ok c.answer.result
-    (requests c.args.moment c.args.number c.args.packet.now c.in-Request.keys
+pub returns-in-Request : goal.returns-in-Request
+returns-in-Request c =
+    requests c.args.moment c.args.number c.args.packet.now c.answer.result c.in-Request.keys
     c.as_slice.result.now (sym c.is_processed.ensures ∙ c.if-not-is_processed.false)
-    c.in-Request.is c.as_slice.ensures)
-    c.answer.ensures.makes
+    c.in-Request.is c.as_slice.ensures c.answer.ensures
 
-pub returns-in-Update-clause-makes : goal.returns-in-Update-clause-makes
-returns-in-Update-clause-makes c =
-    on_ok c.receive_lsas.result
-    (updates c.args.moment c.args.number c.args.packet.now c.in-Update.lsas
+pub returns-in-Update : goal.returns-in-Update
+returns-in-Update c =
+    updates c.args.moment c.args.number c.args.packet.now c.receive_lsas.result c.in-Update.lsas
     c.as_slice-in-Update.result.now (sym c.is_processed.ensures ∙ c.if-not-is_processed.false)
-    c.in-Update.is c.as_slice-in-Update.ensures)
-    c.receive_lsas.ensures.makes
+    c.in-Update.is c.as_slice-in-Update.ensures c.receive_lsas.ensures
 
-pub returns-in-Acknowledgment-clause-makes : goal.returns-in-Acknowledgment-clause-makes
-returns-in-Acknowledgment-clause-makes c =
-    on_ok c.acknowledged.result
-    (acknowledges c.args.moment c.args.number c.args.packet.now c.in-Acknowledgment.headers
-    c.as_slice-in-Acknowledgment.result.now
+pub returns-in-Acknowledgment : goal.returns-in-Acknowledgment
+returns-in-Acknowledgment c =
+    acknowledges c.args.moment c.args.number c.args.packet.now c.acknowledged.result
+    c.in-Acknowledgment.headers c.as_slice-in-Acknowledgment.result.now
     (sym c.is_processed.ensures ∙ c.if-not-is_processed.false)
-    c.in-Acknowledgment.is c.as_slice-in-Acknowledgment.ensures)
-    c.acknowledged.ensures.makes
+    c.in-Acknowledgment.is c.as_slice-in-Acknowledgment.ensures c.acknowledged.ensures

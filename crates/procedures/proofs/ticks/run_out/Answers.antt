@@ -1,14 +1,13 @@
-use Rattle.std.proofs.Common.{refl}
-use Rattle.keyed_map.proofs.Helds.{on_ok}
+use Rattle.events.specs.EventState.{on_area, on_router}
 use Rattle.events.specs.Originations.{forget_originations}
-use Rattle.procedures.proofs.Making.{makes_on_router, makes_then}
+use Rattle.events.specs.Ticks.{run_out}
+use Rattle.events.specs.received.Outcomes.{on_links}
+use Rattle.std.proofs.Common.{map}
+use Rattle.procedures.proofs.Making.{then_does}
 use Rattle.procedures.proofs.ticks.run_out.Goals as goal
 
-pub returns-clause-makes : goal.returns-clause-makes
-returns-clause-makes c =
-    let ds = c.args.drafts.now in
-    on_ok c.forget_originations.result
-    (λ is. makes_then (c.run_out.ensures.makes ds)
-    (makes_on_router (forget_originations c.args.moment) c.run_out.new.self.present
-    c.forget_originations.new.self.present ds refl is))
-    c.forget_originations.ensures.ok
+pub returns : goal.returns
+returns c =
+    let m = c.args.moment in
+    then_does {f = on_area (on_links (map (run_out m)))} {g = on_router (forget_originations m)}
+    c.forget_originations.result c.run_out.ensures c.forget_originations.ensures
