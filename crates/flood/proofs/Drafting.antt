@@ -1,21 +1,19 @@
 -- The drafts of an event are those of what it sends.
-use Rattle.std.proofs.Common.{◌≡◌, ℕ, suc, ◌+◌, List, [], ◌∷◌, ◌++◌, length, map, refl, sym, ap}
-use Rattle.std.proofs.Common.{◌∙◌, subst, append_assoc, append-nil}
+use Rattle.std.proofs.Common.{◌≡◌, ℕ, ◌+◌, List, [], ◌∷◌, ◌++◌, refl, sym, ap, ◌∙◌, subst}
+use Rattle.std.proofs.Common.{append_assoc, append-nil}
 use Rattle.std.specs.List.{AllByRecursion, enumerate_from, flat_map}
 use Rattle.flood_laws.specs.adjacency.Drafts.{Drafted}
-use Rattle.flood_laws.specs.adjacency.Kept.{Kept}
 use Rattle.flood_laws.specs.adjacency.Rooms.{HasRoom}
 use Rattle.events.specs.received.Links.{Link}
 use Rattle.events.specs.received.Outcomes.{Send}
 use Rattle.events.specs.declared.model.Out.{Out}
 use Rattle.events.specs.Packing.{outs_at}
 use Rattle.flood_laws.specs.Keeping.{AreTextsAt}
-use Rattle.area_routes.specs.flooding.Drafted.{drafts_with, drafted_from}
-use Rattle.area_routes.specs.flooding.Links.{present}
-use Rattle.packing.specs.Drafts.{IsDraftAt, nothing_drafted}
+use Rattle.area_routes.specs.flooding.Drafted.{drafts_with, drafted_from, nothing_at}
+use Rattle.packing.specs.Drafts.{IsDraftAt}
 use Rattle.procedures.specs.Making.{interfaces_of}
 use Rattle.procedures.proofs.Drafts.{drafted_same}
-use Rattle.flood.specs.Drafts.{AreDrafts, AreDraftsFrom, nothing_at}
+use Rattle.flood.specs.Drafts.{AreDrafts, AreDraftsFrom}
 
 module _ (sends : List Send) (room : AllByRecursion (λ (s : Send). HasRoom s.content) sends) where
   drafts_from : (n : ℕ) (links : List Link)
@@ -30,15 +28,6 @@ module _ (sends : List Send) (room : AllByRecursion (λ (s : Send). HasRoom s.co
     from = subst (AreDraftsFrom 1 links sends)
         (sym (drafted_same sends new links (nothing_at links) same)) (drafts_from 1 links);
   }
-
-pub nothing_length : (links : List Link) → length (nothing_at links) ≡ length links
-nothing_length [] = refl
-nothing_length (link ∷ links) = ap suc (nothing_length links)
-
-pub nothing_of : (ls : List (Kept Link))
-    → map (λ (l : Kept Link). nothing_drafted) ls ≡ nothing_at (map present ls)
-nothing_of [] = refl
-nothing_of (l ∷ ls) = ap (λ ds. nothing_drafted ∷ ds) (nothing_of ls)
 
 -- ---- one draft after another
 

@@ -1,7 +1,6 @@
 -- The result of a complete event: the router, and the drafts of what was sent.
-use Rattle.std.proofs.Common.{◌≡◌, ℕ, suc, ◌+◌, ◌≤◌, false, List, [], ◌∷◌, ◌++◌, length, take, drop}
-use Rattle.std.proofs.Common.{Result, Ok, Err, OnOk, IfOk, refl, sym, ap, subst, ◌∙◌}
-use Rattle.std.proofs.Math.Seq.{take-append_seam}
+use Rattle.std.proofs.Common.{◌≡◌, ℕ, suc, ◌+◌, ◌≤◌, false, List, [], ◌∷◌, length, Result, Ok, Err}
+use Rattle.std.proofs.Common.{OnOk, IfOk, refl, sym, ap, subst, ◌∙◌}
 use Rattle.std.specs.List.{AllByRecursion}
 use Rattle.flood_laws.specs.adjacency.Drafts.{Drafted}
 use Rattle.flood_laws.specs.adjacency.Rooms.{HasRoom}
@@ -15,10 +14,12 @@ use Rattle.events.specs.Packing.{outs_of}
 use Rattle.events.specs.Refusals.{exceeds}
 use Rattle.events.specs.Routers.{Router}
 use Rattle.events.specs.received.Links.{Link}
+use Rattle.area_routes.specs.flooding.Drafted.{nothing_at}
 use Rattle.procedures.specs.Making.{IsMaking, Makes, interfaces_of}
 use Rattle.procedures.proofs.Making.{makes_then, making_starts}
+use Rattle.procedures.specs.Kept.{KeptRouter}
 use Rattle.flood.specs.declared.part.Part.{Part}
-use Rattle.flood.specs.Drafts.{AreDrafts, AreDraftsFrom, nothing_at}
+use Rattle.flood.specs.Drafts.{AreDrafts, AreDraftsFrom}
 use Rattle.flood.specs.Parts.{IsMade, TellsLimit, after_event, after_part, made_state}
 use Rattle.flood.proofs.Drafting.{are_drafts}
 
@@ -55,73 +56,16 @@ stays_within (Err error.Full) new tells = tt
 
 -- ---- aging, the own part, and the end
 
--- what the `Vec` of the drafts has after it was lent as a slice, which was left with others
-abbrev pub left : (count : ℕ) (made items : List Drafted) → List Drafted
-left count made items = take count (made ++ drop (length made) items)
-
-as_left : (count : ℕ) (made items : List Drafted) → length made ≡ count
-    → left count made items ≡ made
-as_left count made items long =
-    ap (λ n. take n (made ++ drop (length made) items)) (sym long)
-    ∙ take-append_seam made (drop (length made) items)
-
-long_as_lent : (count : ℕ) (items lent made : List Drafted) → count ≡ length items → lent ≡ items
-    → length made ≡ length lent → length made ≡ count
-long_as_lent count items lent made long is same = same ∙ ap length is ∙ sym long
-
--- it has what it was left with
-pub left_so : (count : ℕ) (items lent made : List Drafted) → count ≡ length items → lent ≡ items
-    → length made ≡ length lent → left count made items ≡ made
-left_so count items lent made long is same =
-    as_left count made items (long_as_lent count items lent made long is same)
-
-pub left_long : (count : ℕ) (items lent made : List Drafted) → count ≡ length items → lent ≡ items
-    → length made ≡ length lent → count ≡ length (left count made items)
-left_long count items lent made long is same =
-    sym (long_as_lent count items lent made long is same)
-    ∙ ap length (sym (left_so count items lent made long is same))
-
--- each part begins with the drafts as the one before left them
-made_of_parts : (old aged parted new settled : Router) (moment : ℕ) (p : Part)
-    (d0 d1 e1 d2 e2 d3 : List Drafted) → settled ≡ old → e1 ≡ d1 → e2 ≡ d2
-    → Makes (on_area (with_ages old.moment moment)) old aged d0 d1
-    → Makes (after_part p moment) aged parted e1 d2
-    → Makes (end_event settled moment) parted new e2 d3
-    → Makes (after_event old moment p) old new d0 d3
-made_of_parts old aged parted new settled moment p d0 d1 e1 d2 e2 d3 is first second ages part end =
-    makes_then
-    (makes_then ages (subst (λ ds. Makes (after_part p moment) aged parted ds d2) first part))
-    (subst (λ ds. Makes (end_event old moment) parted new ds d3) second
-    (subst (λ (r : Router). Makes (end_event r moment) parted new e2 d3) is end))
-
--- the complete event, each of whose three parts borrows the drafts
-pub made_whole : (old aged parted new settled : Router) (moment : ℕ) (p : Part) (count : ℕ)
-    (items lent1 made1 lent2 made2 lent3 made3 : List Drafted)
-    → settled ≡ old
-    → count ≡ length items → items ≡ nothing_at old.area.links
-    → lent1 ≡ items → length made1 ≡ length lent1
-    → lent2 ≡ left count made1 items → length made2 ≡ length lent2
-    → lent3 ≡ left count made2 (left count made1 items) → length made3 ≡ length lent3
-    → Makes (on_area (with_ages old.moment moment)) old aged lent1 made1
-    → Makes (after_part p moment) aged parted lent2 made2
-    → Makes (end_event settled moment) parted new lent3 made3
-    → Makes (after_event old moment p) old new (nothing_at old.area.links)
-    (left count made3 (left count made2 (left count made1 items)))
-made_whole old aged parted new settled moment p count items lent1 made1 lent2 made2 lent3
-    made3 is long none is1 same1 is2 same2 is3 same3 ages part end =
-    let items1 : List Drafted = left count made1 items in
-    let items2 : List Drafted = left count made2 items1 in
-    let long1 : count ≡ length items1 = left_long count items lent1 made1 long is1 same1 in
-    let long2 : count ≡ length items2 = left_long count items1 lent2 made2 long1 is2 same2 in
-    let first : lent2 ≡ made1 = is2 ∙ left_so count items lent1 made1 long is1 same1 in
-    let second : lent3 ≡ made2 = is3 ∙ left_so count items1 lent2 made2 long1 is2 same2 in
-    let third : left count made3 items2 ≡ made3 =
-    left_so count items2 lent3 made3 long2 is3 same3 in
-    subst (λ ds. Makes (after_event old moment p) old new ds (left count made3 items2))
-    (is1 ∙ none)
-    (subst (λ ds. Makes (after_event old moment p) old new lent1 ds) (sym third)
-    (made_of_parts old aged parted new settled moment p lent1 made1 lent2 made2 lent3 made3
-    is first second ages part end))
+-- the complete event in its three parts
+pub made_whole : (old aged parted new : KeptRouter) (moment : ℕ) (p : Part)
+    → old.settled ≡ old.present
+    → Makes (on_area (with_ages old.present.moment moment)) old aged
+    → Makes (after_part p moment) aged parted → Makes (end_event parted.settled moment) parted new
+    → Makes (after_event old.present moment p) old new
+made_whole old aged parted new moment p is ages part end =
+    makes_then (makes_then ages part)
+    (subst (λ (r : Router). Makes (end_event r moment) parted new)
+    (part.settled ∙ ages.settled ∙ is) end)
 
 -- ---- its result
 
@@ -139,34 +83,37 @@ pub few_drafts : (links : List Link) (sends : List Send) (ds : List Drafted)
 few_drafts links sends ds are few =
     subst (λ (n : ℕ). n ≤ 63) (sym (few_from 1 links sends ds are.from)) few
 
-module _ (old new : Router) (moment : ℕ) (p : Part) (before after : List Drafted)
-    (m : Makes (after_event old moment p) old new before after)
-    (none : before ≡ nothing_at old.area.links) where
+-- `made` is the router at the end, whose drafts are taken away then
+module _ (old made : KeptRouter) (new : Router) (drafts : List Drafted) (moment : ℕ) (p : Part)
+    (m : Makes (after_event old.present moment p) old made)
+    (none : old.drafted ≡ nothing_at old.present.area.links) (is : new ≡ made.present)
+    (taken : drafts ≡ made.drafted) where
   abbrev begun : EventState
-  begun = record { router = old; sends = [] }
+  begun = record { router = old.present; sends = [] }
 
-  ended : IsMaking (made_state old moment p) (nothing_at old.area.links) new after
-  ended =
-      m.part begun (nothing_at old.area.links)
-      (subst (λ ds. IsMaking begun (nothing_at old.area.links) old ds) (sym none)
-      (making_starts old (nothing_at old.area.links)))
+  ended : IsMaking (made_state old.present moment p) (nothing_at old.present.area.links) made
+  ended = m.part begun (nothing_at old.present.area.links)
+      (subst (λ ds. IsMaking begun ds old) none (making_starts old))
 
-  pub made_router : new ≡ (made_state old moment p).router
-  made_router = ended.router
+  pub made_router : new ≡ (made_state old.present moment p).router
+  made_router = is ∙ ended.router
 
-  pub made_drafts : AllByRecursion (λ (s : Send). HasRoom s.content) (made_state old moment p).sends
-      → AreDrafts old.area.links (made_state old moment p).sends after
+  pub made_drafts : AllByRecursion (λ (s : Send). HasRoom s.content)
+      (made_state old.present moment p).sends
+      → AreDrafts old.present.area.links (made_state old.present moment p).sends drafts
   made_drafts room =
-      subst (AreDrafts old.area.links (made_state old moment p).sends) (sym ended.drafts)
-      (are_drafts (made_state old moment p).sends room old.area.links
-      (made_state old moment p).router.area.links
+      subst (AreDrafts old.present.area.links (made_state old.present moment p).sends)
+      (sym (taken ∙ ended.drafts))
+      (are_drafts (made_state old.present moment p).sends room old.present.area.links
+      (made_state old.present moment p).router.area.links
       (ap (λ (r : Router). interfaces_of r.area.links) (sym ended.router) ∙ m.interfaces))
 
   -- what is sent
-  pub made_sent : (own : ℕ) (sent : List Out) → own ≡ old.id
-      → sent ≡ outs_of own old.area.links (made_state old moment p).sends
-      → IsMade old moment p sent new
-  made_sent own sent is outs = record {
+  pub made_sent : (own : ℕ) (sent : List Out) → own ≡ old.present.id
+      → sent ≡ outs_of own old.present.area.links (made_state old.present moment p).sends
+      → IsMade old.present moment p sent new
+  made_sent own sent same outs = record {
     router = made_router;
-    outs = outs ∙ ap (λ id. outs_of id old.area.links (made_state old moment p).sends) is;
+    outs = outs ∙ ap (λ id. outs_of id old.present.area.links
+        (made_state old.present moment p).sends) same;
   }

@@ -3,14 +3,13 @@ use Rattle.std.proofs.Common.{◌≡◌, ◌≤◌, Bool, true, false, ◌&&◌,
 use Rattle.std.proofs.Common.{sym, ap, ◌∙◌, arith}
 use Rattle.std.proofs.lemmas.Bool.{leb-true}
 use Rattle.std.proofs.lemmas.List.{length-map}
-use Rattle.flood_laws.specs.adjacency.Drafts.{Drafted}
-use Rattle.flood_laws.specs.adjacency.Kept.{Kept}
 use Rattle.flood_laws.specs.adjacency.declared.interface.Interface.{Interface}
-use Rattle.events.specs.received.Links.{Link}
 use Rattle.events.specs.declared.model.Config.{Config}
 use Rattle.events.specs.EventState.{EventState}
-use Rattle.events.specs.Routers.{Router, fresh_link, in_profile}
+use Rattle.events.specs.Routers.{fresh_link, in_profile}
+use Rattle.area_routes.specs.flooding.Kept.{KeptLink}
 use Rattle.area_routes.specs.flooding.Links.{present}
+use Rattle.procedures.specs.Kept.{KeptRouter}
 use Rattle.procedures.specs.Making.{Makes}
 use Rattle.procedures.proofs.Making.{making_starts}
 use Rattle.flood.specs.Starts.{fresh_kept}
@@ -26,7 +25,7 @@ few_interfaces c e =
     let d = and_parts _ _ b.0 in
     leb-true (length c.interfaces) 63 d.1
 
-pub few_links : (c : Config) (links : List (Kept Link)) → in_profile c ≡ true
+pub few_links : (c : Config) (links : List KeptLink) → in_profile c ≡ true
     → map present links ≡ map fresh_link c.interfaces → length links ≤ 63
 few_links c links e same =
     let count : length links ≡ length c.interfaces =
@@ -38,10 +37,9 @@ fresh_links [] = refl
 fresh_links (x ∷ xs) = ap (λ ls. fresh_link x ∷ ls) (fresh_links xs)
 
 -- a part that is done first
-pub started : (f : EventState → EventState) (old new : Router) (before after : List Drafted)
-    → Makes f old new before after
-    → new ≡ (f (record { router = old; sends = [] })).router
-started f old new before after m = (m.part (record {
-  router = old;
+pub started : (f : EventState → EventState) (old new : KeptRouter) → Makes f old new
+    → new.present ≡ (f (record { router = old.present; sends = [] })).router
+started f old new m = (m.part (record {
+  router = old.present;
   sends = [];
-}) before (making_starts old before)).router
+}) old.drafted (making_starts old)).router

@@ -1,13 +1,9 @@
 -- The drafts of an event, one for each interface.
-use Rattle.std.specs.Prelude.{ℕ, ◌+◌, List, [], ◌∷◌, map}
+use Rattle.std.specs.Prelude.{ℕ, ◌+◌, List, [], ◌∷◌}
 use Rattle.flood_laws.specs.adjacency.Drafts.{Drafted}
 use Rattle.events.specs.received.Links.{Link}
 use Rattle.events.specs.received.Outcomes.{Send}
-use Rattle.packing.specs.Drafts.{IsDraftAt, nothing_drafted}
-
--- nothing was sent so far on any of these links
-abbrev pub nothing_at : List Link → List Drafted
-nothing_at links = map (λ (link : Link). nothing_drafted) links
+use Rattle.packing.specs.Drafts.{IsDraftAt}
 
 -- what is sent on each link is in its draft; `n` is the number of the first link
 abbrev pub AreDraftsFrom : ℕ → List Link → List Send → List Drafted → Type 0

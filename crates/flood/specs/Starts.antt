@@ -1,9 +1,13 @@
 -- Links at the start.
-use Rattle.flood_laws.specs.adjacency.Kept.{Kept}
+use Rattle.flood_laws.specs.adjacency.Drafts.{nothing_drafted}
 use Rattle.flood_laws.specs.adjacency.declared.interface.Interface.{Interface}
-use Rattle.events.specs.received.Links.{Link}
 use Rattle.events.specs.Routers.{fresh_link}
+use Rattle.area_routes.specs.flooding.Kept.{KeptLink}
 
--- a link on which nothing was received or sent, settled
-abbrev pub fresh_kept : Interface → Kept Link
-fresh_kept i = record { present = fresh_link i; settled = fresh_link i }
+-- a link on which nothing was received, sent or drafted, settled
+abbrev pub fresh_kept : Interface → KeptLink
+fresh_kept i = record {
+  present = fresh_link i;
+  settled = fresh_link i;
+  drafted = nothing_drafted;
+}

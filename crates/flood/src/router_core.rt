@@ -45,6 +45,7 @@ impl Model for Core {
     ghost use Rattle.events.specs.RoomLaws.{IsRoomy};
     ghost use Rattle.events.specs.Refusals.{exceeds};
     ghost use Rattle.events.specs.Routers.{Router as Shown};
+    ghost use Rattle.area_routes.specs.flooding.Drafted.{nothing_at};
     ghost use Rattle.flood.specs.Offers.{AreKeptNow};
     ghost use Rattle.flood_laws.specs.InOrder.{IsInOrder};
     ghost use Rattle.flood_laws.specs.Keeping.{HoldsInstances};
@@ -63,17 +64,19 @@ impl Model for Core {
 
     ghost view = { λ a. a.router.present };
 
-    // Between events the state is settled, all that may be sent fits into packets, and no limit is
-    // exceeded. The router announces external destinations only under its own Router ID, its
-    // retransmission lists have the database's instances, and the numbers of the instances that it
-    // holds are in their ranges. What is kept for routes is valid at the moment of the last event.
+    // Between events the state is settled, nothing is drafted, all that may be sent fits into
+    // packets, and no limit is exceeded. The router announces external destinations only under its
+    // own Router ID, its retransmission lists have the database's instances, and the numbers of the
+    // instances that it holds are in their ranges. What is kept for routes is valid at the moment
+    // of the last event.
     ghost invariant = { λ a.
         (a.router.settled ≡ a.router.present)
         × IsRoomy a.router.present
         × (exceeds a.router.present ≡ false)
         × IsInOrder a.router.present
         × HoldsInstances a.router.present
-        × AreKeptNow a.router.present a.routes };
+        × AreKeptNow a.router.present a.routes
+        × (a.router.drafted ≡ nothing_at a.router.present.area.links) };
 }
 
 impl Core {

@@ -1,35 +1,16 @@
 //! From the drafts of an event to its packets.
-ghost use Rattle.std.specs.Prelude.{◌≡◌, ◌≤◌, List, IfOk, OnOk, length, map};
+ghost use Rattle.std.specs.Prelude.{◌≡◌, ◌≤◌, List, IfOk, OnOk, length};
 ghost use Rattle.events.specs.received.Links.{Link as LinkOfArea};
 ghost use Rattle.events.specs.received.Outcomes.{Send};
 ghost use Rattle.events.specs.Packing.{outs_of};
 ghost use Rattle.flood_laws.specs.Keeping.{AreTexts};
-ghost use Rattle.packing.specs.Drafts.{nothing_drafted};
-ghost use Rattle.flood.specs.Drafts.{AreDrafts, nothing_at};
+ghost use Rattle.flood.specs.Drafts.{AreDrafts};
 
-use area_routes::Link;
 use events::Out;
 use flood_laws::Draft;
 use packing::put_outs;
-use procedures::Router;
 use std::alloc::{AllocError, Global};
 use words::RouterId;
-
-fn drafts_at(alloc: Global, links: &[Link]) -> Result<Vec<Draft>, AllocError>
-    ensures { IfOk result (λ drafts. drafts.items ≡ map (λ link. nothing_drafted) links.now) }
-{
-    links.iter().map(|_| Draft::new(alloc)).collect(alloc)
-}
-
-/// An empty draft for each link of the router.
-///
-/// Errors with `AllocError` if an allocation is refused.
-pub fn drafts_for(router: &Router, alloc: Global) -> Result<Vec<Draft>, AllocError>
-    ensures { IfOk result (λ drafts. drafts.items
-        ≡ nothing_at router.now.present.area.links) }
-{
-    drafts_at(alloc, router.area().links())
-}
 
 /// The packets of all interfaces, in the order of their numbers.
 ///

@@ -1,11 +1,10 @@
 //! A router at its start.
-ghost use Rattle.std.specs.Prelude.{◌≡◌, IfOk, OnOk, length, map, true};
+ghost use Rattle.std.specs.Prelude.{◌≡◌, IfOk, OnOk, map, true};
 ghost use Rattle.events.specs.Events.{initial};
 ghost use Rattle.events.specs.Originations.{router_key};
 ghost use Rattle.events.specs.Routers.{in_profile, unannounced_router};
 ghost use Rattle.flood.specs.Starts.{fresh_kept};
 
-use crate::sending::drafts_for;
 use area_routes::Link;
 use events::Config;
 use flood_laws::Interface;
@@ -13,7 +12,7 @@ use procedures::{Router, originate_or_wait};
 use std::alloc::{AllocError, Global};
 use words::{Key, LinkStateId, RouterId};
 
-// A link for each interface, on which nothing was received or sent.
+// A link for each interface, on which nothing was received, sent or drafted.
 fn links_of(alloc: Global, interfaces: &[Interface]) -> Result<Vec<Link>, AllocError>
     ensures { IfOk result (λ links. links.items ≡ map fresh_kept interfaces.now) }
 {
@@ -39,15 +38,7 @@ fn describe_links(router: &mut Router, alloc: Global, config: &Config) -> Result
     requires { router.old.present ≡ unannounced_router config.now }
     ensures { OnOk result (router.new.present ≡ initial config.now) }
 {
-    let mut drafts = drafts_for(router, alloc)?;
-    originate_or_wait(
-        router,
-        alloc,
-        config.start,
-        &router_key(config.router),
-        &mut drafts,
-    )?;
-    Ok(())
+    originate_or_wait(router, alloc, config.start, &router_key(config.router))
 }
 
 /// A router without neighbors that has originated its router-LSA (RFC 2328, section 12.4.1).

@@ -3,6 +3,7 @@ ghost use Rattle.std.specs.Prelude.{◌≡◌, IfOk, None, OnErr, OnOk, false};
 ghost use Rattle.events.specs.RoomLaws.{IsRoomy};
 ghost use Rattle.events.specs.Events.{Happens};
 ghost use Rattle.events.specs.Refusals.{Answers, exceeds, is_interface, no_interface};
+ghost use Rattle.area_routes.specs.flooding.Drafted.{nothing_at};
 ghost use Rattle.flood_laws.specs.InOrder.{IsInOrder};
 ghost use Rattle.flood_laws.specs.Keeping.{HoldsInstances, KeepsWhatIsKnown};
 ghost use Rattle.flood.specs.Early.{early_refusal};
@@ -13,7 +14,6 @@ use crate::event::Event;
 use crate::keeping::finish;
 use crate::making::make_part;
 use crate::part::read_part;
-use crate::sending::drafts_for;
 use area_routes::AreaRoutes;
 use events::{CoreError, Out};
 use procedures::{Router, end_event, full_routers};
@@ -66,6 +66,7 @@ pub fn take(
     event: &Event,
 ) -> Result<Vec<Out>, CoreError>
     requires settled { router.old.settled ≡ router.old.present }
+    requires drafted { router.old.drafted ≡ nothing_at router.old.present.area.links }
     requires roomy { IsRoomy router.old.present }
     requires order { IsInOrder router.old.present }
     requires holds { HoldsInstances router.old.present }
@@ -93,9 +94,9 @@ pub fn take(
     let own = router.id();
     let before = router.moment();
     let full = full_routers(router, alloc)?;
-    let mut drafts = drafts_for(router, alloc)?;
-    router.age(alloc, moment, &mut drafts)?;
-    make_part(router, alloc, moment, part, &mut drafts)?;
-    end_event(router, alloc, moment, &full, &mut drafts)?;
+    router.age(alloc, moment)?;
+    make_part(router, alloc, moment, part)?;
+    end_event(router, alloc, moment, &full)?;
+    let drafts = router.take_drafts(alloc)?;
     finish(router, routes, alloc, own, before, event, drafts)
 }

@@ -3,7 +3,9 @@ use Rattle.std.specs.FinMap as finite
 use Rattle.area_routes.proofs.Limits.{within}
 use Rattle.events.specs.RoomLaws.{IsRoomy}
 use Rattle.events.specs.Refusals.{exceeds}
+use Rattle.area_routes.specs.flooding.Drafted.{nothing_at}
 use Rattle.area_routes.specs.flooding.Kept.{RouterArea}
+use Rattle.procedures.specs.Kept.{KeptRouter}
 use Rattle.flood.proofs.Kept.{begun}
 use Rattle.flood_laws.specs.InOrder.{IsInOrder}
 use Rattle.flood_laws.specs.Keeping.{HoldsInstances}
@@ -21,6 +23,8 @@ invariant_of-result c =
           c.in-Ok.routes
           c.id.ensures (ap (λ (a : RouterArea). a.present) c.area.ensures.parts) c.moment.ensures
           c.in-Ok.ensures.routes c.in-Ok.ensures.answered,
+      ap (λ k. k.drafted) c.in_ok-router.ensures
+          ∙ sym (ap (λ (k : KeptRouter). nothing_at k.present.area.links) c.in_ok-router.ensures),
     )
 
 pub new-requires-clause-few : goal.new-requires-clause-few

@@ -10,7 +10,9 @@ use Rattle.flood_laws.specs.Keeping.{HoldsInstances}
 use Rattle.flood_laws.proofs.Keeping.{instances_stay_in_range}
 use Rattle.flood_laws.proofs.Acknowledged.{routers_stay_in_order}
 use Rattle.flood_laws.proofs.Limits.{others_stay_within_limits}
+use Rattle.area_routes.specs.flooding.Drafted.{nothing_at}
 use Rattle.area_routes.specs.flooding.Kept.{RouterArea}
+use Rattle.procedures.specs.Kept.{KeptRouter}
 use Rattle.flood.proofs.Kept.{begun}
 use Rattle.flood.proofs.router_core.Core.new.Goals as goal
 
@@ -30,6 +32,8 @@ invariant_of-result c =
           c.in-Ok.routes
           c.id.ensures (ap (λ (a : RouterArea). a.present) c.area.ensures.parts) c.moment.ensures
           c.in-Ok.ensures.routes c.in-Ok.ensures.answered,
+      ap (λ k. k.drafted) c.settle.ensures
+          ∙ sym (ap (λ (k : KeptRouter). nothing_at k.present.area.links) c.settle.ensures),
     )
 
 pub new-requires-clause-few : goal.new-requires-clause-few

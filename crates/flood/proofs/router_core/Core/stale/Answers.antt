@@ -49,6 +49,7 @@ invariant_of-self c =
           c.area.result.now.present c.moment.result c.answers.result.now
           c.id.ensures (ap (λ (a : RouterArea). a.present) c.area.ensures.parts) c.moment.ensures
           c.answers.ensures c.is_stale.ensures.kept,
+      c.self.invariant.6,
     )
 
 pub invariant_of-self-2 : goal.invariant_of-self-2
@@ -63,4 +64,5 @@ invariant_of-self-2 c =
           c.area.result.now.present c.moment.result c.answers.result.now
           c.id.ensures (ap (λ (a : RouterArea). a.present) c.area.ensures.parts) c.moment.ensures
           c.answers.ensures c.is_stale.ensures.kept,
+      c.self.invariant.6,
     )

@@ -2,6 +2,8 @@ use Rattle.std.proofs.Common.{sym, ap, ◌∙◌, subst}
 use Rattle.events.specs.RoomLaws.{IsRoomy}
 use Rattle.events.specs.Refusals.{exceeds}
 use Rattle.events.specs.Routers.{Router}
+use Rattle.area_routes.specs.flooding.Drafted.{nothing_at}
+use Rattle.procedures.specs.Kept.{KeptRouter}
 use Rattle.flood_laws.specs.InOrder.{IsInOrder}
 use Rattle.flood_laws.specs.Keeping.{HoldsInstances}
 use Rattle.flood.specs.Occurrences.{occurrence_of}
@@ -21,4 +23,6 @@ invariant_of-self c =
       subst IsInOrder (sym is) c.in-Ok.ensures.order,
       subst HoldsInstances (sym is) c.in-Ok.ensures.holds,
       subst (λ (s : Router). AreKeptNow s c.take.new.routes) (sym is) c.in-Ok.ensures.kept,
+      ap (λ k. k.drafted) c.settle_at.ensures
+          ∙ sym (ap (λ (k : KeptRouter). nothing_at k.present.area.links) c.settle_at.ensures),
     )
