@@ -1,26 +1,27 @@
 -- Flooding the copies with the keys at MaxAge, in turn, is flooding for all entries of the
 -- database.
-use Rattle.std.proofs.Common.{◌≡◌, ℕ, ◌+◌, ◌==◌, Bool, true, false, cond, not, ◌&&◌, List, [], ◌∷◌}
-use Rattle.std.proofs.Common.{◌++◌, map, Option, None, Some, refl, sym, ap, ◌∙◌, append_assoc}
-use Rattle.std.specs.List.{AllByRecursion, cons_option, enumerate_from, filter, filter_map, fold}
+use Rattle.std.proofs.Common.{◌≡◌, ℕ, Bool, true, false, cond, not, ◌&&◌, List, [], ◌∷◌, ◌++◌, map}
+use Rattle.std.proofs.Common.{Option, None, Some, refl, sym, ap, ◌∙◌, append_assoc}
+use Rattle.std.specs.List.{AllByRecursion, filter, fold}
 use Rattle.std.specs.FinMap as finite
 use Rattle.words.specs.declared.key.Key.{Key}
 use Rattle.flooding.specs.lsdb.Headers.{Lsa}
 use Rattle.flooding.specs.lsdb.Copies.{Database, DatabaseCopy, aged_keys, has_just_aged_out}
 use Rattle.flooding.specs.lsdb.Copies.{is_aged_out, lsa_now}
-use Rattle.flooding.specs.adjacency.Contents.{Content}
-use Rattle.flooding.specs.adjacency.Drafts.{Drafted, adds, drafting}
-use Rattle.flooding.specs.adjacency.Neighbors.{Neighbor}
+use Rattle.flooding.specs.adjacency.Drafts.{Drafted}
 use Rattle.flooding.proofs.adjacency.Maps.{IfThere, OfEntry, entries_in}
 use Rattle.flooding.specs.received.Flooding.{flood, flood_to}
-use Rattle.flooding.specs.received.Links.{Area, Link}
-use Rattle.flooding.specs.received.Outcomes.{Outcome, Send, step_on, stepping_sends}
+use Rattle.flooding.specs.received.Links.{Area}
+use Rattle.flooding.specs.received.Outcomes.{Outcome, Send, stepping_sends}
 use Rattle.flooding.proofs.received.Marks.{IsStill, mark_all}
 use Rattle.events.specs.Endings.{with_age, with_ages}
-use Rattle.flooding.specs.Drafted.{at_interface, drafts_with, drafted_from}
+use Rattle.flooding.specs.Drafted.{drafts_with}
 use Rattle.flooding.specs.Links.{come_of_age, come_of_age_copy, start}
-use Rattle.flooding.proofs.Sends.{append_none, drafted_none}
+use Rattle.flooding.proofs.Sends.{append_none}
 use Rattle.router_state.specs.Aging.{each_come_of_age, outcomes_in_turn}
+use Rattle.router_state.specs.Making.{interfaces_of}
+use Rattle.router_state.proofs.Areas.{keeps_neighbors}
+use Rattle.router_state.proofs.Drafts.{drafted_append, drafted_same}
 use Rattle.router_state.proofs.Stepped.{marks}
 
 -- ---- the copies stay the same, except for when they were sent
@@ -117,65 +118,25 @@ module _ (before moment : ℕ) where
 
 -- ---- what is sent after something else is drafted after it
 
-by_number : (k : ℕ) (x : Send) (b : Bool) (whole front back : List Content) → whole ≡ front ++ back
-    → cons_option (cond b (Some x.content) None) whole
-    ≡ cons_option (cond b (Some x.content) None) front ++ back
-by_number k x true whole front back is = ap (λ zs. x.content ∷ zs) is
-by_number k x false whole front back is = is
-
-picked_append : (k : ℕ) (xs ys : List Send)
-    → filter_map (at_interface k) (xs ++ ys) ≡ filter_map (at_interface k) xs
-    ++ filter_map (at_interface k) ys
-picked_append k [] ys = refl
-picked_append k (x ∷ xs) ys = by_number k x (x.number == k) (filter_map (at_interface k) (xs ++ ys))
-    (filter_map (at_interface k) xs) (filter_map (at_interface k) ys) (picked_append k xs ys)
-
-drafting_append : (delay : ℕ) (xs ys : List Content) (d : Drafted)
-    → drafting delay ys (drafting delay xs d) ≡ drafting delay (xs ++ ys) d
-unfolding drafting
-drafting_append delay [] ys d = refl
-drafting_append delay (x ∷ xs) ys d = drafting_append delay xs ys (adds delay d x)
-
--- N is the neighbor of a link so far
-module _ (N : ℕ → Link → Option Neighbor) where
-  abbrev by_then : ℕ → List Link → List Link
-  by_then n ls = map (λ (e : ℕ × Link). record e.1 { neighbor = N e.0 e.1 }) (enumerate_from n ls)
-
-  drafted_then : (n : ℕ) (xs ys : List Send) (ls : List Link) (ds : List Drafted)
-      → drafted_from n ys (by_then n ls) (drafted_from n xs ls ds) ≡ drafted_from n (xs ++ ys) ls ds
-  drafted_then n xs ys [] ds = refl
-  drafted_then n xs ys (l ∷ ls) [] = refl
-  drafted_then n xs ys (l ∷ ls) (d ∷ ds) =
-      let delay = l.interface.delay in
-      let here = drafting_append delay (filter_map (at_interface n) xs)
-      (filter_map (at_interface n) ys) d
-      ∙ ap (λ cs. drafting delay cs d) (sym (picked_append n xs ys)) in
-      λ i. here i ∷ drafted_then (n + 1) xs ys ls ds i
-
 module _ (before moment : ℕ) (a : Area) (ds : List Drafted) where
-  abbrev flooded_now : Lsa → Outcome
-  flooded_now lsa = flood moment None lsa (start a)
+  kept_by_test : (lsa : Lsa) (b : Bool)
+      → interfaces_of (cond b (flood moment None lsa (start a)) (start a)).area.links
+      ≡ interfaces_of a.links
+  kept_by_test lsa true = keeps_neighbors moment (flood_to moment None lsa) a
+  kept_by_test lsa false = refl
 
-  abbrev DraftedAfter : List Send → Outcome → Type 0
-  DraftedAfter more p = drafts_with more p.area.links (drafts_with p.sends a.links ds)
-      ≡ drafts_with (p.sends ++ more) a.links ds
-
-  unchanged : (more : List Send) → DraftedAfter more (start a)
-  unchanged more = ap (drafts_with more a.links) (sym (drafted_none 1 a.links ds))
-
-  drafted_by_test : (more : List Send) (lsa : Lsa) (b : Bool)
-      → DraftedAfter more (cond b (flooded_now lsa) (start a))
-  drafted_by_test more lsa true = drafted_then
-      (λ n l. step_on (flood_to moment None lsa n l) l.neighbor) 1 (flooded_now lsa).sends more
-      a.links ds
-  drafted_by_test more lsa false = unchanged more
-
-  by_copy : (more : List Send) (c : Option DatabaseCopy)
-      → DraftedAfter more (come_of_age_copy before moment c (start a))
-  by_copy more None = unchanged more
-  by_copy more (Some c) = drafted_by_test more (lsa_now moment c)
-      (has_just_aged_out before moment c)
+  kept_by_copy : (c : Option DatabaseCopy)
+      → interfaces_of (come_of_age_copy before moment c (start a)).area.links
+      ≡ interfaces_of a.links
+  kept_by_copy None = refl
+  kept_by_copy (Some c) = kept_by_test (lsa_now moment c) (has_just_aged_out before moment c)
 
   pub drafted_after : (more : List Send) (key : Key)
-      → DraftedAfter more (come_of_age before moment key a)
-  drafted_after more key = by_copy more (finite.get a.database key)
+      → drafts_with more (come_of_age before moment key a).area.links
+      (drafts_with (come_of_age before moment key a).sends a.links ds)
+      ≡ drafts_with ((come_of_age before moment key a).sends ++ more) a.links ds
+  drafted_after more key =
+      let p : Outcome = come_of_age before moment key a in
+      drafted_same more p.area.links a.links (drafts_with p.sends a.links ds)
+      (kept_by_copy (finite.get a.database key))
+      ∙ drafted_append 1 p.sends more a.links ds
