@@ -2,21 +2,18 @@
 -- index, and y the link afterwards.
 use Rattle.std.proofs.Common.{◌≡◌, ℕ, ◌+◌, ◌<◌, List, [], length, map, get_or, set, Result, ap}
 use Rattle.std.proofs.Common.{◌∙◌}
-use Rattle.std.specs.Prelude.{Option, Some}
 use Rattle.keyed_map.proofs.Helds.{on_ok}
 use Rattle.adjacency.specs.Contents.{Content, Step}
 use Rattle.adjacency.specs.Neighbors.{Neighbor}
 use Rattle.adjacency.specs.Drafts.{drafting}
-use Rattle.received.specs.Links.{Link, change_link, link_at}
+use Rattle.received.specs.Links.{Link, change_link}
 use Rattle.received.specs.Outcomes.{Send, only_at, sends_at, stepped_links, stepping_sends}
 use Rattle.flooding.specs.Doing.{LinkDoes, LinksDo}
 use Rattle.flooding.specs.Drafted.{drafts_with}
 use Rattle.flooding.specs.Kept.{KeptLink}
 use Rattle.flooding.specs.Links.{draft_of, neighbor_sends, neighbor_step, present, settled_link}
-use Rattle.flooding.specs.Steps.{sent_by}
 use Rattle.flooding.proofs.Kept.{shows_kept}
 use Rattle.flooding.proofs.Only.{drafts_sent, links_changed, links_stepped, sends_stepped}
-use Rattle.flooding.proofs.Updates.{shown_link}
 
 module _ (ls : List KeptLink) (i k : ℕ) (d y : KeptLink) (lt : i < length ls) (at : k ≡ 1 + i)
     (read : d ≡ get_or ls i d) where
@@ -43,9 +40,6 @@ module _ (ls : List KeptLink) (i k : ℕ) (d y : KeptLink) (lt : i < length ls) 
       ≡ stepping_sends (only_at k f) (map present ls)
   sent_there f = sends_stepped ls i k y d lt at f
 
-  here : Some x.present ≡ link_at k (map present ls)
-  here = shown_link ls i k d lt at
-
   module _ {X E : Type 0} (r : Result X E) where
     -- it sends this, and stays as it is
     pub one_sends : (cs : List Content) → LinkDoes (λ (l : Link). l) (λ (l : Link). cs) x y r
@@ -62,19 +56,6 @@ module _ (ls : List KeptLink) (i k : ℕ) (d y : KeptLink) (lt : i < length ls) 
     one_changes change does = record {
       links = on_ok r (λ is. changed_there change is) does.link;
       drafts = on_ok r (λ is. drafted_there [] is) does.draft;
-      settled = settled_there does.settled;
-    }
-
-    -- it takes a step
-    pub one_does : (change : Link → Link) (S : Link → List Content) → LinkDoes change S x y r
-        → LinksDo (change_link k change)
-        (λ (ms : List Link). sends_at k (sent_by S (link_at k ms))) ls (set ls i y) r
-    one_does change S does = record {
-      links = on_ok r (λ is. changed_there change is) does.link;
-      drafts = on_ok r (λ is.
-          drafted_there (S x.present) is
-          ∙ ap (λ (o : Option Link). drafts_with (sends_at k (sent_by S o)) (map present ls)
-          (map draft_of ls)) here) does.draft;
       settled = settled_there does.settled;
     }
 
