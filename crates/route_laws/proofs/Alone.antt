@@ -1,6 +1,6 @@
 -- Candidates if each prefix has one best offer, and the offers of a database that is given as a
 -- list of copies.
-use Rattle.std.proofs.Common.{◌≡◌, ℕ, ◌+◌, ◌≤◌, ◌⊎◌, inl, inr, Bool, true, false, IsTrue, List}
+use Rattle.std.proofs.Common.{◌≡◌, ℕ, ◌+◌, ◌<◌, ◌≤◌, ◌⊎◌, inl, inr, Bool, true, false, IsTrue, List}
 use Rattle.std.proofs.Common.{filter, arith, refl, sym, ◌∙◌, ap, subst}
 use Rattle.std.specs.List.{AllPairs, Contains, list_all}
 use Rattle.std.proofs.lemmas.Bool.{cases_eq}
@@ -18,16 +18,16 @@ use Rattle.routes.specs.declared.node.Node.{Node}
 use Rattle.routes.specs.declared.node.Node.TheVariants.{ANetwork, ARouter}
 use Rattle.routes.specs.Offers.{Attaches, OffersWithin, intra}
 use Rattle.routes.specs.declared.offer.Offer.{Offer}
-use Rattle.routes.specs.Routes.IsNoWorse.{ByDistance}
+use Rattle.routes.specs.Routes.IsNoWorse.{ByCost, ByDistance, ByKind}
 use Rattle.routes.specs.Paths.{IsWay, Way}
 use Rattle.route_laws.specs.Worked.{Entries, database}
 use Rattle.routes.specs.declared.root.Root.{Root}
 use Rattle.routes.proofs.Determined.{one_candidate, one_way}
 use Rattle.routes.proofs.Prefixes.{one_prefix}
-use Rattle.route_laws.proofs.Entries.{all_pass, has_link, is_no_network, kept, links_of, is_said}
+use Rattle.route_laws.proofs.Entries.{all_pass, has_link, is_no_network, is_said, kept, links_of}
 use Rattle.route_laws.proofs.Entries.{sayings}
 use Rattle.routes.specs.Said.{Said, said_at}
-use Rattle.routes.specs.Routes.{IsBefore, IsBestAmong, IsNoLater, IsNoWorse, IsRouteAmong}
+use Rattle.routes.specs.Routes.{IsBefore, IsBestAmong, IsNoLater, IsNoWorse, IsRouteAmong, rank}
 
 -- ---- candidates
 
@@ -43,6 +43,12 @@ route_of o = record {
 
 pub no_worse_itself : (o : Offer) → IsNoWorse o o
 no_worse_itself o = ByDistance refl refl (omega arith)
+
+-- of the same kind, a costs less than b
+pub dearer : (a b : Offer) → rank a.kind ≡ rank b.kind → a.cost < b.cost → IsNoWorse b a → ⊥
+dearer a b e less (ByKind p) = omega (arith, p, e)
+dearer a b e less (ByCost p q) = omega (arith, q, less)
+dearer a b e less (ByDistance p q r) = omega (arith, q, less)
 
 -- another offer for its prefix is the same one, or is worse
 abbrev pub IsAloneAmong : (Offer → Type 0) → Offer → Type 0

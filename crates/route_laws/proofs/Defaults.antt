@@ -1,81 +1,61 @@
 -- The worked topology in which the middle router announces a default route: candidates, premises,
 -- and a packet that is forwarded past that router, by its longer route.
-use Rattle.std.proofs.Common.{◌≡◌, ◌≢◌, ℕ, ◌<◌, ◌≤◌, inl, inr, [], ◌∷◌, arith, refl, sym, ◌∙◌, ap}
-use Rattle.std.proofs.Common.{subst}
+use Rattle.std.proofs.Common.{◌≡◌, ◌≢◌, ℕ, ◌<◌, ◌≤◌, inl, inr, [], ◌∷◌, arith, refl, ap, subst}
 use Rattle.words.specs.Prefixes.{Network}
 use Rattle.words.specs.declared.key.Key.{Key}
 use Rattle.words.specs.declared.route.ExternalType.TheVariants.{Type1}
 use Rattle.words.specs.declared.route.Route.{Route}
-use Rattle.lsa.specs.declared.body.LsaBody.{LsaBody}
 use Rattle.lsa.specs.declared.body.LsaBody.TheVariants as body
 use Rattle.lsa.specs.declared.body.ExternalLsa.{ExternalLsa}
-use Rattle.events.specs.Originations.{router_body, router_key}
 use Rattle.candidates.specs.Borders.{IsLongest}
-use Rattle.routes.proofs.Determined.{one_way}
 use Rattle.routes.proofs.Prefixes.{one_prefix}
 use Rattle.routes.specs.Candidates.{AreCandidates, Offers, OffersExternal, external_offer}
 use Rattle.routes.specs.Candidates.Offers.{External}
-use Rattle.routes.specs.Links.{Leads, Says}
+use Rattle.routes.specs.Links.{Says}
 use Rattle.routes.specs.Offers.{IsPrefix}
-use Rattle.routes.specs.Paths.{IsWay}
 use Rattle.routes.specs.Said.{Said}
 use Rattle.routes.specs.Summaries.IsBoundaryWay.{Inside}
-use Rattle.routes.specs.declared.node.Node.TheVariants.{ARouter}
 use Rattle.routes.specs.declared.offer.Offer.{Offer}
 use Rattle.routes.specs.declared.root.Root.{Root}
-use Rattle.route_laws.specs.Worked.{router_lsa}
-use Rattle.route_laws.proofs.Entries.{is_said, sayings}
+use Rattle.route_laws.specs.Worked.{of_external, router_lsa}
 use Rattle.route_laws.proofs.Made.{linked, says}
-use Rattle.route_laws.proofs.NoSummaries.{is_inside}
 use Rattle.route_laws.specs.Networks.IsAttached.{ToNetwork}
 use Rattle.route_laws.specs.Networks.IsThere.{Attached}
 use Rattle.route_laws.specs.Topologies.{Announces, ComesBefore, IsAnnouncedAt, external_key}
-use Rattle.route_laws.specs.WorkedTopologies.{DefaultRoutesAreNoEnd, address}
-use Rattle.route_laws.specs.WorkedTopologies.{around_a_default, between, default_left}
-use Rattle.route_laws.specs.WorkedTopologies.{default_lsa, default_middle, default_prefix}
-use Rattle.route_laws.specs.WorkedTopologies.{default_right, default_route, left_id}
-use Rattle.route_laws.specs.WorkedTopologies.{left_links, left_routes, middle_id}
-use Rattle.route_laws.specs.WorkedTopologies.{middle_links, middle_routes, narrow, right_id}
-use Rattle.route_laws.specs.WorkedTopologies.{right_links, right_routes, wide}
-use Rattle.route_laws.specs.WorkedTopologies.{with_default_lsa}
-use Rattle.route_laws.proofs.ThreeRouters.{HasRow, at_left, at_middle, at_right, converged}
+use Rattle.route_laws.specs.WorkedTopologies.{DefaultRoutesAreNoEnd, address, around_a_default}
+use Rattle.route_laws.specs.WorkedTopologies.{between, default_left, default_lsa, default_middle}
+use Rattle.route_laws.specs.WorkedTopologies.{default_prefix, default_right, default_route, left_id}
+use Rattle.route_laws.specs.WorkedTopologies.{left_links, left_routes, middle_id, middle_links}
+use Rattle.route_laws.specs.WorkedTopologies.{middle_routes, narrow, right_id, right_links}
+use Rattle.route_laws.specs.WorkedTopologies.{right_routes, wide, with_default_lsa}
+use Rattle.route_laws.proofs.ThreeRouters.{HasRow, at_left, at_middle, at_right, converged, has_row}
 use Rattle.route_laws.proofs.ThreeRouters.{left_candidates_with, left_middle, lsa_of}
 use Rattle.route_laws.proofs.ThreeRouters.{middle_candidates, narrow_longest, narrow_stub}
 use Rattle.route_laws.proofs.ThreeRouters.{right_candidates_with, right_middle, said_in}
-use Rattle.route_laws.proofs.ThreeRouters.{three_places, way}
-use Rattle.route_laws.proofs.ZeroCosts.{each_of}
+use Rattle.route_laws.proofs.ThreeRouters.{three_places}
+use Rattle.route_laws.proofs.ExternalOffers.{CountsAsExternal, IsOfferOf, each_external}
+use Rattle.route_laws.proofs.ExternalOffers.{is_offer_of, offered_directly, only_directly}
+use Rattle.route_laws.proofs.OneOffer.{IsWayFrom, way}
+use Rattle.route_laws.proofs.Parts.{one_of}
+use Rattle.routes.specs.Summaries.{IsBoundaryWay}
 
 abbrev default_says : Said
 default_says = said_in with_default_lsa
 
-has_row : HasRow with_default_lsa
-has_row = record {
-  left = says with_default_lsa (router_key left_id) (router_body left_links) refl;
-  middle = says with_default_lsa (router_key middle_id) (router_body middle_links) refl;
-  right = says with_default_lsa (router_key right_id) (router_body right_links) refl;
-  stubs = refl;
-  networks = refl;
-  summaries = refl;
-  from_left = record { start = refl; routers = refl; links = refl };
-  from_middle = record { start = refl; routers = refl; links = refl };
-  from_right = record { start = refl; routers = refl; links = refl };
-}
+the_row : HasRow with_default_lsa
+the_row = has_row (of_external 0 middle_id default_lsa ∷ []) refl refl refl
+    (record { start = refl; routers = refl; links = refl })
+    (record { start = refl; routers = refl; links = refl })
+    (record { start = refl; routers = refl; links = refl })
 
 -- ---- the AS-external-LSA
 
-abbrev IsTheDefault : Key → LsaBody → Type 0
-IsTheDefault k (body.Router r) = Unit {0}
-IsTheDefault k (body.Network n) = Unit {0}
-IsTheDefault k (body.NetworkSummary s) = Unit {0}
-IsTheDefault k (body.RouterSummary s) = Unit {0}
-IsTheDefault k (body.External lsa) = (k ≡ external_key 0 middle_id) × (lsa ≡ default_lsa)
+abbrev IsTheDefault : Key → ExternalLsa → Type 0
+IsTheDefault k lsa = (k ≡ external_key 0 middle_id) × (lsa ≡ default_lsa)
 
 the_default : (k : Key) (lsa : ExternalLsa) → Says default_says k (body.External lsa)
-    → (k ≡ external_key 0 middle_id) × (lsa ≡ default_lsa)
-the_default k lsa its =
-    each_of (λ (s : Key × LsaBody). IsTheDefault s.0 s.1) (sayings with_default_lsa)
-    (tt, (tt, (tt, ((refl, refl), tt)))) (k, body.External lsa)
-    (is_said 0 with_default_lsa k (body.External lsa) its)
+    → IsTheDefault k lsa
+the_default = each_external IsTheDefault with_default_lsa (tt, (tt, (tt, ((refl, refl), tt))))
 
 its_lsa : Says default_says (external_key 0 middle_id) (body.External default_lsa)
 its_lsa = says with_default_lsa (external_key 0 middle_id) (body.External default_lsa) refl
@@ -86,72 +66,70 @@ abbrev default_offer : Offer
 default_offer = external_offer Type1 default_prefix default_lsa middle_id (way 5 2)
 
 module _ (root : Root) (is_another : middle_id ≢ root.router)
-    (there : IsWay (Leads default_says root) (ARouter root.router) (ARouter middle_id) (way 5 2))
-  where
-    default_offered : Offers default_says root default_offer
-    default_offered = External (record {
-      id = 0;
-      originator = middle_id;
-      lsa = default_lsa;
-      its = its_lsa;
-      reachable = omega arith;
-      of_another = is_another;
-      prefix = default_prefix;
-      is_prefix = (omega arith, refl, refl);
-      way = way 5 2;
-      is_way = record {
-        boundary = way 5 2;
-        reaches = Inside (record {
-          lsa = router_lsa (lsa_of middle_links);
-          its = has_row.middle;
-          has_e = refl;
-          reached = there;
-        });
-        direct = λ _. refl;
-        forwarded = λ some. absurd (some refl);
-      };
-      is = refl;
-    })
+    (there : IsWayFrom with_default_lsa root middle_id (way 5 2)) where
+  counts : CountsAsExternal default_says root 0 middle_id default_lsa 0
+  counts = record {
+    its = its_lsa;
+    reachable = omega arith;
+    of_another = is_another;
+    within = omega arith;
+    mask = refl;
+  }
 
-    default_alone : (o : Offer) → OffersExternal default_says root o → default_offer ≡ o
-    default_alone o x =
-        let one = the_default _ x.lsa x.its in
-        let id : x.id ≡ 0 = ap (λ (k : Key). k.link_state_id) one.0 in
-        let by : middle_id ≡ x.originator = sym (ap (λ (k : Key). k.advertising_router) one.0) in
-        let lsa : default_lsa ≡ x.lsa = sym one.1 in
-        let none : x.lsa.forwarding ≡ 0 = ap (λ (l : ExternalLsa). l.forwarding) one.1 in
-        let reaches = is_inside 0 with_default_lsa refl root x.originator x.is_way.boundary
-        x.is_way.reaches in
-        let W : ℕ → Type 0 = λ r. IsWay (Leads default_says root) (ARouter root.router) (ARouter r)
-        x.is_way.boundary in
-        let w : way 5 2 ≡ x.way = one_way (Leads default_says root) (ARouter root.router)
-        (ARouter middle_id) (way 5 2) x.is_way.boundary there (subst W (sym by) reaches.reached)
-        ∙ sym (x.is_way.direct none) in
-        let P : ExternalLsa → Type 0 = λ l. IsPrefix x.id l.mask x.prefix in
-        let Q : ℕ → Type 0 = λ n. IsPrefix n 0 x.prefix in
-        let p : default_prefix ≡ x.prefix = one_prefix 0 0 0 x.prefix (omega arith) refl
-        (subst Q id (subst P one.1 x.is_prefix)) in
-        (λ i. external_offer (lsa i).kind (p i) (lsa i) (by i) (w i)) ∙ sym x.is
+  reaches : IsBoundaryWay default_says root middle_id (way 5 2)
+  reaches = Inside (record {
+    lsa = router_lsa (lsa_of middle_links);
+    its = the_row.is_row.middle;
+    has_e = refl;
+    reached = there;
+  })
+
+  default_offered : Offers default_says root default_offer
+  default_offered = External (offered_directly default_says root 0 middle_id default_lsa 0 counts
+      refl (way 5 2) reaches)
+
+  default_alone : (o : Offer) → OffersExternal default_says root o → default_offer ≡ o
+  default_alone o x =
+      each_external (λ (k : Key) (lsa : ExternalLsa). (y : Offer)
+      → IsOfferOf default_says root k.link_state_id k.advertising_router lsa y
+      → default_offer ≡ y) with_default_lsa (
+        tt,
+        (
+          tt,
+          (
+            tt,
+            (
+              only_directly default_says root 0 middle_id default_lsa 0 counts refl (way 5 2)
+                  reaches,
+              tt,
+            ),
+          ),
+        ),
+      ) (external_key x.id x.originator) x.lsa x.its o (is_offer_of default_says root o x)
 
 -- ---- the premises
 
 to_left : AreCandidates default_says at_left (default_route ∷ left_routes)
 to_left =
     let is_another : middle_id ≢ left_id = λ e. omega (arith, e) in
-    let there = left_middle with_default_lsa has_row in
-    left_candidates_with with_default_lsa has_row default_offer (omega arith)
-    (default_offered at_left is_another there) (default_alone at_left is_another there)
+    let there = left_middle with_default_lsa (lsa_of left_links) (lsa_of middle_links)
+    the_row.is_row the_row.from_left in
+    left_candidates_with with_default_lsa (lsa_of left_links) (lsa_of middle_links) the_row.is_row
+    the_row.from_left default_offer (default_offered at_left is_another there)
+    (default_alone at_left is_another there) (omega arith)
 
 to_right : AreCandidates default_says at_right (default_route ∷ right_routes)
 to_right =
     let is_another : middle_id ≢ right_id = λ e. omega (arith, e) in
-    let there = right_middle with_default_lsa has_row in
-    right_candidates_with with_default_lsa has_row default_offer (omega arith)
-    (default_offered at_right is_another there) (default_alone at_right is_another there)
+    let there = right_middle with_default_lsa 5 (lsa_of left_links) (lsa_of middle_links)
+    the_row.is_row the_row.from_right in
+    right_candidates_with with_default_lsa 5 (lsa_of left_links) (lsa_of middle_links)
+    the_row.is_row the_row.from_right default_offer (default_offered at_right is_another there)
+    (default_alone at_right is_another there) (omega arith)
 
 -- the LSA is the middle router's own, which offers it nothing
 to_middle : AreCandidates default_says at_middle middle_routes
-to_middle = middle_candidates with_default_lsa has_row (λ o x. x.of_another
+to_middle = middle_candidates with_default_lsa the_row (λ o x. x.of_another
     (ap (λ (k : Key). k.advertising_router) (the_default _ x.lsa x.its).0))
 
 -- ---- no router is the end
@@ -161,7 +139,7 @@ past_default : (a b c d e f : ℕ)
 past_default a b c d e f = record {
   among = (3, omega arith, refl);
   under = refl;
-  longest = λ r t u. each_of (λ (x : Route). x.prefix.length ≤ 24)
+  longest = λ r t u. one_of (λ (x : Route). x.prefix.length ≤ 24)
       (default_route ∷ between a b ∷ wide c d ∷ narrow e f ∷ []) (
         (let low : 0 ≤ 24 = omega arith in low),
         (
@@ -205,7 +183,7 @@ no_end place other x =
 
 pub default_routes_are_no_end : DefaultRoutesAreNoEnd
 default_routes_are_no_end = record {
-  converged = converged with_default_lsa has_row (default_route ∷ left_routes) middle_routes
+  converged = converged with_default_lsa the_row (default_route ∷ left_routes) middle_routes
       (default_route ∷ right_routes) to_left to_middle to_right;
   tells = record {
     id = 0;
@@ -245,7 +223,7 @@ default_routes_are_no_end = record {
   is_there = Attached default_right refl (narrow 5 1) (past_default 10 2 15 2 5 1)
       (ToNetwork (
         narrow_stub,
-        linked with_default_lsa right_id (lsa_of right_links) has_row.right narrow_stub
+        linked with_default_lsa right_id (lsa_of right_links) the_row.is_row.right narrow_stub
             (1, omega arith, refl),
         refl,
         (omega arith, refl, refl),

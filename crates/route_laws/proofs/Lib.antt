@@ -4,11 +4,15 @@ pub mod Entries
 pub mod NoSummaries
 pub mod Labels
 pub mod Alone
-mod TwoOffers
 pub mod Made
+mod Parts
+mod Ordered
+mod Listed
+mod ExternalOffers
+mod OneOffer
+mod TwoOffers
 mod Square
 mod TwoRouters
-mod Parts
 mod Externals
 mod NetworkLabels
 mod Transit
@@ -33,7 +37,6 @@ mod Inside
 mod Hop
 mod Better
 mod Delivered
-mod OneOffer
 mod ThreeRouters
 mod Anew
 mod Equal

@@ -73,11 +73,22 @@ back es router links its neighbor address cost among = (
 
 -- ---- small sets of interfaces
 
+pub no_hop : (i : ℕ) → IsTrue (has_interface 0 i) → ⊥
+no_hop i t = omega (arith, bit_at-zero i, bit_of_member 0 i t)
+
 pub only_one : (i : ℕ) → IsTrue (has_interface 2 i) → i ≡ 1
 only_one zero t = absurd (cc)
 only_one (suc zero) t = refl
 only_one (suc (suc i)) t = absurd (let e : bit_at 2 (suc (suc i)) ≡ 0 = bit_at-suc 2 (suc i)
     ∙ bit_at-suc 1 i ∙ bit_at-zero i in omega (arith, e, bit_of_member 2 (suc (suc i)) t))
+
+pub only_two : (i : ℕ) → IsTrue (has_interface 4 i) → i ≡ 2
+only_two zero t = absurd (cc)
+only_two (suc zero) t = absurd (cc)
+only_two (suc (suc zero)) t = refl
+only_two (suc (suc (suc i))) t = absurd
+    (let e : bit_at 4 (suc (suc (suc i))) ≡ 0 = bit_at-suc 4 (suc (suc i)) ∙ bit_at-suc 2 (suc i)
+    ∙ bit_at-suc 1 i ∙ bit_at-zero i in omega (arith, e, bit_of_member 4 (suc (suc (suc i))) t))
 
 pub one_or_two : (i : ℕ) → IsTrue (has_interface 6 i) → (i ≡ 1) ⊎ (i ≡ 2)
 one_or_two zero t = absurd (cc)

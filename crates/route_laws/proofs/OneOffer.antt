@@ -1,12 +1,12 @@
--- The candidates of a database of router-LSAs that is given as a list of copies, if each prefix has
--- one offer.
-use Rattle.std.proofs.Common.{◌≡◌, ℕ, zero, suc, inl, inr, Bool, true, false, IsTrue, List, [], ◌∷◌}
-use Rattle.std.proofs.Common.{length, map, filter, arith, refl, sym, ◌∙◌, ap, subst}
-use Rattle.std.specs.List.{AllPairs, Contains, list_all}
+-- The candidates of a database that is given as a list of copies, if each prefix has one offer; the
+-- offers of its stub links, and ways over its point-to-point links.
+use Rattle.std.proofs.Common.{◌≡◌, ℕ, suc, inl, inr, Bool, true, false, IsTrue, List, [], ◌∷◌, map}
+use Rattle.std.proofs.Common.{filter, arith, refl, sym, ap, subst, ◌+◌, ◌≤◌}
+use Rattle.std.specs.List.{All, AllByRecursion, Contains, list_all}
 use Rattle.std.proofs.lemmas.List.Elements.{All-cons, All-nil}
 use Rattle.std.proofs.lemmas.List.Kept.{AllPairs-cons}
 use Rattle.words.specs.Interfaces.{has_interface}
-use Rattle.words.specs.Prefixes.{Network, network_address}
+use Rattle.words.specs.Prefixes.{Network, mask_of, network_address}
 use Rattle.words.specs.declared.key.Key.{Key}
 use Rattle.words.specs.declared.route.Route.{Route}
 use Rattle.lsa.specs.declared.body.LsaBody.{LsaBody}
@@ -14,12 +14,11 @@ use Rattle.lsa.specs.declared.body.LsaBody.TheVariants as body
 use Rattle.lsa.specs.declared.body.ExternalLsa.{ExternalLsa}
 use Rattle.lsa.specs.declared.body.RouterLink.{RouterLink}
 use Rattle.lsa.specs.declared.body.LinkKind.TheVariants.{Stub}
-use Rattle.routes.proofs.Determined.{never_both}
 use Rattle.routes.proofs.Lists.{first_is, later_is, of_cons, of_empty}
 use Rattle.routes.specs.Candidates.{AreCandidates, IsCandidate, Offers}
 use Rattle.routes.specs.Candidates.Offers.{Between, External, Within}
 use Rattle.routes.specs.Links.{IsRouterLsa, Leads, Says}
-use Rattle.routes.specs.Paths.{IsWalk, IsWay, Step, price_of}
+use Rattle.routes.specs.Paths.{IsWalk, IsWay, Step, Way, price_of}
 use Rattle.routes.specs.Routes.{IsBefore}
 use Rattle.routes.specs.Said.{Said, said_at}
 use Rattle.routes.specs.declared.node.Node.{Node}
@@ -33,76 +32,9 @@ use Rattle.route_laws.proofs.Entries.{all_pass, is_no_network, is_said, links_of
 use Rattle.route_laws.proofs.Labels.{AreChecked, at_node, checked, way_by}
 use Rattle.route_laws.proofs.Made.{linked}
 use Rattle.route_laws.proofs.NoSummaries.{is_no_summary, nothing_between}
-
-abbrev pub Ascend : List Route → Type 0
-Ascend routes = AllPairs (λ (a : Route) (b : Route). IsBefore a.prefix b.prefix) routes
-
--- ---- lists in the order of their prefixes
-
-module _ {X : Type 0} (prefix : X → Network) where
-  abbrev pub InOrder : List X → Type 0
-  InOrder xs = AllPairs (λ (a : X) (b : X). IsBefore (prefix a) (prefix b)) xs
-
-  abbrev Before : X → X → Type 0
-  Before a b = IsBefore (prefix a) (prefix b)
-
-  pub alone_in_order : (a : X) → InOrder (a ∷ [])
-  alone_in_order a i j d before low = absurd (omega (arith, before, low))
-
-  pub two_in_order : (a b : X) → IsBefore (prefix a) (prefix b) → InOrder (a ∷ b ∷ [])
-  two_in_order a b p zero zero d before low = absurd (omega (arith, before))
-  two_in_order a b p zero (suc zero) d before low = p
-  two_in_order a b p zero (suc (suc j)) d before low = absurd (omega (arith, low))
-  two_in_order a b p (suc i) zero d before low = absurd (omega (arith, before))
-  two_in_order a b p (suc i) (suc zero) d before low = absurd (omega (arith, before))
-  two_in_order a b p (suc i) (suc (suc j)) d before low = absurd (omega (arith, low))
-
-  pub three_in_order : (a b c : X) → IsBefore (prefix a) (prefix b) → IsBefore (prefix a) (prefix c)
-      → IsBefore (prefix b) (prefix c) → InOrder (a ∷ b ∷ c ∷ [])
-  three_in_order a b c p q r zero zero d before low = absurd (omega (arith, before))
-  three_in_order a b c p q r zero (suc zero) d before low = p
-  three_in_order a b c p q r zero (suc (suc zero)) d before low = q
-  three_in_order a b c p q r zero (suc (suc (suc j))) d before low = absurd (omega (arith, low))
-  three_in_order a b c p q r (suc i) zero d before low = absurd (omega (arith, before))
-  three_in_order a b c p q r (suc i) (suc j) d before low =
-      two_in_order b c r i j d (omega (arith, before)) (omega (arith, low))
-
-  pub four_in_order : (a b c d : X) → Before a b → Before a c → Before a d → Before b c
-      → Before b d → Before c d → InOrder (a ∷ b ∷ c ∷ d ∷ [])
-  four_in_order a b c d ab ac ad bc bd cd =
-      AllPairs-cons Before a (b ∷ c ∷ d ∷ [])
-      (All-cons (Before a) b (c ∷ d ∷ []) ab
-      (All-cons (Before a) c (d ∷ []) ac
-      (All-cons (Before a) d [] ad (All-nil (Before a)))))
-      (three_in_order b c d bc bd cd)
-
-  -- two with the same prefix are the same
-  pub one_of : (xs : List X) → InOrder xs → (a b : X) → Contains xs a → Contains xs b → prefix a
-      ≡ prefix b → a ≡ b
-  one_of [] up a b p q same = absurd (of_empty a p)
-  one_of (x ∷ xs) up a b p q same =
-      let rest : InOrder xs = λ i j d before low. up (suc i) (suc j) d (omega (arith, before))
-      (omega (arith, low)) in
-      elim (of_cons x xs a p) [
-        | inl here ↦
-            elim (of_cons x xs b q) [
-              | inl there ↦ sym here ∙ there
-              | inr later ↦ absurd (first_apart b later (ap prefix here ∙ same))
-            ]
-        | inr later ↦
-            elim (of_cons x xs b q) [
-              | inl there ↦ absurd (first_apart a later (ap prefix there ∙ sym same))
-              | inr also ↦ one_of xs rest a b later also same
-            ]
-      ]
-    where
-      first_apart : (r : X) → Contains xs r → prefix x ≡ prefix r → ⊥
-      first_apart r t e =
-          let P : X → Type 0 = λ s. IsBefore (prefix x) (prefix s) in
-          let before : IsBefore (prefix x) (prefix r) =
-          subst P t.2 (up 0 (suc t.0) r (omega arith) (omega (arith, t.1))) in
-          let Q : Network → Type 0 = λ n. IsBefore (prefix x) n in
-          never_both (prefix x) (prefix x) (subst Q (sym e) before) (subst Q (sym e) before)
+use Rattle.route_laws.proofs.Ordered.{InOrder, one_for_prefix}
+use Rattle.route_laws.proofs.Parts.{one_of}
+use Rattle.routes.specs.Offers.{OffersWithin, intra}
 
 of_map : (offers : List Offer) (r : Route) → Contains (map (λ (o : Offer). route_of o) offers) r
     → (o : Offer) × Contains offers o × (route_of o ≡ r)
@@ -113,32 +45,79 @@ of_map (o ∷ offers) r t =
       | inr later ↦ (let k = of_map offers r later in (k.0, later_is o offers k.0 k.1, k.2))
     ]
 
+-- the network of each of these offers comes after p
+after : (p : Network) (offers : List Offer) → All (λ (o : Offer). IsBefore p o.prefix) offers
+    → All (λ (r : Route). IsBefore p r.prefix) (map (λ (o : Offer). route_of o) offers)
+after p [] all = All-nil (λ (r : Route). IsBefore p r.prefix)
+after p (o ∷ offers) all =
+    All-cons (λ (r : Route). IsBefore p r.prefix) (route_of o)
+    (map (λ (x : Offer). route_of x) offers) (all 0 o (omega arith))
+    (after p offers (λ k d low. all (suc k) d (omega (arith, low))))
+
+routes_in_order : (offers : List Offer) → InOrder (λ (o : Offer). o.prefix) offers
+    → InOrder (λ (r : Route). r.prefix) (map (λ (o : Offer). route_of o) offers)
+routes_in_order [] up = λ i j d before low. absurd (omega (arith, before, low))
+routes_in_order (o ∷ offers) up =
+    AllPairs-cons (λ (a : Route) (b : Route). IsBefore a.prefix b.prefix) (route_of o)
+    (map (λ (x : Offer). route_of x) offers)
+    (after o.prefix offers (λ k d low. up 0 (suc k) d (omega arith) (omega (arith, low))))
+    (routes_in_order offers
+    (λ i j d before low. up (suc i) (suc j) d (omega (arith, before)) (omega (arith, low))))
+
 -- offers for prefixes in ascending order, and no others, are candidates
 pub candidates_of : (said : Said) (root : Root) (offers : List Offer)
     → InOrder (λ (o : Offer). o.prefix) offers
     → ((o : Offer) → Contains offers o → Offers said root o)
     → ((o : Offer) → Offers said root o → Contains offers o)
-    → Ascend (map (λ (o : Offer). route_of o) offers)
     → AreCandidates said root (map (λ (o : Offer). route_of o) offers)
-candidates_of said root offers ordered offered only up =
+candidates_of said root offers ordered offered only =
     all_candidates said root (map (λ (o : Offer). route_of o) offers)
     (λ r t.
     let k = of_map offers r t in
     let alone_is : IsAlone said root k.0 =
-    λ other o same. inl (one_of (λ (x : Offer). x.prefix) offers ordered other k.0
+    λ other o same. inl (one_for_prefix (λ (x : Offer). x.prefix) offers ordered other k.0
     (only other o) k.1 same) in
     let P : Route → Type 0 = λ x. IsCandidate said root x in
     subst P k.2 (alone said root k.0 (offered k.0 k.1) alone_is))
-    (λ o given. (route_of o, mapped (λ (x : Offer). route_of x) offers o (only o given), refl)) up
+    (λ o given. (route_of o, mapped (λ (x : Offer). route_of x) offers o (only o given), refl))
+    (routes_in_order offers ordered)
+
+-- ---- ways
+
+abbrev pub way : ℕ → ℕ → Way
+way distance hops = record { distance = distance; hops = hops }
+
+-- by a point-to-point link with cost 5
+abbrev pub to : ℕ → ℕ → Step Node
+to router exit = record { target = ARouter router; price = 5; exit = exit }
+
+abbrev pub Walk : Entries → Root → List (Step Node) → ℕ → Type 0
+Walk es root walk router =
+    IsWalk (Leads (said_at 0 (database es)) root) (ARouter root.router) walk (ARouter router)
+
+abbrev pub IsWayFrom : Entries → Root → ℕ → Way → Type 0
+IsWayFrom es root router w =
+    IsWay (Leads (said_at 0 (database es)) root) (ARouter root.router) (ARouter router) w
+
+pub way_to : (es : Entries) (root : Root) (distance hops : ℕ → ℕ)
+    → AreChecked root (sayings es) distance hops → (router : ℕ) (walk : List (Step Node))
+    → Walk es root walk router → price_of walk ≡ distance router
+    → ((i : ℕ) → IsTrue (has_interface (hops router) i) → (first : Step Node)
+    × (rest : List (Step Node)) × Walk es root (first ∷ rest) router
+    × (price_of (first ∷ rest) ≡ distance router) × (first.exit ≡ i))
+    → IsWayFrom es root router (way (distance router) (hops router))
+way_to es root distance hops are router walk is costs each =
+    way_by (Leads (said_at 0 (database es)) root) (ARouter root.router) (at_node distance)
+    (at_node hops) (checked root 0 es distance hops are) (ARouter router) walk is costs each
 
 -- ---- the offers of stub links
 
-pub stub_offered : (es : Entries) (root : Root) (router : ℕ) (links : List RouterLink)
+pub stub_within : (es : Entries) (root : Root) (router : ℕ) (links : List RouterLink)
     → IsRouterLsa (said_at 0 (database es)) router (router_lsa links) → (l : RouterLink)
     → Contains links l → l.kind ≡ Stub → (length : ℕ) (o : Offer)
     → StubOffer (said_at 0 (database es)) root router l length o
-    → Offers (said_at 0 (database es)) root o
-stub_offered es root router links its l among kind length o s = Within (record {
+    → OffersWithin (said_at 0 (database es)) root o
+stub_within es root router links its l among kind length o s = record {
   node = ARouter router;
   prefix = record { address = network_address length l.link_id; length = length };
   more = l.metric;
@@ -149,7 +128,54 @@ stub_offered es root router links its l among kind length o s = Within (record {
   by_root = λ e. s.by_root (let same : router ≡ root.router = cc in same);
   by_others = λ other. s.by_others (λ e. other (ap (λ n. ARouter n) e));
   is = sym s.is;
-})
+}
+
+-- the hops of an offer by the way to this router
+abbrev pub HopsTo : Root → ℕ → ℕ → ℕ → Type 0
+HopsTo root router hops own = (router ≡ root.router → own ≡ 1)
+    × ((router ≡ root.router → ⊥) → own ≡ hops)
+
+pub hops_at : (root : Root) (router : ℕ) → router ≡ root.router → (hops : ℕ)
+    → HopsTo root router hops 1
+hops_at root router same hops = (λ _. refl, λ other. absurd (other same))
+
+pub hops_from : (root : Root) (router : ℕ) → (router ≡ root.router → ⊥) → (hops : ℕ)
+    → HopsTo root router hops hops
+hops_from root router other hops = (λ e. absurd (other e), λ _. refl)
+
+-- by a known way
+pub stub_by : (es : Entries) (root : Root) (router : ℕ) (l : RouterLink) (length : ℕ) (by : Way)
+    (hops : ℕ) → IsWayFrom es root router by → HopsTo root router by.hops hops → length ≤ 32
+    → l.link_data ≡ mask_of length → StubOffer (said_at 0 (database es)) root router l length
+    (intra (record {
+      address = network_address length l.link_id;
+      length = length;
+    }) (by.distance + l.metric) hops)
+stub_by es root router l length by hops reached of_hops within mask = record {
+  way = by;
+  reached = reached;
+  within = within;
+  mask = mask;
+  hops = hops;
+  by_root = of_hops.0;
+  by_others = of_hops.1;
+  is = refl;
+}
+
+-- ---- all stub links
+
+abbrev pub AreStubsKnown : Entries → Root → (Offer → Type 0) → Type 0
+AreStubsKnown es root P = AllByRecursion (λ (x : ℕ × RouterLink). Known 0 es root P x.0 x.1)
+    (filter is_stub (links_of (sayings es)))
+
+-- without networks, an offer within the area is that of a stub link
+pub each_stub : (es : Entries) (root : Root) (P : Offer → Type 0)
+    → list_all is_no_network (sayings es) ≡ true → AreStubsKnown es root P → (o : Offer)
+    → OffersWithin (said_at 0 (database es)) root o → P o
+each_stub es root P networks known o x =
+    each_within 0 es root P networks
+    (λ router l t. one_of (λ (y : ℕ × RouterLink). Known 0 es root P y.0 y.1)
+    (filter is_stub (links_of (sayings es))) known (router, l) t) o x
 
 -- ---- only router-LSAs
 
@@ -169,31 +195,11 @@ no_external es all key lsa its = let e : false ≡ true =
 pub only_within : (es : Entries) (root : Root) (offers : List Offer)
     → list_all is_router (sayings es) ≡ true → list_all is_no_network (sayings es) ≡ true
     → list_all is_no_summary (sayings es) ≡ true
-    → ((router : ℕ) (l : RouterLink) → Contains (filter is_stub (links_of (sayings es)))
-    (router, l) → Known 0 es root (λ o. Contains offers o) router l) → (o : Offer)
+    → AreStubsKnown es root (λ o. Contains offers o) → (o : Offer)
     → Offers (said_at 0 (database es)) root o → Contains offers o
 only_within es root offers routers networks summaries known o (Within x) =
-    each_within 0 es root (λ y. Contains offers y) networks known o x
+    each_stub es root (λ y. Contains offers y) networks known o x
 only_within es root offers routers networks summaries known o (Between x) =
     absurd (nothing_between 0 es summaries root o x)
 only_within es root offers routers networks summaries known o (External x) =
     absurd (no_external es routers _ x.lsa x.its)
-
--- ---- ways
-
-pub way_to : (es : Entries) (root : Root) (distance hops : ℕ → ℕ)
-    → AreChecked root (sayings es) distance hops → (router : ℕ) (walk : List (Step Node))
-    → IsWalk (Leads (said_at 0 (database es)) root) (ARouter root.router) walk (ARouter router)
-    → price_of walk ≡ distance router
-    → ((i : ℕ) → IsTrue (has_interface (hops router) i) → (first : Step Node)
-    × (rest : List (Step Node))
-    × IsWalk (Leads (said_at 0 (database es)) root) (ARouter root.router)
-    (first ∷ rest) (ARouter router)
-    × (price_of (first ∷ rest) ≡ distance router) × (first.exit ≡ i))
-    → IsWay (Leads (said_at 0 (database es)) root) (ARouter root.router) (ARouter router) (record {
-      distance = distance router;
-      hops = hops router;
-    })
-way_to es root distance hops are router walk is costs each =
-    way_by (Leads (said_at 0 (database es)) root) (ARouter root.router) (at_node distance)
-    (at_node hops) (checked root 0 es distance hops are) (ARouter router) walk is costs each

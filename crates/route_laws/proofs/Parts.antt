@@ -5,7 +5,7 @@ use Rattle.std.specs.List.{All, AllByRecursion, AllPairs, Contains}
 use Rattle.std.proofs.lemmas.Bool.{cases_lt}
 use Rattle.std.proofs.lemmas.List.Elements.{All-cons, All-nil}
 use Rattle.std.proofs.lemmas.List.Kept.{AllPairs-cons}
-use Rattle.words.specs.Prefixes.{Network}
+use Rattle.words.specs.Prefixes.{IsUnder, Network, network_address}
 use Rattle.route_laws.proofs.Entries.{both_true}
 use Rattle.route_laws.proofs.Labels.{not_both}
 use Rattle.routes.proofs.Lists.{of_cons, of_empty}
@@ -35,6 +35,11 @@ nobody R i j d before within = absurd (omega (arith, before, within))
 pub apart : (a b : Network) → not (nat_eq a.address b.address) ≡ true → a ≡ b → ⊥
 apart a b other e = not_both (nat_eq a.address b.address) other
     (eq-eqb a.address b.address (λ i. (e i).address))
+
+pub not_under : (address : ℕ) (n : Network)
+    → not (nat_eq (network_address n.length address) n.address) ≡ true → IsUnder address n → ⊥
+not_under address n other u = not_both (nat_eq (network_address n.length address) n.address) other
+    (eq-eqb (network_address n.length address) n.address u)
 
 -- a test of all numbers below a bound
 abbrev pub all_below : (ℕ → Bool) → ℕ → Bool

@@ -1,48 +1,51 @@
 -- The worked row whose middle router has another address than in its router-LSA: it reaches only
 -- the left router.
-use Rattle.std.proofs.Common.{◌≡◌, ℕ, zero, suc, ◌+◌, ◌≤◌, ◌⊎◌, ◌&&◌, ◌||◌, inl, inr, Bool, true}
-use Rattle.std.proofs.Common.{false, not, nat_eq, eqb-true, eq-eqb, List, [], ◌∷◌, Some, slice_get}
-use Rattle.std.proofs.Common.{arith, refl, sym, ◌∙◌, ap, subst}
-use Rattle.std.specs.List.{Contains}
+use Rattle.std.proofs.Common.{◌≡◌, ℕ, zero, suc, ◌+◌, ◌⊎◌, ◌&&◌, ◌||◌, inl, inr, Bool, true, false}
+use Rattle.std.proofs.Common.{not, nat_eq, eqb-true, eq-eqb, List, [], ◌∷◌, Some, slice_get, arith}
+use Rattle.std.proofs.Common.{refl, sym, ◌∙◌, ap, subst}
+use Rattle.std.specs.List.{AllByRecursion, Contains}
 use Rattle.words.specs.Prefixes.{Network, network_address}
 use Rattle.lsa.specs.declared.body.LsaBody.TheVariants as body
 use Rattle.lsa.specs.declared.body.RouterLink.{RouterLink}
 use Rattle.routes.proofs.Determined.{one_way}
 use Rattle.routes.proofs.Lists.{of_cons, of_empty}
 use Rattle.routes.proofs.Prefixes.{one_prefix}
-use Rattle.routes.specs.Candidates.{AreCandidates, IsCandidate, Offers, OffersExternal}
+use Rattle.routes.specs.Candidates.{AreCandidates, Offers, OffersExternal}
 use Rattle.routes.specs.Candidates.Offers.{Between, External, Within}
 use Rattle.routes.specs.Links.{Leads, LeadsTo}
-use Rattle.routes.specs.Offers.{Attaches, OffersWithin, ReachesBoundaryRouter, intra}
+use Rattle.routes.specs.Offers.{Attaches, OffersWithin, intra}
 use Rattle.routes.specs.Paths.{IsWalk, IsWay, Step, Way}
-use Rattle.routes.specs.Routes.IsBefore.{ByAddress}
-use Rattle.routes.specs.Summaries.IsBoundaryWay.{Inside}
 use Rattle.routes.specs.declared.node.Node.{Node}
 use Rattle.routes.specs.declared.node.Node.TheVariants.{ANetwork, ARouter}
 use Rattle.routes.specs.declared.offer.Offer.{Offer}
-use Rattle.route_laws.proofs.Alone.{all_candidates, alone, is_stub, kind_is_stub, route_of}
+use Rattle.route_laws.proofs.Alone.{is_stub, kind_is_stub}
 use Rattle.route_laws.proofs.Entries.{all_pass, both_true, has_link, is_no_network, is_said, kept}
 use Rattle.route_laws.proofs.Entries.{links_of, sayings}
 use Rattle.route_laws.proofs.Labels.{AreChecked, either_true, is_point, not_both}
-use Rattle.route_laws.proofs.Made.{back, from_root, linked, only_one, says}
+use Rattle.route_laws.proofs.Made.{back, from_root, linked, only_one}
 use Rattle.route_laws.proofs.NoSummaries.{is_inside, nothing_between}
-use Rattle.route_laws.specs.Worked.{ipv4, key, point_to_point, router_lsa}
+use Rattle.route_laws.specs.Worked.{ipv4, point_to_point}
 use Rattle.route_laws.specs.Forwarding.{NamesItsInterfaces}
-use Rattle.route_laws.specs.WorkedForwarding.{StaleRouterLsasMayLoop, abroad, abroad_network, left_links}
-use Rattle.route_laws.specs.WorkedForwarding.{middle_links, narrow, renumbered_middle, row, row_says}
-use Rattle.route_laws.specs.WorkedForwarding.{wide, wide_network, without_narrow}
-use Rattle.route_laws.proofs.Row.{IsAtMost23, Walk, abroad_offer, at_left, at_middle, at_right}
-use Rattle.route_laws.proofs.Row.{by_router, has, is_from, left_abroad, left_candidates}
-use Rattle.route_laws.proofs.Row.{left_hands, left_says, middle_says, narrow_longest}
-use Rattle.route_laws.proofs.Row.{narrow_stub, of_two, other_end, to, two_ascend, way, way_to}
-use Rattle.route_laws.proofs.Row.{which, wide_stub}
+use Rattle.route_laws.specs.WorkedForwarding.{StaleRouterLsasMayLoop, left_links, middle_links}
+use Rattle.route_laws.specs.WorkedForwarding.{narrow, renumbered_middle, row, row_says}
+use Rattle.route_laws.specs.WorkedForwarding.{wide_network, without_narrow}
+use Rattle.route_laws.proofs.Row.{abroad_offer, at_left, at_middle, at_right, by_router}
+use Rattle.route_laws.proofs.Row.{each_of_two, has, left_abroad, left_candidates, left_counts}
+use Rattle.route_laws.proofs.Row.{left_hands, left_says, middle_says, narrow_longest, narrow_stub}
+use Rattle.route_laws.proofs.Row.{other_end, reaches_left, wide_longest, wide_stub}
+use Rattle.route_laws.proofs.Ordered.{in_order}
+use Rattle.route_laws.proofs.ExternalOffers.{CountsAsExternal, offered_directly, only_directly}
+use Rattle.route_laws.proofs.OneOffer.{IsWayFrom, Walk, candidates_of, hops_from, stub_by}
+use Rattle.route_laws.proofs.OneOffer.{stub_within, to, way, way_to}
+use Rattle.route_laws.proofs.Parts.{one_of}
+use Rattle.routes.specs.Summaries.{IsBoundaryWay}
 
 -- ---- the way to the left router
 
 is_checked : AreChecked renumbered_middle (sayings row) (by_router 5 0 5) (by_router 2 0 0)
 is_checked = record { start = refl; routers = refl; links = refl }
 
-by_link : Walk renumbered_middle (to at_left 1 ∷ []) at_left
+by_link : Walk row renumbered_middle (to at_left 1 ∷ []) at_left
 by_link = (
   (
     from_root row renumbered_middle middle_links middle_says at_left (ipv4 10 0 1 2) 5 0
@@ -52,8 +55,8 @@ by_link = (
   refl,
 )
 
-to_left : IsWay (Leads row_says renumbered_middle) (ARouter at_middle) (ARouter at_left) (way 5 2)
-to_left = way_to renumbered_middle (by_router 5 0 5) (by_router 2 0 0) is_checked at_left
+to_left : IsWayFrom row renumbered_middle at_left (way 5 2)
+to_left = way_to row renumbered_middle (by_router 5 0 5) (by_router 2 0 0) is_checked at_left
     (to at_left 1 ∷ []) by_link refl (λ i t. (to at_left 1, [], by_link, refl, sym (only_one i t)))
 
 -- ---- no way to the right one
@@ -152,8 +155,7 @@ near_walk from [] node near is = let P : Node → Type 0 = λ n. IsNear n in sub
 near_walk from (step ∷ rest) node near is =
     near_walk step.target rest node (near_any from step.target step.price step.exit near is.0) is.1
 
-right_far : (w : Way) → IsWay (Leads row_says renumbered_middle) (ARouter at_middle)
-    (ARouter at_right) w → ⊥
+right_far : (w : Way) → IsWayFrom row renumbered_middle at_right w → ⊥
 right_far w is = not_right at_right
     (near_walk (ARouter at_middle) is.distance.0 (ARouter at_right) (inr refl)
     is.distance.1.is_walk) refl
@@ -213,98 +215,45 @@ within_is o x = by_node x.node x.prefix x.more x.attached x.way x.reached x.hops
 abbrev by_left : Offer
 by_left = abroad_offer left_abroad at_left (way 5 2)
 
+counts : CountsAsExternal row_says renumbered_middle (ipv4 203 0 113 0) at_left left_abroad 24
+counts = left_counts renumbered_middle (λ e. omega (arith, e))
+
+reaches : IsBoundaryWay row_says renumbered_middle at_left (way 5 2)
+reaches = reaches_left renumbered_middle (way 5 2) to_left
+
 external_is : (o : Offer) → OffersExternal row_says renumbered_middle o → by_left ≡ o
-external_is o x =
-    elim (which x.id x.originator x.lsa x.its) [
-      | inl a ↦ is_from renumbered_middle at_left left_abroad (way 5 2) to_left refl refl refl o x a
-      | inr a ↦ absurd (
-          let r : ReachesBoundaryRouter row_says renumbered_middle x.originator x.is_way.boundary =
-          is_inside 0 row refl renumbered_middle x.originator x.is_way.boundary x.is_way.reaches
-          in
-          let R : ℕ → Type 0 = λ router. From (ARouter router) x.is_way.boundary in
-          right_far x.is_way.boundary (subst R (sym a.by_is) r.reached))
-    ]
+external_is = each_of_two renumbered_middle (λ o. by_left ≡ o)
+    (only_directly row_says renumbered_middle (ipv4 203 0 113 0) at_left left_abroad 24 counts refl
+    (way 5 2) reaches)
+    (λ o g. absurd (right_far g.is_way.boundary
+    (is_inside 0 row refl renumbered_middle at_right g.is_way.boundary g.is_way.reaches).reached))
 
-abbrev IsOffer : Offer → Type 0
-IsOffer o = (intra wide_network 15 2 ≡ o) ⊎ (by_left ≡ o)
+abbrev offers : List Offer
+offers = intra wide_network 15 2 ∷ by_left ∷ []
 
-only : (o : Offer) → Offers row_says renumbered_middle o → IsOffer o
-only o (Within x) = inl (within_is o x)
+only : (o : Offer) → Offers row_says renumbered_middle o → Contains offers o
+only o (Within x) = (0, omega arith, within_is o x)
 only o (Between x) = absurd (nothing_between 0 row refl renumbered_middle o x)
-only o (External x) = inr (external_is o x)
+only o (External x) = (1, omega arith, external_is o x)
 
-wide_offered : Offers row_says renumbered_middle (intra wide_network 15 2)
-wide_offered = Within (record {
-  node = ARouter at_left;
-  prefix = wide_network;
-  more = 10;
-  attached = (
-    wide_stub,
-    linked row at_left left_links left_says wide_stub (1, omega arith, refl),
-    refl,
-    (omega arith, refl, refl),
-    refl,
-  );
-  way = way 5 2;
-  reached = to_left;
-  hops = 2;
-  by_root = λ e. absurd (let same : at_left ≡ at_middle = cc in omega (arith, same));
-  by_others = λ _. refl;
-  is = refl;
-})
-
-abroad_offered : Offers row_says renumbered_middle by_left
-abroad_offered = External (record {
-  id = ipv4 203 0 113 0;
-  originator = at_left;
-  lsa = left_abroad;
-  its = says row (key 5 (ipv4 203 0 113 0) at_left) (body.External left_abroad) refl;
-  reachable = omega arith;
-  of_another = λ e. omega (arith, e);
-  prefix = abroad_network;
-  is_prefix = (omega arith, refl, refl);
-  way = way 5 2;
-  is_way = record {
-    boundary = way 5 2;
-    reaches = Inside (record {
-      lsa = router_lsa left_links;
-      its = left_says;
-      has_e = refl;
-      reached = to_left;
-    });
-    direct = λ _. refl;
-    forwarded = λ some. absurd (some refl);
-  };
-  is = refl;
-})
-
-apart : wide_network ≡ abroad_network → ⊥
-apart e = let long : 23 ≡ 24 = ap (λ (n : Network). n.length) e in omega (arith, long)
-
-wide_is : IsCandidate row_says renumbered_middle (route_of (intra wide_network 15 2))
-wide_is = alone row_says renumbered_middle (intra wide_network 15 2) wide_offered
-    (λ other o e. elim (only other o) [
-      | inl same ↦ inl (sym same)
-      | inr same ↦ absurd (apart (sym (ap (λ (x : Offer). x.prefix) same ∙ e)))
-    ])
-
-abroad_is : IsCandidate row_says renumbered_middle (route_of by_left)
-abroad_is = alone row_says renumbered_middle by_left abroad_offered
-    (λ other o e. elim (only other o) [
-      | inl same ↦ absurd (apart (ap (λ (x : Offer). x.prefix) same ∙ e))
-      | inr same ↦ inl (sym same)
-    ])
+offered : AllByRecursion (λ (o : Offer). Offers row_says renumbered_middle o) offers
+offered = (
+  Within (stub_within row renumbered_middle at_left left_links left_says wide_stub
+      (1, omega arith, refl) refl 23 (intra wide_network 15 2)
+      (stub_by row renumbered_middle at_left wide_stub 23 (way 5 2) 2 to_left
+      (hops_from renumbered_middle at_left (λ e. omega (arith, e)) 2) (omega arith) refl)),
+  (
+    External (offered_directly row_says renumbered_middle (ipv4 203 0 113 0) at_left left_abroad 24
+        counts refl (way 5 2) reaches),
+    tt,
+  ),
+)
 
 candidates_are : AreCandidates row_says renumbered_middle without_narrow
 candidates_are =
-    all_candidates row_says renumbered_middle without_narrow
-    (of_two (λ r. IsCandidate row_says renumbered_middle r) (wide 15 2) (abroad 15 2) wide_is
-    abroad_is)
-    (λ o given. elim (only o given) [
-      | inl e ↦ (wide 15 2, (0, omega arith, refl), ap (λ (x : Offer). x.prefix) e)
-      | inr e ↦ (abroad 15 2, (1, omega arith, refl), ap (λ (x : Offer). x.prefix) e)
-    ])
-    (two_ascend (wide 15 2) (abroad 15 2) (ByAddress (omega arith)))
+    candidates_of row_says renumbered_middle offers
+    (in_order (λ (o : Offer). o.prefix) offers refl)
+    (one_of (λ (o : Offer). Offers row_says renumbered_middle o) offers offered) only
 
 -- ---- the hops
 
@@ -330,14 +279,7 @@ stale = record {
   at_middle = candidates_are;
   forth = narrow_longest 20 2 10 1 30 2;
   to_middle = left_hands (narrow 20 2) refl;
-  back = record {
-    among = (0, omega arith, refl);
-    under = refl;
-    longest = of_two IsAtMost23 (wide 15 2) (abroad 15 2)
-        (λ under. (let low : 23 ≤ 23 = omega arith in low))
-        (λ under. absurd (let at : ipv4 192 0 2 0 ≡ ipv4 203 0 113 0 = under in
-        omega (arith, at)));
-  };
+  back = wide_longest;
   to_left = record {
     interface = 1;
     away = omega arith;

@@ -1,12 +1,12 @@
 -- The worked row: its ways, its offers, the candidates of its three routers, and its hops.
 use Rattle.std.proofs.Common.{◌≡◌, ℕ, zero, suc, ◌+◌, ◌<◌, ◌≤◌, ◌↔◌, ◌⊎◌, ◌||◌, inl, inr, Bool}
 use Rattle.std.proofs.Common.{true, false, cond, not, IsTrue, nat_eq, eqb-true, eq-eqb, List, []}
-use Rattle.std.proofs.Common.{◌∷◌, filter, Some, slice_get, arith, refl, sym, ◌∙◌, ap, subst}
+use Rattle.std.proofs.Common.{◌∷◌, Some, slice_get, arith, refl, sym, ◌∙◌, ap, subst, ◌≢◌}
 use Rattle.std.specs.Int.{bit_at}
-use Rattle.std.specs.List.{AllPairs, Contains, list_all}
+use Rattle.std.specs.List.{Contains, list_all}
 use Rattle.std.proofs.lemmas.Nat.Bits.{bit_at-suc, bit_at-zero}
 use Rattle.words.specs.Interfaces.{has_interface}
-use Rattle.words.specs.Prefixes.{IsUnder, Network, network_address}
+use Rattle.words.specs.Prefixes.{IsUnder, Network}
 use Rattle.words.specs.declared.key.Key.{Key}
 use Rattle.words.specs.declared.route.Route.{Route}
 use Rattle.words.specs.declared.route.RouteKind.TheVariants.{Intra}
@@ -16,37 +16,32 @@ use Rattle.lsa.specs.declared.body.RouterLink.{RouterLink}
 use Rattle.lsa.specs.declared.body.LinkKind.{LinkKind}
 use Rattle.lsa.specs.declared.body.LinkKind.TheVariants.{PointToPoint, Stub, Transit, Virtual}
 use Rattle.candidates.specs.Borders.{IsLongest}
-use Rattle.routes.proofs.Determined.{bit_of_member, one_way}
-use Rattle.routes.proofs.Lists.{first_is, later_is, of_cons, of_empty}
+use Rattle.routes.proofs.Determined.{bit_of_member}
+use Rattle.routes.proofs.Lists.{first_is, later_is}
 use Rattle.lsa.specs.declared.body.ExternalLsa.{ExternalLsa}
-use Rattle.words.specs.declared.route.ExternalType.{ExternalType}
 use Rattle.words.specs.declared.route.ExternalType.TheVariants.{Type1}
-use Rattle.routes.proofs.Prefixes.{one_prefix}
 use Rattle.routes.specs.Candidates.{AreCandidates, IsBest, IsCandidate, Offers, OffersExternal}
 use Rattle.routes.specs.Candidates.{external_offer}
 use Rattle.routes.specs.Candidates.Offers.{Between, External, Within}
-use Rattle.routes.specs.Links.{IsRouterLsa, Leads, Says}
-use Rattle.routes.specs.Offers.{ReachesBoundaryRouter, intra}
-use Rattle.routes.specs.Paths.{IsWalk, IsWay, Step, Way, price_of}
-use Rattle.routes.specs.Routes.{IsBefore, IsNoWorse, rank}
+use Rattle.routes.specs.Links.{IsRouterLsa}
+use Rattle.routes.specs.Offers.{intra}
+use Rattle.routes.specs.Paths.{Way}
+use Rattle.routes.specs.Routes.{IsBefore, IsNoWorse}
 use Rattle.routes.specs.Routes.IsBefore.{ByAddress, ByLength}
-use Rattle.routes.specs.Routes.IsNoWorse.{ByCost, ByDistance, ByKind}
-use Rattle.routes.specs.Summaries.{summary_key}
+use Rattle.routes.specs.Routes.IsNoWorse.{ByCost}
+use Rattle.routes.specs.Summaries.{IsBoundaryWay, summary_key}
 use Rattle.routes.specs.Summaries.IsBoundaryWay.{Inside}
 use Rattle.routes.specs.Tables.{Answers, IsLetIn}
-use Rattle.routes.specs.declared.node.Node.{Node}
 use Rattle.routes.specs.declared.node.Node.TheVariants.{ANetwork, ARouter}
 use Rattle.routes.specs.declared.offer.Offer.{Offer}
 use Rattle.routes.specs.declared.root.Root.{Root}
 use Rattle.route_laws.specs.Worked.{ipv4, key, mask_24, router_lsa, stub}
-use Rattle.route_laws.proofs.Alone.{Known, all_candidates, alone, each_within, is_stub}
-use Rattle.route_laws.proofs.Alone.{no_worse_itself, route_of}
-use Rattle.route_laws.proofs.Entries.{all_pass, has_link, is_no_network, is_said, kept, links_of}
-use Rattle.route_laws.proofs.Entries.{sayings}
-use Rattle.route_laws.proofs.Labels.{AreChecked, at_node, checked, either_true, is_point, not_both}
-use Rattle.route_laws.proofs.Labels.{way_by}
-use Rattle.route_laws.proofs.Made.{back, from_other, from_root, linked, only_one, says}
-use Rattle.route_laws.proofs.NoSummaries.{is_inside, is_no_summary, nothing_between}
+use Rattle.route_laws.proofs.Alone.{StubOffer, all_candidates, alone, dearer, no_worse_itself}
+use Rattle.route_laws.proofs.Alone.{route_of}
+use Rattle.route_laws.proofs.Entries.{all_pass, has_link, is_no_network, is_said, links_of, sayings}
+use Rattle.route_laws.proofs.Labels.{AreChecked, either_true, is_point, not_both}
+use Rattle.route_laws.proofs.Made.{back, from_other, from_root, no_hop, only_one, only_two, says}
+use Rattle.route_laws.proofs.NoSummaries.{is_no_summary, nothing_between}
 use Rattle.route_laws.specs.Forwarding.{AreRouters, ForwardsFor, ForwardsTo, HandsOn, IsOtherEnd}
 use Rattle.route_laws.specs.Forwarding.{NamesItsInterfaces}
 use Rattle.route_laws.specs.Outward.{AreBoundariesPlain, HandsToward}
@@ -54,12 +49,18 @@ use Rattle.route_laws.specs.Outward.HandsFurther.{TowardAnother}
 use Rattle.route_laws.specs.Outward.IsTheLast.{BeforeTheOriginator}
 use Rattle.route_laws.specs.Outward.IsToward.{Boundary}
 use Rattle.route_laws.specs.WorkedExternals.{external}
-use Rattle.route_laws.specs.WorkedForwarding.{OriginatorsMayGetPacketsBack, VetoesMayLoop, WorkedRow}
-use Rattle.route_laws.specs.WorkedForwarding.{abroad, abroad_network, left, left_links, left_routes}
-use Rattle.route_laws.specs.WorkedForwarding.{middle, middle_links, middle_routes, narrow}
-use Rattle.route_laws.specs.WorkedForwarding.{narrow_network, right, right_links, right_routes, row}
-use Rattle.route_laws.specs.WorkedForwarding.{row_routers, row_says, row_table, wide, wide_network}
-use Rattle.route_laws.specs.WorkedForwarding.{without_narrow}
+use Rattle.route_laws.specs.WorkedForwarding.{OriginatorsMayGetPacketsBack, VetoesMayLoop}
+use Rattle.route_laws.specs.WorkedForwarding.{WorkedRow, abroad, abroad_network, left, left_links}
+use Rattle.route_laws.specs.WorkedForwarding.{left_routes, middle, middle_links, middle_routes}
+use Rattle.route_laws.specs.WorkedForwarding.{narrow, narrow_network, right, right_links}
+use Rattle.route_laws.specs.WorkedForwarding.{right_routes, row, row_routers, row_says, row_table}
+use Rattle.route_laws.specs.WorkedForwarding.{wide, wide_network, without_narrow}
+use Rattle.route_laws.proofs.Ordered.{in_order}
+use Rattle.route_laws.proofs.ExternalOffers.{CountsAsExternal, IsOfferOf, counts_24, each_external}
+use Rattle.route_laws.proofs.ExternalOffers.{is_offer_of, offered_directly, only_directly}
+use Rattle.route_laws.proofs.OneOffer.{AreStubsKnown, HopsTo, IsWayFrom, Walk, each_stub, hops_at}
+use Rattle.route_laws.proofs.OneOffer.{hops_from, stub_by, stub_within, to, way, way_to}
+use Rattle.route_laws.proofs.Parts.{in_front, one_of}
 
 abbrev pub at_left : ℕ
 at_left = ipv4 1 1 1 1
@@ -85,17 +86,6 @@ right_says = says row (key 1 at_right at_right) (body.Router (router_lsa right_l
 
 -- ---- the candidates of a root with known ways to both ends
 
-no_hop : (i : ℕ) → IsTrue (has_interface 0 i) → ⊥
-no_hop i t = omega (arith, bit_at-zero i, bit_of_member 0 i t)
-
-only_two : (i : ℕ) → IsTrue (has_interface 4 i) → i ≡ 2
-only_two zero t = absurd (cc)
-only_two (suc zero) t = absurd (cc)
-only_two (suc (suc zero)) t = refl
-only_two (suc (suc (suc i))) t = absurd
-    (let e : bit_at 4 (suc (suc (suc i))) ≡ 0 = bit_at-suc 4 (suc (suc i)) ∙ bit_at-suc 2 (suc i)
-    ∙ bit_at-suc 1 i ∙ bit_at-zero i in omega (arith, e, bit_of_member 4 (suc (suc (suc i))) t))
-
 abbrev pub wide_stub : RouterLink
 wide_stub = stub (ipv4 192 0 2 0) (ipv4 255 255 254 0) 10
 
@@ -108,132 +98,43 @@ left_abroad = external Type1 10 0 0
 abbrev pub right_abroad : ExternalLsa
 right_abroad = external Type1 20 0 0
 
-abbrev its_key : ℕ → Key
-its_key originator = key 5 (ipv4 203 0 113 0) originator
-
-abbrev is_external : Key × LsaBody → Bool
-is_external (k, body.Router r) = false
-is_external (k, body.Network n) = false
-is_external (k, body.NetworkSummary s) = false
-is_external (k, body.RouterSummary s) = false
-is_external (k, body.External e) = true
-
--- the contents of an AS-external-LSA of the row
-pub record IsAbroad (by : ℕ) (says : ExternalLsa) (id originator : ℕ) (lsa : ExternalLsa) : Type 0
-  where
-    pub id_is : ipv4 203 0 113 0 ≡ id
-    pub by_is : by ≡ originator
-    pub lsa_is : says ≡ lsa
-
-abroad_from : (by : ℕ) (mine : ExternalLsa) (id originator : ℕ) (lsa : ExternalLsa)
-    → (let a : Key × LsaBody = (its_key by, body.External mine) in let b : Key × LsaBody =
-    (key 5 id originator, body.External lsa) in a ≡ b) → IsAbroad by mine id originator lsa
-abroad_from by mine id originator lsa e =
-    let same : body.External mine ≡ body.External lsa = ap (λ (x : Key × LsaBody). x.1) e in
-    record {
-      id_is = ap (λ (x : Key × LsaBody). x.0.link_state_id) e;
-      by_is = ap (λ (x : Key × LsaBody). x.0.advertising_router) e;
-      lsa_is = cc;
-    }
-
-pub which : (id originator : ℕ) (lsa : ExternalLsa)
-    → Says row_says (key 5 id originator) (body.External lsa)
-    → IsAbroad at_left left_abroad id originator lsa
-    ⊎ IsAbroad at_right right_abroad id originator lsa
-which id originator lsa its =
-    let x : Key × LsaBody = (key 5 id originator, body.External lsa) in
-    elim (of_cons {X = Key × LsaBody} (its_key at_left, body.External left_abroad)
-    ((its_key at_right, body.External right_abroad) ∷ []) x
-    (kept is_external (sayings row) x
-    (is_said 0 row (key 5 id originator) (body.External lsa) its) refl)) [
-      | inl e ↦ inl (abroad_from at_left left_abroad id originator lsa e)
-      | inr later ↦
-          elim (of_cons {X = Key × LsaBody} (its_key at_right, body.External right_abroad) [] x
-          later) [
-            | inl e ↦ inr (abroad_from at_right right_abroad id originator lsa e)
-            | inr none ↦ absurd (of_empty {X = Key × LsaBody} x none)
-          ]
-    ]
-
 abbrev pub abroad_offer : ExternalLsa → ℕ → Way → Offer
 abroad_offer lsa by way = external_offer Type1 abroad_network lsa by way
 
-abbrev HopsTo : Root → ℕ → ℕ → ℕ → Type 0
-HopsTo root router hops own = (router ≡ root.router → own ≡ 1)
-    × ((router ≡ root.router → ⊥) → own ≡ hops)
-
-dearer : (a b : Offer) → rank a.kind ≡ rank b.kind → a.cost < b.cost → IsNoWorse b a → ⊥
-dearer a b e less (ByKind p) = omega (arith, p, e)
-dearer a b e less (ByCost p q) = omega (arith, less, q)
-dearer a b e less (ByDistance p q r) = omega (arith, less, q)
+abbrev Ahead : Route → Route → Type 0
+Ahead a b = IsBefore a.prefix b.prefix
 
 abbrev IsSameOrWorse : Offer → Offer → Type 0
 IsSameOrWorse best o = (o ≡ best) ⊎ (IsNoWorse best o × (IsNoWorse o best → ⊥))
 
-three_ascend : (a b c : Route) → IsBefore a.prefix b.prefix → IsBefore a.prefix c.prefix
-    → IsBefore b.prefix c.prefix → AllPairs (λ (x : Route) (y : Route). IsBefore x.prefix y.prefix)
-    (a ∷ b ∷ c ∷ [])
-three_ascend a b c p q r zero zero d before within = absurd (omega (arith, before))
-three_ascend a b c p q r zero (suc zero) d before within = p
-three_ascend a b c p q r zero (suc (suc zero)) d before within = q
-three_ascend a b c p q r zero (suc (suc (suc j))) d before within = absurd (omega (arith, within))
-three_ascend a b c p q r (suc i) zero d before within = absurd (omega (arith, before))
-three_ascend a b c p q r (suc zero) (suc zero) d before within = absurd (omega (arith, before))
-three_ascend a b c p q r (suc zero) (suc (suc zero)) d before within = r
-three_ascend a b c p q r (suc zero) (suc (suc (suc j))) d before within =
-    absurd (omega (arith, within))
-three_ascend a b c p q r (suc (suc i)) (suc zero) d before within = absurd (omega (arith, before))
-three_ascend a b c p q r (suc (suc i)) (suc (suc zero)) d before within =
-    absurd (omega (arith, before))
-three_ascend a b c p q r (suc (suc i)) (suc (suc (suc j))) d before within =
-    absurd (omega (arith, within))
+-- what each AS-external-LSA offers, has the property P, if what the two of the row offer does
+pub each_of_two : (root : Root) (P : Offer → Type 0)
+    → ((o : Offer) → IsOfferOf row_says root (ipv4 203 0 113 0) at_left left_abroad o → P o)
+    → ((o : Offer) → IsOfferOf row_says root (ipv4 203 0 113 0) at_right right_abroad o → P o)
+    → (o : Offer) → OffersExternal row_says root o → P o
+each_of_two root P of_left of_right o x =
+    each_external (λ (k : Key) (lsa : ExternalLsa). (y : Offer)
+    → IsOfferOf row_says root k.link_state_id k.advertising_router lsa y → P y) row
+    (tt, (tt, (tt, (of_left, (of_right, tt))))) (key 5 x.id x.originator) x.lsa x.its o
+    (is_offer_of row_says root o x)
 
-of_three : (P : Route → Type 0) (a b c : Route) → P a → P b → P c → (r : Route)
-    → Contains (a ∷ b ∷ c ∷ []) r → P r
-of_three P a b c at_a at_b at_c r t =
-    elim (of_cons a (b ∷ c ∷ []) r t) [
-      | inl e ↦ subst P e at_a
-      | inr later ↦
-          elim (of_cons b (c ∷ []) r later) [
-            | inl e ↦ subst P e at_b
-            | inr last ↦
-                elim (of_cons c [] r last) [
-                  | inl e ↦ subst P e at_c
-                  | inr none ↦ absurd (of_empty r none)
-                ]
-          ]
-    ]
+pub left_counts : (root : Root) → at_left ≢ root.router
+    → CountsAsExternal row_says root (ipv4 203 0 113 0) at_left left_abroad 24
+left_counts root other = counts_24 row root (ipv4 203 0 113 0) at_left left_abroad refl
+    (omega arith) other refl
 
-module _ (root : Root) where
-  pub is_from : (by : ℕ) (mine : ExternalLsa) (way : Way)
-      → IsWay (Leads row_says root) (ARouter root.router) (ARouter by) way → mine.forwarding ≡ 0
-      → mine.mask ≡ mask_24 → mine.kind ≡ Type1
-      → (o : Offer) (x : OffersExternal row_says root o)
-      → IsAbroad by mine x.id x.originator x.lsa → abroad_offer mine by way ≡ o
-  is_from by mine way reached direct mask type_1 o x a =
-      let Reaches : ℕ → Type 0 = λ router. IsWay (Leads row_says root) (ARouter root.router)
-      (ARouter router) x.is_way.boundary in
-      let r : ReachesBoundaryRouter row_says root x.originator x.is_way.boundary =
-      is_inside 0 row refl root x.originator x.is_way.boundary x.is_way.reaches in
-      let boundary : way ≡ x.is_way.boundary =
-      one_way (Leads row_says root) (ARouter root.router) (ARouter by) way x.is_way.boundary
-      reached (subst Reaches (sym a.by_is) r.reached) in
-      let w : way ≡ x.way = boundary ∙ sym
-      (x.is_way.direct (sym (ap (λ (l : ExternalLsa). l.forwarding) a.lsa_is) ∙ direct)) in
-      let p : abroad_network ≡ x.prefix = ap (λ n. record {
-        address = network_address 24 n;
-        length = 24;
-      }) a.id_is
-      ∙ one_prefix x.id x.lsa.mask 24 x.prefix (omega arith)
-      (sym (ap (λ (l : ExternalLsa). l.mask) a.lsa_is) ∙ mask) x.is_prefix in
-      let t : external_offer Type1 abroad_network mine by way
-      ≡ external_offer mine.kind abroad_network mine by way =
-      ap (λ (k : ExternalType). external_offer k abroad_network mine by way) (sym type_1) in
-      t ∙ (λ i. external_offer (a.lsa_is i).kind (p i) (a.lsa_is i) (a.by_is i) (w i)) ∙ sym x.is
+pub reaches_left : (root : Root) (way : Way) → IsWayFrom row root at_left way
+    → IsBoundaryWay row_says root at_left way
+reaches_left root way there = Inside (record {
+  lsa = router_lsa left_links;
+  its = left_says;
+  has_e = refl;
+  reached = there;
+})
 
 module _ (root : Root) (wide_way narrow_way : Way)
-    (to_left : IsWay (Leads row_says root) (ARouter root.router) (ARouter at_left) wide_way)
-    (to_right : IsWay (Leads row_says root) (ARouter root.router) (ARouter at_right) narrow_way)
+    (to_left : IsWayFrom row root at_left wide_way)
+    (to_right : IsWayFrom row root at_right narrow_way)
   where
     -- ---- external destinations
 
@@ -243,72 +144,44 @@ module _ (root : Root) (wide_way narrow_way : Way)
     abbrev by_right : Offer
     by_right = abroad_offer right_abroad at_right narrow_way
 
+    reaches_right : IsBoundaryWay row_says root at_right narrow_way
+    reaches_right = Inside (record {
+      lsa = router_lsa right_links;
+      its = right_says;
+      has_e = refl;
+      reached = to_right;
+    })
+
+    right_counts : at_right ≢ root.router
+        → CountsAsExternal row_says root (ipv4 203 0 113 0) at_right right_abroad 24
+    right_counts other = counts_24 row root (ipv4 203 0 113 0) at_right right_abroad refl
+        (omega arith) other refl
+
     left_offers : (at_left ≡ root.router → ⊥) → OffersExternal row_says root by_left
-    left_offers other = record {
-      id = ipv4 203 0 113 0;
-      originator = at_left;
-      lsa = left_abroad;
-      its = says row (its_key at_left) (body.External left_abroad) refl;
-      reachable = omega arith;
-      of_another = other;
-      prefix = abroad_network;
-      is_prefix = (omega arith, refl, refl);
-      way = wide_way;
-      is_way = record {
-        boundary = wide_way;
-        reaches = Inside (record {
-          lsa = router_lsa left_links;
-          its = left_says;
-          has_e = refl;
-          reached = to_left;
-        });
-        direct = λ _. refl;
-        forwarded = λ some. absurd (some refl);
-      };
-      is = refl;
-    }
+    left_offers other = offered_directly row_says root (ipv4 203 0 113 0) at_left left_abroad 24
+        (left_counts root other) refl wide_way (reaches_left root wide_way to_left)
 
     right_offers : (at_right ≡ root.router → ⊥) → OffersExternal row_says root by_right
-    right_offers other = record {
-      id = ipv4 203 0 113 0;
-      originator = at_right;
-      lsa = right_abroad;
-      its = says row (its_key at_right) (body.External right_abroad) refl;
-      reachable = omega arith;
-      of_another = other;
-      prefix = abroad_network;
-      is_prefix = (omega arith, refl, refl);
-      way = narrow_way;
-      is_way = record {
-        boundary = narrow_way;
-        reaches = Inside (record {
-          lsa = router_lsa right_links;
-          its = right_says;
-          has_e = refl;
-          reached = to_right;
-        });
-        direct = λ _. refl;
-        forwarded = λ some. absurd (some refl);
-      };
-      is = refl;
-    }
+    right_offers other = offered_directly row_says root (ipv4 203 0 113 0) at_right right_abroad 24
+        (right_counts other) refl narrow_way reaches_right
 
     abbrev IsByOne : Offer → Type 0
     IsByOne o = ((at_left ≡ root.router → ⊥) × (by_left ≡ o))
         ⊎ ((at_right ≡ root.router → ⊥) × (by_right ≡ o))
 
     by_one_of : (o : Offer) → OffersExternal row_says root o → IsByOne o
-    by_one_of o x =
-        elim (which x.id x.originator x.lsa x.its) [
-          | inl a ↦ inl (
-            λ e. x.of_another (sym a.by_is ∙ e),
-            is_from root at_left left_abroad wide_way to_left refl refl refl o x a,
-          )
-          | inr a ↦ inr (
-            λ e. x.of_another (sym a.by_is ∙ e),
-            is_from root at_right right_abroad narrow_way to_right refl refl refl o x a,
-          )
-        ]
+    by_one_of = each_of_two root IsByOne
+        (λ o g. inl (
+          g.of_another,
+          only_directly row_says root (ipv4 203 0 113 0) at_left left_abroad 24
+              (left_counts root g.of_another) refl wide_way (reaches_left root wide_way to_left) o
+              g,
+        ))
+        (λ o g. inr (
+          g.of_another,
+          only_directly row_says root (ipv4 203 0 113 0) at_right right_abroad 24
+              (right_counts g.of_another) refl narrow_way reaches_right o g,
+        ))
 
     -- ---- the candidates
 
@@ -326,95 +199,32 @@ module _ (root : Root) (wide_way narrow_way : Way)
       abbrev IsWithin : Offer → Type 0
       IsWithin o = (wide_offer ≡ o) ⊎ (narrow_offer ≡ o)
 
-      known : (router : ℕ) (l : RouterLink) → Contains (filter is_stub (links_of (sayings row)))
-          (router, l) → Known 0 row root IsWithin router l
-      known router l t =
-          let P : ℕ × RouterLink → Type 0 = λ x. Known 0 row root IsWithin x.0 x.1 in
-          elim (of_cons {X = ℕ × RouterLink} (at_left, wide_stub) ((at_right, narrow_stub) ∷ [])
-          (router, l)
-          t) [
-            | inl e ↦ subst P e (
-              23,
-              wide_offer,
-              record {
-                way = wide_way;
-                reached = to_left;
-                within = omega arith;
-                mask = refl;
-                hops = wide_hops;
-                by_root = of_wide.0;
-                by_others = of_wide.1;
-                is = refl;
-              },
-              inl refl,
-            )
-            | inr later ↦
-                elim (of_cons {X = ℕ × RouterLink} (at_right, narrow_stub) [] (router, l) later) [
-                  | inl e ↦ subst P e (
-                    24,
-                    narrow_offer,
-                    record {
-                      way = narrow_way;
-                      reached = to_right;
-                      within = omega arith;
-                      mask = refl;
-                      hops = narrow_hops;
-                      by_root = of_narrow.0;
-                      by_others = of_narrow.1;
-                      is = refl;
-                    },
-                    inr refl,
-                  )
-                  | inr none ↦ absurd (of_empty {X = ℕ × RouterLink} (router, l) none)
-                ]
-          ]
+      wide_stub_is : StubOffer row_says root at_left wide_stub 23 wide_offer
+      wide_stub_is = stub_by row root at_left wide_stub 23 wide_way wide_hops to_left of_wide
+          (omega arith) refl
+
+      narrow_stub_is : StubOffer row_says root at_right narrow_stub 24 narrow_offer
+      narrow_stub_is = stub_by row root at_right narrow_stub 24 narrow_way narrow_hops to_right
+          of_narrow (omega arith) refl
+
+      known : AreStubsKnown row root IsWithin
+      known = (
+        (23, wide_offer, wide_stub_is, inl refl),
+        ((24, narrow_offer, narrow_stub_is, inr refl), tt),
+      )
 
       only_offers : (o : Offer) → Offers row_says root o → IsWithin o ⊎ IsByOne o
-      only_offers o (Within x) = inl (each_within 0 row root IsWithin refl known o x)
+      only_offers o (Within x) = inl (each_stub row root IsWithin refl known o x)
       only_offers o (Between x) = absurd (nothing_between 0 row refl root o x)
       only_offers o (External x) = inr (by_one_of o x)
 
       wide_offered : Offers row_says root wide_offer
-      wide_offered = Within (record {
-        node = ARouter at_left;
-        prefix = wide_network;
-        more = 10;
-        attached = (
-          wide_stub,
-          linked row at_left left_links left_says wide_stub
-              (1, omega arith, refl),
-          refl,
-          (omega arith, refl, refl),
-          refl,
-        );
-        way = wide_way;
-        reached = to_left;
-        hops = wide_hops;
-        by_root = λ e. of_wide.0 (let same : at_left ≡ root.router = cc in same);
-        by_others = λ other. of_wide.1 (λ e. other (ap (λ n. ARouter n) e));
-        is = refl;
-      })
+      wide_offered = Within (stub_within row root at_left left_links left_says wide_stub
+          (1, omega arith, refl) refl 23 wide_offer wide_stub_is)
 
       narrow_offered : Offers row_says root narrow_offer
-      narrow_offered = Within (record {
-        node = ARouter at_right;
-        prefix = narrow_network;
-        more = 10;
-        attached = (
-          narrow_stub,
-          linked row at_right right_links right_says narrow_stub
-              (1, omega arith, refl),
-          refl,
-          (omega arith, refl, refl),
-          refl,
-        );
-        way = narrow_way;
-        reached = to_right;
-        hops = narrow_hops;
-        by_root = λ e. of_narrow.0 (let same : at_right ≡ root.router = cc in same);
-        by_others = λ other. of_narrow.1 (λ e. other (ap (λ n. ARouter n) e));
-        is = refl;
-      })
+      narrow_offered = Within (stub_within row root at_right right_links right_says narrow_stub
+          (1, omega arith, refl) refl 24 narrow_offer narrow_stub_is)
 
       apart : wide_network ≡ narrow_network → ⊥
       apart e = let long : 23 ≡ 24 = ap (λ (n : Network). n.length) e in omega (arith, long)
@@ -495,8 +305,8 @@ module _ (root : Root) (wide_way narrow_way : Way)
           let Narrow : Network → Type 0 = λ n. IsBefore narrow_network n in
           let Wide : Network → Type 0 = λ n. IsBefore wide_network n in
           all_candidates row_says root all_routes
-          (of_three (λ r. IsCandidate row_says root r) (route_of wide_offer)
-          (route_of narrow_offer) (route_of best) wide_is narrow_is outward_is)
+          (one_of (λ (r : Route). IsCandidate row_says root r) all_routes
+          (wide_is, (narrow_is, (outward_is, tt))))
           (λ o given. elim (only_offers o given) [
             | inr k ↦ (route_of best, (2, omega arith, refl), sym is_for ∙ abroad_is o k)
             | inl within ↦
@@ -513,9 +323,11 @@ module _ (root : Root) (wide_way narrow_way : Way)
                   )
                 ]
           ])
-          (three_ascend (route_of wide_offer) (route_of narrow_offer) (route_of best)
-          (ByLength refl (omega arith)) (subst Wide is_for (ByAddress (omega arith)))
-          (subst Narrow is_for (ByAddress (omega arith))))
+          (in_front Ahead (route_of wide_offer) (route_of narrow_offer ∷ route_of best ∷ [])
+          (ByLength refl (omega arith), (subst Wide is_for (ByAddress (omega arith)), tt))
+          (in_front Ahead (route_of narrow_offer) (route_of best ∷ [])
+          (subst Narrow is_for (ByAddress (omega arith)), tt)
+          (in_order (λ (r : Route). r.prefix) (route_of best ∷ []) refl)))
 
 -- ---- the ways
 
@@ -528,13 +340,7 @@ middle_checked = record { start = refl; routers = refl; links = refl }
 right_checked : AreChecked right (sayings row) (by_router 10 5 0) (by_router 2 2 0)
 right_checked = record { start = refl; routers = refl; links = refl }
 
-abbrev pub to : ℕ → ℕ → Step Node
-to router exit = record { target = ARouter router; price = 5; exit = exit }
-
-abbrev pub Walk : Root → List (Step Node) → ℕ → Type 0
-Walk root walk router = IsWalk (Leads row_says root) (ARouter root.router) walk (ARouter router)
-
-left_to_right : Walk left (to at_middle 1 ∷ to at_right 0 ∷ []) at_right
+left_to_right : Walk row left (to at_middle 1 ∷ to at_right 0 ∷ []) at_right
 left_to_right = (
   (
     from_root row left left_links left_says at_middle (ipv4 10 0 1 1) 5 0 (0, omega arith, refl)
@@ -553,7 +359,7 @@ left_to_right = (
   ),
 )
 
-right_to_left : Walk right (to at_middle 1 ∷ to at_left 0 ∷ []) at_left
+right_to_left : Walk row right (to at_middle 1 ∷ to at_left 0 ∷ []) at_left
 right_to_left = (
   (
     from_root row right right_links right_says at_middle (ipv4 10 0 2 2) 5 0 (0, omega arith, refl)
@@ -571,7 +377,7 @@ right_to_left = (
   ),
 )
 
-middle_to_left : Walk middle (to at_left 1 ∷ []) at_left
+middle_to_left : Walk row middle (to at_left 1 ∷ []) at_left
 middle_to_left = (
   (
     from_root row middle middle_links middle_says at_left (ipv4 10 0 1 2) 5 0
@@ -581,7 +387,7 @@ middle_to_left = (
   refl,
 )
 
-middle_to_right : Walk middle (to at_right 2 ∷ []) at_right
+middle_to_right : Walk row middle (to at_right 2 ∷ []) at_right
 middle_to_right = (
   (
     from_root row middle middle_links middle_says at_right (ipv4 10 0 2 1) 5 1
@@ -592,64 +398,41 @@ middle_to_right = (
   refl,
 )
 
-pub way_to : (root : Root) (distance hops : ℕ → ℕ)
-    (are : AreChecked root (sayings row) distance hops) (router : ℕ) (walk : List (Step Node))
-    → Walk root walk router → price_of walk ≡ distance router
-    → ((i : ℕ) → IsTrue (has_interface (hops router) i) → (first : Step Node)
-    × (rest : List (Step Node)) × Walk root (first ∷ rest) router
-    × (price_of (first ∷ rest) ≡ distance router) × (first.exit ≡ i))
-    → IsWay (Leads row_says root) (ARouter root.router) (ARouter router) (record {
-      distance = distance router;
-      hops = hops router;
-    })
-way_to root distance hops are router walk is costs each =
-    way_by (Leads row_says root) (ARouter root.router) (at_node distance) (at_node hops)
-    (checked root 0 row distance hops are) (ARouter router) walk is costs each
-
-abbrev nowhere : Way
-nowhere = record { distance = 0; hops = 0 }
-
-abbrev pub way : ℕ → ℕ → Way
-way distance hops = record { distance = distance; hops = hops }
-
-abbrev IsWayFrom : Root → ℕ → Way → Type 0
-IsWayFrom root router w = IsWay (Leads row_says root) (ARouter root.router) (ARouter router) w
-
-left_left : IsWayFrom left at_left nowhere
-left_left = way_to left (by_router 0 5 10) (by_router 0 2 2) left_checked at_left [] refl refl
+left_left : IsWayFrom row left at_left (way 0 0)
+left_left = way_to row left (by_router 0 5 10) (by_router 0 2 2) left_checked at_left [] refl refl
     (λ i t. absurd (no_hop i t))
 
-left_right : IsWayFrom left at_right (way 10 2)
-left_right = way_to left (by_router 0 5 10) (by_router 0 2 2) left_checked at_right
+left_right : IsWayFrom row left at_right (way 10 2)
+left_right = way_to row left (by_router 0 5 10) (by_router 0 2 2) left_checked at_right
     (to at_middle 1 ∷ to at_right 0 ∷ []) left_to_right refl
     (λ i t. (to at_middle 1, to at_right 0 ∷ [], left_to_right, refl, sym (only_one i t)))
 
-middle_left : IsWayFrom middle at_left (way 5 2)
-middle_left = way_to middle (by_router 5 0 5) (by_router 2 0 4) middle_checked at_left
+middle_left : IsWayFrom row middle at_left (way 5 2)
+middle_left = way_to row middle (by_router 5 0 5) (by_router 2 0 4) middle_checked at_left
     (to at_left 1 ∷ []) middle_to_left refl
     (λ i t. (to at_left 1, [], middle_to_left, refl, sym (only_one i t)))
 
-middle_right : IsWayFrom middle at_right (way 5 4)
-middle_right = way_to middle (by_router 5 0 5) (by_router 2 0 4) middle_checked at_right
+middle_right : IsWayFrom row middle at_right (way 5 4)
+middle_right = way_to row middle (by_router 5 0 5) (by_router 2 0 4) middle_checked at_right
     (to at_right 2 ∷ []) middle_to_right refl
     (λ i t. (to at_right 2, [], middle_to_right, refl, sym (only_two i t)))
 
-right_left : IsWayFrom right at_left (way 10 2)
-right_left = way_to right (by_router 10 5 0) (by_router 2 2 0) right_checked at_left
+right_left : IsWayFrom row right at_left (way 10 2)
+right_left = way_to row right (by_router 10 5 0) (by_router 2 2 0) right_checked at_left
     (to at_middle 1 ∷ to at_left 0 ∷ []) right_to_left refl
     (λ i t. (to at_middle 1, to at_left 0 ∷ [], right_to_left, refl, sym (only_one i t)))
 
-right_right : IsWayFrom right at_right nowhere
-right_right = way_to right (by_router 10 5 0) (by_router 2 2 0) right_checked at_right [] refl refl
-    (λ i t. absurd (no_hop i t))
+right_right : IsWayFrom row right at_right (way 0 0)
+right_right = way_to row right (by_router 10 5 0) (by_router 2 2 0) right_checked at_right []
+    refl refl (λ i t. absurd (no_hop i t))
 
 -- the left router ignores its own AS-external-LSA, the middle one takes the nearer of two, and the
 -- right one ignores its own
 
 left_external : OffersExternal row_says left (abroad_offer right_abroad at_right (way 10 2))
-left_external = right_offers left nowhere (way 10 2) left_left left_right (λ e. omega (arith, e))
+left_external = right_offers left (way 0 0) (way 10 2) left_left left_right (λ e. omega (arith, e))
 
-left_only : (o : Offer) → IsByOne left nowhere (way 10 2) left_left left_right o
+left_only : (o : Offer) → IsByOne left (way 0 0) (way 10 2) left_left left_right o
     → IsSameOrWorse (abroad_offer right_abroad at_right (way 10 2)) o
 left_only o (inl k) = absurd (k.0 refl)
 left_only o (inr k) = inl (sym k.1)
@@ -669,23 +452,16 @@ middle_only o (inr k) =
     inr (subst P k.1 (worse, λ n. dearer best other refl (omega arith) n))
 
 right_external : OffersExternal row_says right (abroad_offer left_abroad at_left (way 10 2))
-right_external = left_offers right (way 10 2) nowhere right_left right_right (λ e. omega (arith, e))
+right_external = left_offers right (way 10 2) (way 0 0) right_left right_right
+    (λ e. omega (arith, e))
 
-right_only : (o : Offer) → IsByOne right (way 10 2) nowhere right_left right_right o
+right_only : (o : Offer) → IsByOne right (way 10 2) (way 0 0) right_left right_right o
     → IsSameOrWorse (abroad_offer left_abroad at_left (way 10 2)) o
 right_only o (inl k) = inl (sym k.1)
 right_only o (inr k) = absurd (k.0 refl)
 
-hops_at : (root : Root) → (router : ℕ) → router ≡ root.router → (hops : ℕ)
-    → HopsTo root router hops 1
-hops_at root router same hops = (λ _. refl, λ other. absurd (other same))
-
-hops_from : (root : Root) (router : ℕ) → (router ≡ root.router → ⊥) → (hops : ℕ)
-    → HopsTo root router hops hops
-hops_from root router other hops = (λ e. absurd (other e), λ _. refl)
-
 pub left_candidates : AreCandidates row_says left left_routes
-left_candidates = candidates_are left nowhere (way 10 2) left_left left_right 1 2
+left_candidates = candidates_are left (way 0 0) (way 10 2) left_left left_right 1 2
     (hops_at left at_left refl 0) (hops_from left at_right (λ e. omega (arith, e)) 2)
     (abroad_offer right_abroad at_right (way 10 2)) left_external refl left_only
 
@@ -697,7 +473,7 @@ middle_candidates =
     (abroad_offer left_abroad at_left (way 5 2)) middle_external refl middle_only
 
 right_candidates : AreCandidates row_says right right_routes
-right_candidates = candidates_are right (way 10 2) nowhere right_left right_right 2 1
+right_candidates = candidates_are right (way 10 2) (way 0 0) right_left right_right 2 1
     (hops_from right at_left (λ e. omega (arith, e)) 2) (hops_at right at_right refl 0)
     (abroad_offer left_abroad at_left (way 10 2)) right_external refl right_only
 
@@ -798,59 +574,33 @@ other_end root n address next at all (ARouter b) price l =
           ]
     ]
 
-pub left_hands : (route : Route) → IsTrue (has_interface route.hops 1)
-    → HandsOn row_says left route at_middle
-left_hands route t = record {
-  interface = 1;
+hands : (root : Root) (n address next : ℕ) → slice_get root.addresses n ≡ Some address
+    → list_all (is_toward root address next) (links_of (sayings row)) ≡ true → (route : Route)
+    → IsTrue (has_interface route.hops (n + 1)) → HandsOn row_says root route next
+hands root n address next at all route t = record {
+  interface = n + 1;
   away = omega arith;
   is_hop = t;
-  other_end = other_end left 0 (ipv4 10 0 1 1) at_middle refl refl;
+  other_end = other_end root n address next at all;
 }
+
+pub left_hands : (route : Route) → IsTrue (has_interface route.hops 1)
+    → HandsOn row_says left route at_middle
+left_hands = hands left 0 (ipv4 10 0 1 1) at_middle refl refl
 
 right_hands : (route : Route) → IsTrue (has_interface route.hops 1)
     → HandsOn row_says right route at_middle
-right_hands route t = record {
-  interface = 1;
-  away = omega arith;
-  is_hop = t;
-  other_end = other_end right 0 (ipv4 10 0 2 2) at_middle refl refl;
-}
+right_hands = hands right 0 (ipv4 10 0 2 2) at_middle refl refl
 
 middle_hands_left : (route : Route) → IsTrue (has_interface route.hops 1)
     → HandsOn row_says middle route at_left
-middle_hands_left route t = record {
-  interface = 1;
-  away = omega arith;
-  is_hop = t;
-  other_end = other_end middle 0 (ipv4 10 0 1 2) at_left refl refl;
-}
+middle_hands_left = hands middle 0 (ipv4 10 0 1 2) at_left refl refl
 
 middle_hands_right : (route : Route) → IsTrue (has_interface route.hops 2)
     → HandsOn row_says middle route at_right
-middle_hands_right route t = record {
-  interface = 2;
-  away = omega arith;
-  is_hop = t;
-  other_end = other_end middle 1 (ipv4 10 0 2 1) at_right refl refl;
-}
+middle_hands_right = hands middle 1 (ipv4 10 0 2 1) at_right refl refl
 
 -- ---- all routers
-
-module _ (P : Root → Type 0) (at_l : P left) (at_m : P middle) (at_r : P right) where
-  of_routers : (root : Root) → Contains row_routers root → P root
-  of_routers root t =
-      elim (of_cons left (middle ∷ right ∷ []) root t) [
-        | inl e ↦ subst P e at_l
-        | inr later ↦
-            elim (of_cons middle (right ∷ []) root later) [
-              | inl e ↦ subst P e at_m
-              | inr last ↦
-                  elim (of_cons right [] root last) [
-                    | inl e ↦ subst P e at_r
-                    | inr none ↦ absurd (of_empty root none)
-                  ]
-            ]
-      ]
 
 abbrev Joined : Root → Route → Type 0
 Joined root route = (interface : ℕ) → 0 < interface → IsTrue (has_interface route.hops interface)
@@ -881,10 +631,10 @@ by_none root route e i away t = let Has : ℕ → Type 0 = λ hops. IsTrue (has_
 
 routers : AreRouters row_says row_routers row_table
 routers = record {
-  own = of_routers (λ root. NamesItsInterfaces row_says root) (names left refl) (names middle refl)
-      (names right refl);
-  is_table = of_routers (λ root. AreCandidates row_says root (row_table root)) left_candidates
-      middle_candidates right_candidates;
+  own = one_of (λ (root : Root). NamesItsInterfaces row_says root) row_routers
+      (names left refl, (names middle refl, (names right refl, tt)));
+  is_table = one_of (λ (root : Root). AreCandidates row_says root (row_table root)) row_routers
+      (left_candidates, (middle_candidates, (right_candidates, tt)));
   joined = λ root among route its. joined root among route its;
 }
   where
@@ -898,28 +648,37 @@ routers = record {
     middle_end = other_end middle 0 (ipv4 10 0 1 2) at_left refl refl
 
     at_l : (r : Route) → Contains left_routes r → Joined left r
-    at_l = of_three (λ r. Joined left r) (wide 10 1) (narrow 20 2) (abroad 30 2)
-        (by_none left (wide 10 1) refl)
-        (by_one left middle (narrow 20 2) (1, omega arith, refl) left_end refl)
-        (by_one left middle (abroad 30 2) (1, omega arith, refl) left_end refl)
+    at_l = one_of (λ (r : Route). Joined left r) left_routes (
+      by_none left (wide 10 1) refl,
+      (
+        by_one left middle (narrow 20 2) (1, omega arith, refl) left_end refl,
+        (by_one left middle (abroad 30 2) (1, omega arith, refl) left_end refl, tt),
+      ),
+    )
 
     at_m : (r : Route) → Contains middle_routes r → Joined middle r
-    at_m = of_three (λ r. Joined middle r) (wide 15 2) (narrow 15 4) (abroad 15 2)
-        (by_one middle left (wide 15 2) (0, omega arith, refl) middle_end refl)
-        (by_two middle right (narrow 15 4) (2, omega arith, refl)
-        (other_end middle 1 (ipv4 10 0 2 1) at_right refl refl) refl)
-        (by_one middle left (abroad 15 2) (0, omega arith, refl) middle_end refl)
+    at_m = one_of (λ (r : Route). Joined middle r) middle_routes (
+      by_one middle left (wide 15 2) (0, omega arith, refl) middle_end refl,
+      (
+        by_two middle right (narrow 15 4) (2, omega arith, refl)
+            (other_end middle 1 (ipv4 10 0 2 1) at_right refl refl) refl,
+        (by_one middle left (abroad 15 2) (0, omega arith, refl) middle_end refl, tt),
+      ),
+    )
 
     at_r : (r : Route) → Contains right_routes r → Joined right r
-    at_r = of_three (λ r. Joined right r) (wide 20 2) (narrow 10 1) (abroad 20 2)
-        (by_one right middle (wide 20 2) (1, omega arith, refl) right_end refl)
-        (by_none right (narrow 10 1) refl)
-        (by_one right middle (abroad 20 2) (1, omega arith, refl) right_end refl)
+    at_r = one_of (λ (r : Route). Joined right r) right_routes (
+      by_one right middle (wide 20 2) (1, omega arith, refl) right_end refl,
+      (
+        by_none right (narrow 10 1) refl,
+        (by_one right middle (abroad 20 2) (1, omega arith, refl) right_end refl, tt),
+      ),
+    )
 
     joined : (root : Root) → Contains row_routers root → (route : Route)
         → Contains (row_table root) route → Joined root route
-    joined = of_routers (λ root. (route : Route) → Contains (row_table root) route
-        → Joined root route) at_l at_m at_r
+    joined = one_of (λ (root : Root). (route : Route) → Contains (row_table root) route
+        → Joined root route) row_routers (at_l, (at_m, (at_r, tt)))
 
 -- ---- the packets
 
@@ -940,9 +699,14 @@ pub narrow_longest : (cost hops other more far by : ℕ)
 narrow_longest cost hops other more far by = record {
   among = (1, omega arith, refl);
   under = refl;
-  longest = λ r t under. of_three (λ x. x.prefix.length ≤ 24) (wide other more) (narrow cost hops)
-      (abroad far by) (let low : 23 ≤ 24 = omega arith in low)
-      (let low : 24 ≤ 24 = omega arith in low) (let low : 24 ≤ 24 = omega arith in low) r t;
+  longest = λ r t under. one_of (λ (x : Route). x.prefix.length ≤ 24)
+      (wide other more ∷ narrow cost hops ∷ abroad far by ∷ []) (
+        (let low : 23 ≤ 24 = omega arith in low),
+        (
+          (let low : 24 ≤ 24 = omega arith in low),
+          ((let low : 24 ≤ 24 = omega arith in low), tt),
+        ),
+      ) r t;
 }
 
 abbrev wide_let_in : Network → Bool
@@ -973,18 +737,16 @@ wide_alone : (cost hops other more far by : ℕ) (r : Route)
     (Contains (wide cost hops ∷ narrow other more ∷ abroad far by ∷ []) r
     × IsTrue (wide_let_in r.prefix))
 wide_alone cost hops other more far by r = (
-  (λ t.
-      let P : Route → Type 0 = λ x. Contains
-      (wide cost hops ∷ narrow other more ∷ abroad far by ∷ []) x
-      × IsTrue (wide_let_in x.prefix) in
-      elim (of_cons (wide cost hops) [] r t) [
-        | inl e ↦ subst P e ((0, omega arith, refl), refl)
-        | inr none ↦ absurd (of_empty r none)
-      ]),
-  (λ k. of_three (IsIn (wide cost hops ∷ [])) (wide cost hops) (narrow other more) (abroad far by)
-      (λ _. first_is (wide cost hops) [])
-      (λ t. never (Contains (wide cost hops ∷ []) (narrow other more)) t)
-      (λ t. never (Contains (wide cost hops ∷ []) (abroad far by)) t) r k.0 k.1),
+  one_of (λ (x : Route). Contains (wide cost hops ∷ narrow other more ∷ abroad far by ∷ []) x
+      × IsTrue (wide_let_in x.prefix)) (wide cost hops ∷ []) (((0, omega arith, refl), refl), tt) r,
+  (λ k. one_of (λ (x : Route). IsIn (wide cost hops ∷ []) x)
+      (wide cost hops ∷ narrow other more ∷ abroad far by ∷ []) (
+        (λ _. first_is (wide cost hops) []),
+        (
+          (λ t. never (Contains (wide cost hops ∷ []) (narrow other more)) t),
+          ((λ t. never (Contains (wide cost hops ∷ []) (abroad far by)) t), tt),
+        ),
+      ) r k.0 k.1),
 )
 
 to_wide : (root : Root) (cost hops other more far by : ℕ)
@@ -1000,12 +762,8 @@ to_wide root cost hops other more far by are own = record {
   longest = record {
     among = (0, omega arith, refl);
     under = refl;
-    longest = λ r t under.
-        let P : Route → Type 0 = λ x. x.prefix.length ≤ 23 in
-        elim (of_cons (wide cost hops) [] r t) [
-          | inl e ↦ subst P e (let low : 23 ≤ 23 = omega arith in low)
-          | inr none ↦ absurd (of_empty r none)
-        ];
+    longest = λ r t under. one_of (λ (x : Route). x.prefix.length ≤ 23) (wide cost hops ∷ [])
+        ((let low : 23 ≤ 23 = omega arith in low), tt) r t;
   };
   within = refl;
 }
@@ -1013,10 +771,10 @@ to_wide root cost hops other more far by are own = record {
 -- ---- toward an originator
 
 left_toward : HandsToward row_says left (abroad 30 2) at_middle at_right
-unfolding left_external right_offers
+unfolding left_external right_offers offered_directly
 left_toward = record {
   offer = abroad_offer right_abroad at_right (way 10 2);
-  is_best = outward_best left nowhere (way 10 2) left_left left_right 1 2
+  is_best = outward_best left (way 0 0) (way 10 2) left_left left_right 1 2
       (hops_at left at_left refl 0) (hops_from left at_right (λ e. omega (arith, e)) 2)
       (abroad_offer right_abroad at_right (way 10 2)) left_external refl left_only;
   hops = 2;
@@ -1032,7 +790,7 @@ left_toward = record {
 }
 
 middle_toward : HandsToward row_says middle (abroad 15 2) at_left at_left
-unfolding middle_external left_offers
+unfolding middle_external left_offers offered_directly
 middle_toward = record {
   offer = abroad_offer left_abroad at_left (way 5 2);
   is_best = outward_best middle (way 5 2) (way 5 4) middle_left middle_right 2 4
@@ -1052,10 +810,10 @@ middle_toward = record {
 }
 
 right_toward : HandsToward row_says right (abroad 20 2) at_middle at_left
-unfolding right_external left_offers
+unfolding right_external left_offers offered_directly
 right_toward = record {
   offer = abroad_offer left_abroad at_left (way 10 2);
-  is_best = outward_best right (way 10 2) nowhere right_left right_right 2 1
+  is_best = outward_best right (way 10 2) (way 0 0) right_left right_right 2 1
       (hops_from right at_left (λ e. omega (arith, e)) 2) (hops_at right at_right refl 0)
       (abroad_offer left_abroad at_left (way 10 2)) right_external refl right_only;
   hops = 2;
@@ -1168,52 +926,31 @@ abbrev middle_answers : Answers
 middle_answers = (wide 15 2, 0) ∷ (narrow 15 4, 1) ∷ (abroad 15 2, 0) ∷ []
 
 left_let_in : (r : Route) → Contains left_routes r → IsLetIn left_answers r
-left_let_in = of_three (λ r. IsLetIn left_answers r) (wide 10 1) (narrow 20 2) (abroad 30 2)
-    (0, omega arith, refl) (1, omega arith, refl) (2, omega arith, refl)
+left_let_in = one_of (λ (r : Route). IsLetIn left_answers r) left_routes
+    ((0, omega arith, refl), ((1, omega arith, refl), ((2, omega arith, refl), tt)))
 
 middle_let_in : (r : Route) → IsLetIn middle_answers r → Contains without_narrow r
 middle_let_in r t =
-    let P : Route → Type 0 = λ x. Contains without_narrow x in
-    elim (of_cons {X = Route × ℕ} (wide 15 2, 0) ((narrow 15 4, 1) ∷ (abroad 15 2, 0) ∷ []) (r, 0)
-    t) [
-      | inl e ↦ subst P (ap (λ (x : Route × ℕ). x.0) e) (first_is (wide 15 2) (abroad 15 2 ∷ []))
-      | inr later ↦
-          elim (of_cons {X = Route × ℕ} (narrow 15 4, 1) ((abroad 15 2, 0) ∷ []) (r, 0) later) [
-            | inl e ↦ absurd (let words : 1 ≡ 0 = ap (λ (x : Route × ℕ). x.1) e in
-                omega (arith, words))
-            | inr last ↦
-                elim (of_cons {X = Route × ℕ} (abroad 15 2, 0) [] (r, 0) last) [
-                  | inl e ↦ subst P (ap (λ (x : Route × ℕ). x.0) e)
-                      (later_is (wide 15 2) (abroad 15 2 ∷ []) (abroad 15 2)
-                      (first_is (abroad 15 2) []))
-                  | inr none ↦ absurd (of_empty {X = Route × ℕ} (r, 0) none)
-                ]
-          ]
-    ]
+    one_of (λ (x : Route × ℕ). x.1 ≡ 0 → Contains without_narrow x.0) middle_answers (
+      (λ _. (0, omega arith, refl)),
+      (
+        (λ e. absurd (let words : 1 ≡ 0 = e in omega (arith, words))),
+        ((λ _. (1, omega arith, refl)), tt),
+      ),
+    ) (r, 0) t refl
 
-pub of_two : (P : Route → Type 0) (a b : Route) → P a → P b → (r : Route) → Contains (a ∷ b ∷ []) r
-    → P r
-of_two P a b at_a at_b r t =
-    elim (of_cons a (b ∷ []) r t) [
-      | inl e ↦ subst P e at_a
-      | inr later ↦
-          elim (of_cons b [] r later) [
-            | inl e ↦ subst P e at_b
-            | inr none ↦ absurd (of_empty r none)
-          ]
-    ]
-
-pub two_ascend : (a b : Route) → IsBefore a.prefix b.prefix
-    → AllPairs (λ (x : Route) (y : Route). IsBefore x.prefix y.prefix) (a ∷ b ∷ [])
-two_ascend a b p zero zero d before within = absurd (omega (arith, before))
-two_ascend a b p zero (suc zero) d before within = p
-two_ascend a b p zero (suc (suc j)) d before within = absurd (omega (arith, within))
-two_ascend a b p (suc i) zero d before within = absurd (omega (arith, before))
-two_ascend a b p (suc i) (suc zero) d before within = absurd (omega (arith, before))
-two_ascend a b p (suc i) (suc (suc j)) d before within = absurd (omega (arith, within))
-
-abbrev pub IsAtMost23 : Route → Type 0
-IsAtMost23 r = IsUnder address r.prefix → r.prefix.length ≤ 23
+pub wide_longest : IsLongest without_narrow address (wide 15 2)
+wide_longest = record {
+  among = (0, omega arith, refl);
+  under = refl;
+  longest = one_of (λ (r : Route). IsUnder address r.prefix → r.prefix.length ≤ 23) without_narrow (
+    (λ under. (let low : 23 ≤ 23 = omega arith in low)),
+    (
+      (λ under. absurd (let at : ipv4 192 0 2 0 ≡ ipv4 203 0 113 0 = under in omega (arith, at))),
+      tt,
+    ),
+  );
+}
 
 pub vetoes : VetoesMayLoop
 vetoes = record {
@@ -1226,26 +963,23 @@ vetoes = record {
   };
   middle_table = record {
     each = λ r. (
-      of_two (λ x. IsCandidate row_says middle x × IsLetIn middle_answers x) (wide 15 2)
-          (abroad 15 2) (
-            (middle_candidates.each (wide 15 2)).0 (0, omega arith, refl),
-            (0, omega arith, refl),
-          )
-          ((middle_candidates.each (abroad 15 2)).0 (2, omega arith, refl), (2, omega arith, refl))
-          r,
+      one_of (λ (x : Route). IsCandidate row_says middle x × IsLetIn middle_answers x)
+          without_narrow (
+            ((middle_candidates.each (wide 15 2)).0 (0, omega arith, refl), (0, omega arith, refl)),
+            (
+              (
+                (middle_candidates.each (abroad 15 2)).0 (2, omega arith, refl),
+                (2, omega arith, refl),
+              ),
+              tt,
+            ),
+          ) r,
       (λ k. middle_let_in r k.1),
     );
-    ascending = two_ascend (wide 15 2) (abroad 15 2) (ByAddress (omega arith));
+    ascending = in_order (λ (r : Route). r.prefix) without_narrow refl;
   };
   forth = narrow_longest 20 2 10 1 30 2;
   to_middle = left_hands (narrow 20 2) refl;
-  back = record {
-    among = (0, omega arith, refl);
-    under = refl;
-    longest = of_two IsAtMost23 (wide 15 2) (abroad 15 2)
-        (λ under. (let low : 23 ≤ 23 = omega arith in low))
-        (λ under. absurd (let at : ipv4 192 0 2 0 ≡ ipv4 203 0 113 0 = under in
-        omega (arith, at)));
-  };
+  back = wide_longest;
   to_left = middle_hands_left (wide 15 2) refl;
 }

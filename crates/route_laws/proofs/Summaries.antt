@@ -2,26 +2,21 @@
 use Rattle.std.proofs.Common.{◌≡◌, ℕ, ◌+◌, ◌<◌, ◌≤◌, ◌⊎◌, inl, inr, Bool, true, false, cond, not}
 use Rattle.std.proofs.Common.{◌&&◌, IsTrue, nat_eq, List, [], ◌∷◌, Some, bit_and, arith, refl, sym}
 use Rattle.std.proofs.Common.{◌∙◌, ap, subst}
-use Rattle.std.specs.List.{AllByRecursion, AllPairs, Contains}
+use Rattle.std.specs.List.{AllByRecursion, Contains}
 use Rattle.words.specs.Interfaces.{has_interface}
-use Rattle.words.specs.Prefixes.{Network, network_address}
 use Rattle.words.specs.declared.key.Key.{Key}
 use Rattle.words.specs.declared.route.ExternalType.TheVariants.{Type1, Type2}
-use Rattle.words.specs.declared.route.Route.{Route}
 use Rattle.lsa.specs.declared.body.LsaBody.{LsaBody}
 use Rattle.lsa.specs.declared.body.LsaBody.TheVariants as body
 use Rattle.lsa.specs.declared.body.ExternalLsa.{ExternalLsa}
 use Rattle.lsa.specs.declared.body.RouterLink.{RouterLink}
 use Rattle.lsa.specs.declared.body.RouterLsa.{RouterLsa}
 use Rattle.lsa.specs.declared.body.SummaryLsa.{SummaryLsa}
-use Rattle.routes.specs.Candidates.{AreCandidates, IsCandidate, IsExternalWay, Offers}
-use Rattle.routes.specs.Candidates.{OffersExternal, external_offer}
+use Rattle.routes.specs.Candidates.{AreCandidates, Offers, OffersExternal, external_offer}
 use Rattle.routes.specs.Candidates.Offers.{Between, External, Within}
 use Rattle.routes.specs.Links.{IsRouterLsa, Leads}
-use Rattle.routes.specs.Offers.{IsPrefix, OffersWithin, ReachesBoundaryRouter}
-use Rattle.routes.specs.Paths.{IsWalk, IsWay, Step, Way}
-use Rattle.routes.specs.Routes.{IsBefore, IsNoWorse}
-use Rattle.routes.specs.Routes.IsBefore.{ByAddress}
+use Rattle.routes.specs.Offers.{OffersWithin, ReachesBoundaryRouter}
+use Rattle.routes.specs.Paths.{Step, Way}
 use Rattle.routes.specs.Said.{Said, said_at}
 use Rattle.routes.specs.Summaries.{CountsAsSummary, IsBoundaryWay, IsToldOf, OffersBetween}
 use Rattle.routes.specs.Summaries.{ReachesBorderRouter, inter, summary_key}
@@ -30,24 +25,21 @@ use Rattle.routes.specs.declared.node.Node.{Node}
 use Rattle.routes.specs.declared.node.Node.TheVariants.{ARouter}
 use Rattle.routes.specs.declared.offer.Offer.{Offer}
 use Rattle.routes.proofs.Determined.{one_way}
-use Rattle.routes.proofs.Lists.{of_cons, of_empty}
-use Rattle.route_laws.specs.Worked.{database, ipv4, key, mask_24, network_24, point_to_point}
-use Rattle.route_laws.specs.Worked.{router_lsa}
+use Rattle.route_laws.specs.Worked.{Entries, database, ipv4, key, mask_24, network_24}
+use Rattle.route_laws.specs.Worked.{point_to_point, router_lsa}
 use Rattle.route_laws.specs.WorkedExternals.{external}
-use Rattle.route_laws.specs.WorkedSummaries.{WorkedSummaries, between_route, beyond_1, beyond_2}
-use Rattle.route_laws.specs.WorkedSummaries.{border_links, distant_links, distant_route}
-use Rattle.route_laws.specs.WorkedSummaries.{summaries_links, summaries_root, summary, told_entries}
-use Rattle.route_laws.proofs.Alone.{IsAlone, all_candidates, alone, each_within}
+use Rattle.route_laws.specs.WorkedSummaries.{WorkedSummaries, border_links, distant_links}
+use Rattle.route_laws.specs.WorkedSummaries.{distant_route, summaries_links, summaries_root}
+use Rattle.route_laws.specs.WorkedSummaries.{summary, told_entries}
 use Rattle.routes.proofs.Prefixes.{one_prefix}
 use Rattle.route_laws.proofs.Entries.{all_pass, is_said, sayings}
-use Rattle.route_laws.proofs.OneWay.{boundary}
-use Rattle.route_laws.proofs.Labels.{AreChecked, at_node, checked, way_by}
-use Rattle.route_laws.proofs.Made.{from_root, only_one, says}
-use Rattle.route_laws.proofs.Parts.{apart, in_front, nobody, one_of}
-use Rattle.std.proofs.lemmas.Nat.Bits.{bit_at-suc, bit_at-zero}
-use Rattle.routes.proofs.Determined.{bit_of_member}
-use Rattle.std.specs.Int.{bit_at}
-use Rattle.std.proofs.Common.{zero, suc}
+use Rattle.route_laws.proofs.Labels.{AreChecked}
+use Rattle.route_laws.proofs.Made.{from_root, only_one, only_two, says}
+use Rattle.route_laws.proofs.Parts.{one_of}
+use Rattle.route_laws.proofs.Ordered.{in_order}
+use Rattle.route_laws.proofs.ExternalOffers.{CountsAsExternal, IsOfferOf, counts_24, each_external}
+use Rattle.route_laws.proofs.ExternalOffers.{is_offer_of, net_of, offered_directly, only_directly}
+use Rattle.route_laws.proofs.OneOffer.{IsWayFrom, Walk, candidates_of, each_stub, way, way_to}
 
 abbrev near : ℕ
 near = ipv4 1 1 1 1
@@ -70,26 +62,15 @@ hops r = cond (nat_eq r border) 2 (cond (nat_eq r distant) 4 0)
 abbrev flagged : ℕ → List RouterLink → RouterLsa
 flagged flags links = record { flags = flags; links = links }
 
-only_two : (i : ℕ) → IsTrue (has_interface 4 i) → i ≡ 2
-only_two zero t = absurd (cc)
-only_two (suc zero) t = absurd (cc)
-only_two (suc (suc zero)) t = refl
-only_two (suc (suc (suc i))) t = absurd
-    (let e : bit_at 4 (suc (suc (suc i))) ≡ 0 = bit_at-suc 4 (suc (suc i)) ∙ bit_at-suc 2 (suc i)
-    ∙ bit_at-suc 1 i ∙ bit_at-zero i in omega (arith, e, bit_of_member 4 (suc (suc (suc i))) t))
-
 abbrev border_way : Way
-border_way = record { distance = 10; hops = 2 }
+border_way = way 10 2
 
 abbrev distant_way : Way
-distant_way = record { distance = 100; hops = 4 }
+distant_way = way 100 4
 
 -- the way to 9.9.9.9, which only summaries advertise
 abbrev beyond_way : Way
-beyond_way = record { distance = 17; hops = 2 }
-
-abbrev net_of : ℕ → Network
-net_of id = record { address = network_address 24 id; length = 24 }
+beyond_way = way 17 2
 
 abbrev of_summary : Offer
 of_summary = inter (network_24 198 51 100) 15 2
@@ -110,22 +91,25 @@ is_of_another s = not (nat_eq s.0.ls_type 1 && nat_eq s.0.link_state_id beyond)
 -- ---- whatever flags the neighbors have
 
 module _ (flags distant_flags : ℕ) (has_e : bit_and distant_flags 2 ≡ 2) where
-  abbrev said : Said
-  said = said_at 0 (database (told_entries flags distant_flags))
+  abbrev entries : Entries
+  entries = told_entries flags distant_flags
 
-  labels : AreChecked summaries_root (sayings (told_entries flags distant_flags)) distance hops
+  abbrev said : Said
+  said = said_at 0 (database entries)
+
+  labels : AreChecked summaries_root (sayings entries) distance hops
   labels = record { start = refl; routers = refl; links = refl }
 
   near_says : IsRouterLsa said near (router_lsa summaries_links)
-  near_says = says (told_entries flags distant_flags) (key 1 near near)
+  near_says = says entries (key 1 near near)
       (body.Router (router_lsa summaries_links)) refl
 
   border_says : IsRouterLsa said border (flagged flags border_links)
-  border_says = says (told_entries flags distant_flags) (key 1 border border)
+  border_says = says entries (key 1 border border)
       (body.Router (flagged flags border_links)) refl
 
   distant_says : IsRouterLsa said distant (flagged distant_flags distant_links)
-  distant_says = says (told_entries flags distant_flags) (key 1 distant distant)
+  distant_says = says entries (key 1 distant distant)
       (body.Router (flagged distant_flags distant_links)) refl
 
   abbrev to_border : Step Node
@@ -134,10 +118,10 @@ module _ (flags distant_flags : ℕ) (has_e : bit_and distant_flags 2 ≡ 2) whe
   abbrev to_distant : Step Node
   to_distant = record { target = ARouter distant; price = 100; exit = 2 }
 
-  border_walk : IsWalk (Leads said summaries_root) (ARouter near) (to_border ∷ []) (ARouter border)
+  border_walk : Walk entries summaries_root (to_border ∷ []) border
   border_walk = (
     (
-      from_root (told_entries flags distant_flags) summaries_root summaries_links near_says border
+      from_root entries summaries_root summaries_links near_says border
           (ipv4 10 0 1 1) 10 0 (0, omega arith, refl) (omega arith) refl,
       (
         point_to_point near (ipv4 10 0 1 2) 10,
@@ -153,11 +137,10 @@ module _ (flags distant_flags : ℕ) (has_e : bit_and distant_flags 2 ≡ 2) whe
     refl,
   )
 
-  distant_walk : IsWalk (Leads said summaries_root) (ARouter near) (to_distant ∷ [])
-      (ARouter distant)
+  distant_walk : Walk entries summaries_root (to_distant ∷ []) distant
   distant_walk = (
     (
-      from_root (told_entries flags distant_flags) summaries_root summaries_links near_says distant
+      from_root entries summaries_root summaries_links near_says distant
           (ipv4 10 0 2 1) 100 1 (1, omega arith, refl) (omega arith) refl,
       (
         point_to_point near (ipv4 10 0 2 2) 100,
@@ -173,28 +156,20 @@ module _ (flags distant_flags : ℕ) (has_e : bit_and distant_flags 2 ≡ 2) whe
     refl,
   )
 
-  border_is : IsWay (Leads said summaries_root) (ARouter near) (ARouter border) border_way
-  border_is =
-      way_by (Leads said summaries_root) (ARouter near) (at_node distance) (at_node hops)
-      (checked summaries_root 0 (told_entries flags distant_flags) distance hops labels)
-      (ARouter border) (to_border ∷ []) border_walk refl
-      (λ i t. (to_border, [], border_walk, refl, sym (only_one i t)))
+  border_is : IsWayFrom entries summaries_root border border_way
+  border_is = way_to entries summaries_root distance hops labels border (to_border ∷ [])
+      border_walk refl (λ i t. (to_border, [], border_walk, refl, sym (only_one i t)))
 
-  distant_is : IsWay (Leads said summaries_root) (ARouter near) (ARouter distant) distant_way
-  distant_is =
-      way_by (Leads said summaries_root) (ARouter near) (at_node distance) (at_node hops)
-      (checked summaries_root 0 (told_entries flags distant_flags) distance hops labels)
-      (ARouter distant) (to_distant ∷ []) distant_walk refl
-      (λ i t. (to_distant, [], distant_walk, refl, sym (only_two i t)))
+  distant_is : IsWayFrom entries summaries_root distant distant_way
+  distant_is = way_to entries summaries_root distance hops labels distant (to_distant ∷ [])
+      distant_walk refl (λ i t. (to_distant, [], distant_walk, refl, sym (only_two i t)))
 
   -- there are no stub networks
   no_within : (o : Offer) → OffersWithin said summaries_root o → ⊥
-  no_within o x = each_within 0 (told_entries flags distant_flags) summaries_root (λ _. ⊥) refl
-      (λ router l t. absurd (of_empty (router, l) t)) o x
+  no_within o x = each_stub entries summaries_root (λ _. ⊥) refl tt o x
 
   -- the only router whose summaries count is the neighbor
-  border_alone : (way : Way) → IsWay (Leads said summaries_root) (ARouter near) (ARouter border) way
-      → border_way ≡ way
+  border_alone : (way : Way) → IsWayFrom entries summaries_root border way → border_way ≡ way
   border_alone way is = one_way (Leads said summaries_root) (ARouter near) (ARouter border)
       border_way way border_is is
 
@@ -207,20 +182,16 @@ module _ (flags distant_flags : ℕ) (has_e : bit_and distant_flags 2 ≡ 2) whe
     reached = distant_is;
   })
 
-  far_alone : (way : Way) → IsWay (Leads said summaries_root) (ARouter near) (ARouter distant) way
-      → distant_way ≡ way
+  far_alone : (way : Way) → IsWayFrom entries summaries_root distant way → distant_way ≡ way
   far_alone way is = one_way (Leads said summaries_root) (ARouter near) (ARouter distant)
       distant_way way distant_is is
-
-  distant_alone : (way : Way) → IsBoundaryWay said summaries_root distant way → distant_way ≡ way
-  distant_alone way is = boundary said summaries_root distant distant_way way to_the_distant is
 
   -- 9.9.9.9 has no router-LSA
   none_beyond : (way : Way) → ReachesBoundaryRouter said summaries_root beyond way → ⊥
   none_beyond way x =
-      let e : false ≡ true = all_pass is_of_another (sayings (told_entries flags distant_flags))
+      let e : false ≡ true = all_pass is_of_another (sayings entries)
       refl (key 1 beyond beyond, body.Router x.lsa)
-      (is_said 0 (told_entries flags distant_flags) (key 1 beyond beyond)
+      (is_said 0 entries (key 1 beyond beyond)
       (body.Router x.lsa) x.its) in
       cc
 
@@ -236,7 +207,7 @@ module _ (flags distant_flags : ℕ) (has_e : bit_and distant_flags 2 ≡ 2) whe
   IsTold k (body.External lsa) = Unit {0}
 
   all_told : AllByRecursion (λ (s : Key × LsaBody). IsTold s.0 s.1)
-      (sayings (told_entries flags distant_flags))
+      (sayings entries)
   all_told = (
     tt,
     (
@@ -256,18 +227,17 @@ module _ (flags distant_flags : ℕ) (has_e : bit_and distant_flags 2 ≡ 2) whe
 
   told_of : (k : Key) (says_so : LsaBody) → said k ≡ Some says_so → IsTold k says_so
   told_of k says_so e = one_of (λ (s : Key × LsaBody). IsTold s.0 s.1)
-      (sayings (told_entries flags distant_flags)) all_told (k, says_so)
-      (is_said 0 (told_entries flags distant_flags) k says_so e)
+      (sayings entries) all_told (k, says_so)
+      (is_said 0 entries k says_so e)
 
-  -- the flags of a router-LSA of a neighbor
-  border_flags : (lsa : RouterLsa) → IsRouterLsa said border lsa → flagged flags border_links ≡ lsa
-  border_flags lsa e = let both : Some (body.Router (flagged flags border_links))
-      ≡ Some (body.Router lsa) = sym border_says ∙ e in cc
-
-  far_flags : (lsa : RouterLsa) → IsRouterLsa said distant lsa → flagged distant_flags distant_links
-      ≡ lsa
-  far_flags lsa e = let both : Some (body.Router (flagged distant_flags distant_links))
-      ≡ Some (body.Router lsa) = sym distant_says ∙ e in cc
+  -- the router-LSA of a neighbor
+  one_router_lsa : (router its_flags : ℕ) (links : List RouterLink)
+      → IsRouterLsa said router (flagged its_flags links) → (lsa : RouterLsa)
+      → IsRouterLsa said router lsa → flagged its_flags links ≡ lsa
+  one_router_lsa router its_flags links says_it lsa e =
+      let both : Some (body.Router (flagged its_flags links)) ≡ Some (body.Router lsa) =
+      sym says_it ∙ e in
+      cc
 
   -- an inter-area offer
   between_is : (o : Offer) → OffersBetween said summaries_root o → (of_summary ≡ o)
@@ -282,11 +252,12 @@ module _ (flags distant_flags : ℕ) (has_e : bit_and distant_flags 2 ≡ 2) whe
       let w : border_way ≡ x.border = border_alone x.border reaches.reached in
       let metric : 5 ≡ x.lsa.metric = sym (ap (λ (s : SummaryLsa). s.metric) rest.1) in
       let mask : x.lsa.mask ≡ mask_24 = ap (λ (s : SummaryLsa). s.mask) rest.1 in
-      let p : net_of x.id ≡ x.prefix =
+      let p : net_of 24 x.id ≡ x.prefix =
       one_prefix x.id x.lsa.mask 24 x.prefix (omega arith) mask x.is_prefix in
-      let q : network_24 198 51 100 ≡ x.prefix = sym (ap net_of rest.0) ∙ p in (
+      let q : network_24 198 51 100 ≡ x.prefix = sym (ap (net_of 24) rest.0) ∙ p in (
         (λ i. inter (q i) ((w i).distance + metric i) (w i).hops) ∙ sym x.is,
-        (ap (λ (l : RouterLsa). bit_and l.flags 1) (border_flags reaches.lsa reaches.its)
+        (ap (λ (l : RouterLsa). bit_and l.flags 1)
+            (one_router_lsa border flags border_links border_says reaches.lsa reaches.its)
             ∙ reaches.has_b),
       )
 
@@ -297,33 +268,25 @@ module _ (flags distant_flags : ℕ) (has_e : bit_and distant_flags 2 ≡ 2) whe
   abbrev ByDistant : ℕ → Way → Type 0
   ByDistant cost way = (cost ≡ 101) × (distant_way ≡ way) × (bit_and distant_flags 1 ≡ 1)
 
-  by_border : (cost : ℕ) (way : Way) (x : IsToldOf said summaries_root beyond cost way)
-      → x.originator ≡ border → x.lsa ≡ summary 7 → ByBorder cost way
-  by_border cost way x from same =
-      let Reaches : ℕ → Type 0 = λ router. ReachesBorderRouter said summaries_root router way in
-      let reaches : ReachesBorderRouter said summaries_root border way =
+  -- one that this neighbor advertises with this metric
+  by_neighbor : (router its_flags : ℕ) (links : List RouterLink) (to_it : Way) (metric : ℕ)
+      → IsRouterLsa said router (flagged its_flags links)
+      → IsWayFrom entries summaries_root router to_it → (cost : ℕ) (its_way : Way)
+      (x : IsToldOf said summaries_root beyond cost its_way) → x.originator ≡ router
+      → x.lsa ≡ summary metric
+      → (cost ≡ to_it.distance + metric) × (to_it ≡ its_way) × (bit_and its_flags 1 ≡ 1)
+  by_neighbor router its_flags links to_it metric says_it there cost its_way x from same =
+      let Reaches : ℕ → Type 0 = λ r. ReachesBorderRouter said summaries_root r its_way in
+      let reaches : ReachesBorderRouter said summaries_root router its_way =
       subst Reaches from x.counts.reaches in
-      let w : border_way ≡ way = border_alone way reaches.reached in
-      let metric : x.lsa.metric ≡ 7 = ap (λ (s : SummaryLsa). s.metric) same in
-      let far : 10 ≡ way.distance = ap (λ (y : Way). y.distance) w in (
-        omega (arith, x.is, metric, far),
+      let w : to_it ≡ its_way = one_way (Leads said summaries_root) (ARouter near) (ARouter router)
+      to_it its_way there reaches.reached in
+      let its_metric : x.lsa.metric ≡ metric = ap (λ (s : SummaryLsa). s.metric) same in
+      let far : to_it.distance ≡ its_way.distance = ap (λ (y : Way). y.distance) w in (
+        omega (arith, x.is, its_metric, far),
         w,
-        (ap (λ (l : RouterLsa). bit_and l.flags 1) (border_flags reaches.lsa reaches.its)
-            ∙ reaches.has_b),
-      )
-
-  by_distant : (cost : ℕ) (way : Way) (x : IsToldOf said summaries_root beyond cost way)
-      → x.originator ≡ distant → x.lsa ≡ summary 1 → ByDistant cost way
-  by_distant cost way x from same =
-      let Reaches : ℕ → Type 0 = λ router. ReachesBorderRouter said summaries_root router way in
-      let reaches : ReachesBorderRouter said summaries_root distant way =
-      subst Reaches from x.counts.reaches in
-      let w : distant_way ≡ way = far_alone way reaches.reached in
-      let metric : x.lsa.metric ≡ 1 = ap (λ (s : SummaryLsa). s.metric) same in
-      let far : 100 ≡ way.distance = ap (λ (y : Way). y.distance) w in (
-        omega (arith, x.is, metric, far),
-        w,
-        (ap (λ (l : RouterLsa). bit_and l.flags 1) (far_flags reaches.lsa reaches.its)
+        (ap (λ (l : RouterLsa). bit_and l.flags 1)
+            (one_router_lsa router its_flags links says_it reaches.lsa reaches.its)
             ∙ reaches.has_b),
       )
 
@@ -331,8 +294,10 @@ module _ (flags distant_flags : ℕ) (has_e : bit_and distant_flags 2 ≡ 2) whe
       → ByBorder cost way ⊎ ByDistant cost way
   told_is cost way x =
       elim (told_of (summary_key 4 beyond x.originator) (body.RouterSummary x.lsa) x.its) [
-        | inl t ↦ inl (by_border cost way x t.0 t.1)
-        | inr t ↦ inr (by_distant cost way x t.0 t.1)
+        | inl t ↦ inl (by_neighbor border flags border_links border_way 7 border_says border_is cost
+            way x t.0 t.1)
+        | inr t ↦ inr (by_neighbor distant distant_flags distant_links distant_way 1 distant_says
+            distant_is cost way x t.0 t.1)
       ]
 
   -- without flag B no one advertises it
@@ -347,89 +312,34 @@ module _ (flags distant_flags : ℕ) (has_e : bit_and distant_flags 2 ≡ 2) whe
 
   -- ---- external destinations
 
-  record Given (id originator : ℕ) (lsa : ExternalLsa) (o : Offer) : Type 0 where
-    prefix : Network
-    is_prefix : IsPrefix id lsa.mask prefix
-    way : Way
-    is_way : IsExternalWay said summaries_root originator lsa way
-    is : o ≡ external_offer lsa.kind prefix lsa originator way
+  abbrev IsOfferedBy : (Offer → Type 0) → Key → ExternalLsa → Type 0
+  IsOfferedBy P k lsa = (o : Offer)
+      → IsOfferOf said summaries_root k.link_state_id k.advertising_router lsa o → P o
 
-  external_is : (id originator : ℕ) (lsa : ExternalLsa) (way : Way)
-      → ((other : Way) → IsBoundaryWay said summaries_root originator other → way ≡ other)
-      → lsa.mask ≡ mask_24 → lsa.forwarding ≡ 0 → (o : Offer) → Given id originator lsa o
-      → external_offer lsa.kind (net_of id) lsa originator way ≡ o
-  external_is id originator lsa way only mask direct o g =
-      let w : way ≡ g.way = only g.is_way.boundary g.is_way.reaches
-      ∙ sym (g.is_way.direct direct) in
-      let p : net_of id ≡ g.prefix = one_prefix id lsa.mask 24 g.prefix (omega arith) mask
-      g.is_prefix in
-      (λ i. external_offer lsa.kind (p i) lsa originator (w i)) ∙ sym g.is
+  -- P holds of each external offer, if of those of each AS-external-LSA
+  each_of_three : (P : Offer → Type 0)
+      → IsOfferedBy P (key 5 (ipv4 203 0 113 0) beyond) (external Type1 20 0 0)
+      → IsOfferedBy P (key 5 (ipv4 203 0 114 0) beyond) (external Type2 20 0 0)
+      → IsOfferedBy P (key 5 (ipv4 203 0 115 0) distant) (external Type1 20 0 0) → (o : Offer)
+      → OffersExternal said summaries_root o → P o
+  each_of_three P first second third o x =
+      each_external (IsOfferedBy P) entries
+      (tt, (tt, (tt, (tt, (tt, (tt, (tt, (tt, (first, (second, (third, tt)))))))))))
+      (key 5 x.id x.originator) x.lsa x.its o (is_offer_of said summaries_root o x)
 
-  -- what an AS-external-LSA of a kind offers, if P holds of the offers of each
-  module _ (P : Offer → Type 0)
-      (first : (o : Offer) → Given (ipv4 203 0 113 0) beyond (external Type1 20 0 0) o → P o)
-      (second : (o : Offer) → Given (ipv4 203 0 114 0) beyond (external Type2 20 0 0) o → P o)
-      (third : (o : Offer) → Given (ipv4 203 0 115 0) distant (external Type1 20 0 0) o → P o) where
-    abbrev IsKnown : Key → LsaBody → Type 0
-    IsKnown k (body.Router r) = Unit {0}
-    IsKnown k (body.Network n) = Unit {0}
-    IsKnown k (body.NetworkSummary s) = Unit {0}
-    IsKnown k (body.RouterSummary s) = Unit {0}
-    IsKnown k (body.External lsa) = (o : Offer) → Given k.link_state_id k.advertising_router lsa o
-        → P o
+  distant_counts : CountsAsExternal said summaries_root (ipv4 203 0 115 0) distant
+      (external Type1 20 0 0) 24
+  distant_counts = counts_24 entries summaries_root (ipv4 203 0 115 0) distant
+      (external Type1 20 0 0) refl (omega arith) (λ e. omega (arith, e)) refl
 
-    all_known : AllByRecursion (λ (s : Key × LsaBody). IsKnown s.0 s.1)
-        (sayings (told_entries flags distant_flags))
-    all_known = (tt, (tt, (tt, (tt, (tt, (tt, (tt, (tt, (first, (second, (third, tt)))))))))))
-
-    each_external : (o : Offer) → OffersExternal said summaries_root o → P o
-    each_external o x =
-        one_of (λ (s : Key × LsaBody). IsKnown s.0 s.1) (sayings (told_entries flags distant_flags))
-        all_known (key 5 x.id x.originator, body.External x.lsa)
-        (is_said 0 (told_entries flags distant_flags) (key 5 x.id x.originator)
-        (body.External x.lsa) x.its) o
-        (record {
-          prefix = x.prefix;
-          is_prefix = x.is_prefix;
-          way = x.way;
-          is_way = x.is_way;
-          is = x.is;
-        })
+  only_distant_offer : IsOfferedBy (λ o. of_distant ≡ o) (key 5 (ipv4 203 0 115 0) distant)
+      (external Type1 20 0 0)
+  only_distant_offer = only_directly said summaries_root (ipv4 203 0 115 0) distant
+      (external Type1 20 0 0) 24 distant_counts refl distant_way to_the_distant
 
   distant_offered : Offers said summaries_root of_distant
-  distant_offered = External (record {
-    id = ipv4 203 0 115 0;
-    originator = distant;
-    lsa = external Type1 20 0 0;
-    its = says (told_entries flags distant_flags) (key 5 (ipv4 203 0 115 0) distant)
-        (body.External (external Type1 20 0 0)) refl;
-    reachable = omega arith;
-    of_another = λ e. omega (arith, e);
-    prefix = network_24 203 0 115;
-    is_prefix = (omega arith, refl, refl);
-    way = distant_way;
-    is_way = record {
-      boundary = distant_way;
-      reaches = to_the_distant;
-      direct = λ _. refl;
-      forwarded = λ other. absurd (other refl);
-    };
-    is = refl;
-  })
-
--- ---- candidates of a list of offers for different prefixes
-
-abbrev IsBeaten : Offer → Offer → Type 0
-IsBeaten c x = x.prefix ≡ c.prefix → (x ≡ c) ⊎ (IsNoWorse c x × (IsNoWorse x c → ⊥))
-
-elsewhere : (c x : Offer) → not (nat_eq x.prefix.address c.prefix.address) ≡ true → IsBeaten c x
-elsewhere c x far e = absurd (apart x.prefix c.prefix far e)
-
-itself : (c : Offer) → IsBeaten c c
-itself c e = inl refl
-
-abbrev Before : Route → Route → Type 0
-Before a b = IsBefore a.prefix b.prefix
+  distant_offered = External (offered_directly said summaries_root (ipv4 203 0 115 0) distant
+      (external Type1 20 0 0) 24 distant_counts refl distant_way to_the_distant)
 
 -- ---- without flag B
 
@@ -446,29 +356,18 @@ only_distant : (o : Offer) → Offers plain summaries_root o → of_distant ≡ 
 only_distant o (Within x) = absurd (no_within 0 2 refl o x)
 only_distant o (Between x) = absurd (no_flag (between_is 0 2 refl o x).1)
 only_distant o (External x) =
-    each_external 0 2 refl (λ y. of_distant ≡ y)
+    each_of_three 0 2 refl (λ y. of_distant ≡ y)
     (λ y g. absurd (not_beyond 0 2 refl no_flag nor_flag g.is_way.boundary g.is_way.reaches))
-    (λ y g. absurd (not_beyond 0 2 refl no_flag nor_flag g.is_way.boundary
-    g.is_way.reaches))
-    (λ y g. external_is 0 2 refl (ipv4 203 0 115 0) distant (external Type1 20 0 0) distant_way
-    (distant_alone 0 2 refl) refl refl y g) o x
+    (λ y g. absurd (not_beyond 0 2 refl no_flag nor_flag g.is_way.boundary g.is_way.reaches))
+    (only_distant_offer 0 2 refl) o x
 
 without : AreCandidates plain summaries_root (distant_route ∷ [])
 without =
-    all_candidates plain summaries_root (distant_route ∷ [])
-    (λ r t.
-    elim (of_cons distant_route [] r t) [
-      | inl e ↦ subst (λ x. IsCandidate plain summaries_root x) e
-          (alone plain summaries_root of_distant (distant_offered 0 2 refl)
-          (λ o offered e. inl (sym (only_distant o offered))))
-      | inr none ↦ absurd (of_empty r none)
-    ])
-    (λ o offered. (
-      distant_route,
-      (0, omega arith, refl),
-      ap (λ (x : Offer). x.prefix) (only_distant o offered),
-    ))
-    (in_front Before distant_route [] tt (nobody Before))
+    candidates_of plain summaries_root (of_distant ∷ [])
+    (in_order (λ (o : Offer). o.prefix) (of_distant ∷ []) refl)
+    (one_of (λ (o : Offer). Offers plain summaries_root o) (of_distant ∷ [])
+    (distant_offered 0 2 refl, tt))
+    (λ o offered. (0, omega arith, only_distant o offered))
 
 -- ---- with flag B
 
@@ -534,30 +433,37 @@ to_beyond =
       );
     })
 
-beyond_alone : (way : Way) → IsBoundaryWay said_b summaries_root beyond way → beyond_way ≡ way
-beyond_alone way is = boundary said_b summaries_root beyond beyond_way way to_beyond is
+beyond_1_counts : CountsAsExternal said_b summaries_root (ipv4 203 0 113 0) beyond
+    (external Type1 20 0 0) 24
+beyond_1_counts = counts_24 (told_entries 1 3) summaries_root (ipv4 203 0 113 0) beyond
+    (external Type1 20 0 0) refl (omega arith) (λ e. omega (arith, e)) refl
+
+beyond_2_counts : CountsAsExternal said_b summaries_root (ipv4 203 0 114 0) beyond
+    (external Type2 20 0 0) 24
+beyond_2_counts = counts_24 (told_entries 1 3) summaries_root (ipv4 203 0 114 0) beyond
+    (external Type2 20 0 0) refl (omega arith) (λ e. omega (arith, e)) refl
 
 abbrev offers : List Offer
 offers = of_summary ∷ of_beyond_1 ∷ of_beyond_2 ∷ of_distant ∷ []
 
-in_offers : (x : Offer) → Contains offers x → (o : Offer) → x ≡ o → Contains offers o
-in_offers x t o e = subst (Contains offers) e t
-
 complete : (o : Offer) → Offers said_b summaries_root o → Contains offers o
 complete o (Within x) = absurd (no_within 1 3 refl o x)
-complete o (Between x) = in_offers of_summary (0, omega arith, refl) o (between_is 1 3 refl o x).0
+complete o (Between x) = (0, omega arith, (between_is 1 3 refl o x).0)
 complete o (External x) =
-    each_external 1 3 refl (Contains offers)
-    (λ y g. in_offers of_beyond_1 (1, omega arith, refl) y
-    (external_is 1 3 refl (ipv4 203 0 113 0) beyond (external Type1 20 0 0) beyond_way
-    beyond_alone refl refl y g))
-    (λ y g. in_offers of_beyond_2 (2, omega arith, refl) y
-    (external_is 1 3 refl (ipv4 203 0 114 0) beyond (external Type2 20 0 0) beyond_way
-    beyond_alone refl refl y g))
-    (λ y g. in_offers of_distant (3, omega arith, refl) y
-    (external_is 1 3 refl (ipv4 203 0 115 0) distant (external Type1 20 0 0) distant_way
-    (distant_alone 1 3 refl) refl refl y g))
-    o x
+    each_of_three 1 3 refl (λ y. Contains offers y)
+    (λ y g. (
+      1,
+      omega arith,
+      only_directly said_b summaries_root (ipv4 203 0 113 0) beyond (external Type1 20 0 0) 24
+          beyond_1_counts refl beyond_way to_beyond y g,
+    ))
+    (λ y g. (
+      2,
+      omega arith,
+      only_directly said_b summaries_root (ipv4 203 0 114 0) beyond (external Type2 20 0 0) 24
+          beyond_2_counts refl beyond_way to_beyond y g,
+    ))
+    (λ y g. (3, omega arith, only_distant_offer 1 3 refl y g)) o x
 
 summary_offered : Offers said_b summaries_root of_summary
 summary_offered = Between (record {
@@ -573,131 +479,24 @@ summary_offered = Between (record {
   is = refl;
 })
 
-beyond_1_offered : Offers said_b summaries_root of_beyond_1
-beyond_1_offered = External (record {
-  id = ipv4 203 0 113 0;
-  originator = beyond;
-  lsa = external Type1 20 0 0;
-  its = says (told_entries 1 3) (key 5 (ipv4 203 0 113 0) beyond)
-      (body.External (external Type1 20 0 0)) refl;
-  reachable = omega arith;
-  of_another = λ e. omega (arith, e);
-  prefix = network_24 203 0 113;
-  is_prefix = (omega arith, refl, refl);
-  way = beyond_way;
-  is_way = record {
-    boundary = beyond_way;
-    reaches = to_beyond;
-    direct = λ _. refl;
-    forwarded = λ other. absurd (other refl);
-  };
-  is = refl;
-})
-
-beyond_2_offered : Offers said_b summaries_root of_beyond_2
-beyond_2_offered = External (record {
-  id = ipv4 203 0 114 0;
-  originator = beyond;
-  lsa = external Type2 20 0 0;
-  its = says (told_entries 1 3) (key 5 (ipv4 203 0 114 0) beyond)
-      (body.External (external Type2 20 0 0)) refl;
-  reachable = omega arith;
-  of_another = λ e. omega (arith, e);
-  prefix = network_24 203 0 114;
-  is_prefix = (omega arith, refl, refl);
-  way = beyond_way;
-  is_way = record {
-    boundary = beyond_way;
-    reaches = to_beyond;
-    direct = λ _. refl;
-    forwarded = λ other. absurd (other refl);
-  };
-  is = refl;
-})
-
-beaten : (c : Offer) → AllByRecursion (IsBeaten c) offers → IsAlone said_b summaries_root c
-beaten c all o offered e = one_of (IsBeaten c) offers all o (complete o offered) e
-
-abbrev routes : List Route
-routes = between_route ∷ beyond_1 ∷ beyond_2 ∷ distant_route ∷ []
-
-sound : AllByRecursion (λ (r : Route). IsCandidate said_b summaries_root r) routes
-sound = (
-  alone said_b summaries_root of_summary summary_offered
-      (beaten of_summary (
-        itself of_summary,
-        (
-          elsewhere of_summary of_beyond_1 refl,
-          (
-            elsewhere of_summary of_beyond_2 refl,
-            (elsewhere of_summary of_distant refl, tt),
-          ),
-        ),
-      )),
+each_offered : AllByRecursion (λ (o : Offer). Offers said_b summaries_root o) offers
+each_offered = (
+  summary_offered,
   (
-    alone said_b summaries_root of_beyond_1 beyond_1_offered
-        (beaten of_beyond_1 (
-          elsewhere of_beyond_1 of_summary refl,
-          (
-            itself of_beyond_1,
-            (
-              elsewhere of_beyond_1 of_beyond_2 refl,
-              (elsewhere of_beyond_1 of_distant refl, tt),
-            ),
-          ),
-        )),
+    External (offered_directly said_b summaries_root (ipv4 203 0 113 0) beyond
+        (external Type1 20 0 0) 24 beyond_1_counts refl beyond_way to_beyond),
     (
-      alone said_b summaries_root of_beyond_2 beyond_2_offered
-          (beaten of_beyond_2 (
-            elsewhere of_beyond_2 of_summary refl,
-            (
-              elsewhere of_beyond_2 of_beyond_1 refl,
-              (itself of_beyond_2, (elsewhere of_beyond_2 of_distant refl, tt)),
-            ),
-          )),
-      (
-        alone said_b summaries_root of_distant (distant_offered 1 3 refl)
-            (beaten of_distant (
-              elsewhere of_distant of_summary refl,
-              (
-                elsewhere of_distant of_beyond_1 refl,
-                (elsewhere of_distant of_beyond_2 refl, (itself of_distant, tt)),
-              ),
-            )),
-        tt,
-      ),
+      External (offered_directly said_b summaries_root (ipv4 203 0 114 0) beyond
+          (external Type2 20 0 0) 24 beyond_2_counts refl beyond_way to_beyond),
+      (distant_offered 1 3 refl, tt),
     ),
   ),
 )
-
-abbrev HasRoute : Offer → Type 0
-HasRoute o = (s : Route) × Contains routes s × (s.prefix ≡ o.prefix)
-
-covered : AllByRecursion HasRoute offers
-covered = (
-  (between_route, (0, omega arith, refl), refl),
-  (
-    (beyond_1, (1, omega arith, refl), refl),
-    (
-      (beyond_2, (2, omega arith, refl), refl),
-      ((distant_route, (3, omega arith, refl), refl), tt),
-    ),
-  ),
-)
-
-ascending : AllPairs Before routes
-ascending =
-    in_front Before between_route (beyond_1 ∷ beyond_2 ∷ distant_route ∷ [])
-    (ByAddress (omega arith), (ByAddress (omega arith), (ByAddress (omega arith), tt)))
-    (in_front Before beyond_1 (beyond_2 ∷ distant_route ∷ [])
-    (ByAddress (omega arith), (ByAddress (omega arith), tt))
-    (in_front Before beyond_2 (distant_route ∷ []) (ByAddress (omega arith), tt)
-    (in_front Before distant_route [] tt (nobody Before))))
 
 pub worked : WorkedSummaries
 worked = record {
-  with_b = all_candidates said_b summaries_root routes
-      (λ r t. one_of (λ (x : Route). IsCandidate said_b summaries_root x) routes sound r t)
-      (λ o offered. one_of HasRoute offers covered o (complete o offered)) ascending;
+  with_b = candidates_of said_b summaries_root offers
+      (in_order (λ (o : Offer). o.prefix) offers refl)
+      (one_of (λ (o : Offer). Offers said_b summaries_root o) offers each_offered) complete;
   without_b = without;
 }

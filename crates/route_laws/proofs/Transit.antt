@@ -1,10 +1,10 @@
 -- The worked transit network: its ways, the offers, and the candidates.
 use Rattle.std.proofs.Common.{◌≡◌, ◌≢◌, ℕ, ◌≤◌, ◌⊎◌, inl, inr, Bool, true, cond, not, ◌||◌, IsTrue}
 use Rattle.std.proofs.Common.{nat_eq, eqb-true, List, [], ◌∷◌, filter, bit_and, arith, refl, sym}
-use Rattle.std.proofs.Common.{◌∙◌, ap, subst}
-use Rattle.std.specs.List.{AllByRecursion, AllPairs, Contains}
+use Rattle.std.proofs.Common.{subst, Some, slice_get}
+use Rattle.std.specs.List.{AllByRecursion, Contains}
 use Rattle.words.specs.Interfaces.{has_interface}
-use Rattle.words.specs.Prefixes.{Network, network_address}
+use Rattle.words.specs.Prefixes.{Network}
 use Rattle.words.specs.declared.key.Key.{Key}
 use Rattle.words.specs.declared.route.ExternalType.TheVariants.{Type1}
 use Rattle.words.specs.declared.route.Route.{Route}
@@ -12,14 +12,13 @@ use Rattle.lsa.specs.declared.body.LsaBody.{LsaBody}
 use Rattle.lsa.specs.declared.body.LsaBody.TheVariants as body
 use Rattle.lsa.specs.declared.body.ExternalLsa.{ExternalLsa}
 use Rattle.lsa.specs.declared.body.RouterLink.{RouterLink}
-use Rattle.routes.specs.Candidates.{IsBest, IsCandidate, IsExternalWay, Offers, external_offer}
-use Rattle.routes.specs.Routes.IsBefore.{ByAddress}
+use Rattle.routes.specs.Candidates.{IsBest, IsCandidate, Offers, external_offer}
 use Rattle.routes.specs.Routes.IsNoLater.{ByOriginator, ByTag}
 use Rattle.routes.specs.Candidates.Offers.{Between, External, Within}
 use Rattle.routes.specs.Links.{IsRouterLsa, Leads, ListsRouter}
 use Rattle.routes.specs.declared.node.Node.{Node}
 use Rattle.routes.specs.declared.node.Node.TheVariants.{ANetwork, ARouter}
-use Rattle.routes.specs.Offers.{IsPrefix, OffersWithin, ReachesBoundaryRouter, intra}
+use Rattle.routes.specs.Offers.{OffersWithin, intra}
 use Rattle.routes.specs.declared.offer.Offer.{Offer}
 use Rattle.routes.specs.Paths.{IsWay, Step, Way}
 use Rattle.route_laws.specs.Worked.{database, ipv4, key, mask_24, network_24, router_lsa, stub}
@@ -28,22 +27,24 @@ use Rattle.route_laws.specs.WorkedTransit.{WorkedTransit, behind_route, designat
 use Rattle.route_laws.specs.WorkedTransit.{longest_route, network_8, network_lsa, other_links}
 use Rattle.route_laws.specs.WorkedTransit.{root_links, shared_route, transit, transit_entries}
 use Rattle.route_laws.specs.WorkedTransit.{transit_root, transit_route, wide_route}
-use Rattle.route_laws.proofs.Alone.{IsAlone, all_candidates, alone, alone_among, is_stub}
+use Rattle.route_laws.proofs.Alone.{IsAlone, StubOffer, alone, alone_among, is_stub}
 use Rattle.route_laws.proofs.Alone.{no_worse_itself, route_of}
-use Rattle.routes.proofs.Prefixes.{one_prefix}
-use Rattle.routes.proofs.Determined.{one_way}
-use Rattle.route_laws.proofs.Entries.{all_pass, links_of, is_said, sayings}
-use Rattle.route_laws.proofs.OneWay.{one_forward}
+use Rattle.route_laws.proofs.Entries.{all_pass, is_said, links_of, sayings}
 use Rattle.route_laws.proofs.Labels.{AreLabels, subset, way_by}
 use Rattle.route_laws.proofs.Made.{back, from_root, linked, one_or_two, only_one, says}
 use Rattle.route_laws.proofs.NetworkLabels.{AreRising, IsNetworkKnown, IsStubKnown, at, each_offer}
 use Rattle.route_laws.proofs.NetworkLabels.{rising, unreached}
-use Rattle.route_laws.proofs.Parts.{apart, in_front, nobody, one_of}
+use Rattle.route_laws.proofs.Parts.{apart, one_of}
 use Rattle.routes.specs.Said.{Said, said_at}
-use Rattle.routes.specs.Routes.{IsBefore, IsForwarded, IsNoLater, IsNoWorse, IsRouteAmong}
+use Rattle.routes.specs.Routes.{IsForwarded, IsNoLater, IsNoWorse, IsRouteAmong}
 use Rattle.route_laws.proofs.NoSummaries.{is_inside, is_within, nothing_between}
 use Rattle.routes.specs.Summaries.IsBoundaryWay.{Inside}
 use Rattle.routes.specs.Summaries.{IsBoundaryWay, OffersInside}
+use Rattle.route_laws.proofs.Listed.{candidates_in, each_route, lone, others_elsewhere}
+use Rattle.route_laws.proofs.ExternalOffers.{CountsAsExternal, EachExternal, IsOfferOf, counts_24}
+use Rattle.route_laws.proofs.ExternalOffers.{each_external, is_offer_of, offered_by_address}
+use Rattle.route_laws.proofs.ExternalOffers.{offered_directly, only_by_address, only_directly}
+use Rattle.route_laws.proofs.OneOffer.{hops_from, stub_by, stub_within, way}
 
 abbrev said : Said
 said = said_at 0 (database transit_entries)
@@ -197,18 +198,12 @@ inner_member = (
 are : AreLabels leads (ARouter root) (at dr dn) (at hr hn)
 are = rising transit_root 0 transit_entries dr hr dn hn labels
 
-designated_way : IsWay leads (ARouter root) (ARouter designated) (record {
-  distance = 10;
-  hops = 2;
-})
+designated_way : IsWay leads (ARouter root) (ARouter designated) (way 10 2)
 designated_way = way_by leads (ARouter root) (at dr dn) (at hr hn) are (ARouter designated)
     (to_designated ∷ []) (first_link, refl) refl
     (λ i t. (to_designated, [], (first_link, refl), refl, sym (only_one i t)))
 
-network_way : IsWay leads (ARouter root) (ANetwork network designated) (record {
-  distance = 15;
-  hops = 2;
-})
+network_way : IsWay leads (ARouter root) (ANetwork network designated) (way 15 2)
 network_way = way_by leads (ARouter root) (at dr dn) (at hr hn) are (ANetwork network designated)
     (to_designated ∷ to_network ∷ []) (first_link, (network_link, refl)) refl
     (λ i t. (
@@ -219,7 +214,7 @@ network_way = way_by leads (ARouter root) (at dr dn) (at hr hn) are (ANetwork ne
       sym (only_one i t),
     ))
 
-inner_way : IsWay leads (ARouter root) (ARouter inner) (record { distance = 15; hops = 2 })
+inner_way : IsWay leads (ARouter root) (ARouter inner) (way 15 2)
 inner_way = way_by leads (ARouter root) (at dr dn) (at hr hn) are (ARouter inner)
     (to_designated ∷ to_network ∷ over_network inner ∷ [])
     (first_link, (network_link, (inner_member, refl))) refl
@@ -231,7 +226,7 @@ inner_way = way_by leads (ARouter root) (at dr dn) (at hr hn) are (ARouter inner
       sym (only_one i t),
     ))
 
-other_way : IsWay leads (ARouter root) (ARouter other) (record { distance = 15; hops = 6 })
+other_way : IsWay leads (ARouter root) (ARouter other) (way 15 6)
 other_way = way_by leads (ARouter root) (at dr dn) (at hr hn) are (ARouter other) (to_other ∷ [])
     (second_link, refl) refl
     (λ i t. elim (one_or_two i t) [
@@ -271,49 +266,20 @@ wide_stub = stub (ipv4 10 0 0 0) (ipv4 255 0 0 0) 1
 abbrev behind_stub : RouterLink
 behind_stub = stub (ipv4 192 0 2 0) mask_24 10
 
+wide_is : StubOffer said transit_root designated wide_stub 8 wide_offer
+wide_is = stub_by transit_entries transit_root designated wide_stub 8 (way 10 2) 2
+    designated_way (hops_from transit_root designated (λ e. omega (arith, e)) 2) (omega arith) refl
+
+behind_is : StubOffer said transit_root other behind_stub 24 behind_offer
+behind_is = stub_by transit_entries transit_root other behind_stub 24 (way 15 6) 6 other_way
+    (hops_from transit_root other (λ e. omega (arith, e)) 6) (omega arith) refl
+
 stubs_known : AllByRecursion (λ (x : ℕ × RouterLink). IsStubKnown 0 transit_entries transit_root
     IsNearby
     x.0 x.1) (filter is_stub (links_of (sayings transit_entries)))
 stubs_known = (
-  inr (
-    8,
-    wide_offer,
-    record {
-      way = record {
-        distance = 10;
-        hops = 2;
-      };
-      reached = designated_way;
-      within = omega arith;
-      mask = refl;
-      hops = 2;
-      by_root = λ e. absurd (omega (arith, e));
-      by_others = λ _. refl;
-      is = refl;
-    },
-    (0, omega arith, refl),
-  ),
-  (
-    inr (
-      24,
-      behind_offer,
-      record {
-        way = record {
-          distance = 15;
-          hops = 6;
-        };
-        reached = other_way;
-        within = omega arith;
-        mask = refl;
-        hops = 6;
-        by_root = λ e. absurd (omega (arith, e));
-        by_others = λ _. refl;
-        is = refl;
-      },
-      (2, omega arith, refl),
-    ),
-    (inl never_unlinked, tt),
-  ),
+  inr (8, wide_offer, wide_is, (0, omega arith, refl)),
+  (inr (24, behind_offer, behind_is, (2, omega arith, refl)), (inl never_unlinked, tt)),
 )
 
 abbrev IsSayingKnown : Key → LsaBody → Type 0
@@ -377,25 +343,8 @@ within o x =
     ) t) o x
 
 wide_there : OffersWithin said transit_root wide_offer
-wide_there = record {
-  node = ARouter designated;
-  prefix = network_8 10;
-  more = 1;
-  attached = (
-    wide_stub,
-    linked transit_entries designated designated_links designated_says
-        wide_stub (2, omega arith, refl),
-    refl,
-    (omega arith, refl, refl),
-    refl,
-  );
-  way = record { distance = 10; hops = 2 };
-  reached = designated_way;
-  hops = 2;
-  by_root = λ e. absurd (let same : designated ≡ root = cc in omega (arith, same));
-  by_others = λ _. refl;
-  is = refl;
-}
+wide_there = stub_within transit_entries transit_root designated designated_links designated_says
+    wide_stub (2, omega arith, refl) refl 8 wide_offer wide_is
 
 network_there : OffersWithin said transit_root network_offer
 network_there = record {
@@ -418,32 +367,11 @@ network_there = record {
 }
 
 behind_there : OffersWithin said transit_root behind_offer
-behind_there = record {
-  node = ARouter other;
-  prefix = network_24 192 0 2;
-  more = 10;
-  attached = (
-    behind_stub,
-    linked transit_entries other other_links other_says behind_stub
-        (2, omega arith, refl),
-    refl,
-    (omega arith, refl, refl),
-    refl,
-  );
-  way = record { distance = 15; hops = 6 };
-  reached = other_way;
-  hops = 6;
-  by_root = λ e. absurd (let same : other ≡ root = cc in omega (arith, same));
-  by_others = λ _. refl;
-  is = refl;
-}
+behind_there = stub_within transit_entries transit_root other other_links other_says behind_stub
+    (2, omega arith, refl) refl 24 behind_offer behind_is
 
 nearby_inside : (o : Offer) → OffersInside said transit_root o → Contains nearby o
 nearby_inside o x = within o (is_within 0 transit_entries refl transit_root o x)
-
-reached_inside : (router : ℕ) (way : Way) → IsBoundaryWay said transit_root router way
-    → ReachesBoundaryRouter said transit_root router way
-reached_inside = is_inside 0 transit_entries refl transit_root
 
 -- ---- the forwarding address, which is in both of the nearer networks
 
@@ -453,71 +381,38 @@ forwarding = ipv4 10 1 0 9
 abbrev forward_way : Way
 forward_way = record { distance = 15; hops = 2 }
 
-abbrev network_net : Network
-network_net = network_24 10 1 0
-
 -- the offers within the area have such prefixes
 lengths : (r : Route) → IsRouteAmong (OffersInside said transit_root) r → r.prefix.length ≤ 24
-lengths r k =
-    let fits : k.first.prefix.length ≤ 24 =
-    one_of (λ (x : Offer). x.prefix.length ≤ 24) nearby
-    (omega arith, (omega arith, (omega arith, tt))) k.first
-    (nearby_inside k.first k.is_best.offered) in
-    let same : k.first.prefix.length ≡ r.prefix.length =
-    ap (λ (n : Network). n.length) k.is_best.is_for in
-    omega (arith, fits, same)
+lengths = each_route (OffersInside said transit_root) nearby nearby_inside
+    (λ (n : Network). n.length ≤ 24) (omega arith, (omega arith, (omega arith, tt)))
 
 forwarded_way : IsForwarded (OffersInside said transit_root) forwarding forward_way
 forwarded_way = record {
   by = route_of network_offer;
-  is_route =
-      alone_among (OffersInside said transit_root) network_offer (inl network_there) (λ o offered e.
-      one_of (λ (x : Offer). x.prefix ≡ network_net → (x ≡ network_offer)
-      ⊎ (IsNoWorse network_offer x × (IsNoWorse x network_offer → ⊥))) nearby (
-        (λ f. absurd (apart (network_8 10) network_net refl f)),
-        ((λ f. inl refl), ((λ f. absurd (apart (network_24 192 0 2) network_net refl f)), tt)),
-      ) o
-      (nearby_inside o offered) e);
+  is_route = alone_among (OffersInside said transit_root) network_offer (inl network_there)
+      (lone (OffersInside said transit_root) nearby nearby_inside 1 network_offer refl refl);
   under = refl;
   longest = λ r k u. lengths r k;
   is = refl;
 }
 
--- ---- what an AS-external-LSA offers
+-- ---- what the AS-external-LSAs offer
 
-record Given (id originator : ℕ) (lsa : ExternalLsa) (o : Offer) : Type 0 where
-  prefix : Network
-  is_prefix : IsPrefix id lsa.mask prefix
-  way : Way
-  is_way : IsExternalWay said transit_root originator lsa way
-  is : o ≡ external_offer lsa.kind prefix lsa originator way
+reaches_designated : IsBoundaryWay said transit_root designated (way 10 2)
+reaches_designated = Inside (record {
+  lsa = router_lsa designated_links;
+  its = designated_says;
+  has_e = refl;
+  reached = designated_way;
+})
 
-abbrev net_of : ℕ → Network
-net_of id = record { address = network_address 24 id; length = 24 }
-
-direct_known : (id originator : ℕ) (lsa : ExternalLsa) (way : Way)
-    → IsWay leads (ARouter root) (ARouter originator) way → lsa.mask ≡ mask_24 → lsa.forwarding ≡ 0
-    → (o : Offer) → Given id originator lsa o
-    → external_offer lsa.kind (net_of id) lsa originator way ≡ o
-direct_known id originator lsa way is mask none o g =
-    let boundary : way ≡ g.is_way.boundary =
-    one_way leads (ARouter root) (ARouter originator) way g.is_way.boundary is
-    (reached_inside originator g.is_way.boundary g.is_way.reaches).reached in
-    let w : way ≡ g.way = boundary ∙ sym (g.is_way.direct none) in
-    let p : net_of id ≡ g.prefix = one_prefix id lsa.mask 24 g.prefix (omega arith) mask g.is_prefix
-    in
-    (λ i. external_offer lsa.kind (p i) lsa originator (w i)) ∙ sym g.is
-
-forward_known : (id originator : ℕ) (lsa : ExternalLsa) (way : Way) → lsa.mask ≡ mask_24
-    → lsa.forwarding ≢ 0 → IsForwarded (OffersInside said transit_root) lsa.forwarding way
-    → (o : Offer) → Given id originator lsa o
-    → external_offer lsa.kind (net_of id) lsa originator way ≡ o
-forward_known id originator lsa way mask some is o g =
-    let w : way ≡ g.way = one_forward (OffersInside said transit_root) lsa.forwarding way g.way is
-    (g.is_way.forwarded some) in
-    let p : net_of id ≡ g.prefix = one_prefix id lsa.mask 24 g.prefix (omega arith) mask g.is_prefix
-    in
-    (λ i. external_offer lsa.kind (p i) lsa originator (w i)) ∙ sym g.is
+reaches_other : IsBoundaryWay said transit_root other (way 15 6)
+reaches_other = Inside (record {
+  lsa = router_lsa other_links;
+  its = other_says;
+  has_e = refl;
+  reached = other_way;
+})
 
 abbrev designated_lsa : ExternalLsa
 designated_lsa = external Type1 25 0 9
@@ -535,13 +430,10 @@ abbrev shared_net : Network
 shared_net = network_24 203 0 113
 
 abbrev designated_offer : Offer
-designated_offer = external_offer Type1 shared_net designated_lsa designated (record {
-  distance = 10;
-  hops = 2;
-})
+designated_offer = external_offer Type1 shared_net designated_lsa designated (way 10 2)
 
 abbrev other_offer : Offer
-other_offer = external_offer Type1 shared_net other_lsa other (record { distance = 15; hops = 6 })
+other_offer = external_offer Type1 shared_net other_lsa other (way 15 6)
 
 abbrev forwarded_offer : Offer
 forwarded_offer = external_offer Type1 (network_24 203 0 114) forwarded_lsa designated forward_way
@@ -550,43 +442,48 @@ abbrev offers : List Offer
 offers = wide_offer ∷ network_offer ∷ behind_offer ∷ designated_offer ∷ other_offer
     ∷ forwarded_offer ∷ []
 
-abbrev IsKnown : Key → LsaBody → Type 0
-IsKnown k (body.Router r) = Unit {0}
-IsKnown k (body.Network n) = Unit {0}
-IsKnown k (body.NetworkSummary s) = Unit {0}
-IsKnown k (body.RouterSummary s) = Unit {0}
-IsKnown k (body.External lsa) = (o : Offer) → Given k.link_state_id k.advertising_router lsa o
-    → Contains offers o
+abbrev IsKnown : Key → ExternalLsa → Type 0
+IsKnown k lsa = (o : Offer)
+    → IsOfferOf said transit_root k.link_state_id k.advertising_router lsa o → Contains offers o
 
-designated_known : IsKnown (key 5 (ipv4 203 0 113 0) designated) (body.External designated_lsa)
+designated_counts : CountsAsExternal said transit_root (ipv4 203 0 113 0) designated designated_lsa
+    24
+designated_counts = counts_24 transit_entries transit_root (ipv4 203 0 113 0) designated
+    designated_lsa refl (omega arith) (λ e. omega (arith, e)) refl
+
+other_counts : CountsAsExternal said transit_root (ipv4 203 0 113 0) other other_lsa 24
+other_counts = counts_24 transit_entries transit_root (ipv4 203 0 113 0) other other_lsa refl
+    (omega arith) (λ e. omega (arith, e)) refl
+
+forwarded_counts : CountsAsExternal said transit_root (ipv4 203 0 114 0) designated forwarded_lsa 24
+forwarded_counts = counts_24 transit_entries transit_root (ipv4 203 0 114 0) designated
+    forwarded_lsa refl (omega arith) (λ e. omega (arith, e)) refl
+
+is_forwarded : forwarded_lsa.forwarding ≢ 0
+is_forwarded e = let z : ipv4 10 1 0 9 ≡ 0 = e in omega (arith, z)
+
+designated_known : IsKnown (key 5 (ipv4 203 0 113 0) designated) designated_lsa
 designated_known o g = (
   3,
   omega arith,
-  direct_known (ipv4 203 0 113 0) designated designated_lsa (record {
-    distance = 10;
-    hops = 2;
-  }) designated_way refl refl o g,
+  only_directly said transit_root (ipv4 203 0 113 0) designated designated_lsa 24
+      designated_counts refl (way 10 2) reaches_designated o g,
 )
 
-other_known : IsKnown (key 5 (ipv4 203 0 113 0) other) (body.External other_lsa)
+other_known : IsKnown (key 5 (ipv4 203 0 113 0) other) other_lsa
 other_known o g = (
   4,
   omega arith,
-  direct_known (ipv4 203 0 113 0) other other_lsa (record {
-    distance = 15;
-    hops = 6;
-  }) other_way refl refl o g,
+  only_directly said transit_root (ipv4 203 0 113 0) other other_lsa 24 other_counts refl
+      (way 15 6) reaches_other o g,
 )
 
-is_forwarded : forwarding ≡ 0 → ⊥
-is_forwarded e = omega (arith, e)
-
-forwarded_known : IsKnown (key 5 (ipv4 203 0 114 0) designated) (body.External forwarded_lsa)
+forwarded_known : IsKnown (key 5 (ipv4 203 0 114 0) designated) forwarded_lsa
 forwarded_known o g = (
   5,
   omega arith,
-  forward_known (ipv4 203 0 114 0) designated forwarded_lsa forward_way refl is_forwarded
-      forwarded_way o g,
+  only_by_address said transit_root (ipv4 203 0 114 0) designated forwarded_lsa 24
+      forwarded_counts is_forwarded forward_way forwarded_way o g,
 )
 
 -- the router-LSA of the inner router doesn't have flag E
@@ -600,9 +497,10 @@ has_no_e (body.External e) = true
 abbrev is_plain : Key × LsaBody → Bool
 is_plain s = not (nat_eq s.0.link_state_id inner) || has_no_e s.1
 
-by_inner : IsKnown (key 5 (ipv4 203 0 115 0) inner) (body.External plain_lsa)
+by_inner : IsKnown (key 5 (ipv4 203 0 115 0) inner) plain_lsa
 by_inner o g =
-    let reaches = reached_inside inner g.is_way.boundary g.is_way.reaches in
+    let reaches = is_inside 0 transit_entries refl transit_root inner g.is_way.boundary
+    g.is_way.reaches in
     let lsa = reaches.lsa in
     let t = is_said 0 transit_entries (key 1 inner inner) (body.Router lsa) reaches.its in
     let e : has_no_e (body.Router lsa) ≡ true =
@@ -611,11 +509,12 @@ by_inner o g =
     let with : bit_and lsa.flags 2 ≡ 2 = reaches.has_e in
     absurd (omega (arith, without, with))
 
-by_unlinked : IsKnown (key 5 (ipv4 203 0 116 0) unlinked) (body.External plain_lsa)
+by_unlinked : IsKnown (key 5 (ipv4 203 0 116 0) unlinked) plain_lsa
 by_unlinked o g = absurd (never_unlinked g.is_way.boundary
-    (reached_inside unlinked g.is_way.boundary g.is_way.reaches).reached)
+    (is_inside 0 transit_entries refl transit_root unlinked g.is_way.boundary
+    g.is_way.reaches).reached)
 
-all_known : AllByRecursion (λ (s : Key × LsaBody). IsKnown s.0 s.1) (sayings transit_entries)
+all_known : EachExternal IsKnown transit_entries
 all_known = (
   tt,
   (
@@ -638,178 +537,25 @@ complete o (Within x) = one_of (λ (y : Offer). Contains offers y) nearby
     ((0, omega arith, refl), ((1, omega arith, refl), ((2, omega arith, refl), tt))) o (within o x)
 complete o (Between x) = absurd (nothing_between 0 transit_entries refl transit_root o x)
 complete o (External x) =
-    one_of (λ (s : Key × LsaBody). IsKnown s.0 s.1) (sayings transit_entries) all_known
-    (key 5 x.id x.originator, body.External x.lsa)
-    (is_said 0 transit_entries _ (body.External x.lsa) x.its) o
-    (record {
-      prefix = x.prefix;
-      is_prefix = x.is_prefix;
-      way = x.way;
-      is_way = x.is_way;
-      is = x.is;
-    })
+    each_external IsKnown transit_entries all_known (key 5 x.id x.originator) x.lsa x.its o
+    (is_offer_of said transit_root o x)
 
 -- ---- the external destinations are offered
 
 designated_offered : Offers said transit_root designated_offer
-designated_offered = External (record {
-  id = ipv4 203 0 113 0;
-  originator = designated;
-  lsa = designated_lsa;
-  its = says transit_entries (key 5 (ipv4 203 0 113 0) designated) (body.External designated_lsa)
-      refl;
-  reachable = omega arith;
-  of_another = λ e. omega (arith, e);
-  prefix = shared_net;
-  is_prefix = (omega arith, refl, refl);
-  way = record { distance = 10; hops = 2 };
-  is_way = record {
-    boundary = record { distance = 10; hops = 2 };
-    reaches = Inside (record {
-      lsa = router_lsa designated_links;
-      its = designated_says;
-      has_e = refl;
-      reached = designated_way;
-    });
-    direct = λ _. refl;
-    forwarded = λ some. absurd (some refl);
-  };
-  is = refl;
-})
+designated_offered = External (offered_directly said transit_root (ipv4 203 0 113 0) designated
+    designated_lsa 24 designated_counts refl (way 10 2) reaches_designated)
 
 other_offered : Offers said transit_root other_offer
-other_offered = External (record {
-  id = ipv4 203 0 113 0;
-  originator = other;
-  lsa = other_lsa;
-  its = says transit_entries (key 5 (ipv4 203 0 113 0) other) (body.External other_lsa) refl;
-  reachable = omega arith;
-  of_another = λ e. omega (arith, e);
-  prefix = shared_net;
-  is_prefix = (omega arith, refl, refl);
-  way = record { distance = 15; hops = 6 };
-  is_way = record {
-    boundary = record { distance = 15; hops = 6 };
-    reaches = Inside (record {
-      lsa = router_lsa other_links;
-      its = other_says;
-      has_e = refl;
-      reached = other_way;
-    });
-    direct = λ _. refl;
-    forwarded = λ some. absurd (some refl);
-  };
-  is = refl;
-})
+other_offered = External (offered_directly said transit_root (ipv4 203 0 113 0) other other_lsa 24
+    other_counts refl (way 15 6) reaches_other)
 
 forwarded_offered : Offers said transit_root forwarded_offer
-forwarded_offered = External (record {
-  id = ipv4 203 0 114 0;
-  originator = designated;
-  lsa = forwarded_lsa;
-  its = says transit_entries (key 5 (ipv4 203 0 114 0) designated) (body.External forwarded_lsa)
-      refl;
-  reachable = omega arith;
-  of_another = λ e. omega (arith, e);
-  prefix = network_24 203 0 114;
-  is_prefix = (omega arith, refl, refl);
-  way = forward_way;
-  is_way = record {
-    boundary = record { distance = 10; hops = 2 };
-    reaches = Inside (record {
-      lsa = router_lsa designated_links;
-      its = designated_says;
-      has_e = refl;
-      reached = designated_way;
-    });
-    direct = λ e. absurd (is_forwarded e);
-    forwarded = λ _. forwarded_way;
-  };
-  is = refl;
-})
+forwarded_offered = External (offered_by_address said transit_root (ipv4 203 0 114 0) designated
+    forwarded_lsa 24 forwarded_counts is_forwarded forward_way forwarded_way (way 10 2)
+    reaches_designated)
 
 -- ---- candidates
-
-abbrev IsBeaten : Offer → Offer → Type 0
-IsBeaten c x = x.prefix ≡ c.prefix → (x ≡ c) ⊎ (IsNoWorse c x × (IsNoWorse x c → ⊥))
-
-elsewhere : (c x : Offer) → not (nat_eq x.prefix.address c.prefix.address) ≡ true → IsBeaten c x
-elsewhere c x far e = absurd (apart x.prefix c.prefix far e)
-
-itself : (c : Offer) → IsBeaten c c
-itself c e = inl refl
-
-beaten : (c : Offer) → AllByRecursion (IsBeaten c) offers → IsAlone said transit_root c
-beaten c all o offered e = one_of (IsBeaten c) offers all o (complete o offered) e
-
-wide_alone : IsAlone said transit_root wide_offer
-wide_alone = beaten wide_offer (
-  itself wide_offer,
-  (
-    elsewhere wide_offer network_offer refl,
-    (
-      elsewhere wide_offer behind_offer refl,
-      (
-        elsewhere wide_offer designated_offer refl,
-        (
-          elsewhere wide_offer other_offer refl,
-          (elsewhere wide_offer forwarded_offer refl, tt),
-        ),
-      ),
-    ),
-  ),
-)
-
-network_alone : IsAlone said transit_root network_offer
-network_alone = beaten network_offer (
-  elsewhere network_offer wide_offer refl,
-  (
-    itself network_offer,
-    (
-      elsewhere network_offer behind_offer refl,
-      (
-        elsewhere network_offer designated_offer refl,
-        (
-          elsewhere network_offer other_offer refl,
-          (elsewhere network_offer forwarded_offer refl, tt),
-        ),
-      ),
-    ),
-  ),
-)
-
-behind_alone : IsAlone said transit_root behind_offer
-behind_alone = beaten behind_offer (
-  elsewhere behind_offer wide_offer refl,
-  (
-    elsewhere behind_offer network_offer refl,
-    (
-      itself behind_offer,
-      (
-        elsewhere behind_offer designated_offer refl,
-        (
-          elsewhere behind_offer other_offer refl,
-          (elsewhere behind_offer forwarded_offer refl, tt),
-        ),
-      ),
-    ),
-  ),
-)
-
-forwarded_alone : IsAlone said transit_root forwarded_offer
-forwarded_alone = beaten forwarded_offer (
-  elsewhere forwarded_offer wide_offer refl,
-  (
-    elsewhere forwarded_offer network_offer refl,
-    (
-      elsewhere forwarded_offer behind_offer refl,
-      (
-        elsewhere forwarded_offer designated_offer refl,
-        (elsewhere forwarded_offer other_offer refl, (itself forwarded_offer, tt)),
-      ),
-    ),
-  ),
-)
 
 -- the two offers for the shared network, which are equally good
 abbrev IsShared : Offer → Type 0
@@ -820,7 +566,7 @@ shared o t e =
     one_of (λ (x : Offer). x.prefix ≡ shared_net → IsShared x) offers (
       (λ f. absurd (apart (network_8 10) shared_net refl f)),
       (
-        (λ f. absurd (apart network_net shared_net refl f)),
+        (λ f. absurd (apart (network_24 10 1 0) shared_net refl f)),
         (
           (λ f. absurd (apart (network_24 192 0 2) shared_net refl f)),
           (
@@ -891,17 +637,24 @@ shared_candidate = record {
 abbrev routes : List Route
 routes = wide_route ∷ transit_route ∷ behind_route ∷ shared_route ∷ longest_route ∷ []
 
+alone_at : (n : ℕ) (c : Offer) → slice_get offers n ≡ Some c → others_elsewhere n c offers ≡ true
+    → IsAlone said transit_root c
+alone_at = lone (Offers said transit_root) offers complete
+
 sound : AllByRecursion (λ (r : Route). IsCandidate said transit_root r) routes
 sound = (
-  alone said transit_root wide_offer (Within wide_there) wide_alone,
+  alone said transit_root wide_offer (Within wide_there) (alone_at 0 wide_offer refl refl),
   (
-    alone said transit_root network_offer (Within network_there) network_alone,
+    alone said transit_root network_offer (Within network_there)
+        (alone_at 1 network_offer refl refl),
     (
-      alone said transit_root behind_offer (Within behind_there) behind_alone,
+      alone said transit_root behind_offer (Within behind_there)
+          (alone_at 2 behind_offer refl refl),
       (
         shared_candidate,
         (
-          alone said transit_root forwarded_offer forwarded_offered forwarded_alone,
+          alone said transit_root forwarded_offer forwarded_offered
+              (alone_at 5 forwarded_offer refl refl),
           tt,
         ),
       ),
@@ -909,48 +662,5 @@ sound = (
   ),
 )
 
-abbrev HasRoute : Offer → Type 0
-HasRoute o = (s : Route) × Contains routes s × (s.prefix ≡ o.prefix)
-
-covered : AllByRecursion HasRoute offers
-covered = (
-  (wide_route, (0, omega arith, refl), refl),
-  (
-    (transit_route, (1, omega arith, refl), refl),
-    (
-      (behind_route, (2, omega arith, refl), refl),
-      (
-        (shared_route, (3, omega arith, refl), refl),
-        (
-          (shared_route, (3, omega arith, refl), refl),
-          ((longest_route, (4, omega arith, refl), refl), tt),
-        ),
-      ),
-    ),
-  ),
-)
-
-abbrev Before : Route → Route → Type 0
-Before a b = IsBefore a.prefix b.prefix
-
-ascending : AllPairs Before routes
-ascending =
-    in_front Before wide_route (transit_route ∷ behind_route ∷ shared_route ∷ longest_route ∷ []) (
-      ByAddress (omega arith),
-      (
-        ByAddress (omega arith),
-        (ByAddress (omega arith), (ByAddress (omega arith), tt)),
-      ),
-    )
-    (in_front Before transit_route (behind_route ∷ shared_route ∷ longest_route ∷ [])
-    (ByAddress (omega arith), (ByAddress (omega arith), (ByAddress (omega arith), tt)))
-    (in_front Before behind_route (shared_route ∷ longest_route ∷ [])
-    (ByAddress (omega arith), (ByAddress (omega arith), tt))
-    (in_front Before shared_route (longest_route ∷ []) (ByAddress (omega arith), tt)
-    (in_front Before longest_route [] tt (nobody Before)))))
-
 pub worked : WorkedTransit
-worked =
-    all_candidates said transit_root routes
-    (λ r t. one_of (λ (x : Route). IsCandidate said transit_root x) routes sound r t)
-    (λ o offered. one_of HasRoute offers covered o (complete o offered)) ascending
+worked = candidates_in said transit_root offers complete routes sound refl refl

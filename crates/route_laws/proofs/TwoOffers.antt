@@ -1,5 +1,5 @@
 -- The worked offers: of two tags the least, of two distances the nearer, of two metrics the lesser.
-use Rattle.std.proofs.Common.{◌≡◌, ◌⊎◌, inl, inr, IsTrue, [], ◌∷◌, arith, refl, sym, ◌∙◌, subst}
+use Rattle.std.proofs.Common.{◌≡◌, inr, IsTrue, [], ◌∷◌, arith, refl, sym, ◌∙◌, subst}
 use Rattle.std.specs.List.{Contains}
 use Rattle.words.specs.Interfaces.{has_interface}
 use Rattle.words.specs.declared.route.Route.{Route}
@@ -9,43 +9,28 @@ use Rattle.routes.specs.Routes.IsNoLater.{ByTag}
 use Rattle.routes.specs.Routes.IsNoWorse.{ByCost, ByDistance, ByKind}
 use Rattle.routes.specs.declared.offer.Offer.{Offer}
 use Rattle.routes.proofs.Determined.{one_route}
-use Rattle.routes.proofs.Lists.{first_is, of_cons, of_empty}
+use Rattle.routes.proofs.Lists.{first_is}
 use Rattle.route_laws.specs.WorkedOffers.{WorkedOffers, by_metric_10, inter_15, intra_100}
 use Rattle.route_laws.specs.WorkedOffers.{metric_10, metric_20, offer_of, route_to, two_distances}
 use Rattle.route_laws.specs.WorkedOffers.{two_kinds, two_metrics, two_tags, within_100}
 use Rattle.route_laws.proofs.Alone.{IsAloneAmong, alone_among, no_worse_itself}
-
--- one of two
-either : (P : Offer → Type 0) (a b : Offer) → P a → P b → (o : Offer) → Contains (a ∷ b ∷ []) o
-    → P o
-either P a b p q o t =
-    elim (of_cons a (b ∷ []) o t) [
-      | inl e ↦ subst P e p
-      | inr more ↦
-          elim (of_cons b [] o more) [
-            | inl e ↦ subst P e q
-            | inr none ↦ absurd (of_empty o none)
-          ]
-    ]
+use Rattle.route_laws.proofs.Ordered.{in_order}
+use Rattle.route_laws.proofs.Listed.{beaten, itself}
+use Rattle.route_laws.proofs.Parts.{one_of}
 
 -- if all offers are for the prefix of one route, it is the only one
 only : (IsOffered : Offer → Type 0) (r : Route) → IsRouteAmong IsOffered r
     → ((o : Offer) → IsOffered o → o.prefix ≡ r.prefix) → AreRoutesAmong IsOffered (r ∷ [])
 only IsOffered r is all = record {
   each = λ s. (
-    (λ t.
-        let P : Route → Type 0 = λ x. IsRouteAmong IsOffered x in
-        elim (of_cons r [] s t) [
-          | inl e ↦ subst P e is
-          | inr none ↦ absurd (of_empty s none)
-        ]),
+    one_of (λ (x : Route). IsRouteAmong IsOffered x) (r ∷ []) (is, tt) s,
     (λ k.
         let P : Route → Type 0 = λ x. Contains (r ∷ []) x in
         let same : r ≡ s = one_route IsOffered r s is k
         (sym (all k.first k.is_best.offered) ∙ k.is_best.is_for) in
         subst P same (first_is r [])),
   );
-  ascending = λ i j d before within. absurd (omega (arith, before, within));
+  ascending = in_order (λ (x : Route). x.prefix) (r ∷ []) refl;
 }
 
 -- ---- two tags
@@ -63,24 +48,24 @@ three_is_best : IsBestAmong IsTagged three.prefix three
 three_is_best = record {
   offered = (1, omega arith, refl);
   is_for = refl;
-  best = λ o offered e. either (λ x. IsNoWorse three x) five three
-      (ByDistance refl refl (omega arith)) (no_worse_itself three) o offered;
+  best = λ o offered e. one_of (λ (x : Offer). IsNoWorse three x) two_tags
+      (ByDistance refl refl (omega arith), (no_worse_itself three, tt)) o offered;
 }
 
 tagged : IsRouteAmong IsTagged (route_to External1 0 2 3)
 tagged = record {
   first = three;
   is_best = three_is_best;
-  earliest = λ o best. either (λ x. IsNoLater three x) five three (ByTag refl (omega arith))
-      (ByTag refl (omega arith)) o best.offered;
+  earliest = λ o best. one_of (λ (x : Offer). IsNoLater three x) two_tags
+      (ByTag refl (omega arith), (ByTag refl (omega arith), tt)) o best.offered;
   kind = refl;
   cost = refl;
   distance = refl;
   tag = refl;
   hops = λ i. (
     (λ t. (three, three_is_best, t)),
-    (λ h. either (λ x. IsTrue (has_interface x.hops i) → IsTrue (has_interface 2 i)) five three
-        (λ t. t) (λ t. t) h.0 h.1.offered h.2),
+    (λ h. one_of (λ (x : Offer). IsTrue (has_interface x.hops i) → IsTrue (has_interface 2 i))
+        two_tags ((λ t. t), ((λ t. t), tt)) h.0 h.1.offered h.2),
   );
 }
 
@@ -101,9 +86,8 @@ abbrev IsEither : Offer → Type 0
 IsEither o = Contains two_distances o
 
 near_alone : IsAloneAmong IsEither near
-near_alone o offered e =
-    either (λ x. (x ≡ near) ⊎ (IsNoWorse near x × (IsNoWorse x near → ⊥))) near farther (inl refl)
-    (inr (ByDistance refl refl (omega arith), not_better)) o offered
+near_alone = beaten IsEither two_distances (λ o t. t) near
+    (itself near, ((λ e. inr (ByDistance refl refl (omega arith), not_better)), tt))
 
 -- ---- two metrics
 
@@ -116,9 +100,8 @@ abbrev IsOfMetric : Offer → Type 0
 IsOfMetric o = Contains two_metrics o
 
 lesser_alone : IsAloneAmong IsOfMetric metric_10
-lesser_alone o offered e =
-    either (λ x. (x ≡ metric_10) ⊎ (IsNoWorse metric_10 x × (IsNoWorse x metric_10 → ⊥))) metric_20
-    metric_10 (inr (ByCost refl (omega arith), no_cheaper)) (inl refl) o offered
+lesser_alone = beaten IsOfMetric two_metrics (λ o t. t) metric_10
+    ((λ e. inr (ByCost refl (omega arith), no_cheaper)), (itself metric_10, tt))
 
 -- ---- two kinds
 
@@ -131,23 +114,22 @@ abbrev IsOfKind : Offer → Type 0
 IsOfKind o = Contains two_kinds o
 
 inner_alone : IsAloneAmong IsOfKind intra_100
-inner_alone o offered e =
-    either (λ x. (x ≡ intra_100) ⊎ (IsNoWorse intra_100 x × (IsNoWorse x intra_100 → ⊥))) inter_15
-    intra_100 (inr (ByKind (omega arith), no_kinder)) (inl refl) o offered
+inner_alone = beaten IsOfKind two_kinds (λ o t. t) intra_100
+    ((λ e. inr (ByKind (omega arith), no_kinder)), (itself intra_100, tt))
 
 pub worked : WorkedOffers
 worked = record {
   least_tag = only IsTagged (route_to External1 0 2 3) tagged
-      (λ o t. either (λ x. x.prefix ≡ three.prefix) five three refl refl o t);
+      (one_of (λ (x : Offer). x.prefix ≡ three.prefix) two_tags (refl, (refl, tt)));
   nearer =
       only IsEither (route_to External2 10 2 0)
       (alone_among IsEither near (first_is near (farther ∷ [])) near_alone)
-      (λ o t. either (λ x. x.prefix ≡ near.prefix) near farther refl refl o t);
+      (one_of (λ (x : Offer). x.prefix ≡ near.prefix) two_distances (refl, (refl, tt)));
   metric_first =
       only IsOfMetric by_metric_10 (alone_among IsOfMetric metric_10 (1, omega arith, refl)
       lesser_alone)
-      (λ o t. either (λ x. x.prefix ≡ metric_10.prefix) metric_20 metric_10 refl refl o t);
+      (one_of (λ (x : Offer). x.prefix ≡ metric_10.prefix) two_metrics (refl, (refl, tt)));
   within_first =
       only IsOfKind within_100 (alone_among IsOfKind intra_100 (1, omega arith, refl) inner_alone)
-      (λ o t. either (λ x. x.prefix ≡ intra_100.prefix) inter_15 intra_100 refl refl o t);
+      (one_of (λ (x : Offer). x.prefix ≡ intra_100.prefix) two_kinds (refl, (refl, tt)));
 }

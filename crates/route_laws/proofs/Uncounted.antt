@@ -3,14 +3,11 @@
 use Rattle.std.proofs.Common.{◌≡◌, ℕ, zero, suc, inl, inr, Bool, true, false, cond, ◌&&◌, ◌||◌, not}
 use Rattle.std.proofs.Common.{nat_eq, eq-eqb, eqb-true, List, [], ◌∷◌, filter, Some, slice_get}
 use Rattle.std.proofs.Common.{arith, refl, sym, ◌∙◌, ap, subst}
-use Rattle.std.specs.List.{AllByRecursion, list_all}
-use Rattle.words.specs.declared.key.Key.{Key}
-use Rattle.words.specs.declared.route.Route.{Route}
-use Rattle.lsa.specs.declared.body.LsaBody.{LsaBody}
+use Rattle.std.specs.List.{AllByRecursion, Contains, list_all}
 use Rattle.lsa.specs.declared.body.LsaBody.TheVariants as body
 use Rattle.lsa.specs.declared.body.RouterLink.{RouterLink}
 use Rattle.lsa.specs.declared.body.LinkKind.TheVariants.{PointToPoint}
-use Rattle.routes.specs.Candidates.{IsCandidate, Offers}
+use Rattle.routes.specs.Candidates.{Offers}
 use Rattle.routes.specs.Candidates.Offers.{Between, External, Within}
 use Rattle.routes.specs.Links.{IsRouterLsa, Leads, LeadsTo, LinksBack}
 use Rattle.routes.specs.declared.node.Node.{Node}
@@ -21,19 +18,20 @@ use Rattle.routes.specs.Paths.{IsWalk, IsWay, Step, Way}
 use Rattle.route_laws.specs.Worked.{Entries, database, ipv4, key, mask_24, near_router, network_24}
 use Rattle.route_laws.specs.Worked.{router_lsa, stub}
 use Rattle.route_laws.specs.WorkedUncounted.{WorkedUncounted, counting_links, neighbor_links}
-use Rattle.route_laws.specs.WorkedUncounted.{neighbor_route, uncounted_entries}
+use Rattle.route_laws.specs.WorkedUncounted.{uncounted_entries}
 use Rattle.routes.specs.declared.root.Root.{Root}
-use Rattle.route_laws.proofs.Alone.{all_candidates, alone, is_stub}
-use Rattle.route_laws.proofs.Entries.{all_pass, both_true, has_link, is_no_network, links_of}
-use Rattle.route_laws.proofs.Entries.{is_said, sayings}
+use Rattle.route_laws.proofs.Alone.{StubOffer, is_stub}
+use Rattle.route_laws.proofs.Entries.{all_pass, both_true, has_link, is_no_network, is_said}
+use Rattle.route_laws.proofs.Entries.{links_of, sayings}
 use Rattle.route_laws.proofs.Labels.{AreLabels, either_true, is_point, not_both, way_by}
-use Rattle.routes.proofs.Lists.{first_is}
-use Rattle.route_laws.proofs.Made.{back, from_root, linked, only_one, says}
+use Rattle.route_laws.proofs.Made.{back, from_root, only_one, says}
 use Rattle.route_laws.proofs.NetworkLabels.{AreRising, IsStubKnown, at, each_offer, pass, rising}
-use Rattle.route_laws.proofs.Parts.{in_front, nobody, one_of}
+use Rattle.route_laws.proofs.Parts.{one_of}
 use Rattle.routes.specs.Said.{Said, said_at}
-use Rattle.routes.specs.Routes.{IsBefore}
 use Rattle.route_laws.proofs.NoSummaries.{nothing_between}
+use Rattle.route_laws.proofs.Ordered.{in_order}
+use Rattle.route_laws.proofs.OneOffer.{candidates_of, hops_from, no_external, stub_by, stub_within}
+use Rattle.route_laws.proofs.OneOffer.{way}
 
 -- ---- walks that don't leave a set of routers, without networks
 
@@ -201,7 +199,7 @@ link = (
 are : AreLabels leads (ARouter near) (at dr none_of) (at hr none_of)
 are = rising near_router 0 uncounted_entries dr hr none_of none_of labels
 
-neighbor_way : IsWay leads (ARouter near) (ARouter neighbor) (record { distance = 10; hops = 2 })
+neighbor_way : IsWay leads (ARouter near) (ARouter neighbor) (way 10 2)
 neighbor_way = way_by leads (ARouter near) (at dr none_of) (at hr none_of) are (ARouter neighbor)
     (to_neighbor ∷ []) (link, refl) refl
     (λ i t. (to_neighbor, [], (link, refl), refl, sym (only_one i t)))
@@ -219,7 +217,7 @@ abbrev offer : Offer
 offer = intra (network_24 192 0 2) 11 2
 
 abbrev IsOffer : Offer → Type 0
-IsOffer o = offer ≡ o
+IsOffer o = Contains (offer ∷ []) o
 
 abbrev neighbor_stub : RouterLink
 neighbor_stub = stub (ipv4 192 0 2 0) mask_24 1
@@ -227,26 +225,13 @@ neighbor_stub = stub (ipv4 192 0 2 0) mask_24 1
 abbrev IsKnown : ℕ × RouterLink → Type 0
 IsKnown x = IsStubKnown 0 uncounted_entries near_router IsOffer x.0 x.1
 
+of_stub : StubOffer said near_router neighbor neighbor_stub 24 offer
+of_stub = stub_by uncounted_entries near_router neighbor neighbor_stub 24 (way 10 2) 2
+    neighbor_way (hops_from near_router neighbor (λ e. omega (arith, e)) 2) (omega arith) refl
+
 stubs_known : AllByRecursion IsKnown (filter is_stub (links_of (sayings uncounted_entries)))
 stubs_known = (
-  inr (
-    24,
-    offer,
-    record {
-      way = record {
-        distance = 10;
-        hops = 2;
-      };
-      reached = neighbor_way;
-      within = omega arith;
-      mask = refl;
-      hops = 2;
-      by_root = λ e. absurd (omega (arith, e));
-      by_others = λ _. refl;
-      is = refl;
-    },
-    refl,
-  ),
+  inr (24, offer, of_stub, (0, omega arith, refl)),
   (
     inl (never (ipv4 3 3 3 3) refl),
     (
@@ -256,7 +241,7 @@ stubs_known = (
   ),
 )
 
-within : (o : Offer) → OffersWithin said near_router o → offer ≡ o
+within : (o : Offer) → OffersWithin said near_router o → IsOffer o
 within o x =
     each_offer 0 uncounted_entries near_router IsOffer
     (λ router l t. one_of IsKnown (filter is_stub (links_of (sayings uncounted_entries)))
@@ -272,56 +257,17 @@ within o x =
     ) t in cc))
     o x
 
-abbrev is_router : Key × LsaBody → Bool
-is_router (k, body.Router r) = true
-is_router (k, body.Network n) = false
-is_router (k, body.NetworkSummary s) = false
-is_router (k, body.RouterSummary s) = false
-is_router (k, body.External e) = false
-
-only_offer : (o : Offer) → Offers said near_router o → offer ≡ o
+only_offer : (o : Offer) → Offers said near_router o → IsOffer o
 only_offer o (Within x) = within o x
 only_offer o (Between x) = absurd (nothing_between 0 uncounted_entries refl near_router o x)
-only_offer o (External x) = absurd
-    (let e : false ≡ true = all_pass is_router (sayings uncounted_entries) refl
-    (key 5 x.id x.originator, body.External x.lsa)
-    (is_said 0 uncounted_entries _ (body.External x.lsa) x.its) in cc)
+only_offer o (External x) = absurd (no_external uncounted_entries refl _ x.lsa x.its)
 
 offered : Offers said near_router offer
-offered = Within (record {
-  node = ARouter neighbor;
-  prefix = network_24 192 0 2;
-  more = 1;
-  attached = (
-    neighbor_stub,
-    linked uncounted_entries neighbor neighbor_links neighbor_says
-        neighbor_stub (4, omega arith, refl),
-    refl,
-    (omega arith, refl, refl),
-    refl,
-  );
-  way = record { distance = 10; hops = 2 };
-  reached = neighbor_way;
-  hops = 2;
-  by_root = λ e. absurd (let same : neighbor ≡ near = cc in omega (arith, same));
-  by_others = λ _. refl;
-  is = refl;
-})
-
-candidate : IsCandidate said near_router neighbor_route
-candidate = alone said near_router offer offered (λ o given e. inl (sym (only_offer o given)))
-
-abbrev Before : Route → Route → Type 0
-Before a b = IsBefore a.prefix b.prefix
+offered = Within (stub_within uncounted_entries near_router neighbor neighbor_links neighbor_says
+    neighbor_stub (4, omega arith, refl) refl 24 offer of_stub)
 
 pub worked : WorkedUncounted
 worked =
-    all_candidates said near_router (neighbor_route ∷ [])
-    (λ r t. one_of (λ (x : Route). IsCandidate said near_router x) (neighbor_route ∷ [])
-    (candidate, tt) r t)
-    (λ o given. (
-      neighbor_route,
-      first_is neighbor_route [],
-      ap (λ (x : Offer). x.prefix) (only_offer o given),
-    ))
-    (in_front Before neighbor_route [] tt (nobody Before))
+    candidates_of said near_router (offer ∷ [])
+    (in_order (λ (o : Offer). o.prefix) (offer ∷ []) refl)
+    (one_of (λ (o : Offer). Offers said near_router o) (offer ∷ []) (offered, tt)) only_offer

@@ -14,7 +14,6 @@ ghost use Rattle.route_laws.specs.WorkedTopologies.{ZeroCostsMayLosePackets};
 use crate::forwarding::{
     each_hop_is_nearer, each_hop_leads_to_an_originator, routes_end_at_the_network,
 };
-use crate::forwarding_is_determined;
 use crate::premises::own_router_lsas_meet_the_premises;
 use candidates::laws::{candidates_are_cheapest_walks, every_offer_has_a_candidate};
 
@@ -90,6 +89,4 @@ pub fn equal_addresses_may_loop()
 /// that the middle one sends it is lost. Such a configuration is invalid (RFC 2328, section C.3).
 pub fn zero_costs_may_lose_packets()
     ensures { ZeroCostsMayLosePackets }
-{
-    forwarding_is_determined();
-}
+{}
