@@ -1,6 +1,5 @@
 //! Installs that another one follows.
 ghost use Rattle.std.specs.Prelude.{◌≡◌, IfSome};
-ghost use Rattle.flood.specs.Occurrences.{brings_answers, occurrence_of};
 ghost use Rattle.book.specs.Replay.{IsInstalledLast, forgotten_at, without_answers};
 
 use crate::entry::JournalEntry;
@@ -8,25 +7,12 @@ use flood::Event;
 use std::mem::replace;
 use words::Sequence;
 
-fn is_install(event: &Event) -> bool
-    ensures { result ≡ brings_answers (occurrence_of event.now) }
-{
-    match event {
-        Event::Install(_) => true,
-        Event::Packet(_, _) => false,
-        Event::Tick => false,
-        Event::Redistribute(_, _) => false,
-        Event::Withdraw(_) => false,
-        Event::LinkDown(_) => false,
-    }
-}
-
 /// The last place of a journal that ends with an Install.
 pub fn last_install(journal: &[JournalEntry]) -> Option<usize>
     ensures { IfSome result (λ last. IsInstalledLast journal.now last) }
 {
     let last = journal.len().checked_sub(1)?;
-    if is_install(&journal[last].event) {
+    if journal[last].event.brings_answers() {
         Some(last)
     } else {
         None

@@ -1,5 +1,6 @@
 //! The events of a router.
 ghost use Rattle.std.specs.Prelude.{◌≡◌, ◌<◌, ◌^◌, IfOk};
+ghost use Rattle.flood.specs.Occurrences.{brings_answers, occurrence_of};
 
 use hooks::{PriceAnswer, TagAnswer, VetoAnswer};
 use std::alloc::AllocError;
@@ -46,6 +47,20 @@ impl Event {
             Event::Withdraw(prefix) => Ok(Event::Withdraw(*prefix)),
             Event::Install(answers) => Ok(Event::Install(answers.copy()?)),
             Event::LinkDown(number) => Ok(Event::LinkDown(*number)),
+        }
+    }
+
+    /// Whether it brings the answers of the program at `veto`.
+    pub fn brings_answers(&self) -> bool
+        ensures { result ≡ brings_answers (occurrence_of self.now) }
+    {
+        match self {
+            Event::Packet(_, _) => false,
+            Event::Tick => false,
+            Event::Redistribute(_, _) => false,
+            Event::Withdraw(_) => false,
+            Event::Install(_) => true,
+            Event::LinkDown(_) => false,
         }
     }
 }

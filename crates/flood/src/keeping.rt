@@ -19,19 +19,6 @@ use procedures::Router;
 use std::alloc::{AllocError, Global};
 use words::{RouterId, Second};
 
-fn brings_answers(event: &Event) -> bool
-    ensures { result ≡ brings_answers (occurrence_of event.now) }
-{
-    match event {
-        Event::Packet(_, _) => false,
-        Event::Tick => false,
-        Event::Redistribute(_, _) => false,
-        Event::Withdraw(_) => false,
-        Event::Install(_) => true,
-        Event::LinkDown(_) => false,
-    }
-}
-
 // Updates the routes for an event of the router that isn't final yet.
 fn keep(
     router: &Router,
@@ -55,7 +42,7 @@ fn keep(
     let area = router.area();
     let moment = router.moment();
     routes.follow(alloc, own, area, before, moment)?;
-    if brings_answers(event) {
+    if event.brings_answers() {
         routes.take_answers(alloc, own, area, moment, router.answers());
     }
     Ok(())
