@@ -353,25 +353,16 @@ impl<L: Origin> Book<L> {
         }
     }
 
-    /// Whoever brings every part of the ledger, as one share, learns that the book has taken just
-    /// as many events as the share counts. It changes nothing.
-    pub fn audit(&mut self, all: &mut Share<L>)
-        requires { all.old.parts ≡ L.parts }
-        ensures sum { self.old.taken ≡ all.old.amount }
+    /// Whoever brings a share learns that the book has taken at least as many events as it counts,
+    /// and just as many if the share has every part of the ledger. It changes nothing.
+    pub fn audit(&mut self, share: &mut Share<L>)
+        ensures least { share.old.amount ≤ self.old.taken }
+        ensures sum { share.old.parts ≡ L.parts → self.old.taken ≡ share.old.amount }
         ensures book { self.new ≡ self.old }
-        ensures share { (all.new.amount ≡ all.old.amount) × (all.new.parts ≡ all.old.parts) }
+        ensures share { (share.new.amount ≡ share.old.amount)
+            × (share.new.parts ≡ share.old.parts) }
     {
-        self.total.audit(all);
-    }
-
-    /// Whoever brings a share learns that the book has taken at least as many events as it counts.
-    /// It changes nothing.
-    pub fn compare(&mut self, mine: &mut Share<L>)
-        ensures least { mine.old.amount ≤ self.old.taken }
-        ensures book { self.new ≡ self.old }
-        ensures share { (mine.new.amount ≡ mine.old.amount) × (mine.new.parts ≡ mine.old.parts) }
-    {
-        self.total.audit(mine);
+        self.total.audit(share);
     }
 
     /// Whether some candidate of the router as it is now stands in none of the answers of its last

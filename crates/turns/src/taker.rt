@@ -312,7 +312,7 @@ impl<L: Origin> Taker<L> for Book<L> {
             → result ≡ Err (BookError.Core CoreError.ClockBack)
             → IsOwn L.origin self.old × (clock_end ≤ max moment self.old.current.moment) }
     {
-        self.compare(mine);
+        self.audit(mine);
         let at = taken_at(&event, moment, self.now().moment());
         match self.apply_anew(mine, at, event) {
             Ok(outs) => {
@@ -344,7 +344,7 @@ impl<L: Origin> Taker<L> for Book<L> {
         ensures some { IsWantedBySome L.origin mine.old.amount prefix result }
         ensures share { (mine.new.amount ≡ mine.old.amount) × (mine.new.parts ≡ mine.old.parts) }
     {
-        self.compare(mine);
+        self.audit(mine);
         self.now().wants(prefix)
     }
 

@@ -20,15 +20,15 @@ returns-in-Ok-clause-stale g c =
 pub returns-in-Ok-clause-ok : goal.returns-in-Ok-clause-ok
 returns-in-Ok-clause-ok g c =
     let last = c.moment.ensures ∙ ap (λ (r : Router). r.moment) c.now.ensures.router in
-    sent_by_some _ c.args.mine.now.amount c.compare.new.self.taken c.args.moment
+    sent_by_some _ c.args.mine.now.amount c.audit.new.self.taken c.args.moment
     c.taken_at-at.result c.args.event
-    c.compare.new.self.current c.apply_anew.new.self.current c.in-Ok.outs.items
+    c.audit.new.self.current c.apply_anew.new.self.current c.in-Ok.outs.items
     c.known-stale.result
-    (subst (λ (b : BookView). c.args.mine.now.amount ≤ b.taken) (sym c.compare.ensures.book)
-    c.compare.ensures.least)
+    (subst (λ (b : BookView). c.args.mine.now.amount ≤ b.taken) (sym c.audit.ensures.book)
+    c.audit.ensures.least)
     c.now.ensures.leads
     (c.taken_at-at.ensures ∙ ap (taken_at c.args.event c.args.moment) last)
-    (no_earlier c.compare.new.self c.taken_at-at.result c.args.event c.in-Ok.outs
+    (no_earlier c.audit.new.self c.taken_at-at.result c.args.event c.in-Ok.outs
     c.in-Ok.ensures.refused) c.in-Ok.ensures.ok
     (left_stale c.apply_anew.new.self.current c.is_stale.result c.known-stale.result
     c.is_stale.ensures.stale c.known-stale.ensures)
@@ -41,9 +41,9 @@ returns-in-Err-clause-refused g c =
     c.args.event error) in
     subst P c.in-Err.is
     (refused_by_some _ c.args.mine.now.amount c.args.moment c.taken_at-at.result c.args.event
-    c.compare.new.self c.apply_anew.result
-    (subst (λ (b : BookView). c.args.mine.now.amount ≤ b.taken) (sym c.compare.ensures.book)
-    c.compare.ensures.least)
+    c.audit.new.self c.apply_anew.result
+    (subst (λ (b : BookView). c.args.mine.now.amount ≤ b.taken) (sym c.audit.ensures.book)
+    c.audit.ensures.least)
     c.now.ensures.leads
     (c.taken_at-at.ensures ∙ ap (taken_at c.args.event c.args.moment) last)
     c.apply_anew.ensures.refused)
