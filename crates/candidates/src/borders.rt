@@ -17,10 +17,7 @@ use crate::offer::{host, inter, way_by};
 use crate::search::find;
 use lsa::{LsaBody, SummaryLsa};
 use routes::{Offer, Root, Way};
-use words::{Key, Route, RouterId};
-
-// LSInfinity (RFC 2328, appendix B): a destination with this metric is unreachable.
-pub const LS_INFINITY: u32 = 0xff_ffff;
+use words::{Key, LS_INFINITY, Route, RouterId};
 
 /// The way to the area border router of a summary-LSA, if that counts.
 pub fn counted_border(

@@ -12,7 +12,7 @@ ghost use Rattle.candidates.specs.Externals.{OfTold, TellsExternal};
 ghost use Rattle.candidates.specs.Gathering.{IsJust};
 ghost use Rattle.candidates.specs.Sources.{OfExternal};
 
-use crate::borders::{LS_INFINITY, boundary_way};
+use crate::borders::boundary_way;
 use crate::flagged::Flagged;
 use crate::gathering::network_of;
 use crate::offer::{external, way_by};
@@ -20,7 +20,7 @@ use crate::places::expected_at;
 use crate::search::longest_match;
 use lsa::LsaBody;
 use routes::{Offer, Root, Way};
-use words::{Address, ExternalType, Key, Prefix, Route, RouterId};
+use words::{Address, ExternalType, Key, LS_INFINITY, Prefix, Route, RouterId};
 
 /// What external destinations are reached by: AS boundary routers that summary-LSAs advertise, by
 /// their host prefixes, and the networks within and between areas, both in the order of their

@@ -33,7 +33,7 @@ use std::alloc::{AllocError, Global};
 use std::cmp::Ordering;
 use std::marker::Model;
 pub use timers::has_passed;
-use words::{E_BIT, RouterId, Second, Sequence};
+use words::{E_BIT, LARGEST_PACKET, RouterId, Second, Sequence};
 
 /// A neighbor (RFC 2328, section 10), and its state when it was last settled.
 #[derive(Drop)]
@@ -149,7 +149,7 @@ pub fn initial_description(alloc: Global, sequence: u32) -> Description
     ensures { result ≡ initial_description sequence }
 {
     Description {
-        mtu: 8192,
+        mtu: LARGEST_PACKET,
         options: E_BIT,
         init: true,
         more: true,

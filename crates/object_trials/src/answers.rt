@@ -8,9 +8,7 @@ use crate::runs::RunEnding;
 use crate::stage::Last;
 use hooktool_line::ExpectedAnswer;
 use isa::Hook;
-
-// LSInfinity (RFC 2328, appendix B), from which on a destination is withheld.
-const LS_INFINITY: u64 = 16_777_215;
+use words::LS_INFINITY;
 
 /// Whether the number that a program answered at its hook is what was expected.
 fn is_met(expected: ExpectedAnswer, hook: Hook, answer: u64) -> bool
@@ -23,7 +21,7 @@ fn is_met(expected: ExpectedAnswer, hook: Hook, answer: u64) -> bool
             _ => false,
         },
         ExpectedAnswer::Withheld => match hook {
-            Hook::Price => answer >= LS_INFINITY,
+            Hook::Price => answer >= u64::from(LS_INFINITY),
             _ => false,
         },
         ExpectedAnswer::Tag(tag) => match hook {

@@ -17,10 +17,7 @@ use crate::sequence::next_number;
 use flooding::{DatabaseCopy, Link, Lsdb};
 use lsa::Lsa;
 use std::alloc::{AllocError, Global};
-use words::{External, RouterId, Second};
-
-// MinLSInterval: the least time between two originations of one LSA, in seconds.
-const MIN_LS_INTERVAL: u64 = 5;
+use words::{External, MIN_LS_INTERVAL, RouterId, Second};
 
 /// What happens to a wanted self-originated LSA.
 #[derive(Debug, Drop)]

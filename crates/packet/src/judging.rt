@@ -6,10 +6,7 @@ ghost use Rattle.packet.specs.Outcome.{Judges};
 use crate::checksum::checksum;
 use crate::model::PacketType;
 use crate::refusal::PacketFault;
-use words::{byte_at, u16_at, u32_at};
-
-/// The greatest length of a packet, in bytes.
-const LARGEST: usize = 8192;
+use words::{LARGEST_PACKET, byte_at, u16_at, u32_at};
 
 fn least_length(kind: Option<PacketType>) -> usize
     ensures { result ≡ least_length kind }
@@ -95,7 +92,7 @@ pub fn judge(bytes: &[u8]) -> Result<PacketType, PacketFault>
     if usize::from(u16_at(bytes, 2)) != size {
         return Err(PacketFault::Length);
     }
-    if size > LARGEST {
+    if size > usize::from(LARGEST_PACKET) {
         return Err(PacketFault::Length);
     }
     if u16_at(bytes, 12) != checksum(bytes) {

@@ -15,7 +15,7 @@ use crate::checksum::checksum;
 use crate::model::{Description, Hello, Packet, PacketBody, PacketType};
 use lsa::{Header, put_header};
 use std::alloc::{AllocError, Global};
-use words::{Key, RouterId, Sequence, put_u8, put_u16, put_u32};
+use words::{Key, LARGEST_PACKET, RouterId, Sequence, put_u8, put_u16, put_u32};
 
 fn type_number(kind: PacketType) -> u8
     ensures { result ≡ type_number kind }
@@ -196,7 +196,10 @@ fn draft(alloc: Global, packet: &Packet) -> Result<Vec<u8>, AllocError>
         ≡ fields (header (type_of packet.now.body) 0 packet.now.router 0 0)
         ++ body_text closed_fields packet.now.body) }
 {
-    let mut out = Vec::with_capacity(alloc, likely_length(&packet.body).min(8192))?;
+    let mut out = Vec::with_capacity(
+        alloc,
+        likely_length(&packet.body).min(usize::from(LARGEST_PACKET)),
+    )?;
     put_start(&mut out, type_of(&packet.body), packet.router)?;
     put_body(&mut out, &packet.body)?;
     Ok(out)

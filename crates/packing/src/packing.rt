@@ -7,10 +7,7 @@ ghost use Rattle.packing.specs.Fillings.{IsFilling, finished_packets};
 
 use crate::contents::HasSize;
 use std::alloc::{AllocError, Global};
-use words::Sequence;
-
-// The greatest length of a packet, in bytes.
-const LARGEST_PACKET: usize = 8192;
+use words::{LARGEST_PACKET, Sequence};
 
 // The items of the full packets, and of the one that is being filled.
 #[derive(Drop)]
@@ -77,7 +74,7 @@ impl<X: HasSize + Drop> Filling<X> {
             ≡ finished_packets X.size self.old.start self.old.used
             self.old.packets.items self.old.taken.items (item ∷ rest)) }
     {
-        if self.used + item.size() <= LARGEST_PACKET {
+        if self.used + item.size() <= usize::from(LARGEST_PACKET) {
             return self.add(item);
         }
         self.close(alloc)?;

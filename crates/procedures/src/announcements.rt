@@ -9,10 +9,7 @@ ghost use Rattle.procedures.specs.Making.{Does};
 use crate::origination::originate;
 use router_state::{Router, external_key};
 use std::alloc::{AllocError, Global};
-use words::{External, ExternalType, Key, Prefix, Second};
-
-// LSInfinity: a destination with this metric or more is not advertised.
-const LS_INFINITY: u64 = 0xffffff;
+use words::{External, ExternalType, Key, LS_INFINITY, Prefix, Second};
 
 /// Whether two prefixes are the same: one address and one length.
 pub fn same_network(a: Prefix, b: Prefix) -> bool
@@ -119,7 +116,7 @@ pub fn redistribute(
     ensures { Does (after_redistribute moment external tag price) router.old router.new result }
 {
     let key = external_key(router.id(), external.prefix);
-    if LS_INFINITY <= price {
+    if u64::from(LS_INFINITY) <= price {
         return end_want(router, alloc, moment, &key);
     }
     let external = answered(external, tag, price as u32);

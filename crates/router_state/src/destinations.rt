@@ -11,7 +11,7 @@ ghost use Rattle.router_state.specs.Making.{Does};
 use crate::router::Router;
 use keyed_map::{KeyTest, KeyedMap};
 use std::alloc::{AllocError, Global};
-use words::{External, Key, LinkStateId, Prefix, RouterId, Second};
+use words::{External, Key, LinkStateId, MIN_LS_INTERVAL, Prefix, RouterId, Second};
 
 /// The key of the AS-external-LSA for a destination, whose address is the Link State ID (RFC 2328,
 /// section 12.4.4).
@@ -38,7 +38,7 @@ impl KeyTest<Second> for IsOver {
     ghost accepts = { λ a key at. interval_is_over a.moment (Some at) };
 
     fn accepts(&self, _key: &Key, at: &Second) -> bool {
-        5 <= self.moment.since(*at)
+        MIN_LS_INTERVAL <= self.moment.since(*at)
     }
 }
 

@@ -11,13 +11,13 @@ use adjacency::descriptions::starts_over;
 use adjacency::{Draft, Lsdb, NeighborState};
 use packet::Description;
 use std::alloc::{AllocError, Global};
-use words::{RouterId, Second};
+use words::{LARGEST_PACKET, RouterId, Second};
 
 // Whether the MTU of the sending interface is larger than this router's.
 fn is_too_large(description: &Description) -> bool
     ensures { result ≡ nat_lt 8192 description.now.mtu }
 {
-    description.mtu > 8192
+    description.mtu > LARGEST_PACKET
 }
 
 fn is_init(state: NeighborState) -> bool

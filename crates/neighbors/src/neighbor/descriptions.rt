@@ -30,7 +30,7 @@ use keyed_map::KeyedMap;
 use lsa::Header;
 use packet::Description;
 use std::alloc::{AllocError, Global};
-use words::{E_BIT, Key, Second, Sequence};
+use words::{E_BIT, Key, LARGEST_PACKET, Second, Sequence};
 
 /// The most headers in one Database Description.
 const MOST_HEADERS_DESCRIBED: usize = 408;
@@ -217,7 +217,7 @@ impl Neighbor {
         let more = count > MOST_HEADERS_DESCRIBED;
         let headers = Sequence::from_vec(headers);
         Ok(Description {
-            mtu: 8192,
+            mtu: LARGEST_PACKET,
             options: E_BIT,
             init: false,
             more,

@@ -23,13 +23,10 @@ use crate::connectives::both;
 use adjacency::{DatabaseCopy, Draft, ListEntry, Lsdb, NeighborState};
 use keyed_map::{KeyTest, KeyedMap};
 use std::alloc::{AllocError, Global};
-use words::{Key, Second, Sequence};
+use words::{Key, LARGEST_PACKET, Second, Sequence};
 
 /// The bytes of a Link State Update before its LSAs: the packet header and the number of LSAs.
 const BEFORE_LSAS: u16 = 28;
-
-/// The greatest length of a packet, in bytes.
-const LARGEST_PACKET: u32 = 8192;
 
 /// Whether at least `interval` seconds have passed from the start to the moment.
 pub fn has_passed(start: Second, interval: u32, moment: Second) -> bool
@@ -110,7 +107,7 @@ fn send_if_it_fits(
 {
     let header = copy.header(moment);
     let filled = u32::from(used) + u32::from(header.length);
-    let fits = filled <= LARGEST_PACKET;
+    let fits = filled <= LARGEST_PACKET as u32;
     if fits {
         draft.update(alloc, delay, moment, copy)?;
         return Ok(Some(filled as u16));
