@@ -2,14 +2,13 @@
 ghost use Rattle.std.specs.Prelude.{◌≡◌, ◌≤◌, ◌↔◌, IfOk, IsTrue};
 ghost use Rattle.std.specs.FinMap as finite;
 ghost use Rattle.std.specs.List.{Contains};
-ghost use Rattle.routes.specs.lsdb.Changes.{IsUpTo};
 ghost use Rattle.routes.specs.lsdb.Copies.{DatabaseCopy as CopyValue, is_aged_out};
 ghost use Rattle.routes.specs.Said.{said_at};
 ghost use Rattle.words.specs.declared.key.Key.{Key as KeyValue};
 ghost use Rattle.kept_routes.specs.Ages.{AreOld, IsOld};
 ghost use Rattle.kept_routes.specs.Sameness.{AreLeft, SayTheSame};
 
-use routes::Lsdb;
+use routes::{Lsdb, is_up_to};
 use std::alloc::{AllocError, Global};
 use words::{Key, Second};
 
@@ -78,14 +77,5 @@ pub(crate) fn is_old(
     match db.get(key) {
         None => true,
         Some(copy) => !copy.is_aged_out(moment) || copy.is_aged_out(before),
-    }
-}
-
-fn is_up_to(last_type: Option<u32>, key: &Key) -> bool
-    ensures { IsTrue result ↔ IsUpTo last_type key.now }
-{
-    match last_type {
-        None => true,
-        Some(last) => key.ls_type <= last,
     }
 }

@@ -134,7 +134,8 @@ impl ChangeTest<StoredLsa> for SameUpTo {
     }
 }
 
-pub(crate) fn is_up_to(last_type: Option<u32>, key: &Key) -> bool
+/// Whether the key is of an LS type up to this one, or of any if none is given.
+pub fn is_up_to(last_type: Option<u32>, key: &Key) -> bool
     ensures { IsTrue result ↔ IsUpTo last_type key.now }
 {
     match last_type {

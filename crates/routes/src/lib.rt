@@ -17,4 +17,4 @@ pub use offer::Offer;
 pub use root::Root;
 pub use search::least_ways;
 // Re-exported for the crates above.
-pub use lsdb::{KeyRule, Lsdb};
+pub use lsdb::{KeyRule, Lsdb, is_up_to};
