@@ -10,19 +10,18 @@ use Rattle.packet.specs.Text.{IsBody, closed_fields, text}
 use Rattle.packet.proofs.Patch.{canonical_is_text}
 use Rattle.adjacency.specs.Adjacencies.{initial_description}
 use Rattle.events.specs.Hellos.{hello_on}
-use Rattle.events.specs.Packing.{packet_of}
-use Rattle.flood_laws.specs.Keeping.{IsText}
+use Rattle.events.specs.Packing.{IsSentText, packet_of}
 use Rattle.agreement_laws.proofs.HistoryStart.{link_with}
 use Rattle.agreement_laws.proofs.HistoryLeft.{a, answer, b, init, last_one, listed, reply}
 
 encoded : (own : ℕ) (says : PacketBody) → own < 2 ^ 32 → IsBody says
-    → length (text closed_fields 0 (packet_of own says)) ≤ 8192 → IsText own says
+    → length (text closed_fields 0 (packet_of own says)) ≤ 8192 → IsSentText own says
 encoded own says router is size =
     canonical_is_text (packet_of own says) (record { router = router; body = is }) size
 
 -- ---- Hellos
 
-pub first_hello : IsText 2 (body.Hello (hello_on (link_with b None None)))
+pub first_hello : IsSentText 2 (body.Hello (hello_on (link_with b None None)))
 first_hello =
     encoded 2 (body.Hello (hello_on (link_with b None None))) (omega arith) (record {
       mask = omega arith;
@@ -33,7 +32,7 @@ first_hello =
       neighbors = tt;
     }) (omega arith)
 
-pub second_hello : IsText 1 (body.Hello (hello_on (link_with a (Some init) None)))
+pub second_hello : IsSentText 1 (body.Hello (hello_on (link_with a (Some init) None)))
 second_hello =
     encoded 1 (body.Hello (hello_on (link_with a (Some init) None))) (omega arith) (record {
       mask = omega arith;
@@ -47,7 +46,7 @@ second_hello =
 -- ---- Descriptions
 
 without_headers : (own : ℕ) (d : Description) → own < 2 ^ 32 → d.mtu < 2 ^ 16
-    → d.options < 2 ^ 8 → d.sequence < 2 ^ 32 → IsText own (body.Description (record d {
+    → d.options < 2 ^ 8 → d.sequence < 2 ^ 32 → IsSentText own (body.Description (record d {
       headers = [];
     }))
 without_headers own d router mtu options sequence =
@@ -58,17 +57,17 @@ without_headers own d router mtu options sequence =
       headers = tt;
     }) (omega arith)
 
-pub opening : IsText 2 (body.Description (initial_description 3600))
+pub opening : IsSentText 2 (body.Description (initial_description 3600))
 opening =
     without_headers 2 (initial_description 3600) (omega arith) (omega arith) (omega arith)
     (omega arith)
 
-pub own_opening : IsText 1 (body.Description (initial_description 0))
+pub own_opening : IsSentText 1 (body.Description (initial_description 0))
 own_opening =
     without_headers 1 (initial_description 0) (omega arith) (omega arith) (omega arith)
     (omega arith)
 
-pub replying : IsText 1 (body.Description reply)
+pub replying : IsSentText 1 (body.Description reply)
 unfolding sealed_lsa
 replying =
     encoded 1 (body.Description reply) (omega arith) (record {
@@ -90,15 +89,15 @@ replying =
       );
     }) (omega arith)
 
-pub ending : IsText 2 (body.Description last_one)
+pub ending : IsSentText 2 (body.Description last_one)
 ending = without_headers 2 last_one (omega arith) (omega arith) (omega arith) (omega arith)
 
-pub answering : IsText 1 (body.Description answer)
+pub answering : IsSentText 1 (body.Description answer)
 answering = without_headers 1 answer (omega arith) (omega arith) (omega arith) (omega arith)
 
 -- ---- a Link State Request
 
-pub requesting : IsText 2 (body.Request (key_of (aged_header 0 listed) ∷ []))
+pub requesting : IsSentText 2 (body.Request (key_of (aged_header 0 listed) ∷ []))
 unfolding sealed_lsa
 requesting =
     encoded 2 (body.Request (key_of (aged_header 0 listed) ∷ [])) (omega arith) (

@@ -28,9 +28,9 @@ use Rattle.events.specs.LsaInstances.{instances_in_update}
 use Rattle.events.specs.Packing.{acknowledgments, at_interface, bodies, descriptions, first_key}
 use Rattle.events.specs.Packing.{header_size, hellos, in_key_order, lsa_size, out_of, outs_at}
 use Rattle.events.specs.Packing.{outs_of, packed_groups, packet_of, requests, sent_lsa, update_of}
-use Rattle.events.specs.Packing.{updates}
+use Rattle.events.specs.Packing.{IsSentText, updates}
 use Rattle.events.proofs.Rooms.{both, mapped_all, order_all, packed_all}
-use Rattle.flood_laws.specs.Keeping.{AreTexts, AreTextsAt, IsInstance, IsText}
+use Rattle.flood_laws.specs.Keeping.{AreTexts, AreTextsAt, IsInstance}
 use Rattle.flood_laws.proofs.Known.{of_member}
 use Rattle.flood_laws.proofs.Lists.{later_is, of_cons, of_empty}
 use Rattle.flood_laws.proofs.Taken.{named_first}
@@ -169,7 +169,7 @@ module _ (R : Content → Type 0) where
     -- bytes of a packet from this router with contents that were sent
     abbrev pub IsLetter : List ℕ → Type 0
     IsLetter bytes = (delay : ℕ) × (b : PacketBody) × BearsSent delay b
-        × (bytes ≡ canonical (packet_of own b)) × IsText own b
+        × (bytes ≡ canonical (packet_of own b)) × IsSentText own b
 
     abbrev OfOut : Out → Type 0
     OfOut out = out.interface ≡ number → IsLetter out.bytes
@@ -185,9 +185,9 @@ module _ (R : Content → Type 0) where
         both OfOut (outs_at own sends n link)
         (flat_map (λ (e : ℕ × Link). outs_at own sends e.0 e.1) (enumerate_from (n + 1) links))
         (mapped_all (out_of own n) (λ b. (n ≡ number → BearsSent link.interface.delay b)
-        × IsText own b) OfOut
+        × IsSentText own b) OfOut
         (λ b k same. (link.interface.delay, b, k.0 same, refl, k.1)) bs
-        (paired (λ b. n ≡ number → BearsSent link.interface.delay b) (IsText own) bs
+        (paired (λ b. n ≡ number → BearsSent link.interface.delay b) (IsSentText own) bs
         (given_all (n ≡ number) (BearsSent link.interface.delay) bs
         (λ same. bodies_bear link.interface.delay (filter_map (at_interface n) sends)
         (at_number n same sends so))) texts.0))

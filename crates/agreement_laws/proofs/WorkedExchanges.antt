@@ -14,10 +14,11 @@ use Rattle.adjacency.specs.Contents.{Content}
 use Rattle.adjacency.specs.Descriptions.{young_copies}
 use Rattle.adjacency.specs.declared.state.NeighborState.{NeighborState}
 use Rattle.received.specs.Links.{Link, link_at, neighbor_on}
+use Rattle.adjacency.specs.Steps.{named_neighbor}
 use Rattle.events.specs.declared.model.Out.{Out}
 use Rattle.events.specs.Events.{Happens, Run, Step}
 use Rattle.events.specs.Packing.{out_of, outs_of}
-use Rattle.events.specs.Routers.{Occurrence, Router, id_and_state}
+use Rattle.events.specs.Routers.{Occurrence, Router}
 use Rattle.flood_laws.specs.InOrder.{AnnouncesItsOwn}
 use Rattle.flood_laws.proofs.Known.{router_stays}
 use Rattle.flood_laws.proofs.Taken.{named_first}
@@ -31,7 +32,7 @@ use Rattle.agreement_laws.specs.WorkedExchanges.{WorkedExchanges}
 use Rattle.agreement_laws.proofs.Sent.{goes_out}
 
 -- a neighbor that is shown is at an interface
-its_link : (o : Option Link) (from : ℕ) (state : NeighborState) → id_and_state (neighbor_on o)
+its_link : (o : Option Link) (from : ℕ) (state : NeighborState) → named_neighbor (neighbor_on o)
     ≡ Some (from, state) → (link : Link) × (o ≡ Some link)
 its_link None from state e = absurd cc
 its_link (Some link) from state e = (link, refl)

@@ -16,12 +16,13 @@ use Rattle.adjacency.specs.Contents.{Content}
 use Rattle.adjacency.specs.Neighbors.{Neighbor, fresh, is_full, is_exchange_or_loading}
 use Rattle.received.specs.Links.{Link, any_exchange_or_loading, change_link, link_at, neighbor_at}
 use Rattle.received.specs.Links.{neighbor_on, neighbor_is_exchange_or_loading}
+use Rattle.adjacency.specs.Steps.{named_neighbor}
 use Rattle.events.specs.Endings.{start_event, end_event}
 use Rattle.events.specs.Originations.{links_of, point_to_point, router_body, stub}
 use Rattle.events.specs.Packets.{after_hello, after_packet, hear, heard_on, is_from, with_neighbor}
 use Rattle.events.specs.Packing.{outs_of}
 use Rattle.events.specs.EventState.{EventState, on_area}
-use Rattle.events.specs.Routers.{id_and_state, shown_at}
+use Rattle.events.specs.Routers.{shown_at}
 use Rattle.conversations.specs.WorkedHello.{ANeighborIsHeard}
 use Rattle.conversations.proofs.WorkedEnds.{begins, ended, ends_by}
 use Rattle.conversations.proofs.WorkedLinks.{link_changed}
@@ -139,7 +140,7 @@ is_heard_of old new number link moment from bytes h outs rest there none hello e
     link_changed (λ (e : ℕ × Link). cond (e.0 == number) (with_neighbor n e.1) e.1) number
     old.area.links link there in (
       ap (λ s. shown_at s number) (event.router ∙ ap (λ (q : EventState). q.router) end)
-          ∙ ap (λ o. id_and_state (neighbor_on o)) here
-          ∙ (λ i. id_and_state (cond (itself number i) (with_neighbor n link) link).neighbor),
+          ∙ ap (λ o. named_neighbor (neighbor_on o)) here
+          ∙ (λ i. named_neighbor (cond (itself number i) (with_neighbor n link) link).neighbor),
       event.sent ∙ ap (λ (q : EventState). outs_of old.id old.area.links q.sends) end,
     )

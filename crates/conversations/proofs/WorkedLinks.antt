@@ -22,8 +22,8 @@ use Rattle.received.specs.Links.{Link, acknowledge_later, any_exchange_or_loadin
 use Rattle.received.specs.Links.{link_at, neighbor_is_exchange_or_loading}
 use Rattle.received.specs.Outcomes.{Outcome, Stepping, each_neighbor, marked_database, sends_at}
 use Rattle.received.specs.Outcomes.{sent_on, step_on, stepped_links}
+use Rattle.adjacency.specs.Steps.{named_neighbor}
 use Rattle.events.specs.Originations.{links_of, point_to_point, router_body, stub}
-use Rattle.events.specs.Routers.{id_and_state}
 
 pub left_false : (a b : Bool) → (a || b) ≡ false → a ≡ false
 left_false true b e = absurd (true≢false e)
@@ -36,7 +36,7 @@ right_false false b e = e
 -- ---- the neighbors
 
 abbrev pub seen : Link → Interface × Option (ℕ × NeighborState)
-seen link = (link.interface, id_and_state link.neighbor)
+seen link = (link.interface, named_neighbor link.neighbor)
 
 abbrev pub told_of : Interface → Option (ℕ × NeighborState) → List RouterLink
 told_of i None = []
@@ -51,7 +51,7 @@ told_of i (Some n) = cond (is_full n.1) (record {
 abbrev pub told : Interface × Option (ℕ × NeighborState) → List RouterLink
 told x = told_of x.0 x.1 ++ stub x.0 ∷ []
 
-told_on : (i : Interface) (o : Option Neighbor) → point_to_point i o ≡ told_of i (id_and_state o)
+told_on : (i : Interface) (o : Option Neighbor) → point_to_point i o ≡ told_of i (named_neighbor o)
 told_on i None = refl
 told_on i (Some n) = refl
 
@@ -73,7 +73,7 @@ is_busy_of (Some n) = is_exchange_or_loading n.1
 abbrev pub is_busy : Interface × Option (ℕ × NeighborState) → Bool
 is_busy x = is_busy_of x.1
 
-busy_on : (o : Option Neighbor) → neighbor_is_exchange_or_loading o ≡ is_busy_of (id_and_state o)
+busy_on : (o : Option Neighbor) → neighbor_is_exchange_or_loading o ≡ is_busy_of (named_neighbor o)
 busy_on None = refl
 busy_on (Some n) = refl
 
@@ -120,7 +120,8 @@ flooding_keeps moment sender lsa number link n =
     (chosen_step (gets moment sender number lsa n) got not_got (who n) same same) refl
 
 shown_kept : (f : Neighbor → Step) (o : Option Neighbor)
-    → ((n : Neighbor) → who (f n).neighbor ≡ who n) → id_and_state (step_on f o) ≡ id_and_state o
+    → ((n : Neighbor) → who (f n).neighbor ≡ who n)
+    → named_neighbor (step_on f o) ≡ named_neighbor o
 shown_kept f None keeps = refl
 shown_kept f (Some n) keeps = ap Some (keeps n)
 

@@ -18,6 +18,7 @@ use Rattle.received.specs.adjacency.Contents.{Content, Step, no_sends}
 use Rattle.received.specs.adjacency.Descriptions.{after_description}
 use Rattle.received.specs.adjacency.Neighbors.{Neighbor, is_exchange_or_later}
 use Rattle.received.specs.adjacency.Retransmissions.{after_acknowledgment, lsa_of}
+pub use Rattle.received.specs.adjacency.Steps.{is_there}
 use Rattle.received.specs.Cases.{Case}
 use Rattle.received.specs.Links.{Link, change_link, link_at, neighbor_at}
 use Rattle.received.specs.Outcomes.{Outcome, sends_at, on_links, one_neighbor, sending}
@@ -50,9 +51,6 @@ after_hello own moment number from h o =
     heard_on own moment number from h (link_at number o.area.links) o
 
 -- ---- Link State Requests (section 10.7)
-
-abbrev pub is_there : Database → Key → Bool
-is_there db key = finite.contains_key db key
 
 abbrev pub requested_lsas : Moment → Database → List Key → List Lsa
 requested_lsas moment db keys = filter_map (λ (key : Key). lsa_of moment (finite.get db key)) keys

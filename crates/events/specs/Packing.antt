@@ -1,20 +1,21 @@
 -- What is sent as packets: ordered, packed, and in canonical encoding (RFC 2328, sections 13.3,
 -- 13.5 and appendix A.3).
-use Rattle.std.specs.Prelude.{ℕ, ◌+◌, Bool, nat_le, ◌==◌, min, if◌then◌else◌, List, [], ◌∷◌, ◌++◌}
+use Rattle.std.specs.Prelude.{ℕ, ◌+◌, Bool, nat_le, ◌==◌, if◌then◌else◌, List, [], ◌∷◌, ◌++◌}
 use Rattle.std.specs.Prelude.{map, Option, None, Some}
 use Rattle.std.specs.List.{enumerate_from, filter_map, flat_map}
 use Rattle.std.specs.Ordering.{is_gt}
-use Rattle.words.specs.Constants.{largest_packet, max_age}
+use Rattle.words.specs.Constants.{largest_packet}
 use Rattle.words.specs.Numbers.{InterfaceNumber, RouterNumber, Seconds}
 use Rattle.words.specs.declared.key.Key.{Key}
 use Rattle.lsa.specs.Text.{text}
-use Rattle.received.specs.lsdb.Headers.{Header, Lsa, key_of, lsa_aged, lsa_key}
+use Rattle.received.specs.lsdb.Headers.{Header, Lsa, key_of, lsa_key}
 use Rattle.received.specs.lsdb.Keys.{key_cmp}
 use Rattle.packet.specs.declared.model.PacketBody.{PacketBody}
 use Rattle.packet.specs.declared.model.PacketBody.TheVariants as body
 use Rattle.packet.specs.declared.model.Packet.{Packet}
-use Rattle.packet.specs.Text.{canonical}
+use Rattle.packet.specs.Text.{PacketText, canonical}
 use Rattle.received.specs.adjacency.Contents.{Content}
+pub use Rattle.received.specs.adjacency.Drafts.{sent_lsa}
 use Rattle.received.specs.Links.{Link}
 use Rattle.received.specs.Outcomes.{Send}
 use Rattle.events.specs.declared.model.Out.{Out}
@@ -90,10 +91,6 @@ abbrev pub first_key : List Key → Key
 first_key [] = record { ls_type = 0; link_state_id = 0; advertising_router = 0 }
 first_key (key ∷ keys) = key
 
--- the age of an LSA is incremented by InfTransDelay when it is sent, up to MaxAge
-abbrev pub sent_lsa : Seconds → Lsa → Lsa
-sent_lsa delay lsa = lsa_aged (min max_age (lsa.header.age + delay)) lsa
-
 abbrev pub lsa_size : Lsa → ℕ
 lsa_size lsa = lsa.header.length
 
@@ -123,6 +120,10 @@ at_interface number s = if s.number == number then Some s.content else None
 
 abbrev pub packet_of : RouterNumber → PacketBody → Packet
 packet_of own says = record { router = own; body = says }
+
+-- the bytes that are sent encode a packet from this router with this body
+abbrev pub IsSentText : RouterNumber → PacketBody → Type 0
+IsSentText own says = PacketText (canonical (packet_of own says)) (packet_of own says)
 
 abbrev pub out_of : RouterNumber → InterfaceNumber → PacketBody → Out
 out_of own number says = record { interface = number; bytes = canonical (packet_of own says) }

@@ -1,6 +1,6 @@
 -- The state of a router, what may happen to it, and its start.
 use Rattle.std.specs.Prelude.{ℕ, Bool, true, not, ◌&&◌, ◌==◌, nat_le, nat_lt, List, [], ◌∷◌, length}
-use Rattle.std.specs.Prelude.{map, Option, None, Some}
+use Rattle.std.specs.Prelude.{map, Option, None}
 use Rattle.std.specs.List.{list_all, list_any}
 use Rattle.std.specs.FinMap as finite
 use Rattle.std.specs.FinSet as set
@@ -12,7 +12,7 @@ use Rattle.words.specs.declared.route.Route.{Route}
 use Rattle.received.specs.lsdb.Keys.{ByKey, KeySet}
 use Rattle.received.specs.adjacency.declared.interface.Interface.{Interface}
 use Rattle.received.specs.adjacency.declared.state.NeighborState.{NeighborState}
-use Rattle.received.specs.adjacency.Neighbors.{Neighbor}
+use Rattle.received.specs.adjacency.Steps.{named_neighbor}
 use Rattle.received.specs.Links.{Area, Link, neighbor_at}
 use Rattle.events.specs.declared.model.Config.{Config}
 
@@ -96,11 +96,7 @@ unannounced_router c = with_links c.router (map fresh_link c.interfaces) c.start
 
 -- ---- what is shown
 
-abbrev pub id_and_state : Option Neighbor → Option (ℕ × NeighborState)
-id_and_state None = None
-id_and_state (Some n) = Some (n.router, n.state)
-
 -- the Router ID and the state of the neighbor at the interface with this number, unless it is Down
 -- or there is no such interface
 abbrev pub shown_at : Router → InterfaceNumber → Option (ℕ × NeighborState)
-shown_at r number = id_and_state (neighbor_at number r.area.links)
+shown_at r number = named_neighbor (neighbor_at number r.area.links)

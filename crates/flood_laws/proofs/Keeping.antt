@@ -43,12 +43,12 @@ use Rattle.events.specs.LsaInstances.{LsaInstance, instance_of_header, instance_
 use Rattle.events.specs.LsaInstances.{instances_advertised, instances_in_update, instances_received}
 use Rattle.events.specs.Originations.{external_key, has_max_sequence, new_instance, next_sequence}
 use Rattle.events.specs.Originations.{router_key}
-use Rattle.events.specs.Packing.{at_interface, bodies, out_of, outs_at}
+use Rattle.events.specs.Packing.{IsSentText, at_interface, bodies, out_of, outs_at}
 use Rattle.events.specs.Routers.{Occurrence, Router, fresh_link, unannounced_router}
 use Rattle.flood_laws.specs.Worlds.{IsKnown, IsLawfulOut, instances_stored}
 use Rattle.flood_laws.specs.Keeping.{AnnouncesAddress, AreTexts, AreTextsAt, EventsKeepWhatIsKnown}
 use Rattle.flood_laws.specs.Keeping.{HoldsInstances, InstancesStayInRange, IsInstance, IsLsaKey}
-use Rattle.flood_laws.specs.Keeping.{IsText, KeepsWhatIsKnown}
+use Rattle.flood_laws.specs.Keeping.{KeepsWhatIsKnown}
 use Rattle.flood_laws.specs.InOrder.{AnnouncesItsOwn, IsInOrder}
 use Rattle.flood_laws.specs.NewInstances.{IsNewInstance}
 use Rattle.flood_laws.specs.Known.{Bears, EventsHoldOnlyWhatIsKnown, IsOutOf, IsTextOf}
@@ -143,7 +143,7 @@ module _ (old : Router) (event : Occurrence) (originated : List LsaInstance) (se
     abbrev Known : LsaInstance → Type 0
     Known name = Named (IsKnown old event originated) name
 
-    lawful_out : (n : ℕ) (b : PacketBody) → Bears Known b × IsText old.id b
+    lawful_out : (n : ℕ) (b : PacketBody) → Bears Known b × IsSentText old.id b
         → IsLawfulOut old event originated (out_of old.id n b)
     lawful_out n b so = record {
       packet = record { router = old.id; body = b };
@@ -164,9 +164,9 @@ module _ (old : Router) (event : Occurrence) (originated : List LsaInstance) (se
         let contents : List Content = filter_map (at_interface n) sends in
         both (IsLawfulOut old event originated) (outs_at old.id sends n link)
         (flat_map (λ (e : ℕ × Link). outs_at old.id sends e.0 e.1) (enumerate_from (n + 1) links))
-        (mapped_all (out_of old.id n) (λ b. Bears Known b × IsText old.id b)
+        (mapped_all (out_of old.id n) (λ b. Bears Known b × IsSentText old.id b)
         (IsLawfulOut old event originated) (lawful_out n) (bodies link.interface.delay contents)
-        (paired_all (Bears Known) (IsText old.id) (bodies link.interface.delay contents)
+        (paired_all (Bears Known) (IsSentText old.id) (bodies link.interface.delay contents)
         (bodies_bear Known link.interface.delay contents
         (at_number (λ c. AllByRecursion Known (instances_in_content c)) n sends so)) texts.0))
         (outs_lawful so (n + 1) links texts.1)

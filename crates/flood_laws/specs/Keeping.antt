@@ -8,8 +8,6 @@ use Rattle.std.specs.List.{AllByRecursion, Contains, enumerate_from, filter_map}
 use Rattle.words.specs.Numbers.{InterfaceNumber, Moment, RouterNumber}
 use Rattle.words.specs.declared.key.Key.{Key}
 use Rattle.words.specs.declared.route.External.{External}
-use Rattle.packet.specs.declared.model.PacketBody.{PacketBody}
-use Rattle.packet.specs.Text.{PacketText, canonical}
 use Rattle.received.specs.Links.{Link}
 use Rattle.received.specs.Outcomes.{Send}
 use Rattle.events.specs.declared.model.Config.{Config}
@@ -17,7 +15,7 @@ use Rattle.events.specs.declared.model.Out.{Out}
 use Rattle.events.specs.Endings.{end_event}
 use Rattle.events.specs.Events.{Happens, Run, Step, initial}
 use Rattle.events.specs.LsaInstances.{LsaInstance}
-use Rattle.events.specs.Packing.{at_interface, bodies, packet_of}
+use Rattle.events.specs.Packing.{IsSentText, at_interface, bodies}
 use Rattle.events.specs.Routers.{Occurrence, Router}
 use Rattle.flood_laws.specs.InOrder.{AnnouncesItsOwn, IsInOrder}
 use Rattle.flood_laws.specs.TakenOff.{TakesOffWhatIsTold}
@@ -83,14 +81,10 @@ WhatIsTakenOffWasTold =
 
 -- ---- the law
 
--- its bytes encode a packet from this router with this body
-abbrev pub IsText : RouterNumber → PacketBody → Type 0
-IsText own says = PacketText (canonical (packet_of own says)) (packet_of own says)
-
 -- all that is sent at an interface
 abbrev pub AreTextsAt : RouterNumber → List Send → InterfaceNumber → Link → Type 0
 AreTextsAt own sends number link =
-    AllByRecursion (IsText own)
+    AllByRecursion (IsSentText own)
     (bodies link.interface.delay (filter_map (at_interface number) sends))
 
 -- at every interface
