@@ -7,6 +7,7 @@ use Rattle.std.specs.FinMap as finite
 use Rattle.std.specs.FinSet as set
 use Rattle.std.specs.Ordering.{int_cmp, is_eq}
 pub use Rattle.words.specs.Constants.{max_sequence_number}
+pub use Rattle.words.specs.Keys.{router_key}
 pub use Rattle.words.specs.Constants.{initial_sequence_number}
 use Rattle.words.specs.Constants.{e_bit, ls_refresh_time, max_age, min_ls_interval}
 use Rattle.words.specs.Numbers.{Moment, RouterNumber}
@@ -33,9 +34,6 @@ use Rattle.events.specs.EventState.{EventState, flood_from_nobody, on_area, on_r
 use Rattle.events.specs.Routers.{Router}
 
 -- ---- which LSAs are wanted
-
-abbrev pub router_key : RouterNumber → Key
-router_key id = record { ls_type = 1; link_state_id = id; advertising_router = id }
 
 -- the Link State ID is the address of the destination
 abbrev pub external_key : RouterNumber → Network → Key

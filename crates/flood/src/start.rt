@@ -1,7 +1,6 @@
 //! A router at its start.
 ghost use Rattle.std.specs.Prelude.{◌≡◌, IfOk, OnOk, map, true};
 ghost use Rattle.events.specs.Events.{initial};
-ghost use Rattle.events.specs.Originations.{router_key};
 ghost use Rattle.events.specs.Routers.{in_profile, unannounced_router};
 ghost use Rattle.flood.specs.Starts.{fresh_kept};
 
@@ -10,7 +9,7 @@ use events::Config;
 use flood_laws::Interface;
 use procedures::{Router, originate_or_wait};
 use std::alloc::{AllocError, Global};
-use words::{Key, LinkStateId, RouterId};
+use words::router_key;
 
 // A link for each interface, on which nothing was received, sent or drafted.
 fn links_of(alloc: Global, interfaces: &[Interface]) -> Result<Vec<Link>, AllocError>
@@ -20,17 +19,6 @@ fn links_of(alloc: Global, interfaces: &[Interface]) -> Result<Vec<Link>, AllocE
         .iter()
         .map(|i| Link::new(alloc, *i))
         .collect(alloc)
-}
-
-// The key of the router's own router-LSA.
-fn router_key(own: RouterId) -> Key
-    ensures { result ≡ router_key own }
-{
-    Key {
-        ls_type: 1,
-        link_state_id: LinkStateId::new(own.number()),
-        advertising_router: own,
-    }
 }
 
 // Installs the router-LSA of a router without neighbors in its database.

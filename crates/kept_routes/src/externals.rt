@@ -4,7 +4,6 @@ ghost use Rattle.std.specs.Prelude.{◌≡◌, ◌≤◌, ◌↔◌, IfOk, IsTru
 ghost use Rattle.lsa.specs.declared.body.LsaBody.TheVariants as body;
 ghost use Rattle.lsa.specs.declared.body.RouterLsa.{RouterLsa as RouterValue};
 ghost use Rattle.candidates.specs.Borders.{IsFlagged};
-ghost use Rattle.routes.specs.Links.{router_key};
 ghost use Rattle.routes.specs.Said.{said_at};
 ghost use Rattle.routes.specs.declared.graph.Way.{Way as WayTo};
 ghost use Rattle.candidates.specs.Reached.{way_in};
@@ -18,7 +17,7 @@ use crate::walks::Routes;
 use lsa::{LsaBody, RouterLsa};
 use routes::{KeyRule, Lsdb, Node};
 use std::alloc::{AllocError, Global};
-use words::{Key, LinkStateId, RouterId, Second};
+use words::{Key, LinkStateId, RouterId, Second, router_key};
 
 // AS-external-LSAs that offer nothing by this walk, whatever they say.
 #[derive(Drop)]
@@ -92,16 +91,6 @@ fn is_boundary(db: &Lsdb, walk: &Routes, moment: Second, router: RouterId) -> bo
     match router_lsa(db, moment, &router_key(router)) {
         None => false,
         Some(lsa) => has_e(lsa),
-    }
-}
-
-fn router_key(router: RouterId) -> Key
-    ensures { result ≡ router_key router }
-{
-    Key {
-        ls_type: 1,
-        link_state_id: LinkStateId::new(router.number()),
-        advertising_router: router,
     }
 }
 

@@ -12,12 +12,12 @@ ghost use Rattle.flooding.specs.Links.{present};
 ghost use Rattle.originations.specs.Decisions.{of_instance, origination, unless_flushed};
 
 use crate::external::{external_instance, external_key};
-use crate::router::{router_instance, router_key};
+use crate::router::router_instance;
 use crate::sequence::next_number;
 use flooding::{DatabaseCopy, Link, Lsdb};
 use lsa::Lsa;
 use std::alloc::{AllocError, Global};
-use words::{External, MIN_LS_INTERVAL, RouterId, Second};
+use words::{External, MIN_LS_INTERVAL, RouterId, Second, router_key};
 
 /// What happens to a wanted self-originated LSA.
 #[derive(Debug, Drop)]

@@ -11,17 +11,7 @@ use crate::instance::next_instance;
 use flooding::{Interface, Link, Lsdb, NeighborState};
 use lsa::{LinkKind, Lsa, LsaBody, RouterLink, RouterLsa};
 use std::alloc::{AllocError, Global};
-use words::{Key, LinkStateId, Prefix, RouterId, Sequence};
-
-pub fn router_key(own: RouterId) -> Key
-    ensures { result ≡ router_key own }
-{
-    Key {
-        ls_type: 1,
-        link_state_id: LinkStateId::new(own.number()),
-        advertising_router: own,
-    }
-}
+use words::{Prefix, RouterId, Sequence, router_key};
 
 /// The neighbor's Router ID, if it is Full.
 pub fn full_router(neighbor: Option<(RouterId, NeighborState)>) -> Option<RouterId>

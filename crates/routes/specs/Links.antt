@@ -2,6 +2,7 @@
 -- link with one back.
 use Rattle.std.specs.Prelude.{◌≡◌, ℕ, ◌+◌, ◌<◌, Some, slice_get}
 use Rattle.std.specs.List.{Contains}
+pub use Rattle.words.specs.Keys.{router_key}
 use Rattle.words.specs.declared.key.Key.{Key}
 use Rattle.lsa.specs.declared.body.LsaBody.TheVariants as body
 use Rattle.lsa.specs.declared.body.RouterLink.{RouterLink}
@@ -19,9 +20,6 @@ use Rattle.routes.specs.Said.{Said}
 -- the LSA of this key says this
 abbrev pub Says : Said → Key → LsaBody → Type 0
 Says said key body = said key ≡ Some body
-
-abbrev pub router_key : ℕ → Key
-router_key router = record { ls_type = 1; link_state_id = router; advertising_router = router }
 
 abbrev pub network_key : ℕ → ℕ → Key
 network_key id by = record { ls_type = 2; link_state_id = id; advertising_router = by }
