@@ -4,6 +4,7 @@ use Rattle.std.specs.Prelude.{◌≡◌, ◌≢◌, ◌↔◌, ◌⊎◌, ℕ, �
 use Rattle.std.specs.Prelude.{bit_and}
 use Rattle.std.specs.Prelude.{slice_index_or}
 use Rattle.std.specs.List.{AllPairs, Contains}
+use Rattle.words.specs.Constants.{ls_infinity}
 use Rattle.words.specs.Prefixes.{IsUnder, Network, network_address}
 use Rattle.words.specs.declared.key.Key.{Key}
 use Rattle.words.specs.declared.route.Route.{Route}
@@ -73,7 +74,7 @@ pub record TellsFlags (ways : Ways) (one : Key × LsaBody) (router : Flagged) : 
 -- the summary counts: it is of another router, a reachable area border router
 pub record IsCounted (root : Root) (routers : List Flagged) (originator : ℕ) (lsa : SummaryLsa)
     (border : Way) : Type 0 where
-  pub reachable : lsa.metric < 16777215
+  pub reachable : lsa.metric < ls_infinity
   pub of_another : originator ≢ root.router
   pub reaches : IsListed routers originator 1 border
 

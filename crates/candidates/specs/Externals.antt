@@ -2,6 +2,7 @@
 -- sections 16.4 and A.4.5).
 use Rattle.std.specs.Prelude.{◌≡◌, ◌≢◌, ◌↔◌, ◌<◌, List, [], Some}
 use Rattle.std.specs.List.{Contains}
+use Rattle.words.specs.Constants.{ls_infinity}
 use Rattle.words.specs.declared.key.Key.{Key}
 use Rattle.words.specs.declared.route.Route.{Route}
 use Rattle.lsa.specs.declared.body.LsaBody.{LsaBody}
@@ -59,7 +60,7 @@ offer_by e way =
 pub record OfTold (root : Root) (routers : List Flagged) (told inner : List Route)
     (e : ExternalAdvertisement)
     (o : Offer) : Type 0 where
-  pub reachable : e.metric < 16777215
+  pub reachable : e.metric < ls_infinity
   pub of_another : e.originator ≢ root.router
   pub way : Way
   pub is_way : IsOutwardBy routers told inner e.originator e.forwarding way

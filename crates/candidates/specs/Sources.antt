@@ -1,6 +1,7 @@
 -- What the LSA with a key offers, given the ways to all nodes (RFC 2328, sections 16.1, 16.2 and
 -- 16.4).
 use Rattle.std.specs.Prelude.{◌≡◌, ◌≢◌, ℕ, ◌+◌, ◌<◌, List, Some, nat_eq, if◌then◌else◌}
+use Rattle.words.specs.Constants.{ls_infinity}
 use Rattle.words.specs.Prefixes.{Network}
 use Rattle.words.specs.declared.key.Key.{Key}
 use Rattle.words.specs.declared.route.Route.{Route}
@@ -83,7 +84,7 @@ pub record OfExternal (root : Root) (routers : List Flagged) (told inner : List 
   pub is_type : one.0.ls_type ≡ 5
   pub lsa : ExternalLsa
   pub its : one.1 ≡ body.External lsa
-  pub reachable : lsa.metric < 16777215
+  pub reachable : lsa.metric < ls_infinity
   pub of_another : one.0.advertising_router ≢ root.router
   pub prefix : Network
   pub is_prefix : IsPrefix one.0.link_state_id lsa.mask prefix

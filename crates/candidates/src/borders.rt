@@ -1,6 +1,7 @@
 //! Area border routers, AS boundary routers, and what summary-LSAs advertise about these (RFC 2328,
 //! sections 16.2 and 16.4).
 ghost use Rattle.std.specs.Prelude.{◌≡◌, ◌<◌, IfSome};
+ghost use Rattle.words.specs.Constants.{ls_infinity};
 ghost use Rattle.candidates.specs.Borders.{
   AreBelow,
   AreCloseBy,
@@ -30,7 +31,7 @@ pub fn counted_border(
     requires close { AreCloseBy routers.now }
     ensures just { IsJust (IsCounted root.now routers.now originator lsa.now) result }
     ensures near { IfSome result (λ border. border.distance < 1073741824) }
-    ensures metric { IfSome result (λ _. lsa.now.metric < 16777215) }
+    ensures metric { IfSome result (λ _. lsa.now.metric < ls_infinity) }
 {
     if lsa.metric >= LS_INFINITY || originator == root.router {
         return None;

@@ -1,5 +1,6 @@
 //! Offers of each kind, and routers as host prefixes.
 ghost use Rattle.std.specs.Prelude.{◌≡◌, ◌<◌};
+ghost use Rattle.words.specs.Constants.{ls_infinity};
 ghost use Rattle.routes.specs.Offers.{intra};
 ghost use Rattle.routes.specs.Summaries.{inter};
 ghost use Rattle.candidates.specs.Borders.{host, way_by};
@@ -42,7 +43,7 @@ pub fn inter(prefix: Prefix, cost: u32, hops: u64) -> Offer
 /// An offer of an AS boundary router. The way leads to it or to the forwarding address.
 pub fn external(told: &ExternalAdvertisement, way: Way) -> Offer
     requires near { way.distance < 2147483648 }
-    requires metric { told.now.metric < 16777215 }
+    requires metric { told.now.metric < ls_infinity }
     ensures { result ≡ offer_by told.now way }
 {
     match told.kind {

@@ -2,6 +2,7 @@
 -- 13.5).
 use Rattle.std.specs.Prelude.{◌≡◌, ◌≤◌, ◌<◌, ℕ, ◌+◌, pos, List, [], ◌∷◌, map}
 use Rattle.std.specs.List.{AllByRecursion, filter, filter_map, flat_map}
+use Rattle.words.specs.Constants.{largest_packet}
 use Rattle.words.specs.declared.key.Key.{Key}
 use Rattle.lsa.specs.Text.{text}
 use Rattle.lsa.specs.declared.body.LsaBody.{LsaBody}
@@ -102,7 +103,8 @@ told_in_order says =
 pub record WhatIsSentStandsInOrder : Type 0 where
   -- whatever is sent, if each LSA fits into a Link State Update after 28 bytes
   pub lsas : (delay : ℕ) (contents : List Content)
-      → AllByRecursion (λ (l : Lsa). 28 + l.header.length ≤ 8192) (filter_map updates contents)
+      → AllByRecursion (λ (l : Lsa). 28 + l.header.length ≤ largest_packet)
+      (filter_map updates contents)
       → UpdatesAreInOrder delay contents
   pub headers : (delay : ℕ) (contents : List Content)
       → AcknowledgmentsAreInOrder delay contents

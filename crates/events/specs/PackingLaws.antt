@@ -1,6 +1,7 @@
 -- Properties of the order and the packing of what is sent.
 use Rattle.std.specs.Prelude.{◌≡◌, ◌≤◌, ◌<◌, ℕ, ◌+◌, false, List, [], ◌∷◌, length}
 use Rattle.std.specs.List.{AllByRecursion, filter, flat_map}
+use Rattle.words.specs.Constants.{largest_packet}
 use Rattle.words.specs.declared.key.Key.{Key}
 use Rattle.received.specs.lsdb.Headers.{Header, Lsa, key_of, lsa_key}
 use Rattle.received.specs.lsdb.Keys.{same_key}
@@ -44,7 +45,7 @@ first_size size (x ∷ xs) = size x
 -- the first item of the next packet, if there is one, didn't fit into this one
 abbrev pub IsFull : {X : Type 0} → (X → ℕ) → ℕ → List X → List (List X) → Type 0
 IsFull size start xs [] = Unit {0}
-IsFull size start xs (ys ∷ rest) = 8192 < total size start xs + first_size size ys
+IsFull size start xs (ys ∷ rest) = largest_packet < total size start xs + first_size size ys
 
 abbrev pub AreFull : {X : Type 0} → (X → ℕ) → ℕ → List (List X) → Type 0
 AreFull size start [] = Unit {0}
@@ -54,12 +55,12 @@ AreFull size start (xs ∷ rest) = IsFull size start xs rest × AreFull size sta
 pub record IsPacking {X : Type 0} (size : X → ℕ) (start : ℕ) (xs : List X)
     (packets : List (List X)) : Type 0 where
   pub all : flat_map (λ p. p) packets ≡ xs
-  pub within : AllByRecursion (λ p. total size start p ≤ 8192) packets
+  pub within : AllByRecursion (λ p. total size start p ≤ largest_packet) packets
   pub full : AreFull size start packets
 
 -- the body fits into a packet after the header of 24 bytes, and the number of LSAs into its field
 pub record HasPacketRoom (says : PacketBody) : Type 0 where
-  pub bytes : 24 + length (body_text closed_fields says) ≤ 8192
+  pub bytes : 24 + length (body_text closed_fields says) ≤ largest_packet
   pub count : lsa_count says ≤ 8192
 
 -- ---- in the order of the interfaces
@@ -79,7 +80,8 @@ pub record OutsAreOrderedAndPacked : Type 0 where
       → IsInKeyOrder key_of headers (in_key_order key_of headers)
   -- a Link State Update has 28 bytes before its first LSA, and each LSA was received in one or is a
   -- short one of this router's own
-  pub packed_updates : (lsas : List Lsa) → AllByRecursion (λ l. 28 + lsa_size l ≤ 8192) lsas
+  pub packed_updates : (lsas : List Lsa)
+      → AllByRecursion (λ l. 28 + lsa_size l ≤ largest_packet) lsas
       → IsPacking lsa_size 28 lsas (packed_groups lsa_size 28 lsas)
   pub packed_acknowledgments : (headers : List Header)
       → IsPacking header_size 24 headers (packed_groups header_size 24 headers)
@@ -89,4 +91,4 @@ pub record OutsAreOrderedAndPacked : Type 0 where
   -- no packet has more than 8,192 bytes
   pub bytes : (own : ℕ) (links : List Link) (sends : List Send)
       → AllByRecursion (λ (s : Send). HasRoom s.content) sends
-      → AllByRecursion (λ (o : Out). length o.bytes ≤ 8192) (outs_of own links sends)
+      → AllByRecursion (λ (o : Out). length o.bytes ≤ largest_packet) (outs_of own links sends)

@@ -2,6 +2,7 @@
 -- start, is kept by each event, and bounds what an event sends.
 use Rattle.std.specs.Prelude.{◌≡◌, ◌≤◌, ℕ, true, List, length}
 use Rattle.std.specs.List.{AllByRecursion}
+use Rattle.words.specs.Constants.{largest_packet}
 use Rattle.received.specs.adjacency.Neighbors.{Neighbor}
 use Rattle.received.specs.adjacency.Rooms.{AllFit, HasRoom, HasRoomyLists}
 use Rattle.received.specs.Holds.{HoldsOfEach}
@@ -25,7 +26,7 @@ pub record IsRoomy (r : Router) : Type 0 where
 
 -- no packet has more than 8,192 bytes
 abbrev pub HaveRoom : List Out → Type 0
-HaveRoom outs = AllByRecursion (λ (o : Out). length o.bytes ≤ 8192) outs
+HaveRoom outs = AllByRecursion (λ (o : Out). length o.bytes ≤ largest_packet) outs
 
 pub record EveryPacketHasRoom : Type 0 where
   -- at the start

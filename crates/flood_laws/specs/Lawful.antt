@@ -1,6 +1,7 @@
 -- Which canonical encodings are valid packets.
 use Rattle.std.specs.Prelude.{◌≤◌, ◌<◌, ◌^◌, ℕ, List, length, map}
 use Rattle.std.specs.List.{AllByRecursion}
+use Rattle.words.specs.Constants.{largest_packet}
 use Rattle.lsa.specs.Headers.{IsHeader}
 use Rattle.lsa.specs.Text.{text}
 use Rattle.lsdb.specs.Headers.{Header, Lsa}
@@ -14,11 +15,11 @@ use Rattle.events.specs.Packing.{packet_of}
 pub record TextsAreLawful : Type 0 where
   pub update : (own : ℕ) (lsas : List Lsa) → own < 2 ^ 32
       → AllByRecursion (λ l. IsHeader l.header × Fits l) lsas
-      → length (canonical (packet_of own (body.Update (map (λ l. text l) lsas)))) ≤ 8192
+      → length (canonical (packet_of own (body.Update (map (λ l. text l) lsas)))) ≤ largest_packet
       → PacketText (canonical (packet_of own (body.Update (map (λ l. text l) lsas))))
       (packet_of own (body.Update (map (λ l. text l) lsas)))
   pub acknowledgment : (own : ℕ) (headers : List Header) → own < 2 ^ 32
       → AllByRecursion IsHeader headers
-      → length (canonical (packet_of own (body.Acknowledgment headers))) ≤ 8192
+      → length (canonical (packet_of own (body.Acknowledgment headers))) ≤ largest_packet
       → PacketText (canonical (packet_of own (body.Acknowledgment headers)))
       (packet_of own (body.Acknowledgment headers))

@@ -1,6 +1,7 @@
 //! Parses packets.
 ghost use Rattle.std.specs.Prelude.{◌≡◌, ◌≤◌, ◌<◌, ◌+◌, ◌*◌, ◌/◌, ◌^◌, ◌⊎◌, true, length, drop};
 ghost use Rattle.std.specs.Prelude.{IfOk};
+ghost use Rattle.words.specs.Constants.{largest_packet};
 ghost use Rattle.lsa.specs.Headers.{header_at};
 ghost use Rattle.packet.specs.Text.{PacketText, closed_fields, lsa_count, text};
 ghost use Rattle.packet.specs.Reading.{are_lsas, body_of, description_of, hello_of, is_filled};
@@ -173,7 +174,7 @@ pub fn read(alloc: Global, bytes: &[u8]) -> Result<Packet, PacketError>
     // Which fault it is; `Memory` is returned only if there is none.
     ensures exact { Reads bytes.now result }
     // The packet can be written.
-    ensures writable { IfOk result (λ p. (length (text closed_fields 0 p) ≤ 8192)
+    ensures writable { IfOk result (λ p. (length (text closed_fields 0 p) ≤ largest_packet)
         × (lsa_count p.body < 2 ^ 32)) }
 {
     outcome(alloc, bytes)

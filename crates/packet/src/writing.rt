@@ -2,6 +2,7 @@
 ghost use Rattle.std.specs.Prelude.{◌≡◌, ◌≤◌, ◌<◌, ◌^◌, ◌+◌, ◌*◌, ◌++◌, ℕ, List, [], ◌∷◌, length};
 ghost use Rattle.std.specs.Prelude.{IfOk, OnOk, take};
 ghost use Rattle.std.specs.List.{flat_map};
+ghost use Rattle.words.specs.Constants.{largest_packet};
 ghost use Rattle.byteorder.specs.Endian.{big_bytes};
 ghost use Rattle.words.specs.Fields.{fields};
 ghost use Rattle.lsa.specs.Headers.{header_text};
@@ -211,7 +212,7 @@ fn draft(alloc: Global, packet: &Packet) -> Result<Vec<u8>, AllocError>
 #[tactic(auto, unfolding(crate::specs::Text::canonical))]
 pub fn write(alloc: Global, packet: &Packet) -> Result<Vec<u8>, AllocError>
     // A packet has at most 8,192 bytes.
-    requires size { length (text closed_fields 0 packet.now) ≤ 8192 }
+    requires size { length (text closed_fields 0 packet.now) ≤ largest_packet }
     // The number of LSAs in a Link State Update has 32 bits.
     requires count { lsa_count packet.now.body < 2 ^ 32 }
     ensures canonical { IfOk result (λ bytes. bytes.items ≡ canonical packet.now) }

@@ -1,6 +1,7 @@
 -- The bodies of the packets of a draft: ordered and packed (RFC 2328, sections 13.3, 13.5).
 use Rattle.std.specs.Prelude.{ℕ, List, ◌++◌, ◌+◌, ◌≤◌, length, map}
 use Rattle.std.specs.List.{AllByRecursion}
+use Rattle.words.specs.Constants.{largest_packet}
 use Rattle.words.specs.declared.key.Key.{Key}
 use Rattle.lsdb.specs.Headers.{Header, key_of}
 use Rattle.packet.specs.declared.model.PacketBody.{PacketBody}
@@ -20,7 +21,7 @@ text_size text = length text
 
 -- each fits into a Link State Update, after the 28 bytes before its first LSA
 abbrev pub IsShort : Update → Type 0
-IsShort u = 28 + length u.text ≤ 8192
+IsShort u = 28 + length u.text ≤ largest_packet
 
 abbrev pub AllShort : List Update → Type 0
 AllShort updates = AllByRecursion IsShort updates

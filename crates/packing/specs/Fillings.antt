@@ -1,12 +1,13 @@
 -- Packets while they are being filled.
 use Rattle.std.specs.Prelude.{◌≡◌, ◌≤◌, ℕ, ◌+◌, List, [], ◌∷◌, ◌++◌}
 use Rattle.std.specs.List.{AllByRecursion}
+use Rattle.words.specs.Constants.{largest_packet}
 use Rattle.events.specs.Packing.{fill_on, packed_groups}
 
 -- the packet that is being filled begins with `start` bytes and has `used` bytes so far; without an
 -- item it has no more than it begins with
 pub record IsFilling {X : Type 0} (start used : ℕ) (taken : List X) : Type 0 where
-  pub room : used ≤ 8192
+  pub room : used ≤ largest_packet
   pub fresh : taken ≡ [] → used ≡ start
 
 -- the packets from the one that is being filled on, when the rest is packed too
@@ -26,5 +27,5 @@ pub record IsPackedSoFar {X : Type 0} (size : X → ℕ) (begin : ℕ) (all : Li
     (packets : List (List X)) (taken rest : List X) : Type 0 where
   pub filling : IsFilling start used taken
   pub begins : start ≡ begin
-  pub room : AllByRecursion (λ x. begin + size x ≤ 8192) rest
+  pub room : AllByRecursion (λ x. begin + size x ≤ largest_packet) rest
   pub is : finished_packets size start used packets taken rest ≡ packed_groups size begin all

@@ -2,6 +2,7 @@
 ghost use Rattle.std.specs.Prelude.{◌≡◌, ◌≤◌, ◌+◌, List, [], ◌∷◌, ◌++◌};
 ghost use Rattle.std.specs.Prelude.{IfOk, OnOk};
 ghost use Rattle.std.specs.List.{AllByRecursion};
+ghost use Rattle.words.specs.Constants.{largest_packet};
 ghost use Rattle.events.specs.Packing.{packed_groups};
 ghost use Rattle.packing.specs.Fillings.{IsFilling, finished_packets};
 
@@ -50,7 +51,7 @@ impl<X: HasSize + Drop> Filling<X> {
 
     // Adds the item to the packet that is being filled.
     fn add(&mut self, item: X) -> Result<(), AllocError>
-        requires { self.old.used + X.size item ≤ 8192 }
+        requires { self.old.used + X.size item ≤ largest_packet }
         ensures packets { OnOk result (self.new.packets.items ≡ self.old.packets.items) }
         ensures taken { OnOk result (self.new.taken.items ≡ self.old.taken.items ++ item ∷ []) }
         ensures start { OnOk result (self.new.start ≡ self.old.start) }
@@ -64,7 +65,7 @@ impl<X: HasSize + Drop> Filling<X> {
     // Adds the item to the packet that is being filled, or to the next one if it doesn't fit.
     fn take(&mut self, alloc: Global, item: X) -> Result<(), AllocError>
         requires filling { IsFilling self.old.start self.old.used self.old.taken.items }
-        requires room { self.old.start + X.size item ≤ 8192 }
+        requires room { self.old.start + X.size item ≤ largest_packet }
         ensures filling { OnOk result
             (IsFilling self.new.start self.new.used self.new.taken.items) }
         ensures start { OnOk result (self.new.start ≡ self.old.start) }
@@ -101,9 +102,9 @@ pub fn packed<X: HasSize + Drop>(
     start: usize,
     items: Vec<X>,
 ) -> Result<Vec<Sequence<X>>, AllocError>
-    requires start { start ≤ 8192 }
+    requires start { start ≤ largest_packet }
     // Each fits into a packet of its own.
-    requires room { AllByRecursion (λ item. start + X.size item ≤ 8192) items.items }
+    requires room { AllByRecursion (λ item. start + X.size item ≤ largest_packet) items.items }
     ensures { IfOk result (λ packets. packets.items ≡ packed_groups X.size start items.items) }
 {
     let mut filling = Filling::new(alloc, start);

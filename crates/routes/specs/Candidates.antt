@@ -1,6 +1,7 @@
 -- The candidates for the routing table (RFC 2328, sections 16.1 and 16.4): for each prefix the best
 -- offers as one route.
 use Rattle.std.specs.Prelude.{◌≡◌, ◌≢◌, ℕ, ◌+◌, ◌<◌, List}
+use Rattle.words.specs.Constants.{ls_infinity}
 use Rattle.words.specs.Prefixes.{Network}
 use Rattle.words.specs.declared.route.ExternalType.{ExternalType}
 use Rattle.words.specs.declared.route.ExternalType.TheVariants.{Type1, Type2}
@@ -57,7 +58,7 @@ pub record OffersExternal (said : Said) (root : Root) (o : Offer) : Type 0 where
   pub lsa : ExternalLsa
   pub its : Says said (record { ls_type = 5; link_state_id = id; advertising_router = originator })
       (body.External lsa)
-  pub reachable : lsa.metric < 16777215
+  pub reachable : lsa.metric < ls_infinity
   pub of_another : originator ≢ root.router
   pub prefix : Network
   pub is_prefix : IsPrefix id lsa.mask prefix

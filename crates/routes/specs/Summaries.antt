@@ -1,6 +1,7 @@
 -- What area border routers advertise of other areas (RFC 2328, sections 16.2 and 16.4): networks,
 -- and AS boundary routers.
 use Rattle.std.specs.Prelude.{◌≡◌, ◌≢◌, ℕ, ◌+◌, ◌<◌, ◌≤◌, ◌↔◌, ◌⊎◌, IsTrue, bit_and}
+use Rattle.words.specs.Constants.{ls_infinity}
 use Rattle.words.specs.Interfaces.{has_interface}
 use Rattle.words.specs.Prefixes.{Network}
 use Rattle.words.specs.declared.key.Key.{Key}
@@ -27,7 +28,7 @@ pub record ReachesBorderRouter (said : Said) (root : Root) (router : ℕ) (way :
 -- reached by this way
 pub record CountsAsSummary (said : Said) (root : Root) (originator : ℕ) (lsa : SummaryLsa)
     (border : Way) : Type 0 where
-  pub reachable : lsa.metric < 16777215
+  pub reachable : lsa.metric < ls_infinity
   pub of_another : originator ≢ root.router
   pub reaches : ReachesBorderRouter said root originator border
 

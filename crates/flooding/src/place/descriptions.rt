@@ -1,5 +1,6 @@
 //! Received Database Descriptions (RFC 2328, section 10.6).
 ghost use Rattle.std.specs.Prelude.{◌≡◌, ℕ, nat_lt, OnOk};
+ghost use Rattle.words.specs.Constants.{largest_packet};
 ghost use Rattle.adjacency.specs.Adjacencies.{two_way_received};
 ghost use Rattle.adjacency.specs.Contents.{sent_on, step_on};
 ghost use Rattle.adjacency.specs.Descriptions.{after_description};
@@ -15,7 +16,7 @@ use words::{LARGEST_PACKET, RouterId, Second};
 
 // Whether the MTU of the sending interface is larger than this router's.
 fn is_too_large(description: &Description) -> bool
-    ensures { result ≡ nat_lt 8192 description.now.mtu }
+    ensures { result ≡ nat_lt largest_packet description.now.mtu }
 {
     description.mtu > LARGEST_PACKET
 }
