@@ -27,7 +27,7 @@ class TestWhatToRead(unittest.TestCase):
         files = re.findall(r"crates/\S+\.antt", run("flood::Core::step/ok").stdout)
         order = {it: at for at, it in enumerate(files)}
         self.assertLess(order["crates/lsdb/specs/Order.antt"], order["crates/received/specs/Cases.antt"])
-        self.assertLess(order["crates/received/specs/Cases.antt"], order["crates/events/specs/Events.antt"])
+        self.assertLess(order["crates/received/specs/Cases.antt"], order["crates/event_rules/specs/Events.antt"])
 
     def test_one_clause_rests_on_no_more_than_all(self) -> None:
         counts = [int(re.search(r"(\d+)  in ", run(it).stdout)[1]) for it in ("flood::Core::step/ok", "flood::Core::step")]

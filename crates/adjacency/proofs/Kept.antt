@@ -19,7 +19,8 @@ use Rattle.adjacency.specs.Adjacencies.{mismatch_step, two_way_received, two_way
 use Rattle.adjacency.specs.Adjacencies.{requests_nothing, enter_exstart}
 use Rattle.adjacency.specs.Contents.{Requests, Step, Updates, no_sends}
 use Rattle.adjacency.specs.Descriptions.{Verdict, accept, act, after_description, aged_copies}
-use Rattle.adjacency.specs.Descriptions.{announced_more, changes_options, describe, exchange_done}
+use Rattle.adjacency.specs.Descriptions.{announced_more, changes_options, exchange_done}
+use Rattle.adjacency.specs.Descriptions.{send_description}
 use Rattle.adjacency.specs.Descriptions.{exchange_over, exchanging, expected_sequence, in_state}
 use Rattle.adjacency.specs.Descriptions.{is_duplicate, is_kept, is_over_for, is_wanted, judge}
 use Rattle.adjacency.specs.Descriptions.{knows_types, as_received, master_goes_on}
@@ -172,25 +173,25 @@ module _ {Begins : ByKey ListEntry → Type 0} {Adds : Key → ListEntry → Typ
       (λ e. kept.ends n.summary n.requests n.retransmissions n.outstanding h e)
       (λ e. kept.loads n.summary n.requests n.retransmissions n.outstanding h)
 
-  describe_kept : (moment : ℕ) (n : Neighbor) → Of Q (in_exchange n)
-      → Of Q (in_exchange (describe moment (in_exchange n)).neighbor)
-  describe_kept moment n h = kept.describes n.summary n.requests n.retransmissions
-      (describe moment n).neighbor.summary n.outstanding h
+  send_description_kept : (moment : ℕ) (n : Neighbor) → Of Q (in_exchange n)
+      → Of Q (in_exchange (send_description moment (in_exchange n)).neighbor)
+  send_description_kept moment n h = kept.describes n.summary n.requests n.retransmissions
+      (send_description moment n).neighbor.summary n.outstanding h
 
   master_kept : (moment : ℕ) (d : Description) (n : Neighbor) → Of Q (in_exchange n)
       → Of Q (master_goes_on moment d (in_exchange n)).neighbor
   master_kept moment d n h =
       let next : Neighbor = record n { sequence = (n.sequence + 1) % 2 ^ 32 } in
       chosen (λ (s : Step). Of Q s.neighbor) (announced_more n.described || d.more)
-      (describe moment (in_exchange next)) (no_sends (exchange_done moment (in_exchange n)))
-      (λ e. describe_kept moment next h) (λ e. done_kept moment n h)
+      (send_description moment (in_exchange next)) (no_sends (exchange_done moment (in_exchange n)))
+      (λ e. send_description_kept moment next h) (λ e. done_kept moment n h)
 
   slave_kept : (moment : ℕ) (d : Description) (n : Neighbor) → Of Q (in_exchange n)
       → Of Q (slave_replies moment d (in_exchange n)).neighbor
   slave_kept moment d n h =
       let next : Neighbor = record n { sequence = d.sequence } in
-      let replied : Step = describe moment (in_exchange next) in
-      let still : Of Q (in_exchange replied.neighbor) = describe_kept moment next h in
+      let replied : Step = send_description moment (in_exchange next) in
+      let still : Of Q (in_exchange replied.neighbor) = send_description_kept moment next h in
       chosen (λ (s : Step). Of Q s.neighbor) (announced_more replied.neighbor.described || d.more)
       replied (record replied { neighbor = exchange_done moment replied.neighbor })
       (λ e. still) (λ e. done_kept moment replied.neighbor still)

@@ -31,7 +31,8 @@ use Rattle.adjacency.specs.Adjacencies.{one_way_received, initial_description, r
 use Rattle.adjacency.specs.Adjacencies.{enter_exstart, after_inactivity_timer}
 use Rattle.adjacency.specs.Contents.{Requests, Step, Updates, no_sends, then_}
 use Rattle.adjacency.specs.Descriptions.{Verdict, accept, act, after_description, announced_more}
-use Rattle.adjacency.specs.Descriptions.{describe, exchange_done, in_state, is_over_for, judge}
+use Rattle.adjacency.specs.Descriptions.{exchange_done, in_state, is_over_for, judge}
+use Rattle.adjacency.specs.Descriptions.{send_description}
 use Rattle.adjacency.specs.Descriptions.{knows_types, as_received, master_goes_on}
 use Rattle.adjacency.specs.Descriptions.{negotiated_neighbor, next_description, repeat}
 use Rattle.adjacency.specs.Descriptions.{slave_replies, verdict, with_requests}
@@ -259,9 +260,9 @@ next_short moment n =
     ∙ length-take 408 (finite.entries n.summary)))
     (min-le_left 408 (length (finite.entries n.summary)))
 
-pub describe_roomy : (moment : ℕ) (n : Neighbor) → IsFew n.outstanding
-    → IsRoomyStep (describe moment n)
-describe_roomy moment n few = step (describe moment n)
+pub send_description_roomy : (moment : ℕ) (n : Neighbor) → IsFew n.outstanding
+    → IsRoomyStep (send_description moment n)
+send_description_roomy moment n few = step (send_description moment n)
     (one_description (next_description moment n) (next_short moment n)) few
     (next_short moment n, tt)
 
@@ -272,17 +273,17 @@ master_roomy : (moment : ℕ) (d : Description) (n : Neighbor) → HasRoomyLists
     → IsRoomyStep (master_goes_on moment d n)
 master_roomy moment d n h =
     let next : Neighbor = record n { sequence = (n.sequence + 1) % 2 ^ 32 } in
-    chosen IsRoomyStep (announced_more n.described || d.more) (describe moment next)
+    chosen IsRoomyStep (announced_more n.described || d.more) (send_description moment next)
     (no_sends (exchange_done moment n))
-    (λ e. describe_roomy moment next h.outstanding)
+    (λ e. send_description_roomy moment next h.outstanding)
     (λ e. quiet_roomy (exchange_done moment n) (done_roomy moment n h))
 
 slave_roomy : (moment : ℕ) (d : Description) (n : Neighbor) → HasRoomyLists n
     → IsRoomyStep (slave_replies moment d n)
 slave_roomy moment d n h =
     let next : Neighbor = record n { sequence = d.sequence } in
-    let replied : Step = describe moment next in
-    let room : IsRoomyStep replied = describe_roomy moment next h.outstanding in
+    let replied : Step = send_description moment next in
+    let room : IsRoomyStep replied = send_description_roomy moment next h.outstanding in
     chosen IsRoomyStep (announced_more replied.neighbor.described || d.more) replied
     (record replied { neighbor = exchange_done moment replied.neighbor })
     (λ e. room) (λ e. record {

@@ -21,7 +21,8 @@ use Rattle.adjacency.specs.Adjacencies.{two_way_received_in, one_way_received, r
 use Rattle.adjacency.specs.Adjacencies.{enter_exstart, after_inactivity_timer}
 use Rattle.adjacency.specs.Contents.{Content, Requests, Step, Updates, no_sends, then_}
 use Rattle.adjacency.specs.Descriptions.{Verdict, accept, act, after_description, announced_more}
-use Rattle.adjacency.specs.Descriptions.{describe, exchange_done, in_state, is_over_for, judge}
+use Rattle.adjacency.specs.Descriptions.{exchange_done, in_state, is_over_for, judge}
+use Rattle.adjacency.specs.Descriptions.{send_description}
 use Rattle.adjacency.specs.Descriptions.{knows_types, as_received, master_goes_on}
 use Rattle.adjacency.specs.Descriptions.{negotiated_neighbor, repeat, slave_replies, verdict}
 use Rattle.adjacency.specs.Descriptions.{with_requests, without_old_description}
@@ -139,25 +140,26 @@ module _ (t : Telling) where
   repeat_told : (moment : ℕ) (n : Neighbor) → OfOwed t n → OfStep t (repeat moment n)
   repeat_told moment n h = repeat_of n.described moment n h
 
-  describe_told : (moment : ℕ) (n : Neighbor) → OfOwed t n → OfStep t (describe moment n)
-  describe_told moment n h = record { neighbor = h; sends = (tt, tt) }
+  send_description_told : (moment : ℕ) (n : Neighbor) → OfOwed t n
+      → OfStep t (send_description moment n)
+  send_description_told moment n h = record { neighbor = h; sends = (tt, tt) }
 
   master_told : (moment : ℕ) (d : Description) (n : Neighbor) → OfOwed t n
       → OfStep t (master_goes_on moment d n)
   master_told moment d n h =
       let next : Neighbor = record n { sequence = (n.sequence + 1) % 2 ^ 32 } in
-      chosen (OfStep t) (announced_more n.described || d.more) (describe moment next)
+      chosen (OfStep t) (announced_more n.described || d.more) (send_description moment next)
       (no_sends (exchange_done moment n))
-      (λ e. describe_told moment next h) (λ e. quiet_told (exchange_done moment n) h)
+      (λ e. send_description_told moment next h) (λ e. quiet_told (exchange_done moment n) h)
 
   slave_told : (moment : ℕ) (d : Description) (n : Neighbor) → OfOwed t n
       → OfStep t (slave_replies moment d n)
   slave_told moment d n h =
       let next : Neighbor = record n { sequence = d.sequence } in
-      let replied : Step = describe moment next in
+      let replied : Step = send_description moment next in
       chosen (OfStep t) (announced_more replied.neighbor.described || d.more) replied
       (record replied { neighbor = exchange_done moment replied.neighbor })
-      (λ e. describe_told moment next h) (λ e. record { neighbor = h; sends = (tt, tt) })
+      (λ e. send_description_told moment next h) (λ e. record { neighbor = h; sends = (tt, tt) })
 
   accept_told : (moment : ℕ) (db : Database) (d : Description) (n : Neighbor) → OfOwed t n
       → OfStep t (accept moment db d n)

@@ -74,7 +74,7 @@ impl Draft {
     ///
     /// # Errors
     /// `AllocError` if an allocation is refused.
-    pub fn greet(&mut self, hello: Hello) -> Result<(), AllocError>
+    pub fn add_hello(&mut self, hello: Hello) -> Result<(), AllocError>
         ensures { OnOk result ((delay : ℕ) → self.new
             ≡ drafting delay (SendsHello hello ∷ []) self.old) }
     {
@@ -86,7 +86,7 @@ impl Draft {
     ///
     /// # Errors
     /// `AllocError` if an allocation is refused.
-    pub fn describe(&mut self, description: Description) -> Result<(), AllocError>
+    pub fn add_description(&mut self, description: Description) -> Result<(), AllocError>
         ensures { OnOk result ((delay : ℕ) → self.new
             ≡ drafting delay (Describes description ∷ []) self.old) }
     {
@@ -98,7 +98,7 @@ impl Draft {
     ///
     /// # Errors
     /// `AllocError` if an allocation is refused.
-    pub fn request(&mut self, keys: Sequence<Key>) -> Result<(), AllocError>
+    pub fn add_request(&mut self, keys: Sequence<Key>) -> Result<(), AllocError>
         ensures { OnOk result ((delay : ℕ) → self.new
             ≡ drafting delay (Requests keys ∷ []) self.old) }
     {
@@ -111,7 +111,7 @@ impl Draft {
     ///
     /// # Errors
     /// `AllocError` if an allocation is refused.
-    pub fn update(
+    pub fn add_update(
         &mut self,
         alloc: Global,
         delay: u16,
@@ -133,7 +133,7 @@ impl Draft {
     ///
     /// # Errors
     /// `AllocError` if an allocation is refused.
-    pub fn acknowledge(&mut self, header: Header) -> Result<(), AllocError>
+    pub fn add_acknowledgment(&mut self, header: Header) -> Result<(), AllocError>
         ensures { OnOk result ((delay : ℕ) → self.new
             ≡ drafting delay (Acknowledges header ∷ []) self.old) }
     {

@@ -10,7 +10,7 @@ use Rattle.lsdb.specs.Keys.{same_key}
 use Rattle.adjacency.specs.Contents.{Content}
 use Rattle.received.specs.Outcomes.{Outcome, Send, marked_database}
 use Rattle.received.proofs.Marks.{changed_by}
-use Rattle.events.specs.Originations.{new_instance}
+use Rattle.event_rules.specs.Originations.{new_instance}
 use Rattle.flood_laws.proofs.Limits.{tied_key}
 use Rattle.flood_laws.proofs.Owing.{put_other}
 use Rattle.agreement_laws.proofs.Databases.{IsKept, flushed_copy, originated_copy}

@@ -13,13 +13,14 @@ use Rattle.adjacency.specs.Adjacencies.{two_way_received}
 use Rattle.adjacency.specs.Descriptions.{knows_types, verdict}
 use Rattle.adjacency.specs.Neighbors.{Neighbor}
 use Rattle.received.specs.Links.{neighbor_at}
-use Rattle.events.specs.Endings.{start_event}
-use Rattle.events.specs.EventState.{EventState, on_area}
-use Rattle.events.specs.Events.{OwnPart}
-use Rattle.events.specs.Hellos.{is_foreign}
-use Rattle.events.specs.Packets.{after_packet, describe_to, from_neighbor, is_from, is_hello}
-use Rattle.events.specs.Packets.{is_in_exchange}
-use Rattle.events.specs.Routers.{Occurrence, Router}
+use Rattle.event_rules.specs.Endings.{start_event}
+use Rattle.event_rules.specs.EventState.{EventState, on_area}
+use Rattle.event_rules.specs.Events.{OwnPart}
+use Rattle.event_rules.specs.Hellos.{is_foreign}
+use Rattle.event_rules.specs.Packets.{after_packet, from_neighbor, is_from, is_hello}
+use Rattle.event_rules.specs.Packets.{receive_description}
+use Rattle.event_rules.specs.Packets.{any_exchange_or_later}
+use Rattle.event_rules.specs.Routers.{Occurrence, Router}
 use Rattle.agreement_laws.specs.Accepted.{AcceptsDescription, accepts_description, is_accepting}
 
 -- ---- the tests
@@ -53,7 +54,7 @@ by_tests own moment m d p =
 pub is_taken : (old : Router) (moment : ℕ) (event : Occurrence) (number : ℕ) (n : Neighbor)
     (d : Description) → AcceptsDescription old moment event number n d → (after : EventState)
     → OwnPart moment event (start_event moment old) after
-    → after ≡ on_area (describe_to old.id moment number d) (start_event moment old)
+    → after ≡ on_area (receive_description old.id moment number d) (start_event moment old)
 is_taken old moment event number n d a after own =
     by_packet (subst (λ (e : Occurrence). OwnPart moment e begins after) a.is own)
   where
@@ -62,19 +63,19 @@ is_taken old moment event number n d a after own =
 
     of_body : (says : PacketBody) → says ≡ body.Description d → (o : Option Neighbor) → o ≡ Some n
         → cond (is_foreign old.id a.packet.router && (is_hello says || is_from a.packet.router o))
-        (from_neighbor moment number a.packet.router (is_in_exchange o) says begins) begins
-        ≡ on_area (describe_to old.id moment number d) begins
+        (from_neighbor moment number a.packet.router (any_exchange_or_later o) says begins) begins
+        ≡ on_area (receive_description old.id moment number d) begins
     of_body says its o at =
         (λ i. cond (is_foreign old.id a.packet.router &&
         (is_hello (its i) || is_from a.packet.router (at i)))
-        (from_neighbor moment number a.packet.router (is_in_exchange (at i)) (its i)
+        (from_neighbor moment number a.packet.router (any_exchange_or_later (at i)) (its i)
         begins) begins)
         ∙ (λ i. cond (a.other i && (false || eq-eqb n.router a.packet.router a.from i))
-        (on_area (describe_to old.id moment number d) begins) begins)
+        (on_area (receive_description old.id moment number d) begins) begins)
 
     by_packet : (packet : Packet) × PacketText a.bytes packet
         × (after ≡ after_packet moment number packet begins) → after
-        ≡ on_area (describe_to old.id moment number d) begins
+        ≡ on_area (receive_description old.id moment number d) begins
     by_packet k =
         k.2 ∙ ap (λ (p : Packet). after_packet moment number p begins)
         (one_packet a.bytes k.0 a.packet k.1 a.text)

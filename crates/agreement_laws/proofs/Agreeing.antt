@@ -11,9 +11,9 @@ use Rattle.lsdb.specs.Instances.{ListEntry, listed_now}
 use Rattle.lsdb.specs.Keys.{ByKey, key_cmp}
 use Rattle.adjacency.specs.Neighbors.{Neighbor, is_exchange_or_later}
 use Rattle.received.specs.Holds.{Holds}
-use Rattle.events.specs.Events.{Step}
-use Rattle.events.specs.LsaInstances.{LsaInstance, instance_of_header, instance_of_lsa}
-use Rattle.events.specs.Routers.{Occurrence, Router}
+use Rattle.event_rules.specs.Events.{Step}
+use Rattle.event_rules.specs.LsaInstances.{LsaInstance, instance_of_header, instance_of_lsa}
+use Rattle.event_rules.specs.Routers.{Occurrence, Router}
 use Rattle.agreement_laws.specs.Exchanged.{Conversation, Describes, conversation_with}
 use Rattle.agreement_laws.specs.HeldWasTold.{is_exchange_done}
 use Rattle.agreement_laws.specs.NeighborHistories.{Ends, IsHistory, Pair, Party, Side, Turn}

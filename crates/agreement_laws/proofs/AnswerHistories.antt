@@ -7,13 +7,13 @@ use Rattle.adjacency.specs.Neighbors.{Neighbor, is_exchange_or_later}
 use Rattle.received.specs.Holds.{Holds}
 use Rattle.received.specs.Links.{neighbor_at}
 use Rattle.received.specs.Outcomes.{Send}
-use Rattle.events.specs.declared.model.Config.{Config}
-use Rattle.events.specs.Endings.{end_event}
-use Rattle.events.specs.EventState.{EventState}
-use Rattle.events.specs.Events.{Step, initial}
-use Rattle.events.specs.Hellos.{is_foreign}
-use Rattle.events.specs.Routers.{Router}
-use Rattle.events.proofs.Walk.{outcome}
+use Rattle.event_rules.specs.declared.model.Config.{Config}
+use Rattle.event_rules.specs.Endings.{end_event}
+use Rattle.event_rules.specs.EventState.{EventState}
+use Rattle.event_rules.specs.Events.{Step, initial}
+use Rattle.event_rules.specs.Hellos.{is_foreign}
+use Rattle.event_rules.specs.Routers.{Router}
+use Rattle.event_rules.proofs.Walk.{outcome}
 use Rattle.flood_laws.specs.InOrder.{IsInOrder}
 use Rattle.flood_laws.proofs.Acknowledged.{routers_stay_in_order}
 use Rattle.flood_laws.proofs.Known.{router_stays}

@@ -30,13 +30,16 @@ use Rattle.received.specs.Outcomes.{Outcome, Send, Stepping, each_neighbor, on_d
 use Rattle.received.specs.Outcomes.{one_neighbor, only_at, sending, sends_at, sent_on, step_on}
 use Rattle.received.specs.Outcomes.{stepped_links, stepping_sends}
 use Rattle.received.specs.Updates.{after_case, copy_of, send_copy}
-use Rattle.events.specs.Commands.{taken_down}
-use Rattle.events.specs.Endings.{link_loading_done, with_age}
-use Rattle.events.specs.EventState.{flood_from_nobody}
-use Rattle.events.specs.Hellos.{accepts, agrees, hello_is_due, hello_on, is_foreign, may_be, names}
-use Rattle.events.specs.Packets.{after_hello, describe_to, hear, heard_on, with_neighbor}
-use Rattle.events.specs.Ticks.{acknowledge_all, acknowledgments_on, again, hello_sent_on, run_out}
-use Rattle.events.specs.Ticks.{send_hellos, sends_of, with_hello_sent, without_acknowledgments}
+use Rattle.event_rules.specs.Commands.{taken_down}
+use Rattle.event_rules.specs.Endings.{link_loading_done, with_age}
+use Rattle.event_rules.specs.EventState.{flood_from_nobody}
+use Rattle.event_rules.specs.Hellos.{accepts, agrees, hello_is_due, hello_on, is_foreign, may_be}
+use Rattle.event_rules.specs.Hellos.{names}
+use Rattle.event_rules.specs.Packets.{accept_hello, receive_description, receive_hello}
+use Rattle.event_rules.specs.Packets.{receive_hello_on, with_neighbor}
+use Rattle.event_rules.specs.Ticks.{acknowledgments_on, again, hello_sent_on, run_out}
+use Rattle.event_rules.specs.Ticks.{send_acknowledgments}
+use Rattle.event_rules.specs.Ticks.{send_hellos, sends_of, with_hello_sent, without_acknowledgments}
 use Rattle.flood_laws.proofs.Leaving.{each_kept_at, numbered_kept, stepped_kept}
 use Rattle.flood_laws.proofs.Lists.{later_is, of_cons, of_empty}
 use Rattle.flood_laws.proofs.Taken.{named_first}
@@ -389,14 +392,14 @@ module _ (own : ℕ) (Acc : Description → Type 0) (Began : Conversation → Ty
   cases Case.Older place lsa o h = copy_sent place (copy_of lsa o.area) o h
 
   pub hellos : (its place from : ℕ) (hello : Hello) → its ≡ own → (o : Outcome) → Stands o
-      → Stands (after_hello its moment place from hello o)
+      → Stands (receive_hello its moment place from hello o)
   hellos its place from hello same o h = by_link (link_at place o.area.links) refl
     where
       by_link : (link : Option Link) → link_at place o.area.links ≡ link
-          → Stands (heard_on its moment place from hello link o)
+          → Stands (receive_hello_on its moment place from hello link o)
       by_link None is = h
       by_link (Some link) is =
-          chosen Stands (accepts its from hello link) (hear moment place s o) o
+          chosen Stands (accepts its from hello link) (accept_hello moment place s o) o
           (λ e. taken (subst (λ (i : ℕ). is_foreign i from ≡ true) same
           (and_parts (is_foreign its from) (agrees link hello && may_be link.neighbor from) e).0)
           (number == place) refl) (λ e. h)
@@ -446,7 +449,7 @@ module _ (own : ℕ) (Acc : Description → Type 0) (Began : Conversation → Ty
               let no : true ≡ false = sym (eq-eqb number place (sym its_place)) ∙ e in absurd cc
 
           taken : is_foreign own from ≡ true → (b : Bool) → (number == place) ≡ b
-              → Stands (hear moment place s o)
+              → Stands (accept_hello moment place s o)
           taken foreign true e =
               numbered_kept (λ (n : Option Neighbor). Unit {0}) (There (o.sends ++ says)) (λ u. tt)
               set number
@@ -464,7 +467,7 @@ module _ (own : ℕ) (Acc : Description → Type 0) (Began : Conversation → Ty
   pub descriptions : (place : ℕ) (d : Description) (o : Outcome) → Aged o
       → ((m : Neighbor) → neighbor_at number o.area.links ≡ Some m → (number == place) ≡ true
       → is_foreign own m.router ≡ true → accepts_description own moment m d ≡ true → Acc d)
-      → Stands (describe_to own moment place d o)
+      → Stands (receive_description own moment place d o)
   descriptions place d o h acc =
       one_step place (after_description own moment o.area.database d) o
       (λ m is e at. steps.judged own Acc Began moment o.area.database d (Said o.sends) m at
@@ -512,7 +515,7 @@ module _ (own : ℕ) (Acc : Description → Type 0) (Began : Conversation → Ty
       (λ link m is at. steps.again own Acc Began moment link.interface.retransmit_interval
       o.area.database (Said o.sends) m at) h
 
-  pub acknowledges : (o : Outcome) → Stands o → Stands (acknowledge_all moment o)
+  pub acknowledges : (o : Outcome) → Stands o → Stands (send_acknowledgments moment o)
   acknowledges o h =
       sent (sends_of acknowledgments_on o.area.links) (on_links (map without_acknowledgments) o)
       (others_of acknowledgments_on

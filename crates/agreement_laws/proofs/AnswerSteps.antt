@@ -19,7 +19,8 @@ use Rattle.adjacency.specs.Adjacencies.{loading_done, mismatch_step, requests_no
 use Rattle.adjacency.specs.Adjacencies.{two_way_received, two_way_received_in, with_hello_heard}
 use Rattle.adjacency.specs.Contents.{Content, Describes, Requests, Step, Updates, no_sends, then_}
 use Rattle.adjacency.specs.Descriptions.{Verdict, accept, act, after_description, announced_more}
-use Rattle.adjacency.specs.Descriptions.{as_received, changes_options, describe, exchange_done}
+use Rattle.adjacency.specs.Descriptions.{as_received, changes_options, exchange_done}
+use Rattle.adjacency.specs.Descriptions.{send_description}
 use Rattle.adjacency.specs.Descriptions.{exchange_over, expected_sequence, in_state, is_duplicate}
 use Rattle.adjacency.specs.Descriptions.{is_empty, is_initial_description, is_kept}
 use Rattle.adjacency.specs.Descriptions.{judge, knows_types, master_goes_on, negotiated_neighbor}
@@ -33,7 +34,7 @@ use Rattle.adjacency.specs.Retransmissions.{describe_again, next_retransmissions
 use Rattle.adjacency.specs.Retransmissions.{request_again, send_again, update_again}
 use Rattle.adjacency.proofs.Kept.{chosen}
 use Rattle.received.specs.Holds.{Holds}
-use Rattle.events.specs.Hellos.{is_foreign}
+use Rattle.event_rules.specs.Hellos.{is_foreign}
 use Rattle.flood_laws.proofs.Lists.{of_cons, of_empty}
 use Rattle.agreement_laws.specs.Exchanged.{Conversation, conversation_with}
 use Rattle.agreement_laws.specs.HeldWasTold.{is_exchange_done}
@@ -362,7 +363,7 @@ module _ (own : ℕ) (Acc : Description → Type 0) (Began : Conversation → Ty
         next = record w { sequence = (w.sequence + 1) % 2 ^ 32 }
 
         more : Step
-        more = describe moment next
+        more = send_description moment next
 
         itself : (x : Description) → next_description moment next ≡ x
             → Right true false next.sequence x
@@ -464,7 +465,7 @@ module _ (own : ℕ) (Acc : Description → Type 0) (Began : Conversation → Ty
         next = record v { state = Exchange; is_master = false; sequence = d.sequence }
 
         reply : Step
-        reply = describe moment next
+        reply = send_description moment next
 
         itself : (x : Description) → next_description moment next ≡ x → IsOpening x ⊎ Answered x
         itself x is =

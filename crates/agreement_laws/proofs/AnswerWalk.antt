@@ -14,15 +14,15 @@ use Rattle.lsdb.specs.Copies.{age_out, install_originated}
 use Rattle.adjacency.specs.Neighbors.{Neighbor}
 use Rattle.received.specs.Links.{neighbor_at}
 use Rattle.received.specs.Outcomes.{Outcome, on_database}
-use Rattle.events.specs.declared.model.Out.{Out}
-use Rattle.events.specs.Endings.{end_event, start_event}
-use Rattle.events.specs.EventState.{EventState}
-use Rattle.events.specs.Events.{Happens}
-use Rattle.events.specs.Hellos.{is_foreign}
-use Rattle.events.specs.Originations.{new_instance}
-use Rattle.events.specs.Packets.{is_from, is_hello, requested_lsas}
-use Rattle.events.specs.Routers.{Occurrence, Router}
-use Rattle.events.proofs.Walk.{outcome}
+use Rattle.event_rules.specs.declared.model.Out.{Out}
+use Rattle.event_rules.specs.Endings.{end_event, start_event}
+use Rattle.event_rules.specs.EventState.{EventState}
+use Rattle.event_rules.specs.Events.{Happens}
+use Rattle.event_rules.specs.Hellos.{is_foreign}
+use Rattle.event_rules.specs.Originations.{new_instance}
+use Rattle.event_rules.specs.Packets.{is_from, is_hello, requested_lsas}
+use Rattle.event_rules.specs.Routers.{Occurrence, Router}
+use Rattle.event_rules.proofs.Walk.{outcome}
 use Rattle.flood_laws.specs.InOrder.{IsInOrder}
 use Rattle.flood_laws.proofs.Acknowledged.{in_order, order_begun, order_brings, order_kept}
 use Rattle.flood_laws.proofs.EventWalk.{IsHeard, IsKeptToo, event_kept_too}

@@ -9,9 +9,9 @@ use Rattle.adjacency.specs.Neighbors.{Neighbor}
 use Rattle.adjacency.proofs.Kept.{chosen}
 use Rattle.received.specs.Links.{Link, change_link, link_at, neighbor_at, neighbor_on}
 use Rattle.received.specs.Outcomes.{Stepping, only_at, step_on, stepped_links}
-use Rattle.events.specs.Endings.{loading_done_on}
-use Rattle.events.specs.Packets.{with_neighbor}
-use Rattle.events.specs.Ticks.{settled_exchange}
+use Rattle.event_rules.specs.Endings.{loading_done_on}
+use Rattle.event_rules.specs.Packets.{with_neighbor}
+use Rattle.event_rules.specs.Ticks.{settled_exchange}
 use Rattle.flood_laws.proofs.Leaving.{numbered_kept, stepped_kept}
 
 module _ (P : Option Neighbor → Type 0) where

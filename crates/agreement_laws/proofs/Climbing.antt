@@ -7,11 +7,11 @@ use Rattle.lsdb.specs.Copies.{Database, DatabaseCopy, copy_now}
 use Rattle.lsdb.specs.Keys.{ByKey}
 use Rattle.lsdb.specs.declared.order.Instance.{Instance}
 use Rattle.received.specs.Outcomes.{Outcome}
-use Rattle.events.specs.declared.model.Out.{Out}
-use Rattle.events.specs.Endings.{start_event}
-use Rattle.events.specs.Events.{Happens}
-use Rattle.events.specs.Routers.{Occurrence, Router}
-use Rattle.events.proofs.Walk.{outcome}
+use Rattle.event_rules.specs.declared.model.Out.{Out}
+use Rattle.event_rules.specs.Endings.{start_event}
+use Rattle.event_rules.specs.Events.{Happens}
+use Rattle.event_rules.specs.Routers.{Occurrence, Router}
+use Rattle.event_rules.proofs.Walk.{outcome}
 use Rattle.flood_laws.specs.InOrder.{IsInOrder}
 use Rattle.flood_laws.proofs.Acknowledged.{in_order, order_begun, order_brings, order_kept}
 use Rattle.flood_laws.proofs.EventWalk.{IsKeptToo, event_kept_too}

@@ -2,7 +2,7 @@
 use Rattle.std.proofs.Common.{◌≡◌, ℕ, true, None, Some, sym, ap, ◌∙◌}
 use Rattle.adjacency.specs.Neighbors.{Neighbor, is_exchange_or_later}
 use Rattle.received.specs.Links.{neighbor_at}
-use Rattle.events.specs.Routers.{Router}
+use Rattle.event_rules.specs.Routers.{Router}
 use Rattle.agreement_laws.specs.Exchanged.{Conversation, Converses, conversation_with}
 use Rattle.agreement_laws.proofs.Lists.{some_same}
 

@@ -23,14 +23,14 @@ use Rattle.received.specs.Outcomes.{Outcome, Send, Stepping, each_neighbor, mark
 use Rattle.received.specs.Outcomes.{on_database, only_at, sends_at, stepping_sends}
 use Rattle.received.specs.Updates.{after_case, case_at, copy_of, send_copy}
 use Rattle.received.proofs.Marks.{changed_by}
-use Rattle.events.specs.Endings.{start_event, with_age}
-use Rattle.events.specs.EventState.{EventState, flood_from_nobody}
-use Rattle.events.specs.Hellos.{accepts, names}
-use Rattle.events.specs.Originations.{install_and_flood, new_instance, wanted_body}
-use Rattle.events.specs.Packets.{hear, heard_on, requested_lsas}
-use Rattle.events.specs.Routers.{Occurrence, Router}
-use Rattle.events.specs.Ticks.{acknowledgments_on, again, hello_sent_on, sends_of}
-use Rattle.events.proofs.Walk.{OfEvent, outcome}
+use Rattle.event_rules.specs.Endings.{start_event, with_age}
+use Rattle.event_rules.specs.EventState.{EventState, flood_from_nobody}
+use Rattle.event_rules.specs.Hellos.{accepts, names}
+use Rattle.event_rules.specs.Originations.{install_and_flood, new_instance, wanted_body}
+use Rattle.event_rules.specs.Packets.{accept_hello, receive_hello_on, requested_lsas}
+use Rattle.event_rules.specs.Routers.{Occurrence, Router}
+use Rattle.event_rules.specs.Ticks.{acknowledgments_on, again, hello_sent_on, sends_of}
+use Rattle.event_rules.proofs.Walk.{OfEvent, outcome}
 use Rattle.flood_laws.specs.NewInstances.{lsas_brought}
 use Rattle.flood_laws.proofs.Acknowledged.{in_order}
 use Rattle.flood_laws.proofs.EventWalk.{IsHeard, IsKeptToo}
@@ -128,12 +128,12 @@ module _ (own moment : ℕ) (P : Database → Type 0) (kept : IsKept own moment 
   cases Case.Older place lsa o installs is h = copy_sent place (copy_of lsa o.area) o h
 
   hellos : (own place from : ℕ) (hello : Hello) (link : Option Link) (o : Outcome)
-      → P o.area.database → P (heard_on own moment place from hello link o).area.database
+      → P o.area.database → P (receive_hello_on own moment place from hello link o).area.database
   hellos own place from hello None o h = h
   hellos own place from hello (Some link) o h =
       let s : Step = adjacencies.after_hello moment from (names own hello) link.neighbor in
       chosen (λ (p : Outcome). P p.area.database) (accepts own from hello link)
-      (hear moment place s o) o (λ e. kept.marks (sends_at place s.sends) o.area.database h)
+      (accept_hello moment place s o) o (λ e. kept.marks (sends_at place s.sends) o.area.database h)
       (λ e. h)
 
 module _ (old : Router) (moment : ℕ) (event : Occurrence) (P : Database → Type 0)

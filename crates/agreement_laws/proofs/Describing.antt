@@ -23,7 +23,8 @@ use Rattle.adjacency.specs.declared.state.NeighborState.TheVariants.{Loading, Fu
 use Rattle.adjacency.specs.Adjacencies.{enter_exstart, mismatch_step}
 use Rattle.adjacency.specs.Contents.{Content, Describes, Step, no_sends}
 use Rattle.adjacency.specs.Descriptions.{Verdict, accept, act, after_description, aged_copies}
-use Rattle.adjacency.specs.Descriptions.{announced_more, as_received, changes_options, describe}
+use Rattle.adjacency.specs.Descriptions.{announced_more, as_received, changes_options}
+use Rattle.adjacency.specs.Descriptions.{send_description}
 use Rattle.adjacency.specs.Descriptions.{exchange_done, exchange_over, expected_sequence, in_state}
 use Rattle.adjacency.specs.Descriptions.{is_duplicate, is_initial_description, is_kept, is_wanted}
 use Rattle.adjacency.specs.Descriptions.{judge, knows_types, master_goes_on, negotiated_neighbor}
@@ -79,14 +80,15 @@ module _ (key : Key) (now : ℕ) (Of : ℕ → Type 0) (Said : Saying) where
   -- ---- a Database Description is sent
 
   described : (x : Option Instance) (m : Neighbor) → Settled key now Of Said x m
-      → Settled key now Of (SaidWith (describe now m).sends) x (describe now m).neighbor
+      → Settled key now Of (SaidWith (send_description now m).sends) x
+      (send_description now m).neighbor
   described x m s =
       (s.0, λ l at. inl (s.1 l at), by_copy x s.2)
     where
       taken : (l : ListEntry) (i : Instance) → key_of l.header ≡ key
           → is_at_least (listed_now now l) i ≡ true
           → Contains (next_description now m).headers (aged_header now l)
-          → Known key now Of (SaidWith (describe now m).sends) (conversation_with m) i
+          → Known key now Of (SaidWith (send_description now m).sends) (conversation_with m) i
       taken l i of_key as_new among = (
         record { header = aged_header now l; at = now },
         inr (
@@ -102,16 +104,16 @@ module _ (key : Key) (now : ℕ) (Of : ℕ → Type 0) (Said : Saying) where
 
       by_place : (l : ListEntry) (i : Instance) → key_of l.header ≡ key
           → is_at_least (listed_now now l) i ≡ true
-          → (finite.get (describe now m).neighbor.summary key ≡ Some l)
+          → (finite.get (send_description now m).neighbor.summary key ≡ Some l)
           ⊎ Contains (next_description now m).headers (aged_header now l)
-          → Has key now Of (SaidWith (describe now m).sends) m.retransmissions
-          (describe now m).neighbor.summary (conversation_with m) i
+          → Has key now Of (SaidWith (send_description now m).sends) m.retransmissions
+          (send_description now m).neighbor.summary (conversation_with m) i
       by_place l i of_key as_new (inl there) = inr (inl (l, there, of_key, as_new))
       by_place l i of_key as_new (inr among) = inr (inr (taken l i of_key as_new among))
 
       by_copy : (y : Option Instance) → HasAny key now Of Said y m.retransmissions m.summary
-          (conversation_with m) → HasAny key now Of (SaidWith (describe now m).sends) y
-          m.retransmissions (describe now m).neighbor.summary (conversation_with m)
+          (conversation_with m) → HasAny key now Of (SaidWith (send_description now m).sends) y
+          m.retransmissions (send_description now m).neighbor.summary (conversation_with m)
       by_copy None h = tt
       by_copy (Some i) (inl listed) = inl listed
       by_copy (Some i) (inr (inl k)) =
@@ -136,7 +138,7 @@ module _ (key : Key) (now : ℕ) (Of : ℕ → Type 0) (Said : Saying) where
   master : (x : Option Instance) (d : Description) (m : Neighbor) → Settled key now Of Said x m
       → OfStep x (master_goes_on now d m)
   master x d m s =
-      chosen (OfStep x) (announced_more m.described || d.more) (describe now (record m {
+      chosen (OfStep x) (announced_more m.described || d.more) (send_description now (record m {
         sequence = (m.sequence + 1) % 2 ^ 32;
       })) (no_sends (exchange_done now m))
       (λ e. inr (described x (record m {
@@ -147,7 +149,7 @@ module _ (key : Key) (now : ℕ) (Of : ℕ → Type 0) (Said : Saying) where
   slave : (x : Option Instance) (d : Description) (m : Neighbor) → Settled key now Of Said x m
       → OfStep x (slave_replies now d m)
   slave x d m s =
-      let replied : Step = describe now (record m { sequence = d.sequence }) in
+      let replied : Step = send_description now (record m { sequence = d.sequence }) in
       let so : Settled key now Of (SaidWith replied.sends) x replied.neighbor =
       described x (record m { sequence = d.sequence }) s in
       chosen (OfStep x) (announced_more replied.neighbor.described || d.more) replied

@@ -27,7 +27,8 @@ use Rattle.adjacency.specs.Adjacencies as adjacencies
 use Rattle.adjacency.specs.Adjacencies.{enter_exstart, mismatch_step, requests_nothing}
 use Rattle.adjacency.specs.Contents.{Step, no_sends}
 use Rattle.adjacency.specs.Descriptions.{Verdict, accept, act, after_description, announced_more}
-use Rattle.adjacency.specs.Descriptions.{as_received, changes_options, describe, exchange_done}
+use Rattle.adjacency.specs.Descriptions.{as_received, changes_options, exchange_done}
+use Rattle.adjacency.specs.Descriptions.{send_description}
 use Rattle.adjacency.specs.Descriptions.{exchange_over, expected_sequence, in_state, is_duplicate}
 use Rattle.adjacency.specs.Descriptions.{is_initial_description, is_kept, is_over_for, judge}
 use Rattle.adjacency.specs.Descriptions.{knows_types, master_goes_on, negotiated_neighbor}
@@ -46,20 +47,20 @@ use Rattle.received.specs.Outcomes.{Outcome, on_database}
 use Rattle.received.specs.Updates.{after_case, copy_of, install, send_copy}
 use Rattle.received.proofs.Holding.{changed_keeps, each_keeps, each_link_keeps, one_holds}
 use Rattle.received.proofs.Holding.{one_keeps}
-use Rattle.events.specs.declared.model.Config.{Config}
-use Rattle.events.specs.declared.model.Out.{Out}
-use Rattle.events.specs.Commands.{taken_down}
-use Rattle.events.specs.Endings.{link_loading_done, with_age}
-use Rattle.events.specs.EventState.{flood_from_nobody}
-use Rattle.events.specs.Events.{Happens, Run, Step as RunStep, initial}
-use Rattle.events.specs.Hellos.{accepts, names}
-use Rattle.events.specs.Originations.{due_keys, new_instance, router_key}
-use Rattle.events.specs.Packets.{hear, heard_on, with_neighbor}
-use Rattle.events.specs.Routers.{Occurrence, Router, fresh_link, unannounced_router}
-use Rattle.events.specs.Ticks.{again, run_out, with_hello_sent, without_acknowledgments}
-use Rattle.events.proofs.Walk.{Brings, IfRead, Invariant, IsKeptByParts, OfBrought, OfBytes}
-use Rattle.events.proofs.Walk.{originate_or_wait_kept}
-use Rattle.events.proofs.Walk as walk
+use Rattle.event_rules.specs.declared.model.Config.{Config}
+use Rattle.event_rules.specs.declared.model.Out.{Out}
+use Rattle.event_rules.specs.Commands.{taken_down}
+use Rattle.event_rules.specs.Endings.{link_loading_done, with_age}
+use Rattle.event_rules.specs.EventState.{flood_from_nobody}
+use Rattle.event_rules.specs.Events.{Happens, Run, Step as RunStep, initial}
+use Rattle.event_rules.specs.Hellos.{accepts, names}
+use Rattle.event_rules.specs.Originations.{due_keys, new_instance, router_key}
+use Rattle.event_rules.specs.Packets.{accept_hello, receive_hello_on, with_neighbor}
+use Rattle.event_rules.specs.Routers.{Occurrence, Router, fresh_link, unannounced_router}
+use Rattle.event_rules.specs.Ticks.{again, run_out, with_hello_sent, without_acknowledgments}
+use Rattle.event_rules.proofs.Walk.{Brings, IfRead, Invariant, IsKeptByParts, OfBrought, OfBytes}
+use Rattle.event_rules.proofs.Walk.{originate_or_wait_kept}
+use Rattle.event_rules.proofs.Walk as walk
 use Rattle.agreement_laws.specs.HeldWasTold.{NothingIsLeftToDescribe, is_exchange_done}
 use Rattle.agreement_laws.proofs.Verdicts.{as_slave_or_master, first_two, mismatch_or_accepted}
 use Rattle.agreement_laws.proofs.Steps as steps
@@ -122,7 +123,7 @@ abbrev Exchanging : Neighbor → Type 0
 Exchanging m = Done Exchange m.described m.exchanged m.summary
 
 described : (moment : ℕ) (m : Neighbor) → m.exchanged ≡ None
-    → Exchanging (describe moment m).neighbor
+    → Exchanging (send_description moment m).neighbor
 described moment m at = (at, λ e. left_empty most_headers_described m.summary e)
 
 over_by : (b : Bool) (d : Option Description) (at : Option ℕ) (s : ByKey ListEntry) → s
@@ -137,20 +138,20 @@ first_false false b e = refl
 master : (moment : ℕ) (d : Description) (m : Neighbor) → m.state ≡ Exchange → Exchanging m
     → IsDone (master_goes_on moment d m).neighbor
 master moment d m is h =
-    chosen OfStep (announced_more m.described || d.more) (describe moment (record m {
+    chosen OfStep (announced_more m.described || d.more) (send_description moment (record m {
       sequence = (m.sequence + 1) % 2 ^ 32;
     })) (no_sends (exchange_done moment m))
     (λ e.
     let n : Neighbor = record m { sequence = (m.sequence + 1) % 2 ^ 32 } in
-    subst (λ (s : NeighborState). Done s (describe moment n).neighbor.described m.exchanged
-    (describe moment n).neighbor.summary) (sym is) (described moment n h.0))
+    subst (λ (s : NeighborState). Done s (send_description moment n).neighbor.described m.exchanged
+    (send_description moment n).neighbor.summary) (sym is) (described moment n h.0))
     (λ e. over_by (requests_nothing m) m.described (Some moment) m.summary
     (h.1 (first_false (announced_more m.described) d.more e)))
 
 slave : (moment : ℕ) (d : Description) (m : Neighbor) → m.state ≡ Exchange → Exchanging m
     → IsDone (slave_replies moment d m).neighbor
 slave moment d m is h =
-    let replied : Step = describe moment (record m { sequence = d.sequence }) in
+    let replied : Step = send_description moment (record m { sequence = d.sequence }) in
     let so : Exchanging replied.neighbor = described moment (record m {
       sequence = d.sequence;
     }) h.0 in
@@ -302,11 +303,11 @@ keys_any (key ∷ keys) = (tt, keys_any keys)
 
 hello_heard : (own moment number from : ℕ) (hello : Hello) (link : Option Link) (o : Outcome)
     → Holds IsDone (neighbor_on link) → OnOutcome o
-    → OnOutcome (heard_on own moment number from hello link o)
+    → OnOutcome (receive_hello_on own moment number from hello link o)
 hello_heard own moment number from hello None o here h = h
 hello_heard own moment number from hello (Some link) o here h =
     let s : Step = adjacencies.after_hello moment from (names own hello) link.neighbor in
-    chosen OnOutcome (accepts own from hello link) (hear moment number s o) o
+    chosen OnOutcome (accepts own from hello link) (accept_hello moment number s o) o
     (λ is. changed_keeps IsDone number (with_neighbor s.neighbor)
     (λ l at. helloed moment from (names own hello) link.neighbor here) o.area.links h) (λ is. h)
 

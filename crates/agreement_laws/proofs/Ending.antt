@@ -9,15 +9,19 @@ use Rattle.lsdb.specs.Headers.{lsa_aged}
 use Rattle.adjacency.proofs.Kept.{chosen}
 use Rattle.received.specs.Links.{Link, any_exchange_or_loading}
 use Rattle.received.specs.Outcomes.{Outcome, on_database, on_links}
-use Rattle.events.specs.Endings.{describe_router, describe_router_later, end_event, is_current}
-use Rattle.events.specs.Endings.{link_loading_done, links_differ, loading_done, request_all, stays}
-use Rattle.events.specs.EventState.{EventState, flood_from_nobody, on_router}
-use Rattle.events.specs.Originations.{flush, flush_copy, has_max_sequence, has_room}
-use Rattle.events.specs.Originations.{install_and_flood, may_originate, new_instance, originate}
-use Rattle.events.specs.Originations.{originate_body, originate_or_wait, router_key, wait}
-use Rattle.events.specs.Originations.{wanted_body}
-use Rattle.events.specs.Routers.{Router}
-use Rattle.events.proofs.Walk.{MayGrow, OfEvent, outcome}
+use Rattle.event_rules.specs.Endings.{end_event, is_current, originate_router_lsa}
+use Rattle.event_rules.specs.Endings.{put_off_router_lsa}
+use Rattle.event_rules.specs.Endings.{link_loading_done, links_differ, loading_done, request_all}
+use Rattle.event_rules.specs.Endings.{stays}
+use Rattle.event_rules.specs.EventState.{EventState, flood_from_nobody, on_router}
+use Rattle.event_rules.specs.Originations.{flush, flush_copy, has_max_sequence, has_room}
+use Rattle.event_rules.specs.Originations.{install_and_flood, may_originate, new_instance}
+use Rattle.event_rules.specs.Originations.{originate}
+use Rattle.event_rules.specs.Originations.{originate_body, originate_or_put_off, put_off}
+use Rattle.event_rules.specs.Originations.{router_key}
+use Rattle.event_rules.specs.Originations.{wanted_body}
+use Rattle.event_rules.specs.Routers.{Router}
+use Rattle.event_rules.proofs.Walk.{MayGrow, OfEvent, outcome}
 use Rattle.flood_laws.proofs.Acknowledged.{in_order, order_kept}
 use Rattle.flood_laws.proofs.Retransmitted.{IsItsOwn}
 
@@ -54,7 +58,7 @@ module _ (own moment : ℕ) (X : Outcome → Type 0) where
         in
         record { so = record { area = q.0; announced = h.so.announced }; still = q.1 }
 
-    waits : (k : Key) (p : EventState) → Going p → Going (on_router (wait k) p)
+    waits : (k : Key) (p : EventState) → Going p → Going (on_router (put_off k) p)
     waits k p h = record {
       so = record { area = h.so.area; announced = h.so.announced };
       still = h.still;
@@ -67,9 +71,9 @@ module _ (own moment : ℕ) (X : Outcome → Type 0) where
     body_goes may_now k (Some says) p its wants h =
         chosen Going (has_max_sequence (finite.get p.router.area.database k)) (flush moment k p)
         (cond (may_now && may_originate moment k p.router) (originate moment k says p)
-        (on_router (wait k) p)) (λ is. flush_goes k p h)
+        (on_router (put_off k) p)) (λ is. flush_goes k p h)
         (λ is. chosen Going (may_now && may_originate moment k p.router)
-        (originate moment k says p) (on_router (wait k) p)
+        (originate moment k says p) (on_router (put_off k) p)
         (λ may. record {
           so = record {
             area = (order_kept own).originates moment k says p its is wants (MayGrow.Anyway tt)
@@ -89,19 +93,19 @@ module _ (own moment : ℕ) (X : Outcome → Type 0) where
     }
 
     describes : (before : List Link) (p : EventState) → Going p
-        → Going (describe_router before moment p)
+        → Going (originate_router_lsa before moment p)
     describes before p h =
         chosen Going (links_differ before p.router.area.links && not (is_current moment p.router))
-        (originate_or_wait moment (router_key p.router.id) p) p
+        (originate_or_put_off moment (router_key p.router.id) p) p
         (λ is. body_goes (has_room (router_key p.router.id) p.router) (router_key p.router.id)
         (wanted_body p.router (router_key p.router.id)) p
         ((order_kept own).own_router p.router h.so.announced) refl h) (λ is. h)
 
     describes_later : (before : List Link) (p : EventState) → Going p
-        → Going (describe_router_later before p)
+        → Going (put_off_router_lsa before p)
     describes_later before p h =
         chosen Going (links_differ before p.router.area.links)
-        (on_router (wait (router_key p.router.id)) p) p
+        (on_router (put_off (router_key p.router.id)) p) p
         (λ is. waits (router_key p.router.id) p h) (λ is. h)
 
     -- then copies leave the database, or stay
@@ -111,9 +115,9 @@ module _ (own moment : ℕ) (X : Outcome → Type 0) where
         → (old : Router) (after : EventState) → Going after
         → Y (outcome (end_event old moment after))
     ended Y stay leave old after h =
-        let said : EventState = describe_router old.area.links moment (loading_done after) in
+        let said : EventState = originate_router_lsa old.area.links moment (loading_done after) in
         let refilled : EventState =
-        describe_router_later said.router.area.links (loading_done said) in
+        put_off_router_lsa said.router.area.links (loading_done said) in
         let q : Going refilled = describes_later said.router.area.links (loading_done said)
         (loads said (describes old.area.links (loading_done after) (loads after h))) in
         let o : Outcome = request_all moment (outcome refilled) in

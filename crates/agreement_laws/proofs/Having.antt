@@ -14,11 +14,11 @@ use Rattle.lsdb.specs.Order.{age_at}
 use Rattle.lsdb.specs.declared.order.Instance.{Instance}
 use Rattle.packet.specs.declared.model.Packet.{Packet}
 use Rattle.received.specs.Outcomes.{Outcome, Send, marked_database, on_database}
-use Rattle.events.specs.Endings.{start_event, stays}
-use Rattle.events.specs.EventState.{EventState}
-use Rattle.events.specs.Originations.{new_instance}
-use Rattle.events.specs.Routers.{Occurrence, Router}
-use Rattle.events.proofs.Walk.{Invariant}
+use Rattle.event_rules.specs.Endings.{start_event, stays}
+use Rattle.event_rules.specs.EventState.{EventState}
+use Rattle.event_rules.specs.Originations.{new_instance}
+use Rattle.event_rules.specs.Routers.{Occurrence, Router}
+use Rattle.event_rules.proofs.Walk.{Invariant}
 use Rattle.flood_laws.specs.NewInstances.{BringsLsa, lsas_brought}
 use Rattle.flood_laws.proofs.Acknowledged.{in_order}
 use Rattle.flood_laws.proofs.EventWalk.{IsHeard, IsKeptToo, Lately}

@@ -28,16 +28,17 @@ use Rattle.adjacency.specs.Retransmissions.{next_retransmissions, request_again,
 use Rattle.adjacency.specs.Retransmissions.{update_again}
 use Rattle.received.specs.Links.{Link}
 use Rattle.received.specs.Outcomes.{one_neighbor}
-use Rattle.events.specs.Endings.{describe_router, describe_router_later, end_event, is_at}
-use Rattle.events.specs.Endings.{copy_has_body, loading_done, remove_aged, start_event, stays}
-use Rattle.events.specs.EventState.{EventState, on_area, on_router}
-use Rattle.events.specs.Hellos.{hello_on}
-use Rattle.events.specs.Originations.{flush, has_max_sequence, has_room, interval_is_over}
-use Rattle.events.specs.Originations.{is_recent, originate, originate_body, originate_or_wait}
-use Rattle.events.specs.Originations.{router_body, router_key, wait}
-use Rattle.events.specs.Packets.{after_packet}
-use Rattle.events.specs.Routers.{Router}
-use Rattle.events.specs.Ticks.{after_tick}
+use Rattle.event_rules.specs.Endings.{end_event, is_at, originate_router_lsa, put_off_router_lsa}
+use Rattle.event_rules.specs.Endings.{copy_has_body, loading_done, remove_aged, start_event, stays}
+use Rattle.event_rules.specs.EventState.{EventState, on_area, on_router}
+use Rattle.event_rules.specs.Hellos.{hello_on}
+use Rattle.event_rules.specs.Originations.{flush, has_max_sequence, has_room, interval_is_over}
+use Rattle.event_rules.specs.Originations.{is_recent, originate, originate_body}
+use Rattle.event_rules.specs.Originations.{originate_or_put_off}
+use Rattle.event_rules.specs.Originations.{put_off, router_body, router_key}
+use Rattle.event_rules.specs.Packets.{after_packet}
+use Rattle.event_rules.specs.Routers.{Router}
+use Rattle.event_rules.specs.Ticks.{after_tick}
 use Rattle.flood_laws.proofs.Owing.{put_same}
 use Rattle.conversations.proofs.WorkedEnds.{begins, describes_not_later, differ_not, describes_not}
 use Rattle.conversations.proofs.WorkedEnds.{ends_by, last, no_time_passes}
@@ -242,7 +243,7 @@ pub replies_end : end_event greets_with.router 0 replied ≡ replied
 replies_end =
     let m : Neighbor = (replying ((k, listed) ∷ []) 1).neighbor in
     let later : EventState → EventState =
-    λ q. last 0 (describe_router_later q.router.area.links (loading_done q)) in
+    λ q. last 0 (put_off_router_lsa q.router.area.links (loading_done q)) in
     ap later (describes_not greets_with.router.area.links 0 replied
     (differ_not greets_with.router.area.links replied.router.area.links refl))
     ∙ ap (last 0) (describes_not_later replied)
@@ -340,15 +341,15 @@ and_false true = refl
 and_false false = refl
 
 abbrev waiting : EventState
-waiting = on_router (wait (router_key 1)) finished
+waiting = on_router (put_off (router_key 1)) finished
 
-waits : describe_router replied.router.area.links 0 finished ≡ waiting
+waits : originate_router_lsa replied.router.area.links 0 finished ≡ waiting
 waits =
     (λ i. cond (true && not (is_at 0 (still_recent i) && copy_has_body
     (router_body finished.router.area.links) (found 1 a i)))
-    (originate_or_wait 0 (router_key 1) finished) finished)
+    (originate_or_put_off 0 (router_key 1) finished) finished)
     ∙ (λ i. cond (true && not (true && has_not_told i))
-    (originate_or_wait 0 (router_key 1) finished) finished)
+    (originate_or_put_off 0 (router_key 1) finished) finished)
     ∙ ap (λ says. originate_body (has_room (router_key 1) finished.router) 0 (router_key 1) says
     finished) (wanted finished.router)
     ∙ (λ i. cond (has_max_sequence (found 1 a i)) (flush 0 (router_key 1) finished)
@@ -364,7 +365,7 @@ at_rest = waiting
 pub finishes_end : end_event replied.router 0 finished ≡ at_rest
 finishes_end =
     let later : EventState → EventState =
-    λ q. last 0 (describe_router_later q.router.area.links (loading_done q)) in
+    λ q. last 0 (put_off_router_lsa q.router.area.links (loading_done q)) in
     ap later waits
     ∙ ap (last 0) (describes_not_later waiting)
     ∙ ap (λ (db : Database). record {

@@ -9,8 +9,8 @@ use Rattle.packet.specs.declared.model.Description.{Description}
 use Rattle.packet.specs.Text.{IsBody, closed_fields, text}
 use Rattle.packet.proofs.Patch.{canonical_is_text}
 use Rattle.adjacency.specs.Adjacencies.{initial_description}
-use Rattle.events.specs.Hellos.{hello_on}
-use Rattle.events.specs.Packing.{IsSentText, packet_of}
+use Rattle.event_rules.specs.Hellos.{hello_on}
+use Rattle.event_rules.specs.Packing.{IsSentText, packet_of}
 use Rattle.agreement_laws.proofs.HistoryStart.{link_with}
 use Rattle.agreement_laws.proofs.HistoryLeft.{a, answer, b, init, last_one, listed, reply}
 

@@ -26,13 +26,13 @@ use Rattle.adjacency.specs.Descriptions.{as_received, knows_types}
 use Rattle.adjacency.specs.Neighbors.{Neighbor, fresh}
 use Rattle.adjacency.specs.Requests.{next_request}
 use Rattle.received.specs.Outcomes.{Outcome, one_neighbor}
-use Rattle.events.specs.Endings.{describe_router_later, end_event, loading_done, remove_aged}
-use Rattle.events.specs.Endings.{start_event, stays, with_age}
-use Rattle.events.specs.EventState.{EventState, flood_from_nobody, on_area, on_router}
-use Rattle.events.specs.Hellos.{hello_on}
-use Rattle.events.specs.Packets.{after_packet}
-use Rattle.events.specs.Routers.{Router}
-use Rattle.events.specs.Ticks.{after_tick}
+use Rattle.event_rules.specs.Endings.{end_event, loading_done, put_off_router_lsa, remove_aged}
+use Rattle.event_rules.specs.Endings.{start_event, stays, with_age}
+use Rattle.event_rules.specs.EventState.{EventState, flood_from_nobody, on_area, on_router}
+use Rattle.event_rules.specs.Hellos.{hello_on}
+use Rattle.event_rules.specs.Packets.{after_packet}
+use Rattle.event_rules.specs.Routers.{Router}
+use Rattle.event_rules.specs.Ticks.{after_tick}
 use Rattle.conversations.proofs.WorkedEnds.{begins, describes_not, describes_not_later, differ_not}
 use Rattle.conversations.proofs.WorkedEnds.{ends_by, last, no_time_passes}
 use Rattle.agreement_laws.proofs.HistoryStart.{begun, copy, database, description_of, entries_of}
@@ -224,7 +224,7 @@ pub leads_end : end_event opened_at_end.router 3600 leads ≡ led
 leads_end =
     let m : Neighbor = (leads_with finite.empty true [] 0).neighbor in
     let later : EventState → EventState =
-    λ q. last 3600 (describe_router_later q.router.area.links (loading_done q)) in
+    λ q. last 3600 (put_off_router_lsa q.router.area.links (loading_done q)) in
     let one : finite.entries m.requests ≡ (
       key_of its_header,
       record {

@@ -17,14 +17,15 @@ use Rattle.adjacency.specs.Neighbors.{Neighbor}
 use Rattle.adjacency.specs.Retransmissions.{send_again}
 use Rattle.received.specs.Links.{Link}
 use Rattle.received.specs.Outcomes.{on_links, sending, sends_at, sent_on, step_on}
-use Rattle.events.specs.Endings.{start_event}
-use Rattle.events.specs.EventState.{EventState, on_area, on_router}
-use Rattle.events.specs.Hellos.{hello_on}
-use Rattle.events.specs.Originations.{due_keys, forget_originations, is_due, is_recent, is_stale}
-use Rattle.events.specs.Originations.{originate_due, router_key}
-use Rattle.events.specs.Routers.{Router}
-use Rattle.events.specs.Ticks.{acknowledge_all, after_tick, send_all_again, send_hellos}
-use Rattle.events.specs.Ticks.{settled_exchange, without_acknowledgments}
+use Rattle.event_rules.specs.Endings.{start_event}
+use Rattle.event_rules.specs.EventState.{EventState, on_area, on_router}
+use Rattle.event_rules.specs.Hellos.{hello_on}
+use Rattle.event_rules.specs.Originations.{due_keys, forget_originations, is_due, is_recent}
+use Rattle.event_rules.specs.Originations.{refresh_time_is_over}
+use Rattle.event_rules.specs.Originations.{originate_due, router_key}
+use Rattle.event_rules.specs.Routers.{Router}
+use Rattle.event_rules.specs.Ticks.{after_tick, send_acknowledgments, send_all_again, send_hellos}
+use Rattle.event_rules.specs.Ticks.{settled_exchange, without_acknowledgments}
 use Rattle.conversations.proofs.WorkedEnds.{begins, no_time_passes}
 use Rattle.agreement_laws.proofs.HistoryStart.{copy, database, first_times, found, link_with}
 use Rattle.agreement_laws.proofs.HistoryStart.{no_entries}
@@ -39,7 +40,7 @@ and_nothing : (a b : Bool) → b ≡ false → (not a && b) ≡ false
 and_nothing true b e = refl
 and_nothing false b e = e
 
-fresh_copy : (id address : ℕ) → is_stale 0 (Some (copy id address)) ≡ false
+fresh_copy : (id address : ℕ) → refresh_time_is_over 0 (Some (copy id address)) ≡ false
 unfolding sealed_lsa
 fresh_copy id address = refl
 
@@ -63,7 +64,7 @@ module _ (id address : ℕ) (n : Option Neighbor) where
   })
 
   abbrev rest : EventState → EventState
-  rest p = on_area (λ o. send_hellos 0 (acknowledge_all 0 (send_all_again 0 o))) p
+  rest p = on_area (λ o. send_hellos 0 (send_acknowledgments 0 (send_all_again 0 o))) p
 
   not_waiting : set.contains (set.remove (set.empty {R = key_cmp}) (router_key id)) (router_key id)
       ≡ false
@@ -74,7 +75,8 @@ module _ (id address : ℕ) (n : Option Neighbor) where
       (set.contains-empty key_cmp (router_key id))
 
   not_due : is_due 0 (resting n).router (router_key id) ≡ false
-  not_due = (λ i. not_waiting i || is_stale 0 (found id address i)) ∙ fresh_copy id address
+  not_due = (λ i. not_waiting i || refresh_time_is_over 0 (found id address i))
+      ∙ fresh_copy id address
 
   none_due : due_keys 0 (resting n).router ≡ []
   none_due =
@@ -87,15 +89,15 @@ module _ (id address : ℕ) (n : Option Neighbor) where
   again_by m contents =
       on_area
       (λ o. send_hellos 0
-      (acknowledge_all 0
+      (send_acknowledgments 0
       (sending 0 (sends_at 1 contents ++ [])
       (on_links (λ (links : List Link). record (link_with address n None) { neighbor = m } ∷ [])
       o))))
       (resting n)
 
   -- with these delayed acknowledgments
-  abbrev acknowledged_by : List (Key × Header) → EventState
-  acknowledged_by es =
+  abbrev receive_acknowledgment : List (Key × Header) → EventState
+  receive_acknowledgment es =
       on_area
       (λ o. send_hellos 0 (sending 0 (sends_at 1
       (map Content.Acknowledges (map (λ (e : Key × Header). e.1) es)) ++ [])
@@ -112,4 +114,4 @@ module _ (id address : ℕ) (n : Option Neighbor) where
       (originate_due 0 (due_keys 0 (resting m).router) (resting m))) settled
       ∙ ap (λ (keys : List Key). rest (originate_due 0 keys (resting n))) none_due
       ∙ (λ i. again_by (steps i) (sent i))
-      ∙ ap acknowledged_by (no_entries Header)
+      ∙ ap receive_acknowledgment (no_entries Header)

@@ -1,11 +1,11 @@
 -- A turn, from what the event does to the router.
 use Rattle.std.proofs.Common.{◌≡◌, ℕ, ◌≤◌, List, ◌++◌, refl, sym, ap, subst}
 use Rattle.std.specs.List.{AllByRecursion, Contains, filter_map}
-use Rattle.events.specs.Endings.{end_event, start_event}
-use Rattle.events.specs.Events.{OwnPart}
-use Rattle.events.specs.EventState.{EventState}
-use Rattle.events.specs.Packing.{outs_of}
-use Rattle.events.specs.Routers.{Occurrence}
+use Rattle.event_rules.specs.Endings.{end_event, start_event}
+use Rattle.event_rules.specs.Events.{OwnPart}
+use Rattle.event_rules.specs.EventState.{EventState}
+use Rattle.event_rules.specs.Packing.{outs_of}
+use Rattle.event_rules.specs.Routers.{Occurrence}
 use Rattle.flood_laws.specs.Keeping.{AreTexts, IsInstance}
 use Rattle.flood_laws.specs.Known.{instances_in_sends}
 use Rattle.agreement_laws.specs.NeighborHistories.{Party, TakesEvent, text_at}

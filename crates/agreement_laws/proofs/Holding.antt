@@ -24,9 +24,9 @@ use Rattle.lsdb.proofs.Keys.{keys_exact}
 use Rattle.received.specs.Links.{Area, any_has_retransmission}
 use Rattle.received.specs.Outcomes.{Send, marked_database}
 use Rattle.received.proofs.Marks.{mark_all}
-use Rattle.events.specs.Endings.{stays, stays_as}
-use Rattle.events.specs.Originations.{new_instance, next_sequence}
-use Rattle.events.specs.Routers.{Occurrence, Router}
+use Rattle.event_rules.specs.Endings.{stays, stays_as}
+use Rattle.event_rules.specs.Originations.{new_instance, next_sequence}
+use Rattle.event_rules.specs.Routers.{Occurrence, Router}
 use Rattle.flood_laws.proofs.Limits.{tied_key}
 use Rattle.flood_laws.proofs.Owing.{put_other, put_same}
 use Rattle.agreement_laws.specs.CopiesClimb.{BecameOf, HasHad}

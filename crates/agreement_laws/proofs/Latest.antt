@@ -13,9 +13,9 @@ use Rattle.lsdb.specs.Keys.{same_key}
 use Rattle.packet.specs.declared.model.Packet.{Packet}
 use Rattle.packet.specs.Text.{PacketText}
 use Rattle.packet.proofs.Whole.{one_packet}
-use Rattle.events.specs.Events.{OwnPart}
-use Rattle.events.specs.EventState.{EventState}
-use Rattle.events.specs.Routers.{Occurrence, Router}
+use Rattle.event_rules.specs.Events.{OwnPart}
+use Rattle.event_rules.specs.EventState.{EventState}
+use Rattle.event_rules.specs.Routers.{Occurrence, Router}
 use Rattle.flood_laws.specs.NewInstances.{lsas_brought}
 use Rattle.flood_laws.proofs.Known.{of_member}
 use Rattle.flood_laws.proofs.Limits.{tied_key}

@@ -22,14 +22,16 @@ use Rattle.packet.proofs.Whole.{one_packet}
 use Rattle.adjacency.specs.Contents.{Content}
 use Rattle.received.specs.Links.{Link}
 use Rattle.received.specs.Outcomes.{Send}
-use Rattle.events.specs.declared.model.Out.{Out}
-use Rattle.events.specs.LsaInstances.{LsaInstance, instance_of_header, instance_of_lsa}
-use Rattle.events.specs.LsaInstances.{instances_in_update}
-use Rattle.events.specs.Packing.{acknowledgments, at_interface, bodies, descriptions, first_key}
-use Rattle.events.specs.Packing.{header_size, hellos, in_key_order, lsa_size, out_of, outs_at}
-use Rattle.events.specs.Packing.{outs_of, packed_groups, packet_of, requests, sent_lsa, update_of}
-use Rattle.events.specs.Packing.{IsSentText, updates}
-use Rattle.events.proofs.Rooms.{both, mapped_all, order_all, packed_all}
+use Rattle.event_rules.specs.declared.model.Out.{Out}
+use Rattle.event_rules.specs.LsaInstances.{LsaInstance, instance_of_header, instance_of_lsa}
+use Rattle.event_rules.specs.LsaInstances.{instances_in_update}
+use Rattle.event_rules.specs.Packing.{acknowledgments, at_interface, bodies, descriptions}
+use Rattle.event_rules.specs.Packing.{first_key}
+use Rattle.event_rules.specs.Packing.{header_size, hellos, in_key_order, lsa_size, out_of, outs_at}
+use Rattle.event_rules.specs.Packing.{outs_of, packed_groups, packet_of, requests, sent_lsa}
+use Rattle.event_rules.specs.Packing.{update_of}
+use Rattle.event_rules.specs.Packing.{IsSentText, updates}
+use Rattle.event_rules.proofs.Rooms.{both, mapped_all, order_all, packed_all}
 use Rattle.flood_laws.specs.Keeping.{AreTexts, AreTextsAt, IsInstance}
 use Rattle.flood_laws.proofs.Known.{of_member}
 use Rattle.flood_laws.proofs.Lists.{later_is, of_cons, of_empty}

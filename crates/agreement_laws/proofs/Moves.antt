@@ -29,18 +29,18 @@ use Rattle.received.specs.Links.{Link, acknowledge_later, change_link, link_at, 
 use Rattle.received.specs.Outcomes.{Outcome, Stepping, each_neighbor, on_database, on_links}
 use Rattle.received.specs.Outcomes.{one_neighbor, only_at, step_on, stepped_links}
 use Rattle.received.specs.Updates.{after_case, copy_of, send_copy}
-use Rattle.events.specs.Commands.{taken_down}
-use Rattle.events.specs.Endings.{link_loading_done, start_event, with_age}
-use Rattle.events.specs.EventState.{EventState, flood_from_nobody}
-use Rattle.events.specs.Hellos.{accepts, names}
-use Rattle.events.specs.Originations.{new_instance}
-use Rattle.events.specs.Packets.{after_hello, hear, heard_on, with_neighbor}
-use Rattle.events.specs.Packets.{describe_to, is_from, is_hello}
-use Rattle.events.specs.Ticks.{again, run_out, with_hello_sent, without_acknowledgments}
-use Rattle.events.specs.declared.model.Out.{Out}
-use Rattle.events.specs.Events.{Happens}
-use Rattle.events.specs.Routers.{Occurrence, Router}
-use Rattle.events.proofs.Walk.{outcome}
+use Rattle.event_rules.specs.Commands.{taken_down}
+use Rattle.event_rules.specs.Endings.{link_loading_done, start_event, with_age}
+use Rattle.event_rules.specs.EventState.{EventState, flood_from_nobody}
+use Rattle.event_rules.specs.Hellos.{accepts, names}
+use Rattle.event_rules.specs.Originations.{new_instance}
+use Rattle.event_rules.specs.Packets.{accept_hello, receive_hello, receive_hello_on, with_neighbor}
+use Rattle.event_rules.specs.Packets.{is_from, is_hello, receive_description}
+use Rattle.event_rules.specs.Ticks.{again, run_out, with_hello_sent, without_acknowledgments}
+use Rattle.event_rules.specs.declared.model.Out.{Out}
+use Rattle.event_rules.specs.Events.{Happens}
+use Rattle.event_rules.specs.Routers.{Occurrence, Router}
+use Rattle.event_rules.proofs.Walk.{outcome}
 use Rattle.flood_laws.proofs.Leaving.{each_kept_at, stepped_kept}
 use Rattle.flood_laws.specs.InOrder.{IsInOrder}
 use Rattle.flood_laws.proofs.Acknowledged.{in_order, order_begun, order_brings, order_kept}
@@ -176,15 +176,15 @@ module _ (old : Router) (moment : ℕ) (event : Occurrence) (number : ℕ) (n : 
   -- ---- other packets
 
   hellos : (own place from : ℕ) (hello : Hello) (o : Outcome) → Stands o
-      → Stands (after_hello own moment place from hello o)
+      → Stands (receive_hello own moment place from hello o)
   hellos own place from hello o h = by_link (link_at place o.area.links) refl
     where
       by_link : (link : Option Link) → link_at place o.area.links ≡ link
-          → Stands (heard_on own moment place from hello link o)
+          → Stands (receive_hello_on own moment place from hello link o)
       by_link None is = h
       by_link (Some link) is =
           let s : Step = adjacencies.after_hello moment from (names own hello) link.neighbor in
-          chosen Stands (accepts own from hello link) (hear moment place s o) o
+          chosen Stands (accepts own from hello link) (accept_hello moment place s o) o
           (λ e. on_all (change_link place (with_neighbor s.neighbor)) o
           (λ k. interface.heard StandsThere number place s.neighbor link o.area.links is
           (λ at. steps.helloed n moment from (names own hello) link.neighbor
@@ -197,7 +197,7 @@ module _ (old : Router) (moment : ℕ) (event : Occurrence) (number : ℕ) (n : 
   -- the neighbor's Description, or another one's
   descriptions : (place : ℕ) (packet : Packet) (d : Description) → IsHeard start event place packet
       → packet.body ≡ body.Description d
-      → Stands (describe_to start.router.id moment place d (outcome start))
+      → Stands (receive_description start.router.id moment place d (outcome start))
   descriptions place packet d heard says = result
     where
       f : Neighbor → Step
@@ -238,7 +238,7 @@ module _ (old : Router) (moment : ℕ) (event : Occurrence) (number : ℕ) (n : 
           by_place true here = inl (its_text m at here (ap (λ (c : Conversation). c.router) k.0))
           by_place false away = inr (inr k)
 
-      result : Stands (describe_to start.router.id moment place d (outcome start))
+      result : Stands (receive_description start.router.id moment place d (outcome start))
       result =
           stepped_kept (λ (o : Option Neighbor). SameThere o
           × (neighbor_at number start.router.area.links ≡ o)) Goes (λ k. absurd k.0)

@@ -6,7 +6,7 @@ use Rattle.std.specs.Ordering.{bool_cmp, int_cmp, is_ge, nat_cmp, ordering_rever
 use Rattle.std.specs.FinMap.{int_cmp-IsAntisymmetric, nat_cmp-IsAntisymmetric}
 use Rattle.lsdb.specs.Order.{is_max_age}
 use Rattle.lsdb.specs.declared.order.Instance.{Instance}
-use Rattle.events.specs.LsaInstances.{LsaInstance}
+use Rattle.event_rules.specs.LsaInstances.{LsaInstance}
 use Rattle.agreement_laws.specs.NeighborsAgree.{is_as_new}
 use Rattle.agreement_laws.specs.Ranks.{compare_ranks, is_at_least}
 use Rattle.agreement_laws.specs.SaidIsHeld.{young}

@@ -12,7 +12,8 @@ use Rattle.adjacency.specs.declared.state.NeighborState.TheVariants.{Exchange}
 use Rattle.adjacency.specs.Adjacencies.{mismatch_step, two_way_received_in}
 use Rattle.adjacency.specs.Contents.{Step, no_sends}
 use Rattle.adjacency.specs.Descriptions.{Verdict, accept, act, after_description, announced_more}
-use Rattle.adjacency.specs.Descriptions.{as_received, changes_options, describe, exchange_done}
+use Rattle.adjacency.specs.Descriptions.{as_received, changes_options, exchange_done}
+use Rattle.adjacency.specs.Descriptions.{send_description}
 use Rattle.adjacency.specs.Descriptions.{exchanging, expected_sequence, in_state, is_duplicate}
 use Rattle.adjacency.specs.Descriptions.{knows_types, master_goes_on, same_flag, slave_replies}
 use Rattle.adjacency.specs.Descriptions.{verdict, verdict_in, with_requests}
@@ -22,14 +23,14 @@ use Rattle.adjacency.proofs.Kept.{chosen}
 use Rattle.received.specs.Flooding.{flood_to, is_sender}
 use Rattle.received.specs.Links.{Link, neighbor_at}
 use Rattle.received.specs.Outcomes.{Outcome, on_database, only_at, step_on}
-use Rattle.events.specs.declared.model.Out.{Out}
-use Rattle.events.specs.Endings.{end_event, link_loading_done, start_event}
-use Rattle.events.specs.EventState.{EventState, flood_from_nobody, on_area}
-use Rattle.events.specs.Events.{Happens}
-use Rattle.events.specs.Originations.{new_instance}
-use Rattle.events.specs.Packets.{describe_to}
-use Rattle.events.specs.Routers.{Occurrence, Router}
-use Rattle.events.proofs.Walk.{OfEvent, outcome}
+use Rattle.event_rules.specs.declared.model.Out.{Out}
+use Rattle.event_rules.specs.Endings.{end_event, link_loading_done, start_event}
+use Rattle.event_rules.specs.EventState.{EventState, flood_from_nobody, on_area}
+use Rattle.event_rules.specs.Events.{Happens}
+use Rattle.event_rules.specs.Originations.{new_instance}
+use Rattle.event_rules.specs.Packets.{receive_description}
+use Rattle.event_rules.specs.Routers.{Occurrence, Router}
+use Rattle.event_rules.proofs.Walk.{OfEvent, outcome}
 use Rattle.flood_laws.specs.InOrder.{IsInOrder}
 use Rattle.flood_laws.proofs.Acknowledged.{in_order, order_begun, order_kept}
 use Rattle.flood_laws.proofs.Leaving.{each_kept_at, stepped_kept}
@@ -95,7 +96,9 @@ module _ (own moment : ℕ) (db : Database) (d : Description) (n : Neighbor) (is
       → w.received ≡ Some (as_received d) → conversation_with w ≡ conversation_with n
       → Moves (master_goes_on moment d w)
   master e w role number received same =
-      let more : Step = describe moment (record w { sequence = (w.sequence + 1) % 2 ^ 32 }) in
+      let more : Step = send_description moment (record w {
+        sequence = (w.sequence + 1) % 2 ^ 32;
+      }) in
       chosen Moves (announced_more w.described || d.more) more (no_sends (exchange_done moment w))
       (λ c. (
         as_master e more.neighbor role received (inl (ap (λ (k : ℕ). (k + 1) % 2 ^ 32) number)),
@@ -117,7 +120,7 @@ module _ (own moment : ℕ) (db : Database) (d : Description) (n : Neighbor) (is
       ≡ Some (as_received d) → conversation_with w ≡ conversation_with n
       → Moves (slave_replies moment d w)
   slave e w role received same =
-      let replied : Step = describe moment (record w { sequence = d.sequence }) in
+      let replied : Step = send_description moment (record w { sequence = d.sequence }) in
       chosen Moves (announced_more replied.neighbor.described || d.more) replied (record replied {
         neighbor = exchange_done moment replied.neighbor;
       })
@@ -202,7 +205,7 @@ module _ (old : Router) (moment : ℕ) (event : Occurrence) (order : IsInOrder o
   abbrev Stays : Outcome → Type 0
   Stays o = SameThere old.id moment number x (neighbor_at number o.area.links)
 
-  goes : Going old.id moment Stays (on_area (describe_to old.id moment number d) begins)
+  goes : Going old.id moment Stays (on_area (receive_description old.id moment number d) begins)
   goes =
       let so : OfEvent (in_order old.id) begins = order_begun old moment order in
       record {

@@ -38,15 +38,17 @@ use Rattle.received.specs.Outcomes.{sends_at, on_database, on_links, one_neighbo
 use Rattle.received.specs.Outcomes.{sent_on, step_on, stepped_links, stepping_sends}
 use Rattle.received.specs.Updates.{after_case, case_at, copy_of, install, send_copy}
 use Rattle.received.proofs.Marks.{changed_by, tied}
-use Rattle.events.specs.Commands.{taken_down}
-use Rattle.events.specs.Endings.{link_loading_done, stays}
-use Rattle.events.specs.EventState.{flood_from_nobody}
-use Rattle.events.specs.Hellos.{accepts, names}
-use Rattle.events.specs.Originations.{install_and_flood}
-use Rattle.events.specs.Packets.{acknowledged_by, after_hello, describe_to, hear, heard_on}
-use Rattle.events.specs.Packets.{with_neighbor}
-use Rattle.events.specs.Ticks.{acknowledge_all, acknowledgments_on, again, hello_sent_on, run_out}
-use Rattle.events.specs.Ticks.{send_hellos, sends_of, with_hello_sent, without_acknowledgments}
+use Rattle.event_rules.specs.Commands.{taken_down}
+use Rattle.event_rules.specs.Endings.{link_loading_done, stays}
+use Rattle.event_rules.specs.EventState.{flood_from_nobody}
+use Rattle.event_rules.specs.Hellos.{accepts, names}
+use Rattle.event_rules.specs.Originations.{install_and_flood}
+use Rattle.event_rules.specs.Packets.{accept_hello, receive_acknowledgment, receive_description}
+use Rattle.event_rules.specs.Packets.{receive_hello, receive_hello_on}
+use Rattle.event_rules.specs.Packets.{with_neighbor}
+use Rattle.event_rules.specs.Ticks.{acknowledgments_on, again, hello_sent_on, run_out}
+use Rattle.event_rules.specs.Ticks.{send_acknowledgments}
+use Rattle.event_rules.specs.Ticks.{send_hellos, sends_of, with_hello_sent, without_acknowledgments}
 use Rattle.flood_laws.specs.Retransmissions.{AreOfTheDatabase}
 use Rattle.flood_laws.proofs.Leaving.{each_kept_at, stepped_kept}
 use Rattle.flood_laws.proofs.Limits.{tied_key}
@@ -475,15 +477,15 @@ module _ (key : Key) (moment : ℕ) (number : ℕ) (There : Type 0) (Of : ℕ �
     -- ---- other packets
 
     pub hellos : (own place from : ℕ) (hello : Hello) (o : Outcome) → Stands o
-        → Stands (after_hello own moment place from hello o)
+        → Stands (receive_hello own moment place from hello o)
     hellos own place from hello o h = by_link (link_at place o.area.links) refl
       where
         by_link : (link : Option Link) → link_at place o.area.links ≡ link
-            → Stands (heard_on own moment place from hello link o)
+            → Stands (receive_hello_on own moment place from hello link o)
         by_link None is = h
         by_link (Some link) is =
             let s : Step = adjacencies.after_hello moment from (names own hello) link.neighbor in
-            chosen Stands (accepts own from hello link) (hear moment place s o) o
+            chosen Stands (accepts own from hello link) (accept_hello moment place s o) o
             (λ e. sent (sends_at place s.sends)
             (on_links (change_link place (with_neighbor s.neighbor)) o)
             (interface.heard (HoldsThere o.sends (held moment key o.area.database)) number place
@@ -524,7 +526,7 @@ module _ (key : Key) (moment : ℕ) (number : ℕ) (There : Type 0) (Of : ℕ �
         → ((g : Header) → Contains headers g → Says place g)
         → ((m : Neighbor) → neighbor_at number o.area.links ≡ Some m
         → AreOfTheDatabase o.area.database m) → Stands o
-        → Stands (acknowledged_by moment place headers o)
+        → Stands (receive_acknowledgment moment place headers o)
     acknowledgments place headers o says of h =
         step_here (only_at place f) o
         (λ link m is at. more_settled o.sends (stepping_sends (only_at place f) o.area.links)
@@ -557,7 +559,7 @@ module _ (key : Key) (moment : ℕ) (number : ℕ) (There : Type 0) (Of : ℕ �
         → ((c : DatabaseCopy) → finite.get o.area.database key ≡ Some c → lsa_key c.lsa ≡ key)
         → ((m : Neighbor) → neighbor_at number o.area.links ≡ Some m → Of m.router
         × (is_exchange_or_later m.state ≡ false → m.requests ≡ finite.empty) × There)
-        → Stands o → Stands (describe_to own moment place d o)
+        → Stands o → Stands (receive_description own moment place d o)
     descriptions own place d o says its of h =
         step_here (only_at place f) o (λ link m is at. by_place link m is at (number == place) refl)
         h
@@ -656,7 +658,7 @@ module _ (key : Key) (moment : ℕ) (number : ℕ) (There : Type 0) (Of : ℕ �
         (held moment key o.area.database)
         moment link.interface.retransmit_interval o.area.database m at) h
 
-    pub acknowledges : (o : Outcome) → Stands o → Stands (acknowledge_all moment o)
+    pub acknowledges : (o : Outcome) → Stands o → Stands (send_acknowledgments moment o)
     acknowledges o h =
         sent (sends_of acknowledgments_on o.area.links) (on_links (map without_acknowledgments) o)
         (each_link without_acknowledgments o (λ link at. at) h)

@@ -7,7 +7,7 @@ use Rattle.lsa.specs.Headers.{IsHeader, header_at, header_text}
 use Rattle.lsa.specs.Text.{body_text, text}
 use Rattle.lsa.proofs.Headers.{header-reads_back}
 use Rattle.lsdb.specs.Headers.{Header, Lsa}
-use Rattle.events.specs.LsaInstances.{instance_of_header, instance_of_lsa}
+use Rattle.event_rules.specs.LsaInstances.{instance_of_header, instance_of_lsa}
 use Rattle.flood_laws.specs.Keeping.{IsInstance}
 
 -- the fields that don't identify the instance, as they are encoded

@@ -29,14 +29,16 @@ use Rattle.received.specs.Outcomes.{one_neighbor, only_at, sending, sends_at, st
 use Rattle.received.specs.Outcomes.{stepped_links, stepping_sends}
 use Rattle.received.specs.Updates.{after_case, case_at, copy_of, install, send_copy}
 use Rattle.received.proofs.Marks.{IsStill, mark_all}
-use Rattle.events.specs.Commands.{taken_down}
-use Rattle.events.specs.Endings.{link_loading_done, stays, with_age}
-use Rattle.events.specs.EventState.{flood_from_nobody}
-use Rattle.events.specs.Hellos.{accepts, names}
-use Rattle.events.specs.Originations.{install_and_flood, new_instance}
-use Rattle.events.specs.Packets.{acknowledged_by, after_hello, hear, heard_on, with_neighbor}
-use Rattle.events.specs.Ticks.{acknowledge_all, acknowledgments_on, again, hello_sent_on, run_out}
-use Rattle.events.specs.Ticks.{send_hellos, sends_of, with_hello_sent, without_acknowledgments}
+use Rattle.event_rules.specs.Commands.{taken_down}
+use Rattle.event_rules.specs.Endings.{link_loading_done, stays, with_age}
+use Rattle.event_rules.specs.EventState.{flood_from_nobody}
+use Rattle.event_rules.specs.Hellos.{accepts, names}
+use Rattle.event_rules.specs.Originations.{install_and_flood, new_instance}
+use Rattle.event_rules.specs.Packets.{accept_hello, receive_acknowledgment, receive_hello}
+use Rattle.event_rules.specs.Packets.{receive_hello_on, with_neighbor}
+use Rattle.event_rules.specs.Ticks.{acknowledgments_on, again, hello_sent_on, run_out}
+use Rattle.event_rules.specs.Ticks.{send_acknowledgments}
+use Rattle.event_rules.specs.Ticks.{send_hellos, sends_of, with_hello_sent, without_acknowledgments}
 use Rattle.flood_laws.proofs.Leaving.{each_kept_at, stepped_kept}
 use Rattle.flood_laws.proofs.Limits.{tied_key}
 use Rattle.flood_laws.proofs.Owing.{put_same}
@@ -290,15 +292,15 @@ module _ (ranks : RanksFollowTheComparison) (key : Key) (moment : ℕ) (first : 
   -- ---- other packets
 
   pub hellos : May → (own place from : ℕ) (hello : Hello) (o : Outcome) → Stands o
-      → Stands (after_hello own moment place from hello o)
+      → Stands (receive_hello own moment place from hello o)
   hellos may own place from hello o h = by_link (link_at place o.area.links) refl
     where
       by_link : (link : Option Link) → link_at place o.area.links ≡ link
-          → Stands (heard_on own moment place from hello link o)
+          → Stands (receive_hello_on own moment place from hello link o)
       by_link None is = h
       by_link (Some link) is =
           let s : Step = adjacencies.after_hello moment from (names own hello) link.neighbor in
-          chosen Stands (accepts own from hello link) (hear moment place s o) o
+          chosen Stands (accepts own from hello link) (accept_hello moment place s o) o
           (λ e. sent (sends_at place s.sends)
           (on_links (change_link place (with_neighbor s.neighbor)) o)
           (on_all (change_link place (with_neighbor s.neighbor)) o
@@ -311,7 +313,7 @@ module _ (ranks : RanksFollowTheComparison) (key : Key) (moment : ℕ) (first : 
           heard_of (Some m) k = k
 
   pub acknowledgments : (place : ℕ) (headers : List Header) (o : Outcome) → Stands o
-      → Stands (acknowledged_by moment place headers o)
+      → Stands (receive_acknowledgment moment place headers o)
   acknowledgments place headers o h =
       one_step place (λ n. no_sends (after_acknowledgment moment headers n)) o
       (asking.acknowledged ranks key moment first entry low with_it May headers) h
@@ -329,7 +331,7 @@ module _ (ranks : RanksFollowTheComparison) (key : Key) (moment : ℕ) (first : 
       each_step (again moment o) o (λ link m at. asking.again ranks key moment first entry low
       with_it May link.interface.retransmit_interval o.area.database m at) h
 
-  pub acknowledges : (o : Outcome) → Stands o → Stands (acknowledge_all moment o)
+  pub acknowledges : (o : Outcome) → Stands o → Stands (send_acknowledgments moment o)
   acknowledges o h =
       sent (sends_of acknowledgments_on o.area.links) (on_links (map without_acknowledgments) o)
       (each_link without_acknowledgments o (λ link at. at) h)

@@ -26,14 +26,14 @@ use Rattle.received.specs.Links.{Link, neighbor_at}
 use Rattle.received.specs.Outcomes.{Outcome, on_links, only_at, sends_at, step_on}
 use Rattle.received.specs.Outcomes.{stepped_links, stepping_sends}
 use Rattle.received.proofs.Holding.{one_holds}
-use Rattle.events.specs.declared.model.Out.{Out}
-use Rattle.events.specs.Endings.{end_event, start_event}
-use Rattle.events.specs.EventState.{EventState}
-use Rattle.events.specs.Events.{Happens, OwnPart}
-use Rattle.events.specs.Hellos.{accepts}
-use Rattle.events.specs.Packets.{describe_to, is_from, is_hello, requested_lsas}
-use Rattle.events.specs.Routers.{Occurrence, Router}
-use Rattle.events.proofs.Walk.{OfEvent, outcome}
+use Rattle.event_rules.specs.declared.model.Out.{Out}
+use Rattle.event_rules.specs.Endings.{end_event, start_event}
+use Rattle.event_rules.specs.EventState.{EventState}
+use Rattle.event_rules.specs.Events.{Happens, OwnPart}
+use Rattle.event_rules.specs.Hellos.{accepts}
+use Rattle.event_rules.specs.Packets.{is_from, is_hello, receive_description, requested_lsas}
+use Rattle.event_rules.specs.Routers.{Occurrence, Router}
+use Rattle.event_rules.proofs.Walk.{OfEvent, outcome}
 use Rattle.flood_laws.specs.InOrder.{IsInOrder}
 use Rattle.flood_laws.specs.NewInstances.{lsas_brought}
 use Rattle.flood_laws.proofs.Acknowledged.{in_order, order_begun, order_brings, order_kept}
@@ -204,7 +204,7 @@ module _ (ranks : RanksFollowTheComparison) (old : Router) (moment : ℕ) (event
             start.router.area.database d m (exchanges its m at it.1) it)
         by_place false away = inr (inr it)
 
-    described : Stands (describe_to start.router.id moment place d (outcome start))
+    described : Stands (receive_description start.router.id moment place d (outcome start))
     described =
         parts.sent ranks key moment first entry low with_it (Unit {0}) Told number
         (stepping_sends (only_at place f) start.router.area.links)
@@ -541,7 +541,7 @@ module _ (ranks : RanksFollowTheComparison) (old : Router) (moment : ℕ) (event
   held None at e = absurd cc
   held (Some c) at e = (c, at, ranks.not_newer told (copy_now moment c) e)
 
-  taken : Asked (describe_to old.id moment number d (outcome begins))
+  taken : Asked (receive_description old.id moment number d (outcome begins))
   taken =
       parts.sent ranks (key_of h) moment told entered as_new conversation ⊥ ⊥ number
       (stepping_sends (only_at number takes) begins.router.area.links)

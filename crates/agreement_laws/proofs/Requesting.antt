@@ -18,7 +18,8 @@ use Rattle.adjacency.specs.declared.state.NeighborState.TheVariants.{Loading, Fu
 use Rattle.adjacency.specs.Adjacencies.{mismatch_step, two_way_received, two_way_received_in}
 use Rattle.adjacency.specs.Contents.{Step, no_sends}
 use Rattle.adjacency.specs.Descriptions.{Verdict, accept, act, after_description, announced_more}
-use Rattle.adjacency.specs.Descriptions.{as_received, describe, exchange_done, in_state, is_wanted}
+use Rattle.adjacency.specs.Descriptions.{as_received, exchange_done, in_state, is_wanted}
+use Rattle.adjacency.specs.Descriptions.{send_description}
 use Rattle.adjacency.specs.Descriptions.{judge, knows_types, master_goes_on, negotiated_neighbor}
 use Rattle.adjacency.specs.Descriptions.{slave_replies, verdict, with_request, with_requests}
 use Rattle.adjacency.specs.Neighbors.{Neighbor, is_exchange_or_later}
@@ -116,14 +117,14 @@ module _ (own moment : ℕ) (db : Database) (d : Description) where
       let w : Neighbor = with_requests moment db d.headers (record m {
         received = Some (as_received d);
       }) in
-      let replied : Step = describe moment (record w { sequence = d.sequence }) in
+      let replied : Step = send_description moment (record w { sequence = d.sequence }) in
       chosen (HasRequested m) (knows_types d)
       (cond w.is_master (master_goes_on moment d w) (slave_replies moment d w))
       (mismatch_step moment m)
       (λ e. chosen (HasRequested m) w.is_master (master_goes_on moment d w)
       (slave_replies moment d w)
       (λ e. chosen (HasRequested m) (announced_more w.described || d.more)
-      (describe moment (record w {
+      (send_description moment (record w {
         sequence = (w.sequence + 1) % 2 ^ 32;
       })) (no_sends (exchange_done moment w))
       (λ e. (m.requests, refl, refl)) (λ e. (m.requests, refl, refl)))
@@ -228,14 +229,16 @@ module _ (ranks : RanksFollowTheComparison) (key : Key) (moment : ℕ) (first : 
 
     master : (m : Neighbor) → IsIt m ⊎ IsTold → Goes (master_goes_on moment d m).neighbor
     master m h =
-        let more : Step = describe moment (record m { sequence = (m.sequence + 1) % 2 ^ 32 }) in
+        let more : Step = send_description moment (record m {
+          sequence = (m.sequence + 1) % 2 ^ 32;
+        }) in
         chosen (λ (s : Step). Goes s.neighbor) (announced_more m.described || d.more) more
         (no_sends (exchange_done moment m)) (λ e. of_it more.neighbor h)
         (λ e. of_it (exchange_done moment m) h)
 
     slave : (m : Neighbor) → IsIt m ⊎ IsTold → Goes (slave_replies moment d m).neighbor
     slave m h =
-        let replied : Step = describe moment (record m { sequence = d.sequence }) in
+        let replied : Step = send_description moment (record m { sequence = d.sequence }) in
         chosen (λ (s : Step). Goes s.neighbor) (announced_more replied.neighbor.described || d.more)
         replied (record replied { neighbor = exchange_done moment replied.neighbor })
         (λ e. of_it replied.neighbor h) (λ e. of_it (exchange_done moment replied.neighbor) h)

@@ -21,17 +21,19 @@ use Rattle.received.specs.Flooding.{flood_to}
 use Rattle.received.specs.Holds.{Holds}
 use Rattle.received.specs.Links.{neighbor_at, neighbor_on}
 use Rattle.received.specs.Outcomes.{Outcome, on_database, step_on}
-use Rattle.events.specs.declared.model.Config.{Config}
-use Rattle.events.specs.declared.model.Out.{Out}
-use Rattle.events.specs.Endings.{end_event}
-use Rattle.events.specs.EventState.{EventState, flood_from_nobody, on_router}
-use Rattle.events.specs.Events.{Happens, Run, Step, initial}
-use Rattle.events.specs.Originations.{flush, flush_copy, has_max_sequence, has_room, may_originate}
-use Rattle.events.specs.Originations.{new_instance, originate, originate_body, router_key, wait}
-use Rattle.events.specs.Originations.{wanted_body}
-use Rattle.events.specs.Packing.{out_of}
-use Rattle.events.specs.Routers.{Router, fresh_link, unannounced_router}
-use Rattle.events.proofs.Walk.{outcome}
+use Rattle.event_rules.specs.declared.model.Config.{Config}
+use Rattle.event_rules.specs.declared.model.Out.{Out}
+use Rattle.event_rules.specs.Endings.{end_event}
+use Rattle.event_rules.specs.EventState.{EventState, flood_from_nobody, on_router}
+use Rattle.event_rules.specs.Events.{Happens, Run, Step, initial}
+use Rattle.event_rules.specs.Originations.{flush, flush_copy, has_max_sequence, has_room}
+use Rattle.event_rules.specs.Originations.{may_originate}
+use Rattle.event_rules.specs.Originations.{new_instance, originate, originate_body, put_off}
+use Rattle.event_rules.specs.Originations.{router_key}
+use Rattle.event_rules.specs.Originations.{wanted_body}
+use Rattle.event_rules.specs.Packing.{out_of}
+use Rattle.event_rules.specs.Routers.{Router, fresh_link, unannounced_router}
+use Rattle.event_rules.proofs.Walk.{outcome}
 use Rattle.flood_laws.specs.InOrder.{IsInOrder}
 use Rattle.flood_laws.proofs.Acknowledged.{routers_stay_in_order}
 use Rattle.flood_laws.proofs.Leaving.{stepped_kept}
@@ -77,13 +79,13 @@ module _ (number : ℕ) (at : ℕ) where
   originated_alone may_now moment key (Some says) p is =
       chosen Alone (has_max_sequence (finite.get p.router.area.database key)) (flush moment key p)
       (cond (may_now && may_originate moment key p.router) (originate moment key says p)
-      (on_router (wait key) p))
+      (on_router (put_off key) p))
       (λ e. (
         flushed_alone moment key (finite.get p.router.area.database key) (outcome p) is.0,
         is.1,
       ))
       (λ e. chosen Alone (may_now && may_originate moment key p.router)
-      (originate moment key says p) (on_router (wait key) p)
+      (originate moment key says p) (on_router (put_off key) p)
       (λ e.
       let lsa : Lsa = new_instance key (finite.get p.router.area.database key) says in (
         flooded_alone moment lsa (on_database (install_originated moment lsa) (outcome p)) is.0,

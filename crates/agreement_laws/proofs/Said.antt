@@ -37,16 +37,17 @@ use Rattle.received.specs.Outcomes.{on_database, on_links, one_neighbor, only_at
 use Rattle.received.specs.Outcomes.{sent_on, step_on, stepped_links, stepping_sends}
 use Rattle.received.specs.Updates.{after_case, case_at, copy_of, send_copy}
 use Rattle.received.proofs.Told.{joined}
-use Rattle.events.specs.Commands.{taken_down}
-use Rattle.events.specs.Endings.{link_loading_done, stays, with_age}
-use Rattle.events.specs.EventState.{flood_from_nobody}
-use Rattle.events.specs.LsaInstances.{instance_of_lsa}
-use Rattle.events.specs.Hellos.{accepts, hello_is_due, hello_on, names}
-use Rattle.events.specs.Originations.{install_and_flood, new_instance}
-use Rattle.events.specs.Packets.{hear, heard_on, requested_lsas, with_neighbor}
-use Rattle.events.specs.Routers.{Occurrence, Router}
-use Rattle.events.specs.Ticks.{acknowledge_all, acknowledgments_on, again, hello_sent_on, run_out}
-use Rattle.events.specs.Ticks.{send_hellos, sends_of, with_hello_sent, without_acknowledgments}
+use Rattle.event_rules.specs.Commands.{taken_down}
+use Rattle.event_rules.specs.Endings.{link_loading_done, stays, with_age}
+use Rattle.event_rules.specs.EventState.{flood_from_nobody}
+use Rattle.event_rules.specs.LsaInstances.{instance_of_lsa}
+use Rattle.event_rules.specs.Hellos.{accepts, hello_is_due, hello_on, names}
+use Rattle.event_rules.specs.Originations.{install_and_flood, new_instance}
+use Rattle.event_rules.specs.Packets.{accept_hello, receive_hello_on, requested_lsas, with_neighbor}
+use Rattle.event_rules.specs.Routers.{Occurrence, Router}
+use Rattle.event_rules.specs.Ticks.{acknowledgments_on, again, hello_sent_on, run_out}
+use Rattle.event_rules.specs.Ticks.{send_acknowledgments}
+use Rattle.event_rules.specs.Ticks.{send_hellos, sends_of, with_hello_sent, without_acknowledgments}
 use Rattle.flood_laws.proofs.Known.{each_all}
 use Rattle.flood_laws.proofs.Retransmitted.{OwnKeys, There, own_at}
 use Rattle.flood_laws.proofs.Leaving.{itself}
@@ -474,11 +475,11 @@ module _ (old : Router) (moment : ℕ) where
 
   pub hellos : (own place from : ℕ) (hello : Hello) (link : Option Link) (o : Outcome)
       → link_at place o.area.links ≡ link → IsSo o
-      → IsSo (heard_on own moment place from hello link o)
+      → IsSo (receive_hello_on own moment place from hello link o)
   hellos own place from hello None o at h = h
   hellos own place from hello (Some link) o at h =
       let s : Step = adjacencies.after_hello moment from (names own hello) link.neighbor in
-      chosen IsSo (accepts own from hello link) (hear moment place s o) o
+      chosen IsSo (accepts own from hello link) (accept_hello moment place s o) o
       (λ e. sent_at place s.sends (on_links (change_link place (with_neighbor s.neighbor)) o)
       step.sends
       (on_one place (with_neighbor s.neighbor) o
@@ -617,7 +618,7 @@ module _ (old : Router) (moment : ℕ) where
       values_so T number (finite.entries link.acknowledgments)
       (entries_in (OfWaiting old T number) link.acknowledgments h.acknowledgments)
 
-  pub acknowledges : (o : Outcome) → IsSo o → IsSo (acknowledge_all moment o)
+  pub acknowledges : (o : Outcome) → IsSo o → IsSo (send_acknowledgments moment o)
   acknowledges o h =
       sent_so (sends_of acknowledgments_on o.area.links) (on_links (map without_acknowledgments) o)
       (by_links_sent (OfContent old (AsNew o.area.database))

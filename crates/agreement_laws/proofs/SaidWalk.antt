@@ -16,13 +16,13 @@ use Rattle.adjacency.proofs.Maps.{AllIn, IfThere}
 use Rattle.received.specs.Holds.{Holds}
 use Rattle.received.specs.Links.{Link, link_at, neighbor_at, neighbor_on}
 use Rattle.received.specs.Outcomes.{Outcome}
-use Rattle.events.specs.LsaInstances.{LsaInstance, instance_of_header}
-use Rattle.events.specs.declared.model.Out.{Out}
-use Rattle.events.specs.Endings.{end_event, start_event}
-use Rattle.events.specs.EventState.{EventState}
-use Rattle.events.specs.Events.{Happens}
-use Rattle.events.specs.Routers.{Occurrence, Router}
-use Rattle.events.proofs.Walk.{outcome}
+use Rattle.event_rules.specs.LsaInstances.{LsaInstance, instance_of_header}
+use Rattle.event_rules.specs.declared.model.Out.{Out}
+use Rattle.event_rules.specs.Endings.{end_event, start_event}
+use Rattle.event_rules.specs.EventState.{EventState}
+use Rattle.event_rules.specs.Events.{Happens}
+use Rattle.event_rules.specs.Routers.{Occurrence, Router}
+use Rattle.event_rules.proofs.Walk.{outcome}
 use Rattle.flood_laws.proofs.Lists.{later_is}
 use Rattle.flood_laws.proofs.Taken.{named_first}
 use Rattle.flood_laws.specs.InOrder.{IsInOrder}

@@ -23,7 +23,7 @@ use Rattle.adjacency.specs.Adjacencies.{one_way_received, requests_nothing, two_
 use Rattle.adjacency.specs.Adjacencies.{two_way_received_in, with_hello_heard}
 use Rattle.adjacency.specs.Contents.{Content, Step, no_sends, then_}
 use Rattle.adjacency.specs.Descriptions.{Verdict, accept, act, after_description, announced_more}
-use Rattle.adjacency.specs.Descriptions.{as_received, describe, exchange_done, in_state}
+use Rattle.adjacency.specs.Descriptions.{as_received, exchange_done, in_state, send_description}
 use Rattle.adjacency.specs.Descriptions.{is_over_for, judge, knows_types, master_goes_on}
 use Rattle.adjacency.specs.Descriptions.{negotiated_neighbor, repeat, slave_replies, verdict}
 use Rattle.adjacency.specs.Descriptions.{with_requests}
@@ -39,10 +39,10 @@ use Rattle.received.specs.Holds.{Holds}
 use Rattle.received.specs.Links.{Link}
 use Rattle.received.specs.Outcomes.{Send}
 use Rattle.received.proofs.Told.{joined}
-use Rattle.events.specs.Endings.{loading_done_on}
-use Rattle.events.specs.LsaInstances.{LsaInstance, instance_of_header, instance_of_lsa}
-use Rattle.events.specs.Routers.{Router}
-use Rattle.events.specs.Ticks.{settled_exchange}
+use Rattle.event_rules.specs.Endings.{loading_done_on}
+use Rattle.event_rules.specs.LsaInstances.{LsaInstance, instance_of_header, instance_of_lsa}
+use Rattle.event_rules.specs.Routers.{Router}
+use Rattle.event_rules.specs.Ticks.{settled_exchange}
 use Rattle.flood_laws.proofs.Known.{each_all}
 use Rattle.flood_laws.proofs.Retransmitted.{if_so}
 use Rattle.agreement_laws.specs.SaidIsHeld.{IsToDescribe, Waits, young}
@@ -226,7 +226,8 @@ module _ (old : Router) where
     headers_so moment [] h = tt
     headers_so moment (e ∷ es) h = (h.0, headers_so moment es h.1)
 
-    described : (moment : ℕ) (n : Neighbor) → OfNeighbor T number n → OfStep (describe moment n)
+    described : (moment : ℕ) (n : Neighbor) → OfNeighbor T number n
+        → OfStep (send_description moment n)
     described moment n h =
         let entries : AllByRecursion (OfEntry (OfListed T number)) (finite.entries n.summary) =
         entries_in (OfListed T number) n.summary h.summary in
@@ -265,7 +266,7 @@ module _ (old : Router) where
         → OfStep (master_goes_on moment d n)
     gone_on moment d n h =
         let next : Neighbor = record n { sequence = (n.sequence + 1) % 2 ^ 32 } in
-        chosen OfStep (announced_more n.described || d.more) (describe moment next)
+        chosen OfStep (announced_more n.described || d.more) (send_description moment next)
         (no_sends (exchange_done moment n))
         (λ e. described moment next (record {
           summary = h.summary;
@@ -277,7 +278,7 @@ module _ (old : Router) where
         → OfStep (slave_replies moment d n)
     replied moment d n h =
         let next : Neighbor = record n { sequence = d.sequence } in
-        let reply : Step = describe moment next in
+        let reply : Step = send_description moment next in
         let so : OfStep reply = described moment next (record {
           summary = h.summary;
           last = h.last;

@@ -12,9 +12,10 @@ use Rattle.packet.specs.declared.model.Description.{Description}
 use Rattle.adjacency.specs.Contents.{Content}
 use Rattle.received.specs.Links.{Link, link_at}
 use Rattle.received.specs.Outcomes.{Send}
-use Rattle.events.specs.Packing.{acknowledgments, at_interface, bodies, descriptions, first_key}
-use Rattle.events.specs.Packing.{header_size, hellos, in_key_order, lsa_size, out_of, outs_at}
-use Rattle.events.specs.Packing.{outs_of, packed_groups, requests, update_of, updates}
+use Rattle.event_rules.specs.Packing.{acknowledgments, at_interface, bodies, descriptions}
+use Rattle.event_rules.specs.Packing.{first_key}
+use Rattle.event_rules.specs.Packing.{header_size, hellos, in_key_order, lsa_size, out_of, outs_at}
+use Rattle.event_rules.specs.Packing.{outs_of, packed_groups, requests, update_of, updates}
 use Rattle.flood_laws.proofs.Lists.{later_is, of_cons, of_empty}
 use Rattle.flood_laws.proofs.Taken.{named_first}
 use Rattle.flood_laws.proofs.Worlds.{mapped}

@@ -14,10 +14,10 @@ use Rattle.packet.specs.Text.{PacketText}
 use Rattle.adjacency.specs.Neighbors.{Neighbor, is_exchange_or_later}
 use Rattle.received.specs.Holds.{Holds}
 use Rattle.received.specs.Links.{neighbor_at}
-use Rattle.events.specs.declared.model.Config.{Config}
-use Rattle.events.specs.Events.{Step, initial}
-use Rattle.events.specs.LsaInstances.{instance_of_header, instance_of_lsa}
-use Rattle.events.specs.Routers.{Occurrence, Router}
+use Rattle.event_rules.specs.declared.model.Config.{Config}
+use Rattle.event_rules.specs.Events.{Step, initial}
+use Rattle.event_rules.specs.LsaInstances.{instance_of_header, instance_of_lsa}
+use Rattle.event_rules.specs.Routers.{Occurrence, Router}
 use Rattle.flood_laws.specs.InOrder.{IsInOrder}
 use Rattle.flood_laws.proofs.Lists.{later_is, of_cons, of_empty}
 use Rattle.flood_laws.proofs.Taken.{named_first}

@@ -13,8 +13,8 @@ use Rattle.adjacency.specs.Neighbors.{Neighbor}
 use Rattle.received.specs.Holds.{Holds, HoldsOfEach}
 use Rattle.received.specs.Links.{neighbor_at}
 use Rattle.received.proofs.Holding.{one_holds}
-use Rattle.events.specs.Events.{Run, Step}
-use Rattle.events.specs.Routers.{Router}
+use Rattle.event_rules.specs.Events.{Run, Step}
+use Rattle.event_rules.specs.Routers.{Router}
 use Rattle.flood_laws.specs.InOrder.{IsInOrder}
 use Rattle.flood_laws.proofs.Acknowledged.{routers_stay_in_order}
 use Rattle.flood_laws.proofs.Always.{full_request_nothing}

@@ -16,12 +16,12 @@ use Rattle.adjacency.specs.Neighbors.{Neighbor, is_exchange_or_later}
 use Rattle.received.specs.Holds.{Holds, HoldsOfEach}
 use Rattle.received.specs.Links.{neighbor_at}
 use Rattle.received.proofs.Holding.{one_holds}
-use Rattle.events.specs.declared.model.Config.{Config}
-use Rattle.events.specs.Endings.{start_event}
-use Rattle.events.specs.Events.{Step, initial}
-use Rattle.events.specs.Hellos.{is_foreign}
-use Rattle.events.specs.LsaInstances.{LsaInstance, instance_of_header, instance_of_lsa}
-use Rattle.events.specs.Routers.{Router}
+use Rattle.event_rules.specs.declared.model.Config.{Config}
+use Rattle.event_rules.specs.Endings.{start_event}
+use Rattle.event_rules.specs.Events.{Step, initial}
+use Rattle.event_rules.specs.Hellos.{is_foreign}
+use Rattle.event_rules.specs.LsaInstances.{LsaInstance, instance_of_header, instance_of_lsa}
+use Rattle.event_rules.specs.Routers.{Router}
 use Rattle.flood_laws.specs.InOrder.{IsInOrder}
 use Rattle.flood_laws.proofs.Always.{full_request_nothing}
 use Rattle.agreement_laws.specs.CopiesClimb.{BecameOf, CopiesClimb}

@@ -32,14 +32,14 @@ use Rattle.received.specs.Holds.{Holds, HoldsOfEach}
 use Rattle.received.specs.Links.{Area, Link, link_at, neighbor_at, neighbor_on}
 use Rattle.received.specs.Outcomes.{Outcome, sends_at, step_on, stepping_sends}
 use Rattle.received.proofs.Holding.{one_holds}
-use Rattle.events.specs.declared.model.Out.{Out}
-use Rattle.events.specs.Endings.{end_event, start_event, with_age}
-use Rattle.events.specs.EventState.{EventState, flood_from_nobody}
-use Rattle.events.specs.Events.{Happens}
-use Rattle.events.specs.Originations.{new_instance}
-use Rattle.events.specs.Packets.{is_from, is_hello, requested_lsas}
-use Rattle.events.specs.Routers.{Occurrence, Router}
-use Rattle.events.proofs.Walk.{outcome}
+use Rattle.event_rules.specs.declared.model.Out.{Out}
+use Rattle.event_rules.specs.Endings.{end_event, start_event, with_age}
+use Rattle.event_rules.specs.EventState.{EventState, flood_from_nobody}
+use Rattle.event_rules.specs.Events.{Happens}
+use Rattle.event_rules.specs.Originations.{new_instance}
+use Rattle.event_rules.specs.Packets.{is_from, is_hello, requested_lsas}
+use Rattle.event_rules.specs.Routers.{Occurrence, Router}
+use Rattle.event_rules.proofs.Walk.{outcome}
 use Rattle.flood_laws.specs.InOrder.{IsInOrder}
 use Rattle.flood_laws.specs.NewInstances.{lsas_brought}
 use Rattle.flood_laws.specs.Retransmissions.{AreOfTheDatabase, HasItsRetransmissions}

@@ -15,10 +15,10 @@ use Rattle.adjacency.specs.Descriptions.{young_copies}
 use Rattle.adjacency.specs.declared.state.NeighborState.{NeighborState}
 use Rattle.received.specs.Links.{Link, link_at, neighbor_on}
 use Rattle.adjacency.specs.Steps.{named_neighbor}
-use Rattle.events.specs.declared.model.Out.{Out}
-use Rattle.events.specs.Events.{Happens, Run, Step}
-use Rattle.events.specs.Packing.{out_of, outs_of}
-use Rattle.events.specs.Routers.{Occurrence, Router}
+use Rattle.event_rules.specs.declared.model.Out.{Out}
+use Rattle.event_rules.specs.Events.{Happens, Run, Step}
+use Rattle.event_rules.specs.Packing.{out_of, outs_of}
+use Rattle.event_rules.specs.Routers.{Occurrence, Router}
 use Rattle.flood_laws.specs.InOrder.{AnnouncesItsOwn}
 use Rattle.flood_laws.proofs.Known.{router_stays}
 use Rattle.flood_laws.proofs.Taken.{named_first}

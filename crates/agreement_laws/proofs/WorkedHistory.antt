@@ -10,9 +10,9 @@ use Rattle.packet.specs.declared.model.PacketBody.TheVariants as body
 use Rattle.packet.specs.declared.model.Packet.{Packet}
 use Rattle.packet.specs.Text.{canonical}
 use Rattle.adjacency.specs.Adjacencies.{initial_description}
-use Rattle.events.specs.LsaInstances.{instance_of_lsa}
-use Rattle.events.specs.Originations.{router_key}
-use Rattle.events.specs.Routers.{Occurrence}
+use Rattle.event_rules.specs.LsaInstances.{instance_of_lsa}
+use Rattle.event_rules.specs.Originations.{router_key}
+use Rattle.event_rules.specs.Routers.{Occurrence}
 use Rattle.flood_laws.proofs.Taken.{named_first}
 use Rattle.flood_laws.proofs.Lists.{later_is}
 use Rattle.agreement_laws.specs.NeighborHistories.{Doing, Ends, HasBegun, IsHistory, Pair, Party}

@@ -4,8 +4,8 @@ use Rattle.std.proofs.Common.{subst, ◌∙◌, arith}
 use Rattle.std.specs.FinMap as finite
 use Rattle.lsdb.specs.Copies.{DatabaseCopy}
 use Rattle.lsdb.specs.Headers.{Header}
-use Rattle.events.specs.Events.{Step}
-use Rattle.events.specs.LsaInstances.{LsaInstance}
+use Rattle.event_rules.specs.Events.{Step}
+use Rattle.event_rules.specs.LsaInstances.{LsaInstance}
 use Rattle.agreement_laws.specs.Exchanged.{Conversation, Converses, Describes}
 use Rattle.agreement_laws.specs.NeighborHistories.{Ends, IsHistory, Pair, Party, Side, event_taken}
 use Rattle.agreement_laws.specs.NeighborHistories.{interface_of, party}

@@ -15,8 +15,8 @@ use Rattle.adjacency.specs.Adjacencies.{two_way_received, two_way_received_in}
 use Rattle.adjacency.specs.Descriptions.{Verdict, is_duplicate, is_kept, is_wanted, knows_types}
 use Rattle.adjacency.specs.Descriptions.{verdict, verdict_in, with_request}
 use Rattle.adjacency.specs.Neighbors.{Neighbor}
-use Rattle.events.specs.Events.{Step}
-use Rattle.events.specs.Routers.{Router}
+use Rattle.event_rules.specs.Events.{Step}
+use Rattle.event_rules.specs.Routers.{Router}
 use Rattle.flood_laws.proofs.Owing.{put_same}
 use Rattle.flood_laws.proofs.Leaving.{itself}
 use Rattle.agreement_laws.specs.Accepted.{is_accepting}

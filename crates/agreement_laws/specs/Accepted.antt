@@ -14,9 +14,9 @@ use Rattle.adjacency.specs.Adjacencies.{two_way_received}
 use Rattle.adjacency.specs.Descriptions.{Verdict, knows_types, verdict}
 use Rattle.adjacency.specs.Neighbors.{Neighbor}
 use Rattle.received.specs.Links.{neighbor_at}
-use Rattle.events.specs.Endings.{start_event}
-use Rattle.events.specs.Hellos.{is_foreign}
-use Rattle.events.specs.Routers.{Occurrence, Router}
+use Rattle.event_rules.specs.Endings.{start_event}
+use Rattle.event_rules.specs.Hellos.{is_foreign}
+use Rattle.event_rules.specs.Routers.{Occurrence, Router}
 
 -- ---- a Description that is accepted
 

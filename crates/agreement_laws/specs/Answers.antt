@@ -10,8 +10,8 @@ use Rattle.adjacency.specs.Adjacencies.{initial_description}
 use Rattle.adjacency.specs.Neighbors.{Neighbor, is_exchange_or_later}
 use Rattle.received.specs.Links.{neighbor_at}
 use Rattle.received.specs.Outcomes.{Send}
-use Rattle.events.specs.Endings.{end_event}
-use Rattle.events.specs.Events.{Step}
+use Rattle.event_rules.specs.Endings.{end_event}
+use Rattle.event_rules.specs.Events.{Step}
 use Rattle.agreement_laws.specs.Exchanged.{Conversation, Converses, conversation_with}
 use Rattle.agreement_laws.specs.HeldWasTold.{is_exchange_done}
 use Rattle.agreement_laws.specs.NeighborHistories.{Doing, Ends, InSomeTurnSince, IsHistory, OfTurn}

@@ -10,9 +10,9 @@ use Rattle.lsdb.specs.Headers.{Lsa, lsa_key}
 use Rattle.lsdb.specs.Order.{is_max_age}
 use Rattle.lsdb.specs.declared.order.Instance.{Instance}
 use Rattle.received.specs.Links.{any_has_retransmission}
-use Rattle.events.specs.declared.model.Out.{Out}
-use Rattle.events.specs.Events.{Happens}
-use Rattle.events.specs.Routers.{Occurrence, Router}
+use Rattle.event_rules.specs.declared.model.Out.{Out}
+use Rattle.event_rules.specs.Events.{Happens}
+use Rattle.event_rules.specs.Routers.{Occurrence, Router}
 use Rattle.flood_laws.specs.InOrder.{IsInOrder}
 use Rattle.flood_laws.specs.NewInstances.{BringsLsa}
 use Rattle.agreement_laws.specs.Ranks.{is_at_least}

@@ -6,7 +6,7 @@ use Rattle.std.specs.List.{Contains}
 use Rattle.lsdb.specs.Headers.{Header, key_of}
 use Rattle.packet.specs.declared.model.Description.{Description}
 use Rattle.adjacency.specs.declared.state.NeighborState.TheVariants.{Full}
-use Rattle.events.specs.LsaInstances.{LsaInstance, instance_of_header}
+use Rattle.event_rules.specs.LsaInstances.{LsaInstance, instance_of_header}
 use Rattle.agreement_laws.specs.Exchanged.{Conversation, conversation_with}
 use Rattle.agreement_laws.specs.NeighborHistories.{Ends, IsHistory, Pair, Side, other_side, party}
 use Rattle.agreement_laws.specs.NeighborsAgree.{HoldsAsNew, is_as_new}

@@ -14,10 +14,10 @@ use Rattle.packet.specs.declared.model.Packet.{Packet}
 use Rattle.packet.specs.Text.{PacketText}
 use Rattle.adjacency.specs.Neighbors.{Neighbor, is_exchange_or_later}
 use Rattle.received.specs.Links.{neighbor_at}
-use Rattle.events.specs.declared.model.Out.{Out}
-use Rattle.events.specs.Events.{Happens, Step}
-use Rattle.events.specs.Packing.{out_of}
-use Rattle.events.specs.Routers.{Occurrence, Router}
+use Rattle.event_rules.specs.declared.model.Out.{Out}
+use Rattle.event_rules.specs.Events.{Happens, Step}
+use Rattle.event_rules.specs.Packing.{out_of}
+use Rattle.event_rules.specs.Routers.{Occurrence, Router}
 
 -- ---- a conversation
 

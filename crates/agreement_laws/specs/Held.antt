@@ -14,9 +14,9 @@ use Rattle.packet.specs.Text.{PacketText}
 use Rattle.adjacency.specs.declared.state.NeighborState.TheVariants.{Full}
 use Rattle.adjacency.specs.Neighbors.{Neighbor}
 use Rattle.received.specs.Links.{neighbor_at}
-use Rattle.events.specs.Events.{Step}
-use Rattle.events.specs.LsaInstances.{LsaInstance, instance_of_header}
-use Rattle.events.specs.Routers.{Occurrence, Router}
+use Rattle.event_rules.specs.Events.{Step}
+use Rattle.event_rules.specs.LsaInstances.{LsaInstance, instance_of_header}
+use Rattle.event_rules.specs.Routers.{Occurrence, Router}
 use Rattle.flood_laws.specs.NewInstances.{lsas_brought}
 use Rattle.agreement_laws.specs.Exchanged.{Conversation, Converses, conversation_with}
 use Rattle.agreement_laws.specs.NeighborHistories.{Ends, IsHistory, Pair, Side, Turn, event_of}

@@ -16,9 +16,9 @@ use Rattle.adjacency.specs.declared.state.NeighborState.TheVariants.{Exchange, E
 use Rattle.adjacency.specs.declared.state.NeighborState.TheVariants.{Loading}
 use Rattle.adjacency.specs.Neighbors.{Neighbor, is_exchange_or_later}
 use Rattle.received.specs.Links.{neighbor_at}
-use Rattle.events.specs.declared.model.Config.{Config}
-use Rattle.events.specs.Events.{Run, Step, initial}
-use Rattle.events.specs.Routers.{Router}
+use Rattle.event_rules.specs.declared.model.Config.{Config}
+use Rattle.event_rules.specs.Events.{Run, Step, initial}
+use Rattle.event_rules.specs.Routers.{Router}
 use Rattle.router_runs.specs.Clocks.{ClockRunsOn}
 use Rattle.agreement_laws.specs.Exchanged.{Conversation, WasExchanged, conversation_with}
 use Rattle.agreement_laws.specs.Ranks.{is_at_least}

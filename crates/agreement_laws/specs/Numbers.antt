@@ -8,9 +8,9 @@ use Rattle.adjacency.specs.declared.state.NeighborState.TheVariants.{Exchange}
 use Rattle.adjacency.specs.Descriptions.{as_received, expected_sequence}
 use Rattle.adjacency.specs.Neighbors.{Neighbor}
 use Rattle.received.specs.Links.{neighbor_at}
-use Rattle.events.specs.declared.model.Out.{Out}
-use Rattle.events.specs.Events.{Happens}
-use Rattle.events.specs.Routers.{Occurrence, Router}
+use Rattle.event_rules.specs.declared.model.Out.{Out}
+use Rattle.event_rules.specs.Events.{Happens}
+use Rattle.event_rules.specs.Routers.{Occurrence, Router}
 use Rattle.flood_laws.specs.InOrder.{IsInOrder}
 use Rattle.agreement_laws.specs.Exchanged.{conversation_with}
 use Rattle.agreement_laws.specs.Accepted.{AcceptsDescription}

@@ -17,10 +17,10 @@ use Rattle.packet.specs.Text.{PacketText}
 use Rattle.adjacency.specs.Adjacencies.{two_way_received}
 use Rattle.adjacency.specs.Neighbors.{Neighbor}
 use Rattle.received.specs.Links.{neighbor_at}
-use Rattle.events.specs.declared.model.Out.{Out}
-use Rattle.events.specs.Endings.{start_event}
-use Rattle.events.specs.Events.{Happens}
-use Rattle.events.specs.Routers.{Occurrence, Router}
+use Rattle.event_rules.specs.declared.model.Out.{Out}
+use Rattle.event_rules.specs.Endings.{start_event}
+use Rattle.event_rules.specs.Events.{Happens}
+use Rattle.event_rules.specs.Routers.{Occurrence, Router}
 use Rattle.flood_laws.specs.InOrder.{IsInOrder}
 use Rattle.agreement_laws.specs.CopiesClimb.{BecameOf}
 use Rattle.agreement_laws.specs.Exchanged.{Conversation, Converses, conversation_with}

@@ -16,11 +16,11 @@ use Rattle.adjacency.specs.Contents.{Content}
 use Rattle.adjacency.specs.Neighbors.{Neighbor}
 use Rattle.received.specs.Links.{Link, link_at, neighbor_at}
 use Rattle.received.specs.Outcomes.{Send}
-use Rattle.events.specs.declared.model.Out.{Out}
-use Rattle.events.specs.Endings.{end_event}
-use Rattle.events.specs.Events.{Happens}
-use Rattle.events.specs.LsaInstances.{LsaInstance, instance_of_header}
-use Rattle.events.specs.Routers.{Occurrence, Router}
+use Rattle.event_rules.specs.declared.model.Out.{Out}
+use Rattle.event_rules.specs.Endings.{end_event}
+use Rattle.event_rules.specs.Events.{Happens}
+use Rattle.event_rules.specs.LsaInstances.{LsaInstance, instance_of_header}
+use Rattle.event_rules.specs.Routers.{Occurrence, Router}
 use Rattle.flood_laws.specs.InOrder.{IsInOrder}
 use Rattle.agreement_laws.specs.CopiesClimb.{BecameOf}
 

@@ -14,9 +14,9 @@ use Rattle.packet.specs.Text.{PacketText}
 use Rattle.adjacency.specs.Adjacencies.{two_way_received}
 use Rattle.adjacency.specs.Neighbors.{Neighbor}
 use Rattle.received.specs.Links.{neighbor_at}
-use Rattle.events.specs.declared.model.Out.{Out}
-use Rattle.events.specs.Events.{Happens}
-use Rattle.events.specs.Routers.{Occurrence, Router}
+use Rattle.event_rules.specs.declared.model.Out.{Out}
+use Rattle.event_rules.specs.Events.{Happens}
+use Rattle.event_rules.specs.Routers.{Occurrence, Router}
 use Rattle.flood_laws.specs.InOrder.{IsInOrder}
 use Rattle.flood_laws.specs.NewInstances.{lsas_brought}
 use Rattle.agreement_laws.specs.Exchanged.{Conversation, Converses, conversation_with}

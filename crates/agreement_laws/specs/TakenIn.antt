@@ -10,9 +10,9 @@ use Rattle.packet.specs.declared.model.Description.{Description}
 use Rattle.adjacency.specs.declared.state.NeighborState.TheVariants.{Full}
 use Rattle.adjacency.specs.Neighbors.{Neighbor}
 use Rattle.received.specs.Links.{neighbor_at}
-use Rattle.events.specs.declared.model.Config.{Config}
-use Rattle.events.specs.Events.{Happens, Run, Step, initial}
-use Rattle.events.specs.Routers.{Router}
+use Rattle.event_rules.specs.declared.model.Config.{Config}
+use Rattle.event_rules.specs.Events.{Happens, Run, Step, initial}
+use Rattle.event_rules.specs.Routers.{Router}
 use Rattle.agreement_laws.specs.CopiesClimb.{BecameOf}
 use Rattle.agreement_laws.specs.Exchanged.{Conversation, GoesOn}
 use Rattle.agreement_laws.specs.Accepted.{AcceptsDescription, IsLastOfItsKey}

@@ -12,9 +12,9 @@ use Rattle.packet.specs.declared.model.Packet.{Packet}
 use Rattle.adjacency.specs.Adjacencies.{initial_description}
 use Rattle.adjacency.specs.Descriptions.{young_copies}
 use Rattle.received.specs.Links.{Link}
-use Rattle.events.specs.declared.model.Out.{Out}
-use Rattle.events.specs.Events.{Happens, Run, Step}
-use Rattle.events.specs.Routers.{Occurrence, Router}
+use Rattle.event_rules.specs.declared.model.Out.{Out}
+use Rattle.event_rules.specs.Events.{Happens, Run, Step}
+use Rattle.event_rules.specs.Routers.{Occurrence, Router}
 use Rattle.flood_laws.specs.InOrder.{AnnouncesItsOwn}
 use Rattle.conversations.specs.WorkedAdjacency.{IsNamingHello, NothingAges, lonely}
 use Rattle.conversations.specs.WorkedExchange.{reply}

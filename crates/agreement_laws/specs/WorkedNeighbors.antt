@@ -5,8 +5,8 @@ use Rattle.std.specs.FinMap as finite
 use Rattle.words.specs.Numbers.{InterfaceNumber, RouterNumber}
 use Rattle.lsdb.specs.Copies.{DatabaseCopy}
 use Rattle.lsdb.specs.Headers.{Header}
-use Rattle.events.specs.Events.{Step}
-use Rattle.events.specs.LsaInstances.{LsaInstance}
+use Rattle.event_rules.specs.Events.{Step}
+use Rattle.event_rules.specs.LsaInstances.{LsaInstance}
 use Rattle.agreement_laws.specs.Exchanged.{Conversation, Converses, Describes}
 use Rattle.agreement_laws.specs.NeighborHistories.{BeginsAnew, Ends, IsHistory, Pair, Party, Side}
 use Rattle.agreement_laws.specs.NeighborHistories.{Turn, event_of, interface_of, is_same_side}

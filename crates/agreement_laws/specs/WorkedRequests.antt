@@ -11,7 +11,7 @@ use Rattle.packet.specs.declared.model.Description.{Description}
 use Rattle.adjacency.specs.declared.state.NeighborState.TheVariants.{Full, Loading}
 use Rattle.adjacency.specs.Descriptions.{is_wanted, knows_types, with_requests}
 use Rattle.adjacency.specs.Neighbors.{Neighbor}
-use Rattle.events.specs.Routers.{Router}
+use Rattle.event_rules.specs.Routers.{Router}
 use Rattle.agreement_laws.specs.Accepted.{IsLastOfItsKey, accepts_description}
 use Rattle.agreement_laws.specs.TakenIn.{WasTakenIn}
 

@@ -4,13 +4,13 @@ use Rattle.std.proofs.Common.{◌+◌, ℕ, Bool, Option, None, Some, Result, Ok
 use Rattle.std.proofs.Common.{arith}
 use Rattle.std.specs.Prelude.{false, if◌then◌else◌, is_err, OnOk}
 use Rattle.words.specs.Numbers.{Moment}
-use Rattle.events.specs.declared.model.CoreError.{CoreError}
-use Rattle.events.specs.declared.model.CoreError.TheVariants as error
-use Rattle.events.specs.declared.model.Out.{Out}
-use Rattle.events.specs.Events.{Happens}
-use Rattle.events.specs.Refusals as router
-use Rattle.events.specs.Refusals.{is_clock_back, is_interface}
-use Rattle.events.specs.Routers.{Occurrence, Router}
+use Rattle.event_rules.specs.declared.model.CoreError.{CoreError}
+use Rattle.event_rules.specs.declared.model.CoreError.TheVariants as error
+use Rattle.event_rules.specs.declared.model.Out.{Out}
+use Rattle.event_rules.specs.Events.{Happens}
+use Rattle.event_rules.specs.Refusals as router
+use Rattle.event_rules.specs.Refusals.{is_clock_back, is_interface}
+use Rattle.event_rules.specs.Routers.{Occurrence, Router}
 use Rattle.flood.specs.Early.{early_refusal}
 use Rattle.flood.specs.declared.event.Event.{Event}
 use Rattle.flood.specs.Occurrences.{brings_answers, occurrence_of}

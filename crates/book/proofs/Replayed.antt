@@ -3,10 +3,10 @@ use Rattle.std.proofs.Common.{◌≡◌, ◌≤◌, ℕ, ◌+◌, List, [], ◌�
 use Rattle.std.proofs.Common.{refl, ap, ◌∙◌}
 use Rattle.std.proofs.lemmas.List.{length-append, map-append}
 use Rattle.std.proofs.lemmas.List.Sums.{fold-append}
-use Rattle.events.specs.declared.model.Out.{Out}
-use Rattle.events.specs.Events.{Happens, Run, Step}
-use Rattle.events.specs.Refusals.{Answers}
-use Rattle.events.specs.Routers.{Occurrence, Router}
+use Rattle.event_rules.specs.declared.model.Out.{Out}
+use Rattle.event_rules.specs.Events.{Happens, Run, Step}
+use Rattle.event_rules.specs.Refusals.{Answers}
+use Rattle.event_rules.specs.Routers.{Occurrence, Router}
 use Rattle.router_runs.proofs.Clocks.{later_moment, one_more, taken_moment}
 use Rattle.flood.specs.Occurrences.{occurrence_of}
 use Rattle.book.specs.declared.entry.JournalEntry.{JournalEntry}

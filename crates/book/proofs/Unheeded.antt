@@ -20,23 +20,28 @@ use Rattle.received.specs.Cases.{Case}
 use Rattle.received.specs.Links.{Link, neighbor_at}
 use Rattle.received.specs.Updates.{after_case, case_at, goes_on}
 use Rattle.received.specs.Outcomes.{Outcome, on_links}
-use Rattle.events.specs.Commands.{after_redistribute, after_withdraw, announce, announce_as}
-use Rattle.events.specs.Commands.{answered_external, end_want, is_announced_as, is_for}
-use Rattle.events.specs.Endings.{describe_router, describe_router_later, end_event, is_current}
-use Rattle.events.specs.Endings.{links_differ, loading_done, remove_aged, request_all, start_event}
-use Rattle.events.specs.Events.{Happens, OwnPart}
-use Rattle.events.specs.EventState.{EventState, on_area, on_router}
-use Rattle.events.specs.Originations.{due_keys, external_key, flush, forget_originations, has_room}
-use Rattle.events.specs.Originations.{has_max_sequence, is_wanted, may_originate, originate}
-use Rattle.events.specs.Originations.{originate_anyway, originate_body, originate_due}
-use Rattle.events.specs.Originations.{originate_or_flush, originate_or_wait, router_key}
-use Rattle.events.specs.Originations.{receive_self_originated, wait, wanted_body}
-use Rattle.events.specs.Packets.{after_lsa, after_lsas, after_packet, after_self_originated}
-use Rattle.events.specs.Packets.{after_unread, case_in, from_neighbor, is_heard, is_in_exchange}
-use Rattle.events.specs.Packing.{outs_of}
-use Rattle.events.specs.Routers.{Occurrence, Router}
-use Rattle.events.specs.Ticks.{acknowledge_all, after_tick, run_out, send_all_again, send_hellos}
-use Rattle.events.specs.declared.model.Out.{Out}
+use Rattle.event_rules.specs.Commands.{after_redistribute, after_withdraw, announce, announce_as}
+use Rattle.event_rules.specs.Commands.{answered_external, end_want, is_announced_as, is_for}
+use Rattle.event_rules.specs.Endings.{end_event, is_current, originate_router_lsa}
+use Rattle.event_rules.specs.Endings.{put_off_router_lsa}
+use Rattle.event_rules.specs.Endings.{links_differ, loading_done, remove_aged, request_all}
+use Rattle.event_rules.specs.Endings.{start_event}
+use Rattle.event_rules.specs.Events.{Happens, OwnPart}
+use Rattle.event_rules.specs.EventState.{EventState, on_area, on_router}
+use Rattle.event_rules.specs.Originations.{due_keys, external_key, flush, forget_originations}
+use Rattle.event_rules.specs.Originations.{has_room}
+use Rattle.event_rules.specs.Originations.{has_max_sequence, is_wanted, may_originate, originate}
+use Rattle.event_rules.specs.Originations.{originate_anyway, originate_body, originate_due}
+use Rattle.event_rules.specs.Originations.{originate_or_flush, originate_or_put_off, router_key}
+use Rattle.event_rules.specs.Originations.{put_off, receive_self_originated, wanted_body}
+use Rattle.event_rules.specs.Packets.{after_lsa, after_lsas, after_packet, after_self_originated}
+use Rattle.event_rules.specs.Packets.{after_unread, any_exchange_or_later, case_in, from_neighbor}
+use Rattle.event_rules.specs.Packets.{is_heard}
+use Rattle.event_rules.specs.Packing.{outs_of}
+use Rattle.event_rules.specs.Routers.{Occurrence, Router}
+use Rattle.event_rules.specs.Ticks.{after_tick, run_out, send_acknowledgments, send_all_again}
+use Rattle.event_rules.specs.Ticks.{send_hellos}
+use Rattle.event_rules.specs.declared.model.Out.{Out}
 use Rattle.flood.specs.Occurrences.{brings_answers}
 
 -- a router with other answers
@@ -69,20 +74,21 @@ module _ (answers : List (Route × ℕ)) where
   by_body may_now moment key (Some says) p =
       one_of_three (has_max_sequence (finite.get p.router.area.database key))
       (may_now && may_originate moment key p.router)
-      (flush moment key p) (originate moment key says p) (on_router (wait key) p)
+      (flush moment key p) (originate moment key says p) (on_router (put_off key) p)
 
-  described : (before : List Link) (moment : Moment) → Overlooks (describe_router before moment)
+  described : (before : List Link) (moment : Moment)
+      → Overlooks (originate_router_lsa before moment)
   described before moment p =
       let b : Bool = links_differ before p.router.area.links && not (is_current moment p.router) in
       let key : Key = router_key p.router.id in
-      one_of b (originate_or_wait moment key p) p
+      one_of b (originate_or_put_off moment key p) p
       ∙ ap (λ (q : EventState). cond b q (answering p))
       (by_body (has_room key p.router) moment key (wanted_body p.router key) p)
 
   -- the end from where the router-LSA was told
   abbrev rest : Moment → EventState → EventState
   rest moment p =
-      let refilled : EventState = describe_router_later p.router.area.links (loading_done p) in
+      let refilled : EventState = put_off_router_lsa p.router.area.links (loading_done p) in
       on_router (λ (r : Router). record r { moment = moment })
       (on_area (λ o. remove_aged moment (request_all moment o)) refilled)
 
@@ -93,16 +99,16 @@ module _ (answers : List (Route × ℕ)) where
       let last : EventState → EventState = λ q. on_router (λ (r : Router). record r {
         moment = moment;
       }) (on_area (λ o. remove_aged moment (request_all moment o)) q) in
-      ap last (one_of b (on_router (wait (router_key loaded.router.id)) loaded) loaded)
+      ap last (one_of b (on_router (put_off (router_key loaded.router.id)) loaded) loaded)
 
   ended : (old : Router) (moment : Moment) → Overlooks (end_event old moment)
   ended old moment p =
-      rested moment (describe_router old.area.links moment (loading_done p))
+      rested moment (originate_router_lsa old.area.links moment (loading_done p))
       ∙ ap (rest moment) (described old.area.links moment (loading_done p))
 
   -- ---- each part of an event
 
-  or_waits : (moment : Moment) (key : Key) → Overlooks (originate_or_wait moment key)
+  or_waits : (moment : Moment) (key : Key) → Overlooks (originate_or_put_off moment key)
   or_waits moment key p = by_body (has_room key p.router) moment key (wanted_body p.router key) p
 
   anyway : (moment : Moment) (key : Key) → Overlooks (originate_anyway moment key)
@@ -180,7 +186,7 @@ module _ (answers : List (Route × ℕ)) where
       (after_packet moment number packet)
   a_packet moment number packet p =
       let heard : Bool = is_heard p.router.id packet (neighbor_at number p.router.area.links) in
-      let exchanges : Bool = is_in_exchange (neighbor_at number p.router.area.links) in
+      let exchanges : Bool = any_exchange_or_later (neighbor_at number p.router.area.links) in
       one_of heard (from_neighbor moment number packet.router exchanges packet.body p) p
       ∙ ap (λ (q : EventState). cond heard q (answering p))
       (from_its_neighbor moment number packet.router exchanges packet.body p)
@@ -188,7 +194,7 @@ module _ (answers : List (Route × ℕ)) where
   all_due : (moment : Moment) (keys : List Key) → Overlooks (originate_due moment keys)
   all_due moment [] p = refl
   all_due moment (key ∷ keys) p =
-      all_due moment keys (originate_or_wait moment key p)
+      all_due moment keys (originate_or_put_off moment key p)
       ∙ ap (originate_due moment keys) (or_waits moment key p)
 
   a_tick : (moment : Moment) → Overlooks (after_tick moment)
@@ -196,7 +202,7 @@ module _ (answers : List (Route × ℕ)) where
       let quiet : EventState = on_router (forget_originations moment)
       (on_area (on_links (map (run_out moment))) p) in
       ap (on_area
-      (λ (o : Outcome). send_hellos moment (acknowledge_all moment (send_all_again moment o))))
+      (λ (o : Outcome). send_hellos moment (send_acknowledgments moment (send_all_again moment o))))
       (all_due moment (due_keys moment quiet.router) quiet)
 
   announced : (moment : Moment) (key : Key) (e : External) → Overlooks (announce_as moment key e)

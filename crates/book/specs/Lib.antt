@@ -9,4 +9,4 @@ pub mod Refusals
 pub mod Numbers
 -- what crates above name of those below
 pub use Rattle.flood.specs.area_routes as area_routes
-pub use Rattle.events.specs as events
+pub use Rattle.event_rules.specs as event_rules

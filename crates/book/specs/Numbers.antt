@@ -1,6 +1,6 @@
 -- The numbers of a book's refusals.
 use Rattle.std.specs.Prelude.{ℕ}
-use Rattle.events.specs.Numbers.{core_error_number}
+use Rattle.event_rules.specs.Numbers.{core_error_number}
 use Rattle.book.specs.declared.error.BookError.{BookError}
 use Rattle.book.specs.declared.error.BookError.TheVariants as refusing
 

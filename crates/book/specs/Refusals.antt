@@ -1,7 +1,7 @@
 -- When a book takes no event.
 use Rattle.std.specs.Prelude.{◌≡◌, ◌⊎◌, length, None, Result, Ok, Err}
 use Rattle.words.specs.Numbers.{Moment}
-use Rattle.events.specs.Refusals as router
+use Rattle.event_rules.specs.Refusals as router
 use Rattle.flood.specs.declared.event.Event.{Event}
 use Rattle.flood.specs.Early.{early_refusal}
 use Rattle.flood.specs.Occurrences.{occurrence_of}

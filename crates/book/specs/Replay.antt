@@ -3,8 +3,8 @@ use Rattle.std.specs.Prelude.{◌≡◌, ◌⊎◌, ℕ, zero, suc, ◌<◌, ◌
 use Rattle.std.specs.Prelude.{map, Option, None, Some, slice_index_or}
 use Rattle.std.specs.FinMap as finite
 use Rattle.words.specs.Numbers.{Moment}
-use Rattle.events.specs.Events.{Run, Step}
-use Rattle.events.specs.Routers.{Occurrence, Router}
+use Rattle.event_rules.specs.Events.{Run, Step}
+use Rattle.event_rules.specs.Routers.{Occurrence, Router}
 use Rattle.router_runs.specs.Clocks.{ClockRunsOn}
 use Rattle.flood.specs.declared.event.Event.{Event}
 use Rattle.flood.specs.declared.event.Event.TheVariants as event

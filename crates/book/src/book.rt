@@ -3,7 +3,7 @@ ghost use Rattle.std.specs.Prelude.{◌≡◌, ℕ, ◌+◌, ◌^◌, ◌<◌, �
 ghost use Rattle.std.specs.Prelude.{Err, IfErr, IfOk, IsOk, IsTrue, None, OnErr, OnOk, Some};
 ghost use Rattle.std.specs.Prelude.{false, true};
 ghost use Rattle.std.specs.FinMap as finite;
-ghost use Rattle.events.specs.Events.{Happens};
+ghost use Rattle.event_rules.specs.Events.{Happens};
 ghost use Rattle.flood.specs.Early.{early_refusal};
 ghost use Rattle.flood.specs.Occurrences.{occurrence_of};
 ghost use Rattle.flood.specs.Offers.{IsStaleNow};

@@ -54,7 +54,7 @@ impl BookError {
 }
 
 impl From<AllocError> for BookError {
-    ghost use Rattle.events.specs.declared.model.CoreError.TheVariants.{Memory};
+    ghost use Rattle.event_rules.specs.declared.model.CoreError.TheVariants.{Memory};
     ghost use Rattle.book.specs.declared.error.BookError.TheVariants.{Core};
 
     ghost from_gives = { λ _ e. e ≡ Core Memory };

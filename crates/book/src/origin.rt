@@ -1,7 +1,7 @@
 //! Which router a book begins with.
 ghost use Rattle.std.specs.Prelude.{[]};
-ghost use Rattle.events.specs.Events.{initial};
-ghost use Rattle.events.specs.Routers.{Router};
+ghost use Rattle.event_rules.specs.Events.{initial};
+ghost use Rattle.event_rules.specs.Routers.{Router};
 
 use std::marker::Brand;
 use std::sync::ledger::Ledger;

@@ -5,7 +5,7 @@ use Rattle.std.proofs.Common.{arith}
 use Rattle.std.specs.Prelude.{map, ◌==◌}
 use Rattle.std.specs.List.{list_any}
 use Rattle.std.proofs.lemmas.Bool.{ne_eqb, and_parts}
-use Rattle.events.specs.Routers.{are_distinct}
+use Rattle.event_rules.specs.Routers.{are_distinct}
 use Rattle.std.proofs.Common.{Some, get_or}
 use Rattle.std.specs.Prelude.{slice_get, Result, Err}
 use Rattle.console.specs.declared.configuration.ConfigurationError.{ConfigurationError}

@@ -6,7 +6,7 @@ use Rattle.std.proofs.lemmas.List.{length-map}
 use Rattle.std.specs.List.{list_all}
 use Rattle.words.specs.Constants.{clock_end, max_age, most_interfaces}
 use Rattle.words.specs.Numbers.{InterfaceNumber, Moment}
-use Rattle.events.specs.Routers.{in_profile, is_lawful}
+use Rattle.event_rules.specs.Routers.{in_profile, is_lawful}
 use Rattle.console.specs.Configurations.{IsInterface, Line, SayInterfaces, Says, interface_of}
 use Rattle.console.specs.Laws.{config_from}
 use Rattle.console.specs.declared.configuration.Configured.{Configured}

@@ -7,7 +7,7 @@ use Rattle.words.specs.Constants.{max_age, most_interfaces}
 use Rattle.words.specs.Numbers.{InterfaceNumber, RouterNumber}
 use Rattle.words.specs.Text.{dotted_address, prefix_text}
 use Rattle.adjacency.specs.declared.interface.Interface.{Interface}
-use Rattle.events.specs.Routers.{are_distinct}
+use Rattle.event_rules.specs.Routers.{are_distinct}
 use Rattle.console.specs.declared.configuration.Configured.{Configured}
 use Rattle.console.specs.declared.configuration.ConfiguredInterface.{ConfiguredInterface}
 use Rattle.console.specs.Words.{Word, words_in}

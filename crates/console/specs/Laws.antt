@@ -2,8 +2,8 @@
 use Rattle.std.specs.Prelude.{◌≡◌, ℕ, ◌<◌, true, List, map}
 use Rattle.words.specs.Constants.{clock_end}
 use Rattle.words.specs.Numbers.{Moment}
-use Rattle.events.specs.Routers.{in_profile}
-use Rattle.events.specs.declared.model.Config.{Config}
+use Rattle.event_rules.specs.Routers.{in_profile}
+use Rattle.event_rules.specs.declared.model.Config.{Config}
 use Rattle.console.specs.Configurations.{Says, interface_of}
 use Rattle.console.specs.declared.configuration.Configured.{Configured}
 

@@ -13,4 +13,4 @@ pub use answers::{counters_text, neighbors_text, table_text, totals_text};
 pub use command::{Command, read_command};
 pub use configuration::{ConfigurationError, Configured, ConfiguredInterface, read_configuration};
 // Names from the crates below that crates above use.
-pub use events::{Config, Interface};
+pub use event_rules::{Config, Interface};

@@ -5,9 +5,9 @@ use Rattle.lsdb.specs.Copies.{install_flooded}
 use Rattle.lsdb.specs.Headers.{Lsa, lsa_key}
 use Rattle.received.specs.Cases.{Case}
 use Rattle.received.specs.Updates.{goes_on, install, send_copy}
-use Rattle.events.specs.EventState.{EventState, on_area}
-use Rattle.events.specs.Originations.{is_wanted, originate_or_flush, wanted_body}
-use Rattle.events.specs.Packets.{after_lsa, after_lsas, after_unread, case_in}
+use Rattle.event_rules.specs.EventState.{EventState, on_area}
+use Rattle.event_rules.specs.Originations.{is_wanted, originate_or_flush, wanted_body}
+use Rattle.event_rules.specs.Packets.{after_lsa, after_lsas, after_unread, case_in}
 use Rattle.conversations.specs.CarriedOut.{EachCaseIsCarriedOut, IsInCase, having_sent}
 use Rattle.conversations.specs.WorkedFlush.{full}
 use Rattle.conversations.specs.WorkedOwn.{loading}

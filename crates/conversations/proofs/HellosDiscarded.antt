@@ -8,28 +8,29 @@ use Rattle.adjacency.specs.Adjacencies as adjacencies
 use Rattle.adjacency.specs.Neighbors.{Neighbor}
 use Rattle.received.specs.Links.{Link, link_at}
 use Rattle.received.specs.Outcomes.{Outcome}
-use Rattle.events.specs.Hellos.{accepts, agrees, is_foreign, may_be, names}
-use Rattle.events.specs.Packets.{hear, heard_on}
+use Rattle.event_rules.specs.Hellos.{accepts, agrees, is_foreign, may_be, names}
+use Rattle.event_rules.specs.Packets.{accept_hello, receive_hello_on}
 use Rattle.conversations.specs.HellosDiscarded.{HellosAreDiscarded, IsDiscarded}
 
 -- a Hello that isn't accepted at a link
 unheard : (own moment number from : ℕ) (h : Hello) (link : Link) (o : Outcome)
-    → accepts own from h link ≡ false → heard_on own moment number from h (Some link) o ≡ o
+    → accepts own from h link ≡ false → receive_hello_on own moment number from h (Some link) o ≡ o
 unheard own moment number from h link o e =
     cond-false (accepts own from h link)
-    (hear moment number (adjacencies.after_hello moment from (names own h) link.neighbor) o) o e
+    (accept_hello moment number (adjacencies.after_hello moment from (names own h) link.neighbor) o)
+    o e
 
 discarded : (own moment number from : ℕ) (h : Hello) (link : Link) (o : Outcome)
     → link_at number o.area.links ≡ Some link → accepts own from h link ≡ false
     → IsDiscarded own moment number from h o
 discarded own moment number from h link o there e =
-    ap (λ l. heard_on own moment number from h l o) there
+    ap (λ l. receive_hello_on own moment number from h l o) there
     ∙ unheard own moment number from h link o e
 
 -- a Hello that is accepted on no link
 discarded_everywhere : (own moment number from : ℕ) (h : Hello) (o : Outcome)
     → ((link : Link) → accepts own from h link ≡ false) → (l : Option Link)
-    → heard_on own moment number from h l o ≡ o
+    → receive_hello_on own moment number from h l o ≡ o
 discarded_everywhere own moment number from h o e None = refl
 discarded_everywhere own moment number from h o e (Some link) =
     unheard own moment number from h link o (e link)
@@ -100,9 +101,9 @@ of_itself own moment number h o =
     ∙ and-false (not (own == 0)))) (link_at number o.area.links)
 
 any_mask : (own moment number from mask : ℕ) (h : Hello) (o : Outcome) (l : Option Link)
-    → heard_on own moment number from (record h {
+    → receive_hello_on own moment number from (record h {
       mask = mask;
-    }) l o ≡ heard_on own moment number from h l o
+    }) l o ≡ receive_hello_on own moment number from h l o
 any_mask own moment number from mask h o None = refl
 any_mask own moment number from mask h o (Some link) = refl
 

@@ -17,12 +17,13 @@ use Rattle.packet.specs.declared.model.PacketBody.TheVariants as body
 use Rattle.packet.specs.declared.model.Description.{Description}
 use Rattle.packet.specs.declared.model.Hello.{Hello}
 use Rattle.adjacency.specs.Contents.{Content}
-use Rattle.events.specs.Packing.{acknowledgments, bodies, descriptions, first_key, header_size}
-use Rattle.events.specs.Packing.{hellos, in_key_order, is_after, lsa_size, packed_groups, requests}
-use Rattle.events.specs.Packing.{sent_lsa, update_of, updates}
-use Rattle.events.specs.PackingLaws.{IsAscending}
-use Rattle.events.proofs.Packings.{headers_fit, ordered, packs}
-use Rattle.events.proofs.Rooms.{order_all}
+use Rattle.event_rules.specs.Packing.{acknowledgments, bodies, descriptions, first_key, header_size}
+use Rattle.event_rules.specs.Packing.{hellos, in_key_order, is_after, lsa_size, packed_groups}
+use Rattle.event_rules.specs.Packing.{requests}
+use Rattle.event_rules.specs.Packing.{sent_lsa, update_of, updates}
+use Rattle.event_rules.specs.PackingLaws.{IsAscending}
+use Rattle.event_rules.proofs.Packings.{headers_fit, ordered, packs}
+use Rattle.event_rules.proofs.Rooms.{order_all}
 use Rattle.conversations.specs.SentInOrder.{AreAscending, AreInOrder, IsNoLater}
 use Rattle.conversations.specs.SentInOrder.{WhatIsSentStandsInOrder, arising, headers_told, lsa_of}
 use Rattle.conversations.specs.SentInOrder.{lsas_told, key_named, told_in_order}

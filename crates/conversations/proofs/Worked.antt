@@ -2,19 +2,19 @@
 use Rattle.std.proofs.Common.{◌≡◌, cond, ◌&&◌, None, Some, refl, ap, ◌∙◌}
 use Rattle.std.specs.Prelude.{pos}
 use Rattle.std.specs.Ordering.{int_cmp, is_eq}
-use Rattle.events.specs.declared.model.CoreError.TheVariants as error
-use Rattle.events.specs.Commands.{after_withdraw, end_want, is_for}
-use Rattle.events.specs.Endings.{end_event}
-use Rattle.events.specs.Packing.{outs_of}
-use Rattle.events.proofs.Sends.{no_outs_from}
+use Rattle.event_rules.specs.declared.model.CoreError.TheVariants as error
+use Rattle.event_rules.specs.Commands.{after_withdraw, end_want, is_for}
+use Rattle.event_rules.specs.Endings.{end_event}
+use Rattle.event_rules.specs.Packing.{outs_of}
+use Rattle.event_rules.proofs.Sends.{no_outs_from}
 use Rattle.conversations.proofs.WorkedEnds.{begins, ends}
 use Rattle.conversations.proofs.WorkedUpdates.{start}
-use Rattle.events.specs.Originations.{external_key, flush, has_max_sequence, may_originate}
-use Rattle.events.specs.Originations.{originate, wait}
-use Rattle.events.specs.Refusals.{is_taken, of_event}
-use Rattle.events.specs.Routers.{Occurrence}
+use Rattle.event_rules.specs.Originations.{external_key, flush, has_max_sequence, may_originate}
+use Rattle.event_rules.specs.Originations.{originate, put_off}
+use Rattle.event_rules.specs.Refusals.{is_taken, of_event}
+use Rattle.event_rules.specs.Routers.{Occurrence}
 use Rattle.conversations.specs.Worked.{WorkedEvents, destination, ten}
-use Rattle.events.specs.EventState.{on_router}
+use Rattle.event_rules.specs.EventState.{on_router}
 
 pub worked : WorkedEvents
 worked = record {
@@ -45,10 +45,10 @@ worked = record {
   wraps = λ may_now moment key says c p there max.
       ap (λ o. cond (has_max_sequence o) (flush moment key p)
       (cond (may_now && may_originate moment key p.router) (originate moment key says p)
-      (on_router (wait key) p))) there
+      (on_router (put_off key) p))) there
       ∙ ap (λ s. cond (is_eq (int_cmp s (pos 2147483647))) (flush moment key p)
       (cond (may_now && may_originate moment key p.router) (originate moment key says p)
-      (on_router (wait key) p))) max;
+      (on_router (put_off key) p))) max;
   grows = λ lsa. refl;
   grows_no_more = λ lsa. refl;
 }

@@ -18,14 +18,16 @@ use Rattle.adjacency.specs.Requests.{next_request}
 use Rattle.adjacency.specs.declared.state.NeighborState.TheVariants.{ExStart, Full, Loading}
 use Rattle.received.specs.Links.{Link, neighbor_at}
 use Rattle.received.specs.Outcomes.{one_neighbor}
-use Rattle.events.specs.declared.model.Out.{Out}
-use Rattle.events.specs.Endings.{start_event, describe_router, describe_router_later, loading_done}
-use Rattle.events.specs.Endings.{end_event, remove_aged}
-use Rattle.events.specs.Events.{Happens}
-use Rattle.events.specs.Packets.{after_hello, after_packet, describe_to, hear}
-use Rattle.events.specs.Packing.{outs_of}
-use Rattle.events.specs.EventState.{EventState, on_area, on_router}
-use Rattle.events.specs.Routers.{Occurrence, Router, shown_at}
+use Rattle.event_rules.specs.declared.model.Out.{Out}
+use Rattle.event_rules.specs.Endings.{start_event, originate_router_lsa, put_off_router_lsa}
+use Rattle.event_rules.specs.Endings.{loading_done}
+use Rattle.event_rules.specs.Endings.{end_event, remove_aged}
+use Rattle.event_rules.specs.Events.{Happens}
+use Rattle.event_rules.specs.Packets.{accept_hello, after_packet, receive_description}
+use Rattle.event_rules.specs.Packets.{receive_hello}
+use Rattle.event_rules.specs.Packing.{outs_of}
+use Rattle.event_rules.specs.EventState.{EventState, on_area, on_router}
+use Rattle.event_rules.specs.Routers.{Occurrence, Router, shown_at}
 use Rattle.conversations.specs.WorkedAdjacency.{AnAdjacencyBegins, IsDescription, IsNamingHello}
 use Rattle.conversations.specs.WorkedAdjacency.{NothingAges, describes, lonely}
 use Rattle.conversations.specs.WorkedOwn.{beside, loading}
@@ -55,9 +57,9 @@ hello_ends r new link moment from bytes h outs nothing hello event =
     (one_packet bytes event.own.0 packet event.own.1 hello.is_text)
     ∙ ap (after_packet moment 1 packet) (begins moment old nothing)
     ∙ (λ i. cond (hello.is_other i && (true || false))
-    (on_area (after_hello r.id moment 1 from h) (start old)) (start old))
+    (on_area (receive_hello r.id moment 1 from h) (start old)) (start old))
     ∙ (λ i. on_area (λ o. cond (hello.is_accepted i)
-    (hear moment 1 (adjacencies.after_hello moment from (hello.is_naming i) None) o) o)
+    (accept_hello moment 1 (adjacencies.after_hello moment from (hello.is_naming i) None) o) o)
     (start old)) in
     ap (end_event old moment) own ∙ ends_by old moment p refl refl
 
@@ -96,7 +98,7 @@ judged r new link n moment bytes d v outs nothing said event =
     (one_packet bytes event.own.0 packet event.own.1 said.is_text)
     ∙ ap (after_packet moment 1 packet) (begins moment old nothing)
     ∙ (λ i. cond (said.is_other i && (false || itself n.router i))
-    (on_area (describe_to r.id moment 1 d) (start old)) (start old))
+    (on_area (receive_description r.id moment 1 d) (start old)) (start old))
     ∙ (λ i. stepping r link n moment (cond (said.fits i) (no_sends (loading n))
     (judge r.id moment r.area.database d (loading n))))
     ∙ (λ i. stepping r link n moment (act (said.is_judged i) moment r.area.database d (loading n)))
@@ -140,7 +142,7 @@ repeats_it r new link n moment bytes d last_one outs nothing said kept busy aske
     let put : Neighbor → EventState = answered r link moment last_one in
     let p : EventState = put m in
     let later : EventState → EventState =
-    λ q. last moment (describe_router_later q.router.area.links (loading_done q)) in
+    λ q. last moment (put_off_router_lsa q.router.area.links (loading_done q)) in
     let own : event.after ≡ p =
     judged r new link n moment bytes d Verdict.Repeated outs nothing said event
     ∙ (λ i. stepping r link n moment (repeat moment (record (loading n) { described = kept i }))) in
@@ -158,10 +160,10 @@ repeats_it r new link n moment bytes d last_one outs nothing said kept busy aske
     o)) p) in
     let end : end_event old moment event.after ≡ at_moment moment p =
     ap (end_event old moment) own
-    ∙ ap (λ q. later (describe_router old.area.links moment q)) full
+    ∙ ap (λ q. later (originate_router_lsa old.area.links moment q)) full
     ∙ ap later (describes_not old.area.links moment p
     (differ_not old.area.links p.router.area.links refl))
-    ∙ ap (λ q. last moment (describe_router_later p.router.area.links q)) full
+    ∙ ap (λ q. last moment (put_off_router_lsa p.router.area.links q)) full
     ∙ ap (last moment) (describes_not_later p)
     ∙ no_request in (
       ap (λ s. shown_at s 1) (event.router ∙ ap (λ (q : EventState). q.router) end),

@@ -19,12 +19,12 @@ use Rattle.received.specs.Links.{neighbor_on, neighbor_is_exchange_or_loading}
 use Rattle.received.specs.Outcomes.{Send, sends_at, sent_on, step_on, stepped_links, stepping_sends}
 use Rattle.received.specs.Updates.{case_at, install}
 use Rattle.received.proofs.Flooded.{replaces_older}
-use Rattle.events.specs.Endings.{end_event, stays_as}
-use Rattle.events.specs.Originations.{is_wanted, originate_or_flush, wanted_body}
-use Rattle.events.specs.Packets.{after_lsa}
-use Rattle.events.specs.Packing.{outs_of}
-use Rattle.events.specs.EventState.{EventState, on_area}
-use Rattle.events.specs.Routers.{Router}
+use Rattle.event_rules.specs.Endings.{end_event, stays_as}
+use Rattle.event_rules.specs.Originations.{is_wanted, originate_or_flush, wanted_body}
+use Rattle.event_rules.specs.Packets.{after_lsa}
+use Rattle.event_rules.specs.Packing.{outs_of}
+use Rattle.event_rules.specs.EventState.{EventState, on_area}
+use Rattle.event_rules.specs.Routers.{Router}
 use Rattle.conversations.specs.WorkedAged.{AnAgedLsaComes, IsLoadingWithout, IsOwedTo}
 use Rattle.conversations.specs.WorkedUpdates.{HasBrought, WaitsAt, acknowledges_at_once}
 use Rattle.conversations.proofs.WorkedEnds.{ended, ends, got}

@@ -4,13 +4,13 @@ use Rattle.std.specs.FinMap as finite
 use Rattle.words.specs.declared.route.Route.{Route}
 use Rattle.received.specs.Links.{any_has_retransmission}
 use Rattle.received.specs.Outcomes.{Outcome, Send}
-use Rattle.events.specs.Commands.{after_install}
-use Rattle.events.specs.Endings.{end_event, stays_as}
-use Rattle.events.specs.Packing.{outs_of}
-use Rattle.events.specs.EventState.{EventState}
-use Rattle.events.specs.Routers.{Router}
+use Rattle.event_rules.specs.Commands.{after_install}
+use Rattle.event_rules.specs.Endings.{end_event, stays_as}
+use Rattle.event_rules.specs.Packing.{outs_of}
+use Rattle.event_rules.specs.EventState.{EventState}
+use Rattle.event_rules.specs.Routers.{Router}
 use Rattle.conversations.specs.WorkedAnswers.{AnswersChangeNoDatabase, KeepsTheYoung}
-use Rattle.events.proofs.Sends.{no_outs_from}
+use Rattle.event_rules.proofs.Sends.{no_outs_from}
 use Rattle.conversations.proofs.WorkedEnds.{begins, ended, ends, got}
 use Rattle.conversations.proofs.WorkedUpdates.{start}
 

@@ -25,13 +25,13 @@ use Rattle.adjacency.specs.declared.state.NeighborState.TheVariants.{Loading, Fu
 use Rattle.received.specs.Links.{Link, any_has_retransmission, any_exchange_or_loading}
 use Rattle.received.specs.Links.{neighbor_is_exchange_or_loading}
 use Rattle.received.specs.Outcomes.{Outcome, on_database}
-use Rattle.events.specs.Endings.{start_event, describe_router, describe_router_later}
-use Rattle.events.specs.Endings.{link_loading_done, loading_done, loading_done_on, end_event}
-use Rattle.events.specs.Endings.{is_current, links_differ, remove_aged, request_all, same_body}
-use Rattle.events.specs.Endings.{stays, stays_as, with_age}
-use Rattle.events.specs.Originations.{originate_or_wait, router_body, router_key, wait}
-use Rattle.events.specs.EventState.{EventState, flood_from_nobody, on_area, on_router}
-use Rattle.events.specs.Routers.{Router}
+use Rattle.event_rules.specs.Endings.{originate_router_lsa, put_off_router_lsa, start_event}
+use Rattle.event_rules.specs.Endings.{link_loading_done, loading_done, loading_done_on, end_event}
+use Rattle.event_rules.specs.Endings.{is_current, links_differ, remove_aged, request_all, same_body}
+use Rattle.event_rules.specs.Endings.{stays, stays_as, with_age}
+use Rattle.event_rules.specs.Originations.{originate_or_put_off, put_off, router_body, router_key}
+use Rattle.event_rules.specs.EventState.{EventState, flood_from_nobody, on_area, on_router}
+use Rattle.event_rules.specs.Routers.{Router}
 use Rattle.conversations.proofs.WorkedLinks.{each_rest, left_false, right_false, same_rest}
 use Rattle.conversations.proofs.WorkedLinks.{same_router, seen}
 
@@ -108,13 +108,13 @@ differ_not a b e = ap (λ c. not (same_body c (router_body b))) e
     ∙ ap not (same_itself (router_body b))
 
 pub describes_not : (before : List Link) (moment : ℕ) (p : EventState)
-    → links_differ before p.router.area.links ≡ false → describe_router before moment p ≡ p
+    → links_differ before p.router.area.links ≡ false → originate_router_lsa before moment p ≡ p
 describes_not before moment p e = ap
     (λ b. cond (b && not (is_current moment p.router))
-    (originate_or_wait moment (router_key p.router.id) p) p) e
+    (originate_or_put_off moment (router_key p.router.id) p) p) e
 
-pub describes_not_later : (p : EventState) → describe_router_later p.router.area.links p ≡ p
-describes_not_later p = ap (λ b. cond b (on_router (wait (router_key p.router.id)) p) p)
+pub describes_not_later : (p : EventState) → put_off_router_lsa p.router.area.links p ≡ p
+describes_not_later p = ap (λ b. cond b (on_router (put_off (router_key p.router.id)) p) p)
     (differ_not p.router.area.links p.router.area.links refl)
 
 -- ---- nothing is requested
@@ -169,11 +169,11 @@ pub ends_by : (old : Router) (moment : ℕ) (p : EventState) → router_body old
 ends_by old moment p same still =
     let full : loading_done p ≡ p = none_filled p still in
     let later : EventState → EventState =
-    λ q. last moment (describe_router_later q.router.area.links (loading_done q)) in
-    ap (λ q. later (describe_router old.area.links moment q)) full
+    λ q. last moment (put_off_router_lsa q.router.area.links (loading_done q)) in
+    ap (λ q. later (originate_router_lsa old.area.links moment q)) full
     ∙ ap later (describes_not old.area.links moment p
     (differ_not old.area.links p.router.area.links same))
-    ∙ ap (λ q. last moment (describe_router_later p.router.area.links q)) full
+    ∙ ap (λ q. last moment (put_off_router_lsa p.router.area.links q)) full
     ∙ ap (last moment) (describes_not_later p)
     ∙ last_rest moment p still
 

@@ -16,7 +16,8 @@ use Rattle.packet.proofs.Whole.{one_packet}
 use Rattle.adjacency.specs.Adjacencies.{mismatch_step, initial_description, requests_nothing}
 use Rattle.adjacency.specs.Contents.{Content, Step, no_sends}
 use Rattle.adjacency.specs.Contents as contents
-use Rattle.adjacency.specs.Descriptions.{Verdict, act, after_description, describe, exchange_done}
+use Rattle.adjacency.specs.Descriptions.{Verdict, act, after_description, exchange_done}
+use Rattle.adjacency.specs.Descriptions.{send_description}
 use Rattle.adjacency.specs.Descriptions.{is_wanted, judge, as_received, negotiated_neighbor}
 use Rattle.adjacency.specs.Descriptions.{young_copies}
 use Rattle.adjacency.specs.Neighbors.{Neighbor}
@@ -24,15 +25,16 @@ use Rattle.adjacency.specs.Requests.{next_request}
 use Rattle.adjacency.specs.declared.state.NeighborState.TheVariants.{Exchange, Full, Loading}
 use Rattle.received.specs.Links.{Link}
 use Rattle.received.specs.Outcomes.{one_neighbor}
-use Rattle.events.specs.declared.model.Out.{Out}
-use Rattle.events.specs.Endings.{start_event, describe_router, describe_router_later, loading_done}
-use Rattle.events.specs.Endings.{end_event, remove_aged}
-use Rattle.events.specs.Events.{Happens}
-use Rattle.events.specs.Originations.{router_body}
-use Rattle.events.specs.Packets.{after_packet, describe_to}
-use Rattle.events.specs.Packing.{outs_of}
-use Rattle.events.specs.EventState.{EventState, on_area}
-use Rattle.events.specs.Routers.{Occurrence, Router, shown_at}
+use Rattle.event_rules.specs.declared.model.Out.{Out}
+use Rattle.event_rules.specs.Endings.{start_event, originate_router_lsa, put_off_router_lsa}
+use Rattle.event_rules.specs.Endings.{loading_done}
+use Rattle.event_rules.specs.Endings.{end_event, remove_aged}
+use Rattle.event_rules.specs.Events.{Happens}
+use Rattle.event_rules.specs.Originations.{router_body}
+use Rattle.event_rules.specs.Packets.{after_packet, receive_description}
+use Rattle.event_rules.specs.Packing.{outs_of}
+use Rattle.event_rules.specs.EventState.{EventState, on_area}
+use Rattle.event_rules.specs.Routers.{Occurrence, Router, shown_at}
 use Rattle.conversations.specs.WorkedAdjacency.{NothingAges, describes}
 use Rattle.conversations.specs.WorkedExchange.{AnExchangeAsSlave, IsJudged, last_with, in_ex_start}
 use Rattle.conversations.specs.WorkedExchange.{reply, slave}
@@ -60,7 +62,7 @@ judged r new link n moment bytes d v outs nothing said same event =
     (one_packet bytes event.own.0 packet event.own.1 said.is_text)
     ∙ ap (after_packet moment 1 packet) (begins moment old nothing)
     ∙ (λ i. cond (said.is_other i && (false || itself n.router i))
-    (on_area (describe_to r.id moment 1 d) (start old)) (start old))
+    (on_area (receive_description r.id moment 1 d) (start old)) (start old))
     ∙ ap (taken r link n moment) same
     ∙ (λ i. taken r link n moment (cond (said.fits i) (no_sends n)
     (judge r.id moment r.area.database d n)))
@@ -72,11 +74,11 @@ finishes : (old : Router) (moment : ℕ) (p x : EventState) → loading_done p �
     → end_event old moment p ≡ x
 finishes old moment p x full same end =
     let later : EventState → EventState =
-    λ q. last moment (describe_router_later q.router.area.links (loading_done q)) in
-    ap (λ q. later (describe_router old.area.links moment q)) full
+    λ q. last moment (put_off_router_lsa q.router.area.links (loading_done q)) in
+    ap (λ q. later (originate_router_lsa old.area.links moment q)) full
     ∙ ap later (describes_not old.area.links moment p
     (differ_not old.area.links p.router.area.links same))
-    ∙ ap (λ q. last moment (describe_router_later p.router.area.links q)) full
+    ∙ ap (λ q. last moment (put_off_router_lsa p.router.area.links q)) full
     ∙ ap (last moment) (describes_not_later p)
     ∙ end
 
@@ -113,7 +115,7 @@ pub negotiates_it : (r new : Router) (link : Link) (n : Neighbor) (moment sequen
     (describes (reply moment sequence (young_copies moment r.area.database))))
 negotiates_it r new link n moment sequence bytes outs nothing said none event =
     let old : Router = beside r link (in_ex_start n) in
-    let replied : Step = describe moment (as_slave moment sequence r n) in
+    let replied : Step = send_description moment (as_slave moment sequence r n) in
     let m : Neighbor = replied.neighbor in
     let p : EventState = answered r link moment
     (reply moment sequence (young_copies moment r.area.database)) m in
@@ -158,7 +160,7 @@ loads_it r new link n moment bytes d h outs nothing said known wanted all_said n
       requests = cond b list n.requests;
       sequence = d.sequence;
     } in
-    let replied : Bool → Step = λ b. describe moment (asked b) in
+    let replied : Bool → Step = λ b. send_description moment (asked b) in
     let m : Neighbor = record (replied true).neighbor { state = Loading; exchanged = Some moment }
     in
     let p : EventState = answered r link moment (reply moment d.sequence n.summary) m in

@@ -21,16 +21,16 @@ use Rattle.received.specs.Links.{Area, Link, any_has_retransmission, any_exchang
 use Rattle.received.specs.Links.{neighbor_at}
 use Rattle.received.specs.Outcomes.{Outcome, on_database}
 use Rattle.received.specs.Updates.{case_at, install}
-use Rattle.events.specs.declared.model.Out.{Out}
-use Rattle.events.specs.Endings.{start_event, end_event, stays_as}
-use Rattle.events.specs.Events.{Happens}
-use Rattle.events.specs.Originations.{flush, flush_copy, has_max_sequence, has_room, is_wanted}
-use Rattle.events.specs.Originations.{may_originate, originate, originate_body, router_body}
-use Rattle.events.specs.Originations.{router_key, originate_or_flush, wait, wanted_body}
-use Rattle.events.specs.Packets.{acknowledged_by, after_lsa, after_packet}
-use Rattle.events.specs.Packing.{outs_of}
-use Rattle.events.specs.EventState.{EventState, flood_from_nobody, on_area, on_router}
-use Rattle.events.specs.Routers.{Occurrence, Router}
+use Rattle.event_rules.specs.declared.model.Out.{Out}
+use Rattle.event_rules.specs.Endings.{start_event, end_event, stays_as}
+use Rattle.event_rules.specs.Events.{Happens}
+use Rattle.event_rules.specs.Originations.{flush, flush_copy, has_max_sequence, has_room, is_wanted}
+use Rattle.event_rules.specs.Originations.{may_originate, originate, originate_body, router_body}
+use Rattle.event_rules.specs.Originations.{router_key, originate_or_flush, put_off, wanted_body}
+use Rattle.event_rules.specs.Packets.{after_lsa, after_packet, receive_acknowledgment}
+use Rattle.event_rules.specs.Packing.{outs_of}
+use Rattle.event_rules.specs.EventState.{EventState, flood_from_nobody, on_area, on_router}
+use Rattle.event_rules.specs.Routers.{Occurrence, Router}
 use Rattle.conversations.specs.WorkedFlush.{AcknowledgesTheLast, ComesBack, HasOnList, IsFlushed}
 use Rattle.conversations.specs.WorkedFlush.{TheNumbersEnd, full}
 use Rattle.conversations.specs.WorkedOwn.{beside, sends_update}
@@ -93,7 +93,7 @@ settles r link n moment lsa mine last young =
     ap is_max_age (same_age lsa.header.age moment young) ∙ is_young lsa.header.age young in
     let o : Outcome = record { area = p.router.area; sends = [] } in
     let rest : EventState = cond (has_room key p.router && may_originate moment key p.router)
-    (originate moment key (router_body p.router.area.links) p) (on_router (wait key) p) in
+    (originate moment key (router_body p.router.area.links) p) (on_router (put_off key) p) in
     (λ i. cond (own i) (originate_or_flush (is_wanted (wanted_body p.router (mine i))) moment
     (mine i) p) p)
     ∙ (λ i. originate_or_flush (is_wanted (wanted p.router i)) moment key p)
@@ -223,7 +223,7 @@ leaves_it r new link n moment bytes h entry c outs last event =
     (one_packet bytes event.own.0 packet event.own.1 last.is_text)
     ∙ ap (after_packet moment 1 packet) (begins moment old last.nothing_ages)
     ∙ (λ i. cond (last.is_other i && (false || itself n.router i))
-    (on_area (acknowledged_by moment 1 (h ∷ [])) (start old)) (start old))
+    (on_area (receive_acknowledgment moment 1 (h ∷ [])) (start old)) (start old))
     ∙ (λ i. start (beside r link (cond (entry_is i) (remove_retransmission (key_of h) (full n))
     (full n)))) in
     let end : end_event old moment event.after ≡ ended moment p = ap (end_event old moment) own

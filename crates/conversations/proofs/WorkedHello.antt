@@ -17,12 +17,13 @@ use Rattle.adjacency.specs.Neighbors.{Neighbor, fresh, is_full, is_exchange_or_l
 use Rattle.received.specs.Links.{Link, any_exchange_or_loading, change_link, link_at, neighbor_at}
 use Rattle.received.specs.Links.{neighbor_on, neighbor_is_exchange_or_loading}
 use Rattle.adjacency.specs.Steps.{named_neighbor}
-use Rattle.events.specs.Endings.{start_event, end_event}
-use Rattle.events.specs.Originations.{links_of, point_to_point, router_body, stub}
-use Rattle.events.specs.Packets.{after_hello, after_packet, hear, heard_on, is_from, with_neighbor}
-use Rattle.events.specs.Packing.{outs_of}
-use Rattle.events.specs.EventState.{EventState, on_area}
-use Rattle.events.specs.Routers.{shown_at}
+use Rattle.event_rules.specs.Endings.{start_event, end_event}
+use Rattle.event_rules.specs.Originations.{links_of, point_to_point, router_body, stub}
+use Rattle.event_rules.specs.Packets.{accept_hello, after_packet, is_from, receive_hello}
+use Rattle.event_rules.specs.Packets.{receive_hello_on, with_neighbor}
+use Rattle.event_rules.specs.Packing.{outs_of}
+use Rattle.event_rules.specs.EventState.{EventState, on_area}
+use Rattle.event_rules.specs.Routers.{shown_at}
 use Rattle.conversations.specs.WorkedHello.{ANeighborIsHeard}
 use Rattle.conversations.proofs.WorkedEnds.{begins, ended, ends_by}
 use Rattle.conversations.proofs.WorkedLinks.{link_changed}
@@ -116,13 +117,13 @@ is_heard_of old new number link moment from bytes h outs rest there none hello e
     (one_packet bytes event.own.0 packet event.own.1 hello.is_text)
     ∙ ap (after_packet moment number packet) (begins moment old rest.nothing_ages)
     ∙ (λ i. cond (hello.is_other i && (true || is_from from (neighbor_at number old.area.links)))
-    (on_area (after_hello old.id moment number from h) (start old)) (start old))
-    ∙ ap (λ o. on_area (heard_on old.id moment number from h o) (start old)) there
-    ∙ (λ i. on_area (heard_on old.id moment number from h (Some (record link {
+    (on_area (receive_hello old.id moment number from h) (start old)) (start old))
+    ∙ ap (λ o. on_area (receive_hello_on old.id moment number from h o) (start old)) there
+    ∙ (λ i. on_area (receive_hello_on old.id moment number from h (Some (record link {
       neighbor = none i;
     }))) (start old))
     ∙ (λ i. on_area (λ o. cond (hello.is_accepted i)
-    (hear moment number (adjacencies.after_hello moment from (hello.is_naming i) None) o) o)
+    (accept_hello moment number (adjacencies.after_hello moment from (hello.is_naming i) None) o) o)
     (start old)) in
     let free : IsFree number n refl refl 1 old.area.links =
     free_from number n refl refl old.area.links link there none in

@@ -23,7 +23,7 @@ use Rattle.received.specs.Links.{link_at, neighbor_is_exchange_or_loading}
 use Rattle.received.specs.Outcomes.{Outcome, Stepping, each_neighbor, marked_database, sends_at}
 use Rattle.received.specs.Outcomes.{sent_on, step_on, stepped_links}
 use Rattle.adjacency.specs.Steps.{named_neighbor}
-use Rattle.events.specs.Originations.{links_of, point_to_point, router_body, stub}
+use Rattle.event_rules.specs.Originations.{links_of, point_to_point, router_body, stub}
 
 pub left_false : (a b : Bool) → (a || b) ≡ false → a ≡ false
 left_false true b e = absurd (true≢false e)

@@ -11,17 +11,19 @@ use Rattle.lsdb.specs.Headers.{Lsa, lsa_key}
 use Rattle.received.specs.Flooding.{flood_to}
 use Rattle.received.specs.Links.{any_has_retransmission}
 use Rattle.received.specs.Outcomes.{Outcome, stepping_sends}
-use Rattle.events.specs.declared.model.Out.{Out}
-use Rattle.events.specs.Commands.{after_redistribute, announce, answered_external, is_announced_as}
-use Rattle.events.specs.Commands.{unannounce}
-use Rattle.events.specs.Endings.{end_event, stays_as}
-use Rattle.events.specs.Events.{Happens}
-use Rattle.events.specs.EventState.{EventState, on_area, on_router}
-use Rattle.events.specs.Originations.{announced_body, as_originated, external_body, external_key}
-use Rattle.events.specs.Originations.{flush, flush_copy, has_max_sequence, install_and_flood}
-use Rattle.events.specs.Originations.{new_instance, originate_anyway, originate_body, wait}
-use Rattle.events.specs.Originations.{wanted_body}
-use Rattle.events.specs.Routers.{Occurrence, Router}
+use Rattle.event_rules.specs.declared.model.Out.{Out}
+use Rattle.event_rules.specs.Commands.{after_redistribute, announce, answered_external}
+use Rattle.event_rules.specs.Commands.{is_announced_as}
+use Rattle.event_rules.specs.Commands.{unannounce}
+use Rattle.event_rules.specs.Endings.{end_event, stays_as}
+use Rattle.event_rules.specs.Events.{Happens}
+use Rattle.event_rules.specs.EventState.{EventState, on_area, on_router}
+use Rattle.event_rules.specs.Originations.{announced_body, as_originated, external_body}
+use Rattle.event_rules.specs.Originations.{external_key}
+use Rattle.event_rules.specs.Originations.{flush, flush_copy, has_max_sequence, install_and_flood}
+use Rattle.event_rules.specs.Originations.{new_instance, originate_anyway, originate_body, put_off}
+use Rattle.event_rules.specs.Originations.{wanted_body}
+use Rattle.event_rules.specs.Routers.{Occurrence, Router}
 use Rattle.conversations.specs.WorkedMetrics.{MayAnnounce, MetricsAnnounceOrWithhold}
 use Rattle.conversations.specs.WorkedMetrics.{first_external}
 use Rattle.conversations.specs.WorkedUpdates.{IsAtRest}
@@ -76,7 +78,7 @@ announces old new moment tag e outs rest may event =
     ∙ (λ i. cond (has_max_sequence (may.no_copy i)) (flush moment key q)
     (cond (true && may.is_over i) (on_router (as_originated moment key)
     (on_area (install_and_flood moment (new_instance key (may.no_copy i) says)) q))
-    (on_router (wait key) q))) in
+    (on_router (put_off key) q))) in
     let end : end_event old moment event.after ≡ ended moment said =
     ap (end_event old moment) own ∙ ends old moment said
     (stepped_seen (flood_to moment None lsa) (flooding_keeps moment None lsa) old.area.links)

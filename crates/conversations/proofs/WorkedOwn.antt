@@ -21,19 +21,20 @@ use Rattle.adjacency.specs.declared.state.NeighborState.TheVariants.{Full}
 use Rattle.received.specs.Flooding.{meets}
 use Rattle.received.specs.Links.{Link, acknowledge_later}
 use Rattle.received.specs.Updates.{install}
-use Rattle.events.specs.declared.model.Out.{Out}
-use Rattle.events.specs.Endings.{copy_has_body, describe_router, describe_router_later}
-use Rattle.events.specs.Endings.{loading_done, end_event, is_at, is_current, links_differ}
-use Rattle.events.specs.Events.{Happens}
-use Rattle.events.specs.Originations.{announced_body, as_originated, flush, has_max_sequence}
-use Rattle.events.specs.Originations.{has_room, install_and_flood, interval_is_over}
-use Rattle.events.specs.Originations.{is_own_external, is_wanted, may_originate, new_instance}
-use Rattle.events.specs.Originations.{originate_body, originate_or_wait, own_externals, router_body}
-use Rattle.events.specs.Originations.{router_key, originate_or_flush, wait, wanted_body}
-use Rattle.events.specs.Packets.{after_lsa}
-use Rattle.events.specs.Packing.{outs_of}
-use Rattle.events.specs.EventState.{EventState, on_area, on_router}
-use Rattle.events.specs.Routers.{Occurrence, Router, shown_at}
+use Rattle.event_rules.specs.declared.model.Out.{Out}
+use Rattle.event_rules.specs.Endings.{copy_has_body, originate_router_lsa, put_off_router_lsa}
+use Rattle.event_rules.specs.Endings.{loading_done, end_event, is_at, is_current, links_differ}
+use Rattle.event_rules.specs.Events.{Happens}
+use Rattle.event_rules.specs.Originations.{announced_body, as_originated, flush, has_max_sequence}
+use Rattle.event_rules.specs.Originations.{has_room, install_and_flood, interval_is_over}
+use Rattle.event_rules.specs.Originations.{is_own_external, is_wanted, may_originate, new_instance}
+use Rattle.event_rules.specs.Originations.{originate_body, originate_or_put_off, own_externals}
+use Rattle.event_rules.specs.Originations.{router_body}
+use Rattle.event_rules.specs.Originations.{router_key, originate_or_flush, put_off, wanted_body}
+use Rattle.event_rules.specs.Packets.{after_lsa}
+use Rattle.event_rules.specs.Packing.{outs_of}
+use Rattle.event_rules.specs.EventState.{EventState, on_area, on_router}
+use Rattle.event_rules.specs.Routers.{Occurrence, Router, shown_at}
 use Rattle.conversations.specs.WorkedOwn.{ALastRequestIsMet, MeetsTheLastRequest, beside, loading}
 use Rattle.conversations.specs.WorkedOwn.{next_router_lsa, sends_update}
 use Rattle.conversations.specs.WorkedUpdates.{IsUpdateWith, WaitsAt}
@@ -116,13 +117,13 @@ abbrev described : Bool → ℕ → DatabaseCopy → EventState → EventState
 described over moment own p =
     cond over (on_router (as_originated moment (router_key p.router.id))
     (on_area (install_and_flood moment (next_router_lsa p.router own)) p))
-    (on_router (wait (router_key p.router.id)) p)
+    (on_router (put_off (router_key p.router.id)) p)
 
 describes : (over : Bool) (moment : ℕ) (own : DatabaseCopy) (p : EventState)
     → finite.get p.router.area.database (router_key p.router.id) ≡ Some own
     → has_max_sequence (Some own) ≡ false
     → may_originate moment (router_key p.router.id) p.router ≡ over
-    → originate_or_wait moment (router_key p.router.id) p ≡ described over moment own p
+    → originate_or_put_off moment (router_key p.router.id) p ≡ described over moment own p
 describes over moment own p there counts may =
     let key : Key = router_key p.router.id in
     let says : LsaBody = router_body p.router.area.links in
@@ -134,7 +135,7 @@ describes over moment own p there counts may =
     ∙ (λ i. cond (has_max_sequence (there i)) (flush moment key p)
     (cond (true && may i) (on_router (as_originated moment key)
     (on_area (install_and_flood moment (new_instance key (there i) says)) p))
-    (on_router (wait key) p)))
+    (on_router (put_off key) p)))
     ∙ (λ i. cond (counts i) (flush moment key p) (described over moment own p))
 
 -- ---- the complete event
@@ -156,11 +157,11 @@ ending r link n moment lsa own over meet unsaid is_over =
     let old : Router = beside r link (loading n) in
     let p : EventState = put r link moment lsa (full lsa n) in
     let later : EventState → EventState =
-    λ q. last moment (describe_router_later q.router.area.links (loading_done q)) in
-    let told : EventState = originate_or_wait moment (router_key r.id) p in
+    λ q. last moment (put_off_router_lsa q.router.area.links (loading_done q)) in
+    let told : EventState = originate_or_put_off moment (router_key r.id) p in
     let still : finite.get p.router.area.database (router_key r.id) ≡ Some own =
     own_stays r.area.database lsa (router_key r.id) own moment meet.is_absent meet.own_there in
-    ap (λ q. later (describe_router old.area.links moment q))
+    ap (λ q. later (originate_router_lsa old.area.links moment q))
     (becomes_full r link n moment lsa meet.is_last meet.is_met)
     ∙ ap (λ b. later (cond (b && not (is_current moment p.router)) told p))
     (now_full r link n moment lsa)
@@ -170,7 +171,7 @@ ending r link n moment lsa own over meet unsaid is_over =
     ∙ quietly over
   where
     quietly : (b : Bool) → last moment
-        (describe_router_later (described b moment own
+        (put_off_router_lsa (described b moment own
         (put r link moment lsa (full lsa n))).router.area.links
         (loading_done (described b moment own (put r link moment lsa (full lsa n)))))
         ≡ ended moment (described b moment own (put r link moment lsa (full lsa n)))

@@ -8,10 +8,10 @@ use Rattle.adjacency.specs.Descriptions.{Verdict, young_copies}
 use Rattle.adjacency.specs.Neighbors.{Neighbor, fresh}
 use Rattle.adjacency.specs.declared.state.NeighborState.TheVariants.{Exchange}
 use Rattle.received.specs.Links.{Link}
-use Rattle.events.specs.Events.{Happens}
-use Rattle.events.specs.Packing.{outs_of}
-use Rattle.events.specs.EventState.{EventState}
-use Rattle.events.specs.Routers.{Occurrence, Router, shown_at}
+use Rattle.event_rules.specs.Events.{Happens}
+use Rattle.event_rules.specs.Packing.{outs_of}
+use Rattle.event_rules.specs.EventState.{EventState}
+use Rattle.event_rules.specs.Routers.{Occurrence, Router, shown_at}
 use Rattle.conversations.specs.WorkedAdjacency.{NothingAges, describes}
 use Rattle.conversations.specs.WorkedExchange.{IsJudged, in_ex_start, reply}
 use Rattle.conversations.specs.WorkedRun.{AnAdjacencyIsNegotiated}

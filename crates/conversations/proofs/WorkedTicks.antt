@@ -20,19 +20,20 @@ use Rattle.adjacency.specs.Retransmissions.{next_retransmissions, add_retransmis
 use Rattle.adjacency.specs.Retransmissions.{send_again, update_again}
 use Rattle.received.specs.Links.{Link}
 use Rattle.received.specs.Outcomes.{Outcome, Send, on_links, stepping_sends}
-use Rattle.events.specs.declared.model.Out.{Out}
-use Rattle.events.specs.Endings.{end_event}
-use Rattle.events.specs.Events.{Happens}
-use Rattle.events.specs.Originations.{as_originated, due_keys, flush, forget_originations}
-use Rattle.events.specs.Originations.{has_max_sequence, has_room, install_and_flood}
-use Rattle.events.specs.Originations.{interval_is_over, is_due, is_recent, may_originate}
-use Rattle.events.specs.Originations.{new_instance, originate_body, originate_due}
-use Rattle.events.specs.Originations.{originate_or_wait, router_body, router_key, wait}
-use Rattle.events.specs.Packing.{outs_of}
-use Rattle.events.specs.EventState.{EventState, on_area, on_router}
-use Rattle.events.specs.Routers.{Occurrence, Router}
-use Rattle.events.specs.Ticks.{acknowledge_all, after_tick, again, send_hellos, hello_sent_on}
-use Rattle.events.specs.Ticks.{run_out, send_all_again, sends_of, settled_exchange}
+use Rattle.event_rules.specs.declared.model.Out.{Out}
+use Rattle.event_rules.specs.Endings.{end_event}
+use Rattle.event_rules.specs.Events.{Happens}
+use Rattle.event_rules.specs.Originations.{as_originated, due_keys, flush, forget_originations}
+use Rattle.event_rules.specs.Originations.{has_max_sequence, has_room, install_and_flood}
+use Rattle.event_rules.specs.Originations.{interval_is_over, is_due, is_recent, may_originate}
+use Rattle.event_rules.specs.Originations.{new_instance, originate_body, originate_due}
+use Rattle.event_rules.specs.Originations.{originate_or_put_off, put_off, router_body, router_key}
+use Rattle.event_rules.specs.Packing.{outs_of}
+use Rattle.event_rules.specs.EventState.{EventState, on_area, on_router}
+use Rattle.event_rules.specs.Routers.{Occurrence, Router}
+use Rattle.event_rules.specs.Ticks.{send_acknowledgments, after_tick, again, send_hellos}
+use Rattle.event_rules.specs.Ticks.{hello_sent_on}
+use Rattle.event_rules.specs.Ticks.{run_out, send_all_again, sends_of, settled_exchange}
 use Rattle.conversations.specs.WorkedFlush.{full}
 use Rattle.conversations.specs.WorkedOwn.{beside}
 use Rattle.conversations.specs.WorkedTicks.{ATickOriginates, IsDueAtTick, IsNothingDue}
@@ -99,7 +100,7 @@ originates : (moment : ℕ) (copy : Option DatabaseCopy) (p : EventState)
     → finite.get p.router.area.database (router_key p.router.id) ≡ copy → has_max_sequence copy
     ≡ false → has_room (router_key p.router.id) p.router ≡ true
     → may_originate moment (router_key p.router.id) p.router ≡ true
-    → originate_or_wait moment (router_key p.router.id) p ≡ told moment copy p
+    → originate_or_put_off moment (router_key p.router.id) p ≡ told moment copy p
 originates moment copy p there counts room may =
     let key : Key = router_key p.router.id in
     let says : LsaBody = router_body p.router.area.links in
@@ -107,7 +108,7 @@ originates moment copy p there counts room may =
     ∙ (λ i. cond (has_max_sequence (there i)) (flush moment key p)
     (cond (true && may i) (on_router (as_originated moment key)
     (on_area (install_and_flood moment (new_instance key (there i) says)) p))
-    (on_router (wait key) p)))
+    (on_router (put_off key) p)))
     ∙ (λ i. cond (counts i) (flush moment key p) (told moment copy p))
 
 alone_due : (r : Router) (moment : ℕ) → finite.keys r.announced ≡ []
@@ -153,7 +154,7 @@ again_keeps moment interval db n =
 
 abbrev rest_of_tick : ℕ → EventState → EventState
 rest_of_tick moment p = on_area (λ o. send_hellos moment
-    (acknowledge_all moment (send_all_again moment o))) p
+    (send_acknowledgments moment (send_all_again moment o))) p
 
 tick_sends : (r new : Router) (link : Link) (n : Neighbor) (moment : ℕ) (copy : Option DatabaseCopy)
     (outs : List Out) → IsDueAtTick r link n moment copy
@@ -174,7 +175,7 @@ tick_sends r new link n moment copy outs due event =
     let after : EventState = rest_of_tick moment p in
     let o : Outcome = record { area = p.router.area; sends = p.sends } in
     let x : Outcome = send_all_again moment o in
-    let y : Outcome = acknowledge_all moment x in
+    let y : Outcome = send_acknowledgments moment x in
     let resent : List Send = stepping_sends (again moment o) o.area.links in
     let hellos : List Send = sends_of (hello_sent_on moment) y.area.links in
     let same_router : m.router ≡ n.router =
@@ -240,7 +241,7 @@ tick_acknowledges r new link n moment outs idle event =
     let q : EventState = resting r link n moment in
     let after : EventState = rest_of_tick moment q in
     let o : Outcome = record { area = q.router.area; sends = [] } in
-    let y : Outcome = acknowledge_all moment (send_all_again moment o) in
+    let y : Outcome = send_acknowledgments moment (send_all_again moment o) in
     let resent : List Send = stepping_sends (again moment o) o.area.links in
     let hellos : List Send = sends_of (hello_sent_on moment) y.area.links in
     let same_router : m.router ≡ n.router =

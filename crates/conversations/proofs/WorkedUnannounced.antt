@@ -13,13 +13,14 @@ use Rattle.adjacency.specs.Retransmissions.{add_retransmission, remove_retransmi
 use Rattle.received.specs.Cases.{Case}
 use Rattle.received.specs.Links.{Link, any_has_retransmission}
 use Rattle.received.specs.Outcomes.{Outcome, on_database}
-use Rattle.events.specs.Endings.{end_event, stays_as}
-use Rattle.events.specs.EventState.{EventState, flood_from_nobody, on_area}
-use Rattle.events.specs.Originations.{announced_body, flush_copy, is_wanted, originate_or_flush}
-use Rattle.events.specs.Originations.{router_body, router_key, wanted_body}
-use Rattle.events.specs.Packets.{after_lsa}
-use Rattle.events.specs.Packing.{outs_of}
-use Rattle.events.specs.Routers.{Router}
+use Rattle.event_rules.specs.Endings.{end_event, stays_as}
+use Rattle.event_rules.specs.EventState.{EventState, flood_from_nobody, on_area}
+use Rattle.event_rules.specs.Originations.{announced_body, flush_copy, is_wanted}
+use Rattle.event_rules.specs.Originations.{originate_or_flush}
+use Rattle.event_rules.specs.Originations.{router_body, router_key, wanted_body}
+use Rattle.event_rules.specs.Packets.{after_lsa}
+use Rattle.event_rules.specs.Packing.{outs_of}
+use Rattle.event_rules.specs.Routers.{Router}
 use Rattle.conversations.specs.WorkedFlush.{HasOnList, full}
 use Rattle.conversations.specs.WorkedOwn.{beside, sends_update}
 use Rattle.conversations.specs.WorkedUnannounced.{IsFlushed, WhatIsNotAnnouncedIsFlushed}

@@ -31,16 +31,16 @@ use Rattle.received.specs.Links.{any_exchange_or_loading, link_at, neighbor_at, 
 use Rattle.received.specs.Outcomes.{Outcome, step_on, stepped_links, stepping_sends}
 use Rattle.received.specs.Updates.{case_at, goes_on, install}
 pub use Rattle.received.proofs.Marks.{IsStill, changed_by, mark_all, marked_once, tied}
-use Rattle.events.specs.declared.model.Out.{Out}
-use Rattle.events.specs.Endings.{start_event, end_event, stays_as}
-use Rattle.events.specs.Events.{Happens, OwnPart}
-use Rattle.events.specs.Hellos.{is_foreign}
-use Rattle.events.specs.Originations.{is_wanted, originate_or_flush, wanted_body}
-use Rattle.events.specs.Packets.{after_lsa, after_lsas, after_packet, after_unread, case_in}
-use Rattle.events.specs.Packets.{from_neighbor, is_heard, is_in_exchange}
-use Rattle.events.specs.Packing.{outs_of}
-use Rattle.events.specs.EventState.{EventState, on_area}
-use Rattle.events.specs.Routers.{Occurrence, Router}
+use Rattle.event_rules.specs.declared.model.Out.{Out}
+use Rattle.event_rules.specs.Endings.{start_event, end_event, stays_as}
+use Rattle.event_rules.specs.Events.{Happens, OwnPart}
+use Rattle.event_rules.specs.Hellos.{is_foreign}
+use Rattle.event_rules.specs.Originations.{is_wanted, originate_or_flush, wanted_body}
+use Rattle.event_rules.specs.Packets.{after_lsa, after_lsas, after_packet, after_unread, case_in}
+use Rattle.event_rules.specs.Packets.{any_exchange_or_later, from_neighbor, is_heard}
+use Rattle.event_rules.specs.Packing.{outs_of}
+use Rattle.event_rules.specs.EventState.{EventState, on_area}
+use Rattle.event_rules.specs.Routers.{Occurrence, Router}
 use Rattle.conversations.specs.WorkedUpdates.{ANewLsaComesTwice, HasBrought, HasFullNeighbor}
 use Rattle.conversations.specs.WorkedUpdates.{IsAtRest, IsUpdateWith, WaitsAt, acknowledges_at_once}
 use Rattle.conversations.proofs.WorkedEnds.{begins, ended, ends, got, no_time_passes, not_both_ways}
@@ -113,7 +113,7 @@ pub update_heard : (moment number : ℕ) (p : EventState) (n : Neighbor) (texts 
 update_heard moment number p n texts there other part =
     let packet : Packet = record { router = n.router; body = body.Update texts } in
     ap (λ o. cond (is_heard p.router.id packet o)
-    (from_neighbor moment number n.router (is_in_exchange o) packet.body p) p) there
+    (from_neighbor moment number n.router (any_exchange_or_later o) packet.body p) p) there
     ∙ (λ i. cond (other i && (false || itself n.router i))
     (cond (part i) (after_lsas moment number texts p) p) p)
 

@@ -16,9 +16,9 @@ use Rattle.received.specs.Cases.{Case}
 use Rattle.received.specs.Links.{Link}
 use Rattle.received.specs.Outcomes.{Send}
 use Rattle.received.specs.Updates.{case_at}
-use Rattle.events.specs.EventState.{EventState}
-use Rattle.events.specs.Packets.{after_lsas}
-use Rattle.events.specs.Routers.{Router}
+use Rattle.event_rules.specs.EventState.{EventState}
+use Rattle.event_rules.specs.Packets.{after_lsas}
+use Rattle.event_rules.specs.Routers.{Router}
 use Rattle.conversations.specs.WorkedFlush.{full}
 use Rattle.conversations.specs.WorkedOwn.{beside, loading}
 

@@ -5,11 +5,11 @@ use Rattle.packet.specs.declared.model.Hello.{Hello}
 use Rattle.adjacency.specs.Neighbors.{Neighbor}
 use Rattle.received.specs.Links.{Link, link_at}
 use Rattle.received.specs.Outcomes.{Outcome}
-use Rattle.events.specs.Packets.{after_hello}
+use Rattle.event_rules.specs.Packets.{receive_hello}
 
 -- the Hello changes nothing: links and database stay the same, and nothing is sent
 abbrev pub IsDiscarded : (own moment number from : ℕ) → Hello → Outcome → Type 0
-IsDiscarded own moment number from h o = after_hello own moment number from h o ≡ o
+IsDiscarded own moment number from h o = receive_hello own moment number from h o ≡ o
 
 -- whatever the router's state, and whatever it has sent so far in the event, at an interface of its
 -- own
@@ -40,5 +40,5 @@ pub record HellosAreDiscarded : Type 0 where
       → IsDiscarded own moment number own h o
   -- the network mask doesn't matter, since the link is point-to-point
   pub mask : (own moment number from mask : ℕ) (h : Hello) (o : Outcome)
-      → after_hello own moment number from (record h { mask = mask }) o
-      ≡ after_hello own moment number from h o
+      → receive_hello own moment number from (record h { mask = mask }) o
+      ≡ receive_hello own moment number from h o

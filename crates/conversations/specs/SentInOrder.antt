@@ -13,7 +13,7 @@ use Rattle.packet.specs.declared.model.PacketBody.TheVariants as body
 use Rattle.packet.specs.declared.model.Description.{Description}
 use Rattle.packet.specs.declared.model.Hello.{Hello}
 use Rattle.adjacency.specs.Contents.{Content}
-use Rattle.events.specs.Packing.{acknowledgments, bodies, sent_lsa, updates}
+use Rattle.event_rules.specs.Packing.{acknowledgments, bodies, sent_lsa, updates}
 
 -- ---- by LS type, then Link State ID, then Advertising Router
 

@@ -9,19 +9,21 @@ use Rattle.words.specs.declared.route.Route.{Route}
 use Rattle.lsa.specs.declared.body.LsaBody.{LsaBody}
 use Rattle.lsdb.specs.Copies.{DatabaseCopy}
 use Rattle.lsdb.specs.Headers.{Lsa, lsa_aged}
-use Rattle.events.specs.declared.model.CoreError.TheVariants as error
-use Rattle.events.specs.Commands.{after_install, after_redistribute, after_withdraw, announce_as}
-use Rattle.events.specs.Commands.{end_want}
-use Rattle.events.specs.Refusals.{is_clock_back}
-use Rattle.events.specs.Originations.{external_key, flush, interval_is_over, is_stale}
-use Rattle.events.specs.Originations.{originate_body}
-use Rattle.events.specs.Packing.{sent_lsa}
-use Rattle.events.specs.EventState.{EventState}
+use Rattle.event_rules.specs.declared.model.CoreError.TheVariants as error
+use Rattle.event_rules.specs.Commands.{after_install, after_redistribute, after_withdraw}
+use Rattle.event_rules.specs.Commands.{announce_as}
+use Rattle.event_rules.specs.Commands.{end_want}
+use Rattle.event_rules.specs.Refusals.{is_clock_back}
+use Rattle.event_rules.specs.Originations.{external_key, flush, interval_is_over}
+use Rattle.event_rules.specs.Originations.{refresh_time_is_over}
+use Rattle.event_rules.specs.Originations.{originate_body}
+use Rattle.event_rules.specs.Packing.{sent_lsa}
+use Rattle.event_rules.specs.EventState.{EventState}
 use Rattle.conversations.specs.WorkedUpdates.{IsAtRest}
-use Rattle.events.specs.Events.{Happens}
-use Rattle.events.specs.declared.model.Out.{Out}
-use Rattle.events.specs.Refusals.{first_refusal}
-use Rattle.events.specs.Routers.{Occurrence, Router}
+use Rattle.event_rules.specs.Events.{Happens}
+use Rattle.event_rules.specs.declared.model.Out.{Out}
+use Rattle.event_rules.specs.Refusals.{first_refusal}
+use Rattle.event_rules.specs.Routers.{Occurrence, Router}
 
 -- the network of 10.0.0.0 with the given length, and it as an external destination with metric 20
 abbrev pub ten : ℕ → Network
@@ -66,8 +68,10 @@ pub record WorkedEvents : Type 0 where
   -- refreshed at 1800
   pub too_early : interval_is_over 4 (Some 0) ≡ false
   pub in_time : interval_is_over 5 (Some 0) ≡ true
-  pub young : (lsa : Lsa) → is_stale 1799 (Some (flooded_copy (lsa_aged 0 lsa) 0)) ≡ false
-  pub renewed : (lsa : Lsa) → is_stale 1800 (Some (flooded_copy (lsa_aged 0 lsa) 0)) ≡ true
+  pub young : (lsa : Lsa) → refresh_time_is_over 1799 (Some (flooded_copy (lsa_aged 0 lsa) 0))
+      ≡ false
+  pub renewed : (lsa : Lsa) → refresh_time_is_over 1800 (Some (flooded_copy (lsa_aged 0 lsa) 0))
+      ≡ true
   -- a copy with MaxSequenceNumber is flushed before its LSA is originated again
   pub wraps : (may_now : Bool) (moment : ℕ) (key : Key) (says : LsaBody) (c : DatabaseCopy)
       (p : EventState) → finite.get p.router.area.database key ≡ Some c

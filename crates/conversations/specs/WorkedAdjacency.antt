@@ -18,11 +18,11 @@ use Rattle.adjacency.specs.declared.state.NeighborState.TheVariants.{ExStart, Lo
 use Rattle.adjacency.specs.Neighbors.{Neighbor}
 use Rattle.received.specs.Links.{Link, neighbor_at}
 use Rattle.received.specs.Outcomes.{Send}
-use Rattle.events.specs.declared.model.Out.{Out}
-use Rattle.events.specs.Events.{Happens}
-use Rattle.events.specs.Hellos.{accepts, is_foreign, names}
-use Rattle.events.specs.Packing.{outs_of}
-use Rattle.events.specs.Routers.{Occurrence, Router, shown_at}
+use Rattle.event_rules.specs.declared.model.Out.{Out}
+use Rattle.event_rules.specs.Events.{Happens}
+use Rattle.event_rules.specs.Hellos.{accepts, is_foreign, names}
+use Rattle.event_rules.specs.Packing.{outs_of}
+use Rattle.event_rules.specs.Routers.{Occurrence, Router, shown_at}
 use Rattle.conversations.specs.WorkedOwn.{beside, loading}
 
 -- the router with only this interface, whose neighbor is Down

@@ -10,10 +10,10 @@ use Rattle.adjacency.specs.Neighbors.{Neighbor}
 use Rattle.adjacency.specs.Requests.{requested_entry}
 use Rattle.adjacency.specs.declared.state.NeighborState.TheVariants.{Loading}
 use Rattle.received.specs.Links.{Link, link_at, neighbor_at}
-use Rattle.events.specs.declared.model.Out.{Out}
-use Rattle.events.specs.Events.{Happens}
-use Rattle.events.specs.Packing.{outs_of}
-use Rattle.events.specs.Routers.{Occurrence, Router}
+use Rattle.event_rules.specs.declared.model.Out.{Out}
+use Rattle.event_rules.specs.Events.{Happens}
+use Rattle.event_rules.specs.Packing.{outs_of}
+use Rattle.event_rules.specs.Routers.{Occurrence, Router}
 use Rattle.conversations.specs.WorkedUpdates.{HasBrought, HasFullNeighbor, IsAtRest, IsUpdateWith}
 use Rattle.conversations.specs.WorkedUpdates.{WaitsAt, acknowledges_at_once}
 

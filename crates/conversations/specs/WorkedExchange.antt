@@ -17,11 +17,11 @@ use Rattle.adjacency.specs.Descriptions.{Verdict, is_wanted, verdict, young_copi
 use Rattle.adjacency.specs.declared.state.NeighborState.TheVariants.{Exchange, ExStart, Loading}
 use Rattle.adjacency.specs.Neighbors.{Neighbor}
 use Rattle.received.specs.Links.{Link}
-use Rattle.events.specs.declared.model.Out.{Out}
-use Rattle.events.specs.Events.{Happens}
-use Rattle.events.specs.Hellos.{is_foreign}
-use Rattle.events.specs.Packing.{outs_of}
-use Rattle.events.specs.Routers.{Occurrence, Router, shown_at}
+use Rattle.event_rules.specs.declared.model.Out.{Out}
+use Rattle.event_rules.specs.Events.{Happens}
+use Rattle.event_rules.specs.Hellos.{is_foreign}
+use Rattle.event_rules.specs.Packing.{outs_of}
+use Rattle.event_rules.specs.Routers.{Occurrence, Router, shown_at}
 use Rattle.conversations.specs.WorkedAdjacency.{NothingAges, describes}
 use Rattle.conversations.specs.WorkedOwn.{beside}
 

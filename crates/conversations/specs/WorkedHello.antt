@@ -6,10 +6,10 @@ use Rattle.adjacency.specs.Adjacencies.{initial_description}
 use Rattle.adjacency.specs.Contents.{Content}
 use Rattle.adjacency.specs.declared.state.NeighborState.TheVariants.{ExStart}
 use Rattle.received.specs.Links.{Link, link_at}
-use Rattle.events.specs.declared.model.Out.{Out}
-use Rattle.events.specs.Events.{Happens}
-use Rattle.events.specs.Packing.{outs_of}
-use Rattle.events.specs.Routers.{Occurrence, Router, shown_at}
+use Rattle.event_rules.specs.declared.model.Out.{Out}
+use Rattle.event_rules.specs.Events.{Happens}
+use Rattle.event_rules.specs.Packing.{outs_of}
+use Rattle.event_rules.specs.Routers.{Occurrence, Router, shown_at}
 use Rattle.conversations.specs.WorkedAdjacency.{IsNamingHello}
 use Rattle.conversations.specs.WorkedUpdates.{IsAtRest}
 

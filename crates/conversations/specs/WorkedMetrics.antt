@@ -5,11 +5,12 @@ use Rattle.std.specs.FinMap as finite
 use Rattle.words.specs.Numbers.{Moment}
 use Rattle.words.specs.declared.route.External.{External}
 use Rattle.lsdb.specs.Headers.{Lsa}
-use Rattle.events.specs.declared.model.Out.{Out}
-use Rattle.events.specs.Commands.{answered_external}
-use Rattle.events.specs.Events.{Happens}
-use Rattle.events.specs.Originations.{external_body, external_key, interval_is_over, new_instance}
-use Rattle.events.specs.Routers.{Occurrence, Router}
+use Rattle.event_rules.specs.declared.model.Out.{Out}
+use Rattle.event_rules.specs.Commands.{answered_external}
+use Rattle.event_rules.specs.Events.{Happens}
+use Rattle.event_rules.specs.Originations.{external_body, external_key, interval_is_over}
+use Rattle.event_rules.specs.Originations.{new_instance}
+use Rattle.event_rules.specs.Routers.{Occurrence, Router}
 use Rattle.conversations.specs.WorkedUpdates.{IsAtRest}
 
 -- nothing is announced and there is no copy with the destination's key, and MinLSInterval has

@@ -14,13 +14,14 @@ use Rattle.adjacency.specs.Requests.{requested_entry}
 use Rattle.received.specs.Flooding.{meets}
 use Rattle.received.specs.Links.{Link}
 use Rattle.received.specs.Outcomes.{Send}
-use Rattle.events.specs.declared.model.Out.{Out}
-use Rattle.events.specs.Events.{Happens}
-use Rattle.events.specs.Hellos.{is_foreign}
-use Rattle.events.specs.Originations.{has_max_sequence, interval_is_over, new_instance, router_body}
-use Rattle.events.specs.Originations.{router_key}
-use Rattle.events.specs.Packing.{outs_of}
-use Rattle.events.specs.Routers.{Occurrence, Router, shown_at}
+use Rattle.event_rules.specs.declared.model.Out.{Out}
+use Rattle.event_rules.specs.Events.{Happens}
+use Rattle.event_rules.specs.Hellos.{is_foreign}
+use Rattle.event_rules.specs.Originations.{has_max_sequence, interval_is_over, new_instance}
+use Rattle.event_rules.specs.Originations.{router_body}
+use Rattle.event_rules.specs.Originations.{router_key}
+use Rattle.event_rules.specs.Packing.{outs_of}
+use Rattle.event_rules.specs.Routers.{Occurrence, Router, shown_at}
 use Rattle.conversations.specs.WorkedUpdates.{IsUpdateWith, WaitsAt}
 
 -- the router with only this interface and this neighbor

@@ -8,10 +8,10 @@ use Rattle.adjacency.specs.Adjacencies.{initial_description}
 use Rattle.adjacency.specs.Descriptions.{young_copies}
 use Rattle.adjacency.specs.declared.state.NeighborState.TheVariants.{Exchange, ExStart}
 use Rattle.received.specs.Links.{Link}
-use Rattle.events.specs.declared.model.Out.{Out}
-use Rattle.events.specs.Events.{Run, Step}
-use Rattle.events.specs.Packing.{outs_of}
-use Rattle.events.specs.Routers.{Occurrence, Router, shown_at}
+use Rattle.event_rules.specs.declared.model.Out.{Out}
+use Rattle.event_rules.specs.Events.{Run, Step}
+use Rattle.event_rules.specs.Packing.{outs_of}
+use Rattle.event_rules.specs.Routers.{Occurrence, Router, shown_at}
 use Rattle.conversations.specs.WorkedAdjacency.{IsNamingHello, NothingAges, describes, lonely}
 use Rattle.conversations.specs.WorkedExchange.{reply}
 

@@ -10,13 +10,13 @@ use Rattle.adjacency.specs.Contents.{Content}
 use Rattle.adjacency.specs.Neighbors.{Neighbor}
 use Rattle.received.specs.Links.{Link}
 use Rattle.received.specs.Outcomes.{Send, sends_at}
-use Rattle.events.specs.declared.model.Out.{Out}
-use Rattle.events.specs.Events.{Happens}
-use Rattle.events.specs.Originations.{has_max_sequence, has_room, initial_sequence_number}
-use Rattle.events.specs.Originations.{interval_is_over, is_due, new_instance, next_sequence}
-use Rattle.events.specs.Originations.{router_body, router_key}
-use Rattle.events.specs.Packing.{outs_of}
-use Rattle.events.specs.Routers.{Occurrence, Router}
+use Rattle.event_rules.specs.declared.model.Out.{Out}
+use Rattle.event_rules.specs.Events.{Happens}
+use Rattle.event_rules.specs.Originations.{has_max_sequence, has_room, initial_sequence_number}
+use Rattle.event_rules.specs.Originations.{interval_is_over, is_due, new_instance, next_sequence}
+use Rattle.event_rules.specs.Originations.{router_body, router_key}
+use Rattle.event_rules.specs.Packing.{outs_of}
+use Rattle.event_rules.specs.Routers.{Occurrence, Router}
 use Rattle.conversations.specs.WorkedFlush.{full}
 use Rattle.conversations.specs.WorkedOwn.{beside}
 

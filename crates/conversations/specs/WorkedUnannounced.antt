@@ -8,12 +8,12 @@ use Rattle.lsdb.specs.Headers.{Lsa, header_aged, lsa_aged, lsa_key}
 use Rattle.lsdb.specs.Keys.{same_key}
 use Rattle.adjacency.specs.Neighbors.{Neighbor}
 use Rattle.received.specs.Links.{Link}
-use Rattle.events.specs.declared.model.Out.{Out}
-use Rattle.events.specs.Events.{Happens}
-use Rattle.events.specs.Hellos.{is_foreign}
-use Rattle.events.specs.Originations.{router_key}
-use Rattle.events.specs.Packing.{outs_of}
-use Rattle.events.specs.Routers.{Occurrence, Router}
+use Rattle.event_rules.specs.declared.model.Out.{Out}
+use Rattle.event_rules.specs.Events.{Happens}
+use Rattle.event_rules.specs.Hellos.{is_foreign}
+use Rattle.event_rules.specs.Originations.{router_key}
+use Rattle.event_rules.specs.Packing.{outs_of}
+use Rattle.event_rules.specs.Routers.{Occurrence, Router}
 use Rattle.conversations.specs.WorkedFlush.{HasOnList, full}
 use Rattle.conversations.specs.WorkedOwn.{beside, sends_update}
 use Rattle.conversations.specs.WorkedUpdates.{IsUpdateWith, WaitsAt}

@@ -14,11 +14,11 @@ use Rattle.adjacency.specs.Neighbors.{Neighbor}
 use Rattle.adjacency.specs.Requests.{requested_entry}
 use Rattle.received.specs.Links.{Link, any_exchange_or_loading, link_at}
 use Rattle.received.specs.Outcomes.{Send}
-use Rattle.events.specs.declared.model.Out.{Out}
-use Rattle.events.specs.Events.{Happens}
-use Rattle.events.specs.Hellos.{is_foreign}
-use Rattle.events.specs.Packing.{outs_of}
-use Rattle.events.specs.Routers.{Occurrence, Router}
+use Rattle.event_rules.specs.declared.model.Out.{Out}
+use Rattle.event_rules.specs.Events.{Happens}
+use Rattle.event_rules.specs.Hellos.{is_foreign}
+use Rattle.event_rules.specs.Packing.{outs_of}
+use Rattle.event_rules.specs.Routers.{Occurrence, Router}
 
 -- no neighbor is in Exchange or Loading, and no copy reaches MaxAge at this moment
 pub record IsAtRest (r : Router) (moment : ℕ) : Type 0 where

@@ -4,9 +4,9 @@ use Rattle.std.proofs.Common.{◌∙◌, arith}
 use Rattle.console.specs.declared.configuration.Configured.{Configured}
 use Rattle.console.specs.declared.configuration.ConfiguredInterface.{ConfiguredInterface}
 use Rattle.console.specs.Configurations.{Says}
-use Rattle.worker.specs.events.Events.{initial}
-use Rattle.worker.specs.events.Routers.{Router}
-use Rattle.worker.specs.events.declared.model.Config.{Config}
+use Rattle.worker.specs.event_rules.Events.{initial}
+use Rattle.worker.specs.event_rules.Routers.{Router}
+use Rattle.worker.specs.event_rules.declared.model.Config.{Config}
 use Rattle.sockets.specs.declared.wire.Wire.{Wire}
 use Rattle.sockets.specs.Wires.{AreBound, Bound}
 use Rattle.daemon.specs.Statuses.{HasRan, HasRanFor, HasRanOver, IsConfigOf}
@@ -22,9 +22,10 @@ as_many bound (c ∷ interfaces) (w ∷ wires) h = let rest = as_many bound inte
     omega (arith, rest)
 
 -- bound sockets, and interfaces, by other names
-pub bound_still : {Socket : Type 0} (bound : Bound Socket) (interfaces same : List ConfiguredInterface)
-    (wires given : List (Wire Socket)) → interfaces ≡ same → given ≡ wires
-    → AreBound bound interfaces wires → AreBound bound same given
+pub bound_still : {Socket : Type 0} (bound : Bound Socket)
+    (interfaces same : List ConfiguredInterface) (wires given : List (Wire Socket))
+    → interfaces ≡ same → given ≡ wires → AreBound bound interfaces wires
+    → AreBound bound same given
 bound_still bound interfaces same wires given is handed h =
     subst (λ l. AreBound bound same l) (sym handed) (subst (λ l. AreBound bound l wires) is h)
 

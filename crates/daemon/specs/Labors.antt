@@ -5,7 +5,7 @@ use Rattle.worker.specs.Lives.{HasLived, HasLivedOn, Hears, Reads, Senses, Shows
 use Rattle.worker.specs.Lives.{senses_of, standing}
 use Rattle.worker.specs.Sending.{Gives}
 use Rattle.worker.specs.Turns.{IsOfferedBySome, refuses_from, took_from}
-use Rattle.worker.specs.events.Routers.{Router}
+use Rattle.worker.specs.event_rules.Routers.{Router}
 
 -- what is said of a worker at the port of this number, with such a link and such a clock, at a book
 -- that began with this router

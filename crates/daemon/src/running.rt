@@ -5,7 +5,7 @@ ghost use Rattle.links.specs.Descending.{CountDownTo};
 ghost use Rattle.hooks.specs.Known.{history_of};
 ghost use Rattle.sockets.specs.Ends.{has_failed};
 ghost use Rattle.sockets.specs.Wires.{AreBound};
-ghost use Rattle.worker.specs.events.Events.{initial};
+ghost use Rattle.worker.specs.event_rules.Events.{initial};
 ghost use Rattle.worker.specs.Opening.{IsSetUpFor};
 ghost use Rattle.daemon.specs.Refusals.{IsLaterWhy, IsWhy};
 ghost use Rattle.daemon.specs.Statuses.{EndsSo, HasRan, HasRanFor, HasRanOver, IsConfigOf};

@@ -15,30 +15,36 @@ use Rattle.packet.specs.declared.model.PacketBody.{PacketBody}
 use Rattle.packet.specs.declared.model.PacketBody.TheVariants as body
 use Rattle.packet.specs.declared.model.Packet.{Packet}
 use Rattle.flood_laws.specs.adjacency.Neighbors.{Neighbor}
-use Rattle.events.specs.received.Cases.{Case}
-use Rattle.events.specs.received.Links.{Link, neighbor_at}
-use Rattle.events.specs.received.Outcomes.{on_links}
-use Rattle.events.specs.received.Updates.{case_at, goes_on}
-use Rattle.events.specs.declared.model.CoreError.{CoreError}
-use Rattle.events.specs.declared.model.CoreError.TheVariants as error
-use Rattle.events.specs.declared.model.Out.{Out}
-use Rattle.events.specs.Commands.{after_redistribute, after_withdraw, announce, announce_as}
-use Rattle.events.specs.Commands.{answered_external, end_want, is_announced_as, is_for, ls_infinity}
-use Rattle.events.specs.Endings.{describe_router, describe_router_later, end_event, is_current}
-use Rattle.events.specs.Endings.{links_differ, loading_done, start_event}
-use Rattle.events.specs.EventState.{EventState, on_area, on_router}
-use Rattle.events.specs.Events.{Happens, OwnPart}
-use Rattle.events.specs.Originations.{due_keys, external_key, flush, forget_originations}
-use Rattle.events.specs.Originations.{has_max_sequence, has_room, is_wanted, may_originate}
-use Rattle.events.specs.Originations.{originate, originate_anyway, originate_body, originate_due}
-use Rattle.events.specs.Originations.{originate_or_flush, originate_or_wait}
-use Rattle.events.specs.Originations.{receive_self_originated, router_key, wait, wanted_body}
-use Rattle.events.specs.Packets.{acknowledged_by, after_lsas, after_packet, after_self_originated}
-use Rattle.events.specs.Packets.{after_unread, case_in, from_neighbor, is_heard, is_in_exchange}
-use Rattle.events.specs.Packets.{requested_from}
-use Rattle.events.specs.Refusals.{first_refusal, of_event}
-use Rattle.events.specs.Routers.{Occurrence, Router}
-use Rattle.events.specs.Ticks.{after_tick, run_out}
+use Rattle.event_rules.specs.received.Cases.{Case}
+use Rattle.event_rules.specs.received.Links.{Link, neighbor_at}
+use Rattle.event_rules.specs.received.Outcomes.{on_links}
+use Rattle.event_rules.specs.received.Updates.{case_at, goes_on}
+use Rattle.event_rules.specs.declared.model.CoreError.{CoreError}
+use Rattle.event_rules.specs.declared.model.CoreError.TheVariants as error
+use Rattle.event_rules.specs.declared.model.Out.{Out}
+use Rattle.event_rules.specs.Commands.{after_redistribute, after_withdraw, announce, announce_as}
+use Rattle.event_rules.specs.Commands.{answered_external, end_want, is_announced_as, is_for}
+use Rattle.event_rules.specs.Commands.{ls_infinity}
+use Rattle.event_rules.specs.Endings.{end_event, is_current, originate_router_lsa}
+use Rattle.event_rules.specs.Endings.{put_off_router_lsa}
+use Rattle.event_rules.specs.Endings.{links_differ, loading_done, start_event}
+use Rattle.event_rules.specs.EventState.{EventState, on_area, on_router}
+use Rattle.event_rules.specs.Events.{Happens, OwnPart}
+use Rattle.event_rules.specs.Originations.{due_keys, external_key, flush, forget_originations}
+use Rattle.event_rules.specs.Originations.{has_max_sequence, has_room, is_wanted, may_originate}
+use Rattle.event_rules.specs.Originations.{originate, originate_anyway, originate_body}
+use Rattle.event_rules.specs.Originations.{originate_due}
+use Rattle.event_rules.specs.Originations.{originate_or_flush, originate_or_put_off}
+use Rattle.event_rules.specs.Originations.{put_off, receive_self_originated, router_key}
+use Rattle.event_rules.specs.Originations.{wanted_body}
+use Rattle.event_rules.specs.Packets.{after_lsas, after_packet, after_self_originated}
+use Rattle.event_rules.specs.Packets.{receive_acknowledgment}
+use Rattle.event_rules.specs.Packets.{after_unread, any_exchange_or_later, case_in, from_neighbor}
+use Rattle.event_rules.specs.Packets.{is_heard}
+use Rattle.event_rules.specs.Packets.{receive_request}
+use Rattle.event_rules.specs.Refusals.{first_refusal, of_event}
+use Rattle.event_rules.specs.Routers.{Occurrence, Router}
+use Rattle.event_rules.specs.Ticks.{after_tick, run_out}
 use Rattle.flood.specs.Occurrences.{brings_answers}
 
 -- the answers after some part of an event
@@ -58,16 +64,16 @@ body_stays may_now moment key None p = refl
 body_stays may_now moment key (Some says) p =
     either (has_max_sequence (finite.get p.router.area.database key)) (flush moment key p)
     (cond (may_now && may_originate moment key p.router) (originate moment key says p)
-    (on_router (wait key) p)) p refl
+    (on_router (put_off key) p)) p refl
     (either (may_now && may_originate moment key p.router) (originate moment key says p)
-    (on_router (wait key) p) p refl refl)
+    (on_router (put_off key) p) p refl refl)
 
-waits : (moment : ℕ) (key : Key) (p : EventState) → of (originate_or_wait moment key p) ≡ of p
+waits : (moment : ℕ) (key : Key) (p : EventState) → of (originate_or_put_off moment key p) ≡ of p
 waits moment key p = body_stays (has_room key p.router) moment key (wanted_body p.router key) p
 
 all_due : (moment : ℕ) (keys : List Key) (p : EventState) → of (originate_due moment keys p) ≡ of p
 all_due moment [] p = refl
-all_due moment (key ∷ keys) p = all_due moment keys (originate_or_wait moment key p)
+all_due moment (key ∷ keys) p = all_due moment keys (originate_or_put_off moment key p)
     ∙ waits moment key p
 
 wanted_or_not : (b : Bool) (moment : ℕ) (key : Key) (p : EventState)
@@ -117,19 +123,19 @@ from_one : (moment number from : ℕ) (in_exchange : Bool) (b : PacketBody) (p :
 from_one moment number from in_exchange (body.Hello hello) p = refl
 from_one moment number from in_exchange (body.Description d) p = refl
 from_one moment number from in_exchange (body.Request keys) p =
-    either in_exchange (on_area (requested_from moment number keys) p) p p refl refl
+    either in_exchange (on_area (receive_request moment number keys) p) p p refl refl
 from_one moment number from in_exchange (body.Update lsas) p =
     either in_exchange (after_lsas moment number lsas p) p p (all_lsas moment number lsas p) refl
 from_one moment number from in_exchange (body.Acknowledgment headers) p =
-    either in_exchange (on_area (acknowledged_by moment number headers) p) p p refl refl
+    either in_exchange (on_area (receive_acknowledgment moment number headers) p) p p refl refl
 
 packet_stays : (moment number : ℕ) (packet : Packet) (p : EventState)
     → of (after_packet moment number packet p) ≡ of p
 packet_stays moment number packet p =
     let n : Option Neighbor = neighbor_at number p.router.area.links in
     either (is_heard p.router.id packet n)
-    (from_neighbor moment number packet.router (is_in_exchange n) packet.body p) p p
-    (from_one moment number packet.router (is_in_exchange n) packet.body p) refl
+    (from_neighbor moment number packet.router (any_exchange_or_later n) packet.body p) p p
+    (from_one moment number packet.router (any_exchange_or_later n) packet.body p) refl
 
 -- ---- the other parts
 
@@ -176,19 +182,19 @@ own_stays moment (Occurrence.LinkDown number) before after none is = ap of is
 -- ---- the end, and the complete event
 
 described_stays : (before : List Link) (moment : ℕ) (p : EventState)
-    → of (describe_router before moment p) ≡ of p
+    → of (originate_router_lsa before moment p) ≡ of p
 described_stays before moment p =
     either (links_differ before p.router.area.links && not (is_current moment p.router))
-    (originate_or_wait moment (router_key p.router.id) p) p p
+    (originate_or_put_off moment (router_key p.router.id) p) p p
     (waits moment (router_key p.router.id) p) refl
 
-later_stays : (before : List Link) (p : EventState) → of (describe_router_later before p) ≡ of p
+later_stays : (before : List Link) (p : EventState) → of (put_off_router_lsa before p) ≡ of p
 later_stays before p = either (links_differ before p.router.area.links)
-    (on_router (wait (router_key p.router.id)) p) p p refl refl
+    (on_router (put_off (router_key p.router.id)) p) p p refl refl
 
 ended_stays : (old : Router) (moment : ℕ) (p : EventState) → of (end_event old moment p) ≡ of p
 ended_stays old moment p =
-    let said : EventState = describe_router old.area.links moment (loading_done p) in
+    let said : EventState = originate_router_lsa old.area.links moment (loading_done p) in
     later_stays said.router.area.links (loading_done said)
     ∙ described_stays old.area.links moment (loading_done p)
 

@@ -4,10 +4,10 @@ use Rattle.std.proofs.Common.{append_assoc, append-nil}
 use Rattle.std.specs.List.{AllByRecursion, enumerate_from, flat_map}
 use Rattle.flood_laws.specs.adjacency.Drafts.{Drafted}
 use Rattle.flood_laws.specs.adjacency.Rooms.{HasRoom}
-use Rattle.events.specs.received.Links.{Link}
-use Rattle.events.specs.received.Outcomes.{Send}
-use Rattle.events.specs.declared.model.Out.{Out}
-use Rattle.events.specs.Packing.{outs_at}
+use Rattle.event_rules.specs.received.Links.{Link}
+use Rattle.event_rules.specs.received.Outcomes.{Send}
+use Rattle.event_rules.specs.declared.model.Out.{Out}
+use Rattle.event_rules.specs.Packing.{outs_at}
 use Rattle.flood_laws.specs.Keeping.{AreTextsAt}
 use Rattle.area_routes.specs.flooding.Drafted.{drafts_with, drafted_from, nothing_at}
 use Rattle.packing.specs.Drafts.{IsDraftAt}

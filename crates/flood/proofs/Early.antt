@@ -4,11 +4,11 @@ use Rattle.std.proofs.Common.{◌≡◌, ℕ, Bool, true, false, Option, None, S
 use Rattle.std.specs.Prelude.{if◌then◌else◌, Err}
 use Rattle.packet.specs.declared.refusal.PacketFault.{PacketFault}
 use Rattle.packet.specs.Reading.{fault_of}
-use Rattle.events.specs.declared.model.CoreError.{CoreError}
-use Rattle.events.specs.declared.model.CoreError.TheVariants as error
-use Rattle.events.specs.Refusals.{Answers, MayRunOut, bad_packet, clashes, first_refusal}
-use Rattle.events.specs.Refusals.{is_clock_back, is_interface}
-use Rattle.events.specs.Routers.{Occurrence, Router}
+use Rattle.event_rules.specs.declared.model.CoreError.{CoreError}
+use Rattle.event_rules.specs.declared.model.CoreError.TheVariants as error
+use Rattle.event_rules.specs.Refusals.{Answers, MayRunOut, bad_packet, clashes, first_refusal}
+use Rattle.event_rules.specs.Refusals.{is_clock_back, is_interface}
+use Rattle.event_rules.specs.Routers.{Occurrence, Router}
 use Rattle.flood.specs.Early.{early_refusal, early_refusal_of}
 use Rattle.flood.specs.Parts.{late_refusal}
 

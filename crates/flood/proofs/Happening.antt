@@ -2,21 +2,21 @@
 use Rattle.std.proofs.Common.{◌≡◌, ℕ, true, false, List, None, refl, sym, ap, ◌∙◌}
 use Rattle.std.specs.List.{AllByRecursion}
 use Rattle.flood_laws.specs.adjacency.Rooms.{HasRoom}
-use Rattle.events.specs.received.Outcomes.{Send}
-use Rattle.events.specs.RoomLaws.{IsRoomy}
-use Rattle.events.proofs.Roomy.{every_packet_has_room}
-use Rattle.events.specs.declared.model.Out.{Out}
+use Rattle.event_rules.specs.received.Outcomes.{Send}
+use Rattle.event_rules.specs.RoomLaws.{IsRoomy}
+use Rattle.event_rules.proofs.Roomy.{every_packet_has_room}
+use Rattle.event_rules.specs.declared.model.Out.{Out}
 use Rattle.flood_laws.specs.InOrder.{AnnouncesItsOwn, IsInOrder}
 use Rattle.flood_laws.specs.Keeping.{AnnouncesAddress, AreTexts, HoldsInstances, KeepsWhatIsKnown}
 use Rattle.flood_laws.proofs.Keeping.{events_keep_what_is_known, instances_stay_in_range}
 use Rattle.flood_laws.proofs.Known.{router_stays}
 use Rattle.flood_laws.proofs.Acknowledged.{routers_stay_in_order}
-use Rattle.events.specs.Endings.{start_event}
-use Rattle.events.specs.Events.{Happens}
-use Rattle.events.specs.Packing.{outs_of}
-use Rattle.events.specs.Refusals.{WouldExceed, exceeds, first_refusal}
-use Rattle.events.specs.Routers.{Occurrence, Router}
-use Rattle.events.proofs.Outcomes.{determined}
+use Rattle.event_rules.specs.Endings.{start_event}
+use Rattle.event_rules.specs.Events.{Happens}
+use Rattle.event_rules.specs.Packing.{outs_of}
+use Rattle.event_rules.specs.Refusals.{WouldExceed, exceeds, first_refusal}
+use Rattle.event_rules.specs.Routers.{Occurrence, Router}
+use Rattle.event_rules.proofs.Outcomes.{determined}
 use Rattle.flood.specs.declared.part.Part.{Part}
 use Rattle.flood.specs.Occurrences.{brings_answers}
 use Rattle.flood.specs.Parts.{IsMade, IsPartOf, after_part, made_state}

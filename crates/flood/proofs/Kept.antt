@@ -3,10 +3,10 @@ use Rattle.std.proofs.Common.{◌≡◌, ℕ, false, Option, None, Some, refl, s
 use Rattle.area_routes.specs.Kept.{AreKept, AreRoutesOf, KeptRoutes, ServesOnlyThen}
 use Rattle.area_routes.specs.Offers.{root_by}
 use Rattle.area_routes.proofs.AfterExternals.{unanswered}
-use Rattle.events.specs.declared.model.CoreError.{CoreError}
-use Rattle.events.specs.Refusals.{MayRunOut}
-use Rattle.events.specs.Routers.{Router}
-use Rattle.events.specs.received.Links.{Area}
+use Rattle.event_rules.specs.declared.model.CoreError.{CoreError}
+use Rattle.event_rules.specs.Refusals.{MayRunOut}
+use Rattle.event_rules.specs.Routers.{Router}
+use Rattle.event_rules.specs.received.Links.{Area}
 use Rattle.area_routes.specs.routes.Said.{said_at}
 use Rattle.area_routes.specs.routes.Tables.{Answers}
 use Rattle.flood.specs.Offers.{AreKeptNow}

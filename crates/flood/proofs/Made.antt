@@ -4,16 +4,16 @@ use Rattle.std.proofs.Common.{OnOk, IfOk, refl, sym, ap, subst, ◌∙◌}
 use Rattle.std.specs.List.{AllByRecursion}
 use Rattle.flood_laws.specs.adjacency.Drafts.{Drafted}
 use Rattle.flood_laws.specs.adjacency.Rooms.{HasRoom}
-use Rattle.events.specs.received.Outcomes.{Send}
-use Rattle.events.specs.declared.model.CoreError.{CoreError}
-use Rattle.events.specs.declared.model.CoreError.TheVariants as error
-use Rattle.events.specs.declared.model.Out.{Out}
-use Rattle.events.specs.Endings.{end_event, with_ages}
-use Rattle.events.specs.EventState.{EventState, on_area}
-use Rattle.events.specs.Packing.{outs_of}
-use Rattle.events.specs.Refusals.{exceeds}
-use Rattle.events.specs.Routers.{Router}
-use Rattle.events.specs.received.Links.{Link}
+use Rattle.event_rules.specs.received.Outcomes.{Send}
+use Rattle.event_rules.specs.declared.model.CoreError.{CoreError}
+use Rattle.event_rules.specs.declared.model.CoreError.TheVariants as error
+use Rattle.event_rules.specs.declared.model.Out.{Out}
+use Rattle.event_rules.specs.Endings.{end_event, with_ages}
+use Rattle.event_rules.specs.EventState.{EventState, on_area}
+use Rattle.event_rules.specs.Packing.{outs_of}
+use Rattle.event_rules.specs.Refusals.{exceeds}
+use Rattle.event_rules.specs.Routers.{Router}
+use Rattle.event_rules.specs.received.Links.{Link}
 use Rattle.area_routes.specs.flooding.Drafted.{nothing_at}
 use Rattle.procedures.specs.Making.{IsMaking, Makes, interfaces_of}
 use Rattle.procedures.proofs.Making.{makes_then, making_starts}

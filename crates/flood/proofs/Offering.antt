@@ -1,7 +1,7 @@
 -- Properties of a router's parts are those of the router, and conversely.
 use Rattle.std.proofs.Common.{◌≡◌, ℕ, subst, sym}
-use Rattle.events.specs.Routers.{Router}
-use Rattle.events.specs.received.Links.{Area}
+use Rattle.event_rules.specs.Routers.{Router}
+use Rattle.event_rules.specs.received.Links.{Area}
 use Rattle.area_routes.specs.routes.Tables.{Answers}
 
 module _ (P : ℕ → Area → ℕ → Answers → Type 0) (r : Router) (id : ℕ) (area : Area) (moment : ℕ)

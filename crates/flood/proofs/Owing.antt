@@ -5,7 +5,7 @@ use Rattle.std.specs.Prelude.{slice_get}
 use Rattle.area_routes.specs.flooding.Kept.{KeptLink}
 use Rattle.area_routes.specs.flooding.Links.{present}
 use Rattle.area_routes.specs.flooding.Owed.{owed_on}
-use Rattle.events.specs.received.Links.{Link, neighbor_at, neighbor_on}
+use Rattle.event_rules.specs.received.Links.{Link, neighbor_at, neighbor_on}
 
 none_behind : (links : List KeptLink) (place : ℕ) → length links < suc place
     → slice_get (map present links) place ≡ None

@@ -1,10 +1,10 @@
 -- The refusal of an event after its own part is read.
 use Rattle.std.proofs.Common.{◌≡◌, ℕ, None, ◌∙◌}
 use Rattle.std.specs.Prelude.{Result, Ok, Err}
-use Rattle.events.specs.declared.model.CoreError.{CoreError}
-use Rattle.events.specs.declared.model.CoreError.TheVariants as error
-use Rattle.events.specs.Refusals.{Answers}
-use Rattle.events.specs.Routers.{Occurrence, Router}
+use Rattle.event_rules.specs.declared.model.CoreError.{CoreError}
+use Rattle.event_rules.specs.declared.model.CoreError.TheVariants as error
+use Rattle.event_rules.specs.Refusals.{Answers}
+use Rattle.event_rules.specs.Routers.{Occurrence, Router}
 use Rattle.flood.specs.declared.part.Part.{Part}
 use Rattle.flood.specs.Early.{early_refusal}
 use Rattle.flood.specs.Parts.{IsPartOf, Tells, TellsLimit, late_refusal, made_state}

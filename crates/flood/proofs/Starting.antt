@@ -4,9 +4,9 @@ use Rattle.std.proofs.Common.{sym, ap, ◌∙◌, arith}
 use Rattle.std.proofs.lemmas.Bool.{leb-true}
 use Rattle.std.proofs.lemmas.List.{length-map}
 use Rattle.flood_laws.specs.adjacency.declared.interface.Interface.{Interface}
-use Rattle.events.specs.declared.model.Config.{Config}
-use Rattle.events.specs.EventState.{EventState}
-use Rattle.events.specs.Routers.{fresh_link, in_profile}
+use Rattle.event_rules.specs.declared.model.Config.{Config}
+use Rattle.event_rules.specs.EventState.{EventState}
+use Rattle.event_rules.specs.Routers.{fresh_link, in_profile}
 use Rattle.area_routes.specs.flooding.Kept.{KeptLink}
 use Rattle.area_routes.specs.flooding.Links.{present}
 use Rattle.procedures.specs.Kept.{KeptRouter}

@@ -1,8 +1,8 @@
 -- The drafts of an event, one for each interface.
 use Rattle.std.specs.Prelude.{ℕ, ◌+◌, List, [], ◌∷◌}
 use Rattle.flood_laws.specs.adjacency.Drafts.{Drafted}
-use Rattle.events.specs.received.Links.{Link}
-use Rattle.events.specs.received.Outcomes.{Send}
+use Rattle.event_rules.specs.received.Links.{Link}
+use Rattle.event_rules.specs.received.Outcomes.{Send}
 use Rattle.packing.specs.Drafts.{IsDraftAt}
 
 -- what is sent on each link is in its draft; `n` is the number of the first link

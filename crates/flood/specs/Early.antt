@@ -2,10 +2,10 @@
 -- interface.
 use Rattle.std.specs.Prelude.{if◌then◌else◌, Option, None, Some}
 use Rattle.words.specs.Numbers.{Moment}
-use Rattle.events.specs.declared.model.CoreError.{CoreError}
-use Rattle.events.specs.declared.model.CoreError.TheVariants as error
-use Rattle.events.specs.Refusals.{is_clock_back, no_interface}
-use Rattle.events.specs.Routers.{Occurrence, Router}
+use Rattle.event_rules.specs.declared.model.CoreError.{CoreError}
+use Rattle.event_rules.specs.declared.model.CoreError.TheVariants as error
+use Rattle.event_rules.specs.Refusals.{is_clock_back, no_interface}
+use Rattle.event_rules.specs.Routers.{Occurrence, Router}
 
 -- for the interface of a packet, or of a link that went down
 abbrev pub early_refusal_of : Router → Occurrence → Option CoreError

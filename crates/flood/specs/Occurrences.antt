@@ -2,7 +2,7 @@
 use Rattle.std.specs.Prelude.{ℕ, Bool, true, false, List, map}
 use Rattle.words.specs.declared.route.Route.{Route}
 use Rattle.hooks.specs.Questions.{RouteAnswer}
-use Rattle.events.specs.Routers.{Occurrence}
+use Rattle.event_rules.specs.Routers.{Occurrence}
 use Rattle.flood.specs.declared.event.Event.{Event}
 use Rattle.flood.specs.declared.event.Event.TheVariants as event
 

@@ -3,7 +3,7 @@
 use Rattle.std.specs.Prelude.{List}
 use Rattle.words.specs.declared.route.Route.{Route}
 use Rattle.words.specs.declared.route.TableRow.{TableRow}
-use Rattle.events.specs.Routers.{Router}
+use Rattle.event_rules.specs.Routers.{Router}
 use Rattle.area_routes.specs.Kept.{AreKept, KeptRoutes, ServesOnlyThen}
 use Rattle.area_routes.specs.Offers.{AreCandidatesOf, AreOffered, IsStaleOf, IsTableOf}
 

@@ -2,8 +2,8 @@
 use Rattle.std.specs.Prelude.{ℕ}
 use Rattle.words.specs.Numbers.{InterfaceNumber}
 use Rattle.area_routes.specs.flooding.Owed.{owed_on}
-use Rattle.events.specs.received.Links.{neighbor_at}
-use Rattle.events.specs.Routers.{Router}
+use Rattle.event_rules.specs.received.Links.{neighbor_at}
+use Rattle.event_rules.specs.Routers.{Router}
 
 -- what the one at the interface with this number owes; nothing if there is none
 abbrev pub owed_at : Router → InterfaceNumber → ℕ

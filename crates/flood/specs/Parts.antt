@@ -4,19 +4,19 @@ use Rattle.std.specs.Prelude.{◌≡◌, ℕ, ◌≤◌, true, false, List, [], 
 use Rattle.std.specs.Prelude.{Err, if◌then◌else◌}
 use Rattle.words.specs.Numbers.{Moment}
 use Rattle.packet.specs.Reading.{fault_of}
-use Rattle.events.specs.declared.model.CoreError.{CoreError}
-use Rattle.events.specs.declared.model.CoreError.TheVariants as error
-use Rattle.events.specs.declared.model.Out.{Out}
-use Rattle.events.specs.Commands.{after_install, after_link_down, after_redistribute}
-use Rattle.events.specs.Commands.{after_withdraw}
-use Rattle.events.specs.Endings.{end_event, with_ages}
-use Rattle.events.specs.Events.{OwnPart}
-use Rattle.events.specs.EventState.{EventState, on_area}
-use Rattle.events.specs.Packets.{after_packet}
-use Rattle.events.specs.Packing.{outs_of}
-use Rattle.events.specs.Refusals.{bad_packet, clashes, exceeds}
-use Rattle.events.specs.Routers.{Occurrence, Router}
-use Rattle.events.specs.Ticks.{after_tick}
+use Rattle.event_rules.specs.declared.model.CoreError.{CoreError}
+use Rattle.event_rules.specs.declared.model.CoreError.TheVariants as error
+use Rattle.event_rules.specs.declared.model.Out.{Out}
+use Rattle.event_rules.specs.Commands.{after_install, after_link_down, after_redistribute}
+use Rattle.event_rules.specs.Commands.{after_withdraw}
+use Rattle.event_rules.specs.Endings.{end_event, with_ages}
+use Rattle.event_rules.specs.Events.{OwnPart}
+use Rattle.event_rules.specs.EventState.{EventState, on_area}
+use Rattle.event_rules.specs.Packets.{after_packet}
+use Rattle.event_rules.specs.Packing.{outs_of}
+use Rattle.event_rules.specs.Refusals.{bad_packet, clashes, exceeds}
+use Rattle.event_rules.specs.Routers.{Occurrence, Router}
+use Rattle.event_rules.specs.Ticks.{after_tick}
 use Rattle.flood.specs.declared.part.Part.{Part}
 use Rattle.flood.specs.declared.part.Part.TheVariants as part
 

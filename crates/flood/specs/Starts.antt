@@ -1,7 +1,7 @@
 -- Links at the start.
 use Rattle.flood_laws.specs.adjacency.Drafts.{nothing_drafted}
 use Rattle.flood_laws.specs.adjacency.declared.interface.Interface.{Interface}
-use Rattle.events.specs.Routers.{fresh_link}
+use Rattle.event_rules.specs.Routers.{fresh_link}
 use Rattle.area_routes.specs.flooding.Kept.{KeptLink}
 
 -- a link on which nothing was received, sent or drafted, settled

@@ -1,8 +1,8 @@
 //! When the answers of a `Redistribute` clash.
 ghost use Rattle.std.specs.Prelude.{◌≡◌, IsTrue};
 ghost use Rattle.std.specs.FinMap as finite;
-ghost use Rattle.events.specs.Originations.{external_key};
-ghost use Rattle.events.specs.Refusals.{clashes, is_taken};
+ghost use Rattle.event_rules.specs.Originations.{external_key};
+ghost use Rattle.event_rules.specs.Refusals.{clashes, is_taken};
 
 use procedures::{Router, external_key, same_external, same_network};
 use words::{External, Prefix};

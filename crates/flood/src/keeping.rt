@@ -1,9 +1,9 @@
 //! The end of an event: what it sends, and what is kept for routes between events.
 ghost use Rattle.std.specs.Prelude.{◌≡◌, ◌≤◌, List, IfOk, OnErr, OnOk, false, length};
 ghost use Rattle.area_routes.specs.Kept.{AreKept, ServesOnlyThen};
-ghost use Rattle.events.specs.received.Links.{Link as LinkOfArea};
-ghost use Rattle.events.specs.received.Outcomes.{Send};
-ghost use Rattle.events.specs.Packing.{outs_of};
+ghost use Rattle.event_rules.specs.received.Links.{Link as LinkOfArea};
+ghost use Rattle.event_rules.specs.received.Outcomes.{Send};
+ghost use Rattle.event_rules.specs.Packing.{outs_of};
 ghost use Rattle.flood_laws.specs.Keeping.{AreTexts};
 ghost use Rattle.flood.specs.Drafts.{AreDrafts};
 ghost use Rattle.flood.specs.Occurrences.{brings_answers, occurrence_of};
@@ -13,7 +13,7 @@ ghost use Rattle.flood.specs.Parts.{TellsLimit};
 use crate::event::Event;
 use crate::sending::outs;
 use area_routes::AreaRoutes;
-use events::{CoreError, Out};
+use event_rules::{CoreError, Out};
 use flood_laws::Draft;
 use procedures::Router;
 use std::alloc::{AllocError, Global};

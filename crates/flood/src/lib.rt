@@ -19,6 +19,6 @@ mod taking;
 
 pub use area_routes::Offered;
 pub use event::Event;
-pub use events::{Config, ConfigError, CoreError, Out};
+pub use event_rules::{Config, ConfigError, CoreError, Out};
 pub use flood_laws::{Interface, NeighborState};
 pub use router_core::Core;

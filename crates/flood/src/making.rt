@@ -28,7 +28,7 @@ pub fn make_part(
         }
         Part::Withdraw(prefix) => withdraw(router, alloc, moment, prefix),
         Part::Install(answers) => {
-            router.install(answers);
+            router.set_answers(answers);
             Ok(())
         }
         Part::LinkDown(number) => {

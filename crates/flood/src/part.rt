@@ -1,7 +1,7 @@
 //! The own part of an event, after its bytes are parsed and its answers checked for agreement.
 ghost use Rattle.std.specs.Prelude.{◌≡◌, ◌≤◌, ◌<◌, ◌^◌, ℕ, IfOk, None, length};
-ghost use Rattle.events.specs.Refusals.{bad_packet};
-ghost use Rattle.events.specs.Routers.{Occurrence};
+ghost use Rattle.event_rules.specs.Refusals.{bad_packet};
+ghost use Rattle.event_rules.specs.Routers.{Occurrence};
 ghost use Rattle.packet.specs.Reading.{fault_of};
 ghost use Rattle.flood_laws.specs.Keeping.{AnnouncesAddress};
 ghost use Rattle.flood.specs.Early.{early_refusal_of};
@@ -10,7 +10,7 @@ ghost use Rattle.flood.specs.Parts.{HasInterface, IsPartOf, Tells, late_refusal}
 
 use crate::clash::clashes;
 use crate::event::{Event, check_address};
-use events::CoreError;
+use event_rules::CoreError;
 use hooks::{PriceAnswer, TagAnswer, VetoAnswer};
 use packet::{Packet, read};
 use procedures::Router;

@@ -1,9 +1,9 @@
 //! Which configurations are valid, and the links at the start.
 ghost use Rattle.std.specs.Prelude.{◌≡◌, ◌==◌, ◌<◌, ◌^◌};
 ghost use Rattle.std.specs.List.{list_all, list_any};
-ghost use Rattle.events.specs.Routers.{are_distinct, in_profile, is_lawful};
+ghost use Rattle.event_rules.specs.Routers.{are_distinct, in_profile, is_lawful};
 
-use events::Config;
+use event_rules::Config;
 use flood_laws::Interface;
 use words::{Address, MAX_AGE};
 

@@ -1,11 +1,11 @@
 //! The router: it processes events one by one, and returns what it sends.
 ghost use Rattle.std.specs.Prelude.{◌≡◌, ◌↔◌, IfOk, IsErrOf, OnErr, false, length, IsTrue};
 ghost use Rattle.std.specs.FinMap as finite;
-ghost use Rattle.events.specs.Commands.{is_for};
-ghost use Rattle.events.specs.Events.{Happens, initial};
-ghost use Rattle.events.specs.Originations.{external_key};
-ghost use Rattle.events.specs.Refusals.{Answers};
-ghost use Rattle.events.specs.Routers.{in_profile, shown_at};
+ghost use Rattle.event_rules.specs.Commands.{is_for};
+ghost use Rattle.event_rules.specs.Events.{Happens, initial};
+ghost use Rattle.event_rules.specs.Originations.{external_key};
+ghost use Rattle.event_rules.specs.Refusals.{Answers};
+ghost use Rattle.event_rules.specs.Routers.{in_profile, shown_at};
 ghost use Rattle.flood_laws.specs.Keeping.{KeepsWhatIsKnown};
 ghost use Rattle.flood.specs.Early.{early_refusal};
 ghost use Rattle.flood.specs.Offers.{AreCandidatesNow, IsOffered, IsStaleNow, IsTableNow};
@@ -17,7 +17,7 @@ use crate::profile::in_profile;
 use crate::start::begin;
 use crate::taking::{refuses, take};
 use area_routes::{AreaRoutes, Offered};
-use events::{Config, ConfigError, CoreError, Out};
+use event_rules::{Config, ConfigError, CoreError, Out};
 use flood_laws::{Lsdb, NeighborState};
 use procedures::{Router, external_key, same_network};
 use std::alloc::{AllocError, Global};
@@ -42,9 +42,9 @@ impl Model for Core {
     ghost use Rattle.flood_laws.specs.lsdb.Copies.{DatabaseCopy};
     ghost use Rattle.flood_laws.specs.lsdb.Keys.{coded_key, key_cmp};
     ghost use Rattle.flood_laws.specs.adjacency.Codes.{coded_headers, coded_keys, coded_lists};
-    ghost use Rattle.events.specs.RoomLaws.{IsRoomy};
-    ghost use Rattle.events.specs.Refusals.{exceeds};
-    ghost use Rattle.events.specs.Routers.{Router as Shown};
+    ghost use Rattle.event_rules.specs.RoomLaws.{IsRoomy};
+    ghost use Rattle.event_rules.specs.Refusals.{exceeds};
+    ghost use Rattle.event_rules.specs.Routers.{Router as Shown};
     ghost use Rattle.area_routes.specs.flooding.Drafted.{nothing_at};
     ghost use Rattle.flood.specs.Offers.{AreKeptNow};
     ghost use Rattle.flood_laws.specs.InOrder.{IsInOrder};

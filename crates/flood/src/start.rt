@@ -1,13 +1,13 @@
 //! A router at its start.
 ghost use Rattle.std.specs.Prelude.{◌≡◌, IfOk, OnOk, map, true};
-ghost use Rattle.events.specs.Events.{initial};
-ghost use Rattle.events.specs.Routers.{in_profile, unannounced_router};
+ghost use Rattle.event_rules.specs.Events.{initial};
+ghost use Rattle.event_rules.specs.Routers.{in_profile, unannounced_router};
 ghost use Rattle.flood.specs.Starts.{fresh_kept};
 
 use area_routes::Link;
-use events::Config;
+use event_rules::Config;
 use flood_laws::Interface;
-use procedures::{Router, originate_or_wait};
+use procedures::{Router, originate_or_put_off};
 use std::alloc::{AllocError, Global};
 use words::router_key;
 
@@ -22,11 +22,15 @@ fn links_of(alloc: Global, interfaces: &[Interface]) -> Result<Vec<Link>, AllocE
 }
 
 // Installs the router-LSA of a router without neighbors in its database.
-fn describe_links(router: &mut Router, alloc: Global, config: &Config) -> Result<(), AllocError>
+fn originate_first_router_lsa(
+    router: &mut Router,
+    alloc: Global,
+    config: &Config,
+) -> Result<(), AllocError>
     requires { router.old.present ≡ unannounced_router config.now }
     ensures { OnOk result (router.new.present ≡ initial config.now) }
 {
-    originate_or_wait(router, alloc, config.start, &router_key(config.router))
+    originate_or_put_off(router, alloc, config.start, &router_key(config.router))
 }
 
 /// A router without neighbors that has originated its router-LSA (RFC 2328, section 12.4.1).
@@ -38,7 +42,7 @@ pub fn begin(alloc: Global, config: &Config) -> Result<Router, AllocError>
 {
     let links = links_of(alloc, config.interfaces.as_slice())?;
     let mut router = Router::new(alloc, config.router, links, config.start);
-    match describe_links(&mut router, alloc, config) {
+    match originate_first_router_lsa(&mut router, alloc, config) {
         Ok(()) => Ok(router),
         Err(error) => {
             router.close();

@@ -1,8 +1,8 @@
 //! One event, before it is settled or rolled back.
 ghost use Rattle.std.specs.Prelude.{◌≡◌, IfOk, None, OnErr, OnOk, false};
-ghost use Rattle.events.specs.RoomLaws.{IsRoomy};
-ghost use Rattle.events.specs.Events.{Happens};
-ghost use Rattle.events.specs.Refusals.{Answers, exceeds, is_interface, no_interface};
+ghost use Rattle.event_rules.specs.RoomLaws.{IsRoomy};
+ghost use Rattle.event_rules.specs.Events.{Happens};
+ghost use Rattle.event_rules.specs.Refusals.{Answers, exceeds, is_interface, no_interface};
 ghost use Rattle.area_routes.specs.flooding.Drafted.{nothing_at};
 ghost use Rattle.flood_laws.specs.InOrder.{IsInOrder};
 ghost use Rattle.flood_laws.specs.Keeping.{HoldsInstances, KeepsWhatIsKnown};
@@ -15,7 +15,7 @@ use crate::keeping::finish;
 use crate::making::make_part;
 use crate::part::read_part;
 use area_routes::AreaRoutes;
-use events::{CoreError, Out};
+use event_rules::{CoreError, Out};
 use procedures::{Router, end_event, full_routers};
 use std::alloc::Global;
 use words::Second;

@@ -17,16 +17,16 @@ use Rattle.adjacency.proofs.Maps.{AllIn, IfThere, OfEntry, entries_in, inserted_
 use Rattle.received.specs.Holds.{Holds}
 use Rattle.received.specs.Links.{neighbor_at}
 use Rattle.received.proofs.Holding.{one_holds}
-use Rattle.events.proofs.Walk.{Brings, Invariant, IfRead, IsKeptByParts, MayGrow, OfBrought}
-use Rattle.events.proofs.Walk.{OfBytes, OfEvent}
-use Rattle.events.specs.declared.model.Config.{Config}
-use Rattle.events.specs.declared.model.Out.{Out}
-use Rattle.events.specs.Endings.{end_event, start_event}
-use Rattle.events.specs.EventState.{EventState}
-use Rattle.events.specs.Events.{Happens, Run, Step, initial}
-use Rattle.events.specs.LsaInstances.{LsaInstance, instance_of_lsa}
-use Rattle.events.specs.Originations.{due_keys, external_key, is_due, wanted_keys}
-use Rattle.events.specs.Routers.{Occurrence, Router}
+use Rattle.event_rules.proofs.Walk.{Brings, Invariant, IfRead, IsKeptByParts, MayGrow, OfBrought}
+use Rattle.event_rules.proofs.Walk.{OfBytes, OfEvent}
+use Rattle.event_rules.specs.declared.model.Config.{Config}
+use Rattle.event_rules.specs.declared.model.Out.{Out}
+use Rattle.event_rules.specs.Endings.{end_event, start_event}
+use Rattle.event_rules.specs.EventState.{EventState}
+use Rattle.event_rules.specs.Events.{Happens, Run, Step, initial}
+use Rattle.event_rules.specs.LsaInstances.{LsaInstance, instance_of_lsa}
+use Rattle.event_rules.specs.Originations.{due_keys, external_key, is_due, wanted_keys}
+use Rattle.event_rules.specs.Routers.{Occurrence, Router}
 use Rattle.flood_laws.specs.Retransmissions.{AreOfTheDatabase, IsOfCopy}
 use Rattle.flood_laws.specs.InOrder.{AnnouncesItsOwn, IsInOrder, RoutersStayInOrder}
 use Rattle.flood_laws.specs.Keeping.{WhatIsTakenOffWasTold}

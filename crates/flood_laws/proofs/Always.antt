@@ -7,9 +7,9 @@ use Rattle.adjacency.proofs.Facts.{Bare, Sound, bare_kept, sound_kept, sound_lis
 use Rattle.adjacency.proofs.Kept.{Fact, IsKept, Of}
 use Rattle.received.specs.Holds.{Holds, HoldsOfEach}
 use Rattle.received.specs.Links.{Link}
-use Rattle.events.specs.Events.{Run, Step, initial}
+use Rattle.event_rules.specs.Events.{Run, Step, initial}
 use Rattle.flood_laws.specs.NeighborLaws.{FullNeighborsRequestNothing, IsAlwaysSo, ListsAreSound}
-use Rattle.events.specs.Routers.{Router}
+use Rattle.event_rules.specs.Routers.{Router}
 use Rattle.flood_laws.proofs.Invariants.{event_kept, initial_kept}
 
 -- from one property to another

@@ -29,28 +29,36 @@ use Rattle.received.specs.Cases.{Case}
 use Rattle.received.specs.Links.{Link, any_exchange_or_loading, change_link, neighbor_at}
 use Rattle.received.specs.Outcomes.{Outcome, sends_at, on_database, on_links, one_neighbor, sending}
 use Rattle.received.specs.Updates.{after_case, case_at, goes_on}
-use Rattle.events.specs.Commands.{after_redistribute, after_withdraw, announce, announce_as}
-use Rattle.events.specs.Commands.{answered_external, end_want, is_announced_as, is_for, ls_infinity}
-use Rattle.events.specs.Commands.{taken_down, unannounce}
-use Rattle.events.specs.Endings.{start_event, describe_router, describe_router_later}
-use Rattle.events.specs.Endings.{link_loading_done, loading_done, end_event, is_current}
-use Rattle.events.specs.Endings.{links_differ, request_all, stays}
-use Rattle.events.specs.Events.{OwnPart}
-use Rattle.events.specs.Originations.{due_keys, external_key, flush, flush_copy}
-use Rattle.events.specs.Originations.{forget_originations, has_max_sequence, has_room}
-use Rattle.events.specs.Originations.{install_and_flood, is_wanted, may_originate, new_instance}
-use Rattle.events.specs.Originations.{originate, originate_anyway, originate_body, originate_due}
-use Rattle.events.specs.Originations.{originate_or_flush, originate_or_wait}
-use Rattle.events.specs.Originations.{receive_self_originated, router_key, wait, wanted_body}
-use Rattle.events.specs.Packets.{acknowledged_by, after_hello, after_lsa, after_lsas, after_packet}
-use Rattle.events.specs.Packets.{after_self_originated, after_unread, case_in, describe_to}
-use Rattle.events.specs.Packets.{from_neighbor, is_from, is_heard, is_hello, is_in_exchange}
-use Rattle.events.specs.Packets.{is_there, requested_from, requested_lsas}
-use Rattle.events.specs.EventState.{EventState, flood_from_nobody, on_area, on_router}
-use Rattle.events.specs.Routers.{Occurrence, Router}
-use Rattle.events.specs.Ticks.{acknowledge_all, after_tick, send_hellos, run_out, send_all_again}
-use Rattle.events.proofs.Walk.{Brings, IfRead, Invariant, IsKeptByParts, MayGrow, OfBrought}
-use Rattle.events.proofs.Walk.{OfBytes, OfEvent, OfOutcome, outcome}
+use Rattle.event_rules.specs.Commands.{after_redistribute, after_withdraw, announce, announce_as}
+use Rattle.event_rules.specs.Commands.{answered_external, end_want, is_announced_as, is_for}
+use Rattle.event_rules.specs.Commands.{ls_infinity}
+use Rattle.event_rules.specs.Commands.{taken_down, unannounce}
+use Rattle.event_rules.specs.Endings.{originate_router_lsa, put_off_router_lsa, start_event}
+use Rattle.event_rules.specs.Endings.{link_loading_done, loading_done, end_event, is_current}
+use Rattle.event_rules.specs.Endings.{links_differ, request_all, stays}
+use Rattle.event_rules.specs.Events.{OwnPart}
+use Rattle.event_rules.specs.Originations.{due_keys, external_key, flush, flush_copy}
+use Rattle.event_rules.specs.Originations.{forget_originations, has_max_sequence, has_room}
+use Rattle.event_rules.specs.Originations.{install_and_flood, is_wanted, may_originate}
+use Rattle.event_rules.specs.Originations.{new_instance}
+use Rattle.event_rules.specs.Originations.{originate, originate_anyway, originate_body}
+use Rattle.event_rules.specs.Originations.{originate_due}
+use Rattle.event_rules.specs.Originations.{originate_or_flush, originate_or_put_off}
+use Rattle.event_rules.specs.Originations.{put_off, receive_self_originated, router_key}
+use Rattle.event_rules.specs.Originations.{wanted_body}
+use Rattle.event_rules.specs.Packets.{after_lsa, after_lsas, after_packet, receive_acknowledgment}
+use Rattle.event_rules.specs.Packets.{receive_hello}
+use Rattle.event_rules.specs.Packets.{after_self_originated, after_unread, case_in}
+use Rattle.event_rules.specs.Packets.{receive_description}
+use Rattle.event_rules.specs.Packets.{any_exchange_or_later, from_neighbor, is_from, is_heard}
+use Rattle.event_rules.specs.Packets.{is_hello}
+use Rattle.event_rules.specs.Packets.{is_there, receive_request, requested_lsas}
+use Rattle.event_rules.specs.EventState.{EventState, flood_from_nobody, on_area, on_router}
+use Rattle.event_rules.specs.Routers.{Occurrence, Router}
+use Rattle.event_rules.specs.Ticks.{send_acknowledgments, after_tick, send_hellos, run_out}
+use Rattle.event_rules.specs.Ticks.{send_all_again}
+use Rattle.event_rules.proofs.Walk.{Brings, IfRead, Invariant, IsKeptByParts, MayGrow, OfBrought}
+use Rattle.event_rules.proofs.Walk.{OfBytes, OfEvent, OfOutcome, outcome}
 use Rattle.flood_laws.specs.NewInstances.{lsas_brought}
 use Rattle.flood_laws.proofs.Lists.{later_is}
 use Rattle.flood_laws.proofs.Taken.{named_first}
@@ -97,17 +105,17 @@ pub record IsKeptToo (i : Invariant) (X Y : Lately) (start : EventState) (moment
       → X (after_case case moment number lsa o) t
   pub hello : (number : ℕ) (packet : Packet) (h : Hello) → IsHeard start event number packet
       → packet.body ≡ body.Hello h → OfEvent i start → X (outcome start) start.router.originated
-      → X (after_hello start.router.id moment number packet.router h (outcome start))
+      → X (receive_hello start.router.id moment number packet.router h (outcome start))
       start.router.originated
   pub description : (number : ℕ) (packet : Packet) (d : Description)
       → IsHeard start event number packet → packet.body ≡ body.Description d → OfEvent i start
       → X (outcome start) start.router.originated
-      → X (describe_to start.router.id moment number d (outcome start))
+      → X (receive_description start.router.id moment number d (outcome start))
       start.router.originated
   pub acknowledgment : (number : ℕ) (packet : Packet) (headers : List Header)
       → IsHeard start event number packet → packet.body ≡ body.Acknowledgment headers
       → OfEvent i start → X (outcome start) start.router.originated
-      → X (acknowledged_by moment number headers (outcome start)) start.router.originated
+      → X (receive_acknowledgment moment number headers (outcome start)) start.router.originated
   pub requested : (number : ℕ) (keys : List Key) (o : Outcome) (t : ByKey ℕ) → OfOutcome i o → X o t
       → X (sending moment (sends_at number
       (map Content.Updates (requested_lsas moment o.area.database keys))) o) t
@@ -118,7 +126,7 @@ pub record IsKeptToo (i : Invariant) (X Y : Lately) (start : EventState) (moment
       → X o (forget_originations moment r).originated
   pub inactive : KeepsToo i X (on_links (map (run_out moment)))
   pub again : KeepsToo i X (send_all_again moment)
-  pub acknowledges : KeepsToo i X (acknowledge_all moment)
+  pub acknowledges : KeepsToo i X (send_acknowledgments moment)
   pub hellos : KeepsToo i X (send_hellos moment)
   -- a command
   pub link_down : (number : ℕ) → KeepsToo i X (on_links (change_link number taken_down))
@@ -173,7 +181,7 @@ module _ (i : Invariant) (kept : IsKeptByParts i) (X Y : Lately) (old : Router) 
       (λ a x. copy_flushed_too key (finite.get p.router.area.database key) (outcome p)
       p.router.originated refl a x) h
 
-  waits_kept : (key : Key) (p : EventState) → InProgress p → InProgress (on_router (wait key) p)
+  waits_kept : (key : Key) (p : EventState) → InProgress p → InProgress (on_router (put_off key) p)
   waits_kept key p h = record {
     so = record { area = h.so.area; announced = h.so.announced };
     lately = h.lately;
@@ -187,10 +195,10 @@ module _ (i : Invariant) (kept : IsKeptByParts i) (X Y : Lately) (old : Router) 
       chosen InProgress (has_max_sequence (finite.get p.router.area.database key))
       (flush moment key p)
       (cond (may_now && may_originate moment key p.router) (originate moment key says p)
-      (on_router (wait key) p))
+      (on_router (put_off key) p))
       (λ is. flush_kept key p h)
       (λ is. chosen InProgress (may_now && may_originate moment key p.router)
-      (originate moment key says p) (on_router (wait key) p)
+      (originate moment key says p) (on_router (put_off key) p)
       (λ may.
       let both = both_true may_now (may_originate moment key p.router) may in
       record {
@@ -203,7 +211,7 @@ module _ (i : Invariant) (kept : IsKeptByParts i) (X Y : Lately) (old : Router) 
       (λ may. waits_kept key p h))
 
   originate_or_wait_kept : (key : Key) (p : EventState) → i.of_key key → InProgress p
-      → InProgress (originate_or_wait moment key p)
+      → InProgress (originate_or_put_off moment key p)
   originate_or_wait_kept key p own h =
       body_kept (has_room key p.router) key (wanted_body p.router key) p own refl
       (λ is. MayGrow.HasRoom is) h
@@ -211,7 +219,7 @@ module _ (i : Invariant) (kept : IsKeptByParts i) (X Y : Lately) (old : Router) 
   due_kept : (keys : List Key) (p : EventState) → AllByRecursion i.of_key keys → InProgress p
       → InProgress (originate_due moment keys p)
   due_kept [] p own h = h
-  due_kept (key ∷ keys) p own h = due_kept keys (originate_or_wait moment key p) own.1
+  due_kept (key ∷ keys) p own h = due_kept keys (originate_or_put_off moment key p) own.1
       (originate_or_wait_kept key p own.0 h)
 
   wanted_settled : (b : Bool) (key : Key) (p : EventState) → i.of_key key → InProgress p
@@ -275,7 +283,7 @@ module _ (i : Invariant) (kept : IsKeptByParts i) (X Y : Lately) (old : Router) 
         (λ is. then_so)
 
     requests_answered : (keys : List Key) (o : Outcome) → OfOutcome i o
-        → OfOutcome i (requested_from moment number keys o)
+        → OfOutcome i (receive_request moment number keys o)
     requests_answered keys o h =
         chosen (OfOutcome i) (list_all (is_there o.area.database) keys)
         (sending moment (sends_at number
@@ -284,7 +292,7 @@ module _ (i : Invariant) (kept : IsKeptByParts i) (X Y : Lately) (old : Router) 
         (λ is. kept.requested moment number keys o h) (λ is. kept.mismatch moment number o h)
 
     requests_answered_too : (keys : List Key) (o : Outcome) (t : ByKey ℕ) → OfOutcome i o → X o t
-        → X (requested_from moment number keys o) t
+        → X (receive_request moment number keys o) t
     requests_answered_too keys o t h x =
         chosen (λ (q : Outcome). X q t) (list_all (is_there o.area.database) keys)
         (sending moment (sends_at number
@@ -330,22 +338,22 @@ module _ (i : Invariant) (kept : IsKeptByParts i) (X Y : Lately) (old : Router) 
   }) → (in_exchange : Bool) → OfBrought i.of_lsa b → InProgress start
       → InProgress (from_neighbor moment number from in_exchange b start)
   from_neighbor_kept number from (body.Hello h) heard in_exchange so p =
-      on_area_kept (after_hello start.router.id moment number from h) start
+      on_area_kept (receive_hello start.router.id moment number from h) start
       (λ a. kept.hello start.router.id moment number from h (outcome start) a)
       (λ a x. too.hello number (record {
         router = from;
         body = body.Hello h;
       }) h heard refl p.so x) p
   from_neighbor_kept number from (body.Description d) heard in_exchange so p =
-      on_area_kept (describe_to start.router.id moment number d) start
+      on_area_kept (receive_description start.router.id moment number d) start
       (λ a. kept.description start.router.id moment number d (outcome start) a)
       (λ a x. too.description number (record {
         router = from;
         body = body.Description d;
       }) d heard refl p.so x) p
   from_neighbor_kept number from (body.Request keys) heard in_exchange so p =
-      chosen InProgress in_exchange (on_area (requested_from moment number keys) start) start
-      (λ is. on_area_kept (requested_from moment number keys) start
+      chosen InProgress in_exchange (on_area (receive_request moment number keys) start) start
+      (λ is. on_area_kept (receive_request moment number keys) start
       (λ a. requests_answered number (record {
         router = from;
         body = body.Request keys;
@@ -361,8 +369,9 @@ module _ (i : Invariant) (kept : IsKeptByParts i) (X Y : Lately) (old : Router) 
         body = body.Update lsas;
       }) heard lsas start (all_among lsas) refl so p) (λ is. p)
   from_neighbor_kept number from (body.Acknowledgment headers) heard in_exchange so p =
-      chosen InProgress in_exchange (on_area (acknowledged_by moment number headers) start) start
-      (λ is. on_area_kept (acknowledged_by moment number headers) start
+      chosen InProgress in_exchange (on_area (receive_acknowledgment moment number headers) start)
+      start
+      (λ is. on_area_kept (receive_acknowledgment moment number headers) start
       (λ a. kept.acknowledgment moment number headers (outcome start) a)
       (λ a x. too.acknowledgment number (record {
         router = from;
@@ -380,14 +389,14 @@ module _ (i : Invariant) (kept : IsKeptByParts i) (X Y : Lately) (old : Router) 
   packet_kept number bytes packet is text so h =
       let n : Option Neighbor = neighbor_at number start.router.area.links in
       chosen InProgress (is_heard start.router.id packet n)
-      (from_neighbor moment number packet.router (is_in_exchange n) packet.body start) start
+      (from_neighbor moment number packet.router (any_exchange_or_later n) packet.body start) start
       (λ heard. from_neighbor_kept number packet.router packet.body
       (record {
         bytes = bytes;
         is = is;
         text = text;
         from = λ other. or_not _ (is_hello packet.body) (is_from packet.router n) heard other;
-      }) (is_in_exchange n) so h) (λ heard. h)
+      }) (any_exchange_or_later n) so h) (λ heard. h)
 
   -- ---- a Tick
 
@@ -408,16 +417,17 @@ module _ (i : Invariant) (kept : IsKeptByParts i) (X Y : Lately) (old : Router) 
       let t : ByKey ℕ = renewed.router.originated in
       let again : OfOutcome i (send_all_again moment o) = kept.again moment o so.so.area in
       let again_too : X (send_all_again moment o) t = too.again o t so.so.area so.lately in
-      let acknowledged : OfOutcome i (acknowledge_all moment (send_all_again moment o)) =
+      let acknowledged : OfOutcome i (send_acknowledgments moment (send_all_again moment o)) =
       kept.acknowledges moment (send_all_again moment o) again in
-      let acknowledged_too : X (acknowledge_all moment (send_all_again moment o)) t =
+      let acknowledged_too : X (send_acknowledgments moment (send_all_again moment o)) t =
       too.acknowledges (send_all_again moment o) t again again_too in
       record {
         so = record {
-          area = kept.hellos moment (acknowledge_all moment (send_all_again moment o)) acknowledged;
+          area = kept.hellos moment (send_acknowledgments moment (send_all_again moment o))
+              acknowledged;
           announced = so.so.announced;
         };
-        lately = too.hellos (acknowledge_all moment (send_all_again moment o)) t acknowledged
+        lately = too.hellos (send_acknowledgments moment (send_all_again moment o)) t acknowledged
             acknowledged_too;
       }
 
@@ -496,18 +506,18 @@ module _ (i : Invariant) (kept : IsKeptByParts i) (X Y : Lately) (old : Router) 
   }
 
   described : (before : List Link) (p : EventState) → InProgress p
-      → InProgress (describe_router before moment p)
+      → InProgress (originate_router_lsa before moment p)
   described before p h =
       chosen InProgress (links_differ before p.router.area.links && not
-      (is_current moment p.router)) (originate_or_wait moment (router_key p.router.id) p) p
+      (is_current moment p.router)) (originate_or_put_off moment (router_key p.router.id) p) p
       (λ is. originate_or_wait_kept (router_key p.router.id) p
       (kept.own_router p.router h.so.announced) h) (λ is. h)
 
   described_later : (before : List Link) (p : EventState) → InProgress p
-      → InProgress (describe_router_later before p)
+      → InProgress (put_off_router_lsa before p)
   described_later before p h =
       chosen InProgress (links_differ before p.router.area.links)
-      (on_router (wait (router_key p.router.id)) p) p
+      (on_router (put_off (router_key p.router.id)) p) p
       (λ is. waits_kept (router_key p.router.id) p h) (λ is. h)
 
   pub event_kept_too : (after : EventState) → Brings i old event → OwnPart moment event start after
@@ -516,8 +526,8 @@ module _ (i : Invariant) (kept : IsKeptByParts i) (X Y : Lately) (old : Router) 
   event_kept_too after brings own so lately =
       let begun : InProgress start = record { so = so; lately = lately } in
       let p : InProgress after = own_kept event after refl brings own begun in
-      let said : EventState = describe_router old.area.links moment (loading_done after) in
-      let refilled : EventState = describe_router_later said.router.area.links (loading_done said)
+      let said : EventState = originate_router_lsa old.area.links moment (loading_done after) in
+      let refilled : EventState = put_off_router_lsa said.router.area.links (loading_done said)
       in
       let q : InProgress refilled =
       described_later said.router.area.links (loading_done said)

@@ -27,21 +27,21 @@ use Rattle.received.specs.Links.{Link, link_at, neighbor_on}
 use Rattle.received.specs.Outcomes.{Outcome, on_database}
 use Rattle.received.proofs.Holding.{case_kept, changed_keeps, each_keeps, each_link_keeps}
 use Rattle.received.proofs.Holding.{flood_kept, one_holds, one_keeps}
-use Rattle.events.specs.declared.model.Config.{Config}
-use Rattle.events.specs.declared.model.Out.{Out}
-use Rattle.events.specs.Commands.{taken_down}
-use Rattle.events.specs.Endings.{link_loading_done, loading_done_on, with_age}
-use Rattle.events.specs.Events.{Happens, initial}
-use Rattle.events.specs.EventState.{flood_from_nobody}
-use Rattle.events.specs.Hellos.{accepts, names}
-use Rattle.events.specs.Originations.{due_keys, new_instance, router_key}
-use Rattle.events.specs.Packets.{hear, heard_on, with_neighbor}
-use Rattle.events.specs.Routers.{Occurrence, Router, fresh_link, unannounced_router}
-use Rattle.events.specs.Ticks.{again, with_hello_sent, run_out, settled_exchange}
-use Rattle.events.specs.Ticks.{without_acknowledgments}
-use Rattle.events.proofs.Walk.{Brings, Invariant, IsKeptByParts, OfBrought, OfBytes}
-use Rattle.events.proofs.Walk.{originate_or_wait_kept}
-use Rattle.events.proofs.Walk as walk
+use Rattle.event_rules.specs.declared.model.Config.{Config}
+use Rattle.event_rules.specs.declared.model.Out.{Out}
+use Rattle.event_rules.specs.Commands.{taken_down}
+use Rattle.event_rules.specs.Endings.{link_loading_done, loading_done_on, with_age}
+use Rattle.event_rules.specs.Events.{Happens, initial}
+use Rattle.event_rules.specs.EventState.{flood_from_nobody}
+use Rattle.event_rules.specs.Hellos.{accepts, names}
+use Rattle.event_rules.specs.Originations.{due_keys, new_instance, router_key}
+use Rattle.event_rules.specs.Packets.{accept_hello, receive_hello_on, with_neighbor}
+use Rattle.event_rules.specs.Routers.{Occurrence, Router, fresh_link, unannounced_router}
+use Rattle.event_rules.specs.Ticks.{again, with_hello_sent, run_out, settled_exchange}
+use Rattle.event_rules.specs.Ticks.{without_acknowledgments}
+use Rattle.event_rules.proofs.Walk.{Brings, Invariant, IsKeptByParts, OfBrought, OfBytes}
+use Rattle.event_rules.proofs.Walk.{originate_or_wait_kept}
+use Rattle.event_rules.proofs.Walk as walk
 
 -- ---- one link
 
@@ -99,13 +99,13 @@ module _ (Q : Fact) (kept : IsKept Q) where
 
   hello_heard : (own moment number from : ℕ) (hello : Hello) (link : Option Link) (o : Outcome)
       → Holds (Of Q) (neighbor_on link) → OnOutcome o
-      → OnOutcome (heard_on own moment number from hello link o)
+      → OnOutcome (receive_hello_on own moment number from hello link o)
   hello_heard own moment number from hello None o here h = h
   hello_heard own moment number from hello (Some link) o here h =
       let s : Step = adjacencies.after_hello moment from (names own hello) link.neighbor in
       let so : Of Q s.neighbor = hello_kept Q kept moment from (names own hello) link.neighbor
       (heard_before from moment link.neighbor here) in
-      chosen OnOutcome (accepts own from hello link) (hear moment number s o) o
+      chosen OnOutcome (accepts own from hello link) (accept_hello moment number s o) o
       (λ is. changed_keeps (Of Q) number (with_neighbor s.neighbor) (λ l at. so) o.area.links h)
       (λ is. h)
 

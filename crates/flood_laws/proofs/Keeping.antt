@@ -32,19 +32,21 @@ use Rattle.adjacency.proofs.Maps.{IfThere, none_in}
 use Rattle.adjacency.proofs.Told.{OfCopy, Telling}
 use Rattle.received.specs.Links.{Link}
 use Rattle.received.specs.Outcomes.{Send}
-use Rattle.events.proofs.Rooms.{both, mapped_all}
-use Rattle.events.proofs.Walk.{OfEvent}
-use Rattle.events.specs.declared.model.Config.{Config}
-use Rattle.events.specs.declared.model.Out.{Out}
-use Rattle.events.specs.Endings.{end_event}
-use Rattle.events.specs.Events.{Happens, Run, Step, initial}
-use Rattle.events.specs.EventState.{EventState}
-use Rattle.events.specs.LsaInstances.{LsaInstance, instance_of_header, instance_of_lsa}
-use Rattle.events.specs.LsaInstances.{instances_advertised, instances_in_update, instances_received}
-use Rattle.events.specs.Originations.{external_key, has_max_sequence, new_instance, next_sequence}
-use Rattle.events.specs.Originations.{router_key}
-use Rattle.events.specs.Packing.{IsSentText, at_interface, bodies, out_of, outs_at}
-use Rattle.events.specs.Routers.{Occurrence, Router, fresh_link, unannounced_router}
+use Rattle.event_rules.proofs.Rooms.{both, mapped_all}
+use Rattle.event_rules.proofs.Walk.{OfEvent}
+use Rattle.event_rules.specs.declared.model.Config.{Config}
+use Rattle.event_rules.specs.declared.model.Out.{Out}
+use Rattle.event_rules.specs.Endings.{end_event}
+use Rattle.event_rules.specs.Events.{Happens, Run, Step, initial}
+use Rattle.event_rules.specs.EventState.{EventState}
+use Rattle.event_rules.specs.LsaInstances.{LsaInstance, instance_of_header, instance_of_lsa}
+use Rattle.event_rules.specs.LsaInstances.{instances_advertised, instances_in_update}
+use Rattle.event_rules.specs.LsaInstances.{instances_received}
+use Rattle.event_rules.specs.Originations.{external_key, has_max_sequence, new_instance}
+use Rattle.event_rules.specs.Originations.{next_sequence}
+use Rattle.event_rules.specs.Originations.{router_key}
+use Rattle.event_rules.specs.Packing.{IsSentText, at_interface, bodies, out_of, outs_at}
+use Rattle.event_rules.specs.Routers.{Occurrence, Router, fresh_link, unannounced_router}
 use Rattle.flood_laws.specs.Worlds.{IsKnown, IsLawfulOut, instances_stored}
 use Rattle.flood_laws.specs.Keeping.{AnnouncesAddress, AreTexts, AreTextsAt, EventsKeepWhatIsKnown}
 use Rattle.flood_laws.specs.Keeping.{HoldsInstances, InstancesStayInRange, IsInstance, IsLsaKey}

@@ -24,20 +24,20 @@ use Rattle.adjacency.proofs.Told.{OfContent, OfCopy, OfListed, OfOwedIfAny, Tell
 use Rattle.received.specs.Links.{Link}
 use Rattle.received.specs.Outcomes.{Send}
 use Rattle.received.proofs.Told.{OfArea, OfLink, OfLinks, OfSend, OfWaiting}
-use Rattle.events.specs.declared.model.Config.{Config}
-use Rattle.events.specs.declared.model.Out.{Out}
-use Rattle.events.specs.Endings.{end_event}
-use Rattle.events.specs.Events.{Happens, initial}
+use Rattle.event_rules.specs.declared.model.Config.{Config}
+use Rattle.event_rules.specs.declared.model.Out.{Out}
+use Rattle.event_rules.specs.Endings.{end_event}
+use Rattle.event_rules.specs.Events.{Happens, initial}
 use Rattle.flood_laws.specs.InOrder.{AnnouncesItsOwn}
 use Rattle.flood_laws.specs.Known.{instances_in_content, instances_in_send, instances_in_sends}
-use Rattle.events.specs.LsaInstances.{LsaInstance, instance_of_lsa, instance_of_header}
-use Rattle.events.specs.LsaInstances.{instances_received, instances_in_update}
-use Rattle.events.specs.Originations.{external_key, has_max_sequence, new_instance, router_key}
-use Rattle.events.specs.EventState.{EventState}
-use Rattle.events.specs.Routers.{Occurrence, Router, fresh_link, unannounced_router}
+use Rattle.event_rules.specs.LsaInstances.{LsaInstance, instance_of_lsa, instance_of_header}
+use Rattle.event_rules.specs.LsaInstances.{instances_received, instances_in_update}
+use Rattle.event_rules.specs.Originations.{external_key, has_max_sequence, new_instance, router_key}
+use Rattle.event_rules.specs.EventState.{EventState}
+use Rattle.event_rules.specs.Routers.{Occurrence, Router, fresh_link, unannounced_router}
 use Rattle.flood_laws.specs.Worlds.{IsKnown, instances_stored, instances_on_link, instances_on_list}
 use Rattle.flood_laws.proofs.Told.{IsOwn, event_told, first_told, told}
-use Rattle.events.proofs.Walk.{IfRead, OfBrought, OfBytes, OfEvent}
+use Rattle.event_rules.proofs.Walk.{IfRead, OfBrought, OfBytes, OfEvent}
 use Rattle.flood_laws.proofs.Worlds.{one_more}
 
 -- ---- lists

@@ -27,7 +27,7 @@ use Rattle.packet.specs.Text.{text as packet_text}
 use Rattle.packet.proofs.Patch.{canonical_is_text}
 use Rattle.adjacency.specs.Rooms.{Fits}
 use Rattle.flood_laws.specs.Lawful.{TextsAreLawful}
-use Rattle.events.specs.Packing.{packet_of}
+use Rattle.event_rules.specs.Packing.{packet_of}
 
 -- ---- bytes
 

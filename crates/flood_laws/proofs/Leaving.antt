@@ -49,24 +49,27 @@ use Rattle.received.specs.Outcomes.{on_links, one_neighbor, only_at, sending, st
 use Rattle.received.specs.Outcomes.{stepped_links, stepping_sends}
 use Rattle.received.specs.Updates.{after_case, case_at, copy_of, install, send_copy}
 use Rattle.received.proofs.Marks.{IsStill, changed_by, mark_all}
-use Rattle.events.specs.Commands.{taken_down}
-use Rattle.events.specs.Endings.{link_loading_done, loading_done_on, start_event, stays, with_age}
-use Rattle.events.specs.EventState.{EventState, flood_from_nobody}
-use Rattle.events.specs.Hellos.{accepts, names}
-use Rattle.events.specs.LsaInstances.{LsaInstance, instance_of_header, instance_of_lsa}
-use Rattle.events.specs.LsaInstances.{instances_advertised}
-use Rattle.events.specs.Originations.{forget_originations, install_and_flood, interval_is_over}
-use Rattle.events.specs.Originations.{is_recent, new_instance}
-use Rattle.events.specs.Packets.{acknowledged_by, after_hello, describe_to, hear, heard_on, is_from}
-use Rattle.events.specs.Packets.{is_hello, requested_lsas, with_neighbor}
-use Rattle.events.specs.Routers.{Occurrence, Router}
-use Rattle.events.specs.Ticks.{acknowledge_all, acknowledgments_on, again, hello_sent_on, run_out}
-use Rattle.events.specs.Ticks.{send_hellos, sends_of, settled_exchange, with_hello_sent}
-use Rattle.events.specs.Ticks.{without_acknowledgments}
+use Rattle.event_rules.specs.Commands.{taken_down}
+use Rattle.event_rules.specs.Endings.{link_loading_done, loading_done_on, start_event, stays}
+use Rattle.event_rules.specs.Endings.{with_age}
+use Rattle.event_rules.specs.EventState.{EventState, flood_from_nobody}
+use Rattle.event_rules.specs.Hellos.{accepts, names}
+use Rattle.event_rules.specs.LsaInstances.{LsaInstance, instance_of_header, instance_of_lsa}
+use Rattle.event_rules.specs.LsaInstances.{instances_advertised}
+use Rattle.event_rules.specs.Originations.{forget_originations, install_and_flood, interval_is_over}
+use Rattle.event_rules.specs.Originations.{is_recent, new_instance}
+use Rattle.event_rules.specs.Packets.{accept_hello, is_from, receive_acknowledgment}
+use Rattle.event_rules.specs.Packets.{receive_description, receive_hello, receive_hello_on}
+use Rattle.event_rules.specs.Packets.{is_hello, requested_lsas, with_neighbor}
+use Rattle.event_rules.specs.Routers.{Occurrence, Router}
+use Rattle.event_rules.specs.Ticks.{acknowledgments_on, again, hello_sent_on, run_out}
+use Rattle.event_rules.specs.Ticks.{send_acknowledgments}
+use Rattle.event_rules.specs.Ticks.{send_hellos, sends_of, settled_exchange, with_hello_sent}
+use Rattle.event_rules.specs.Ticks.{without_acknowledgments}
 use Rattle.flood_laws.specs.NewInstances.{lsas_brought}
 use Rattle.flood_laws.specs.TakenOff.{BringsNewer, IsAsked, IsTold, comes_to_max_age}
 use Rattle.flood_laws.specs.TakenOff.{is_gone_or_aged, is_gone_or_stored, owes}
-use Rattle.events.proofs.Walk.{Invariant, outcome}
+use Rattle.event_rules.proofs.Walk.{Invariant, outcome}
 use Rattle.flood_laws.proofs.EventWalk.{IsHeard, IsKeptToo}
 use Rattle.flood_laws.proofs.Limits.{AreExternal, new_key, tied_key, wanted_type}
 use Rattle.flood_laws.proofs.Lists.{of_empty}
@@ -825,7 +828,7 @@ module _ (old : Router) (moment : ℕ) (event : Occurrence) (number : ℕ) (befo
     begun = record { area = start.router.area; sends = start.sends }
 
     hello_became : (own : ℕ) (h : Hello) (t : ByKey ℕ) → Became start.router.area t
-        → Became (after_hello own moment place packet.router h begun).area t
+        → Became (receive_hello own moment place packet.router h begun).area t
     hello_became own h t b = by_link (link_at place start.router.area.links) refl
       where
         at_place : (link : Option Link) → link_at place start.router.area.links ≡ link
@@ -837,13 +840,13 @@ module _ (old : Router) (moment : ℕ) (event : Occurrence) (number : ℕ) (befo
             (eqb-true number place e) k)
 
         by_link : (link : Option Link) → link_at place start.router.area.links ≡ link
-            → Became (heard_on own moment place packet.router h link begun).area t
+            → Became (receive_hello_on own moment place packet.router h link begun).area t
         by_link None is = b
         by_link (Some link) is =
             let s : Step = adjacencies.after_hello moment packet.router (names own h) link.neighbor
             in
             chosen (λ (o : Outcome). Became o.area t) (accepts own packet.router h link)
-            (hear moment place s begun) begun
+            (accept_hello moment place s begun) begun
             (λ e. sent_became (sends_at place s.sends)
             (on_links (change_link place (with_neighbor s.neighbor)) begun) t
             (links_became (change_link place (with_neighbor s.neighbor)) begun t
@@ -858,7 +861,7 @@ module _ (old : Router) (moment : ℕ) (event : Occurrence) (number : ℕ) (befo
 
     description_became : (own : ℕ) (d : Description) (t : ByKey ℕ)
         → packet.body ≡ body.Description d → Became start.router.area t
-        → Became (describe_to own moment place d begun).area t
+        → Became (receive_description own moment place d begun).area t
     description_became own d t is b =
         let f : Neighbor → Step = after_description own moment start.router.area.database d in
         sent_became (stepping_sends (only_at place f) start.router.area.links)
@@ -893,7 +896,7 @@ module _ (old : Router) (moment : ℕ) (event : Occurrence) (number : ℕ) (befo
 
     acknowledgment_became : (headers : List Header) (t : ByKey ℕ)
         → packet.body ≡ body.Acknowledgment headers → Became start.router.area t
-        → Became (acknowledged_by moment place headers begun).area t
+        → Became (receive_acknowledgment moment place headers begun).area t
     acknowledgment_became headers t is b =
         let f : Neighbor → Step = λ n. no_sends (after_acknowledgment moment headers n) in
         sent_became (stepping_sends (only_at place f) start.router.area.links)
@@ -961,7 +964,7 @@ module _ (old : Router) (moment : ℕ) (event : Occurrence) (number : ℕ) (befo
       o.area.database m at) o t h
 
   acknowledges_became : (o : Outcome) (t : ByKey ℕ) → Became o.area t
-      → Became (acknowledge_all moment o).area t
+      → Became (send_acknowledgments moment o).area t
   acknowledges_became o t h =
       sent_became (sends_of acknowledgments_on o.area.links)
       (on_links (map without_acknowledgments) o) t

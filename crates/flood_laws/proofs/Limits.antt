@@ -38,22 +38,23 @@ use Rattle.received.specs.Links.{Link, change_link, link_at}
 use Rattle.received.specs.Outcomes.{Outcome, Send, Stepping, each_neighbor, marked_database}
 use Rattle.received.specs.Outcomes.{sends_at, on_database, on_links, one_neighbor, only_at, sending}
 use Rattle.received.specs.Outcomes.{stepping_sends}
-use Rattle.events.specs.declared.model.Out.{Out}
-use Rattle.events.specs.Endings.{end_event, stays, with_age}
-use Rattle.events.specs.declared.model.Config.{Config}
-use Rattle.events.specs.Events.{Happens, Run, Step as RunStep, initial}
-use Rattle.events.specs.EventState.{EventState, flood_from_nobody}
-use Rattle.events.specs.Hellos.{accepts, names}
-use Rattle.events.specs.Originations.{announced_body, due_keys, external_key, has_room}
-use Rattle.events.specs.Originations.{is_own_external, new_instance, originate_or_wait}
-use Rattle.events.specs.Originations.{own_externals, router_body, router_key, wanted_body}
-use Rattle.events.specs.Packets.{hear, heard_on, requested_lsas, with_neighbor}
-use Rattle.events.specs.Refusals.{exceeds}
-use Rattle.events.specs.Routers.{Occurrence, Router, unannounced_router}
-use Rattle.events.specs.Ticks.{acknowledgments_on, again, hello_sent_on, sends_of, with_hello_sent}
-use Rattle.events.specs.Ticks.{without_acknowledgments}
-use Rattle.events.proofs.Walk.{Brings, IfRead, Invariant, IsKeptByParts, MayGrow, OfBrought}
-use Rattle.events.proofs.Walk.{OfBytes, OfEvent, event_kept, originate_or_wait_kept, outcome}
+use Rattle.event_rules.specs.declared.model.Out.{Out}
+use Rattle.event_rules.specs.Endings.{end_event, stays, with_age}
+use Rattle.event_rules.specs.declared.model.Config.{Config}
+use Rattle.event_rules.specs.Events.{Happens, Run, Step as RunStep, initial}
+use Rattle.event_rules.specs.EventState.{EventState, flood_from_nobody}
+use Rattle.event_rules.specs.Hellos.{accepts, names}
+use Rattle.event_rules.specs.Originations.{announced_body, due_keys, external_key, has_room}
+use Rattle.event_rules.specs.Originations.{is_own_external, new_instance, originate_or_put_off}
+use Rattle.event_rules.specs.Originations.{own_externals, router_body, router_key, wanted_body}
+use Rattle.event_rules.specs.Packets.{accept_hello, receive_hello_on, requested_lsas, with_neighbor}
+use Rattle.event_rules.specs.Refusals.{exceeds}
+use Rattle.event_rules.specs.Routers.{Occurrence, Router, unannounced_router}
+use Rattle.event_rules.specs.Ticks.{acknowledgments_on, again, hello_sent_on, sends_of}
+use Rattle.event_rules.specs.Ticks.{with_hello_sent}
+use Rattle.event_rules.specs.Ticks.{without_acknowledgments}
+use Rattle.event_rules.proofs.Walk.{Brings, IfRead, Invariant, IsKeptByParts, MayGrow, OfBrought}
+use Rattle.event_rules.proofs.Walk.{OfBytes, OfEvent, event_kept, originate_or_wait_kept, outcome}
 use Rattle.flood_laws.specs.LimitLaws.{AnnouncesExternals, OthersStayWithinLimits, may_exceed}
 
 -- ---- keys and options
@@ -294,11 +295,11 @@ module _ (id : RouterNumber) where
       (λ is. flooded moment (lsa_now moment e.1) o h) (λ is. h))
 
   hello_heard : (own_id moment number from : ℕ) (hello : Hello) (link : Option Link) (o : Outcome)
-      → OnOutcome o → OnOutcome (heard_on own_id moment number from hello link o)
+      → OnOutcome o → OnOutcome (receive_hello_on own_id moment number from hello link o)
   hello_heard own_id moment number from hello None o h = h
   hello_heard own_id moment number from hello (Some link) o h =
       let s : Step = adjacencies.after_hello moment from (names own_id hello) link.neighbor in
-      chosen OnOutcome (accepts own_id from hello link) (hear moment number s o) o
+      chosen OnOutcome (accepts own_id from hello link) (accept_hello moment number s o) o
       (λ is. sent_within moment (sends_at number s.sends)
       (on_links (change_link number (with_neighbor s.neighbor)) o) h) (λ is. h)
 
@@ -436,7 +437,7 @@ empty_within id = record {
 start : (c : Config) → exceeds (initial c) ≡ false
 start c =
     let begun : EventState = record { router = unannounced_router c; sends = [] } in
-    let end : OfEvent (within c.router) (originate_or_wait c.start (router_key c.router) begun) =
+    let end : OfEvent (within c.router) (originate_or_put_off c.start (router_key c.router) begun) =
     originate_or_wait_kept (within c.router) (parts_within c.router) c.start (router_key c.router)
     begun tt
     (record { area = empty_within c.router; announced = (refl, none_announced) }) in

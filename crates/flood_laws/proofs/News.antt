@@ -39,20 +39,20 @@ use Rattle.received.specs.Updates.{after_case, copy_of, install, send_copy}
 use Rattle.received.proofs.Told.{OfArea, OfLink, OfSend, OfWaiting, case_told, change_told}
 use Rattle.received.proofs.Told.{each_told, flood_told, numbered_told, on_database_told}
 use Rattle.received.proofs.Told.{one_neighbor_told, one_told, sending_told}
-use Rattle.events.specs.declared.model.Out.{Out}
-use Rattle.events.specs.Commands.{taken_down}
-use Rattle.events.specs.Endings.{end_event, link_loading_done, start_event, stays, with_age}
-use Rattle.events.specs.Events.{Happens}
-use Rattle.events.specs.EventState.{EventState, flood_from_nobody}
-use Rattle.events.specs.Hellos.{accepts, names}
-use Rattle.events.specs.LsaInstances.{LsaInstance, instance_of_lsa, instances_received}
-use Rattle.events.specs.Originations.{forget_originations, install_and_flood, interval_is_over}
-use Rattle.events.specs.Originations.{new_instance, next_sequence}
-use Rattle.events.specs.Packets.{hear, heard_on, requested_lsas}
-use Rattle.events.specs.Routers.{Occurrence, Router}
-use Rattle.events.specs.Ticks.{acknowledgments_on, again, hello_sent_on, run_out, sends_of}
-use Rattle.events.specs.Ticks.{with_hello_sent, without_acknowledgments}
-use Rattle.events.proofs.Walk.{outcome}
+use Rattle.event_rules.specs.declared.model.Out.{Out}
+use Rattle.event_rules.specs.Commands.{taken_down}
+use Rattle.event_rules.specs.Endings.{end_event, link_loading_done, start_event, stays, with_age}
+use Rattle.event_rules.specs.Events.{Happens}
+use Rattle.event_rules.specs.EventState.{EventState, flood_from_nobody}
+use Rattle.event_rules.specs.Hellos.{accepts, names}
+use Rattle.event_rules.specs.LsaInstances.{LsaInstance, instance_of_lsa, instances_received}
+use Rattle.event_rules.specs.Originations.{forget_originations, install_and_flood, interval_is_over}
+use Rattle.event_rules.specs.Originations.{new_instance, next_sequence}
+use Rattle.event_rules.specs.Packets.{accept_hello, receive_hello_on, requested_lsas}
+use Rattle.event_rules.specs.Routers.{Occurrence, Router}
+use Rattle.event_rules.specs.Ticks.{acknowledgments_on, again, hello_sent_on, run_out, sends_of}
+use Rattle.event_rules.specs.Ticks.{with_hello_sent, without_acknowledgments}
+use Rattle.event_rules.proofs.Walk.{outcome}
 use Rattle.flood_laws.specs.InOrder.{IsInOrder}
 use Rattle.flood_laws.specs.Known.{instances_in_sends}
 use Rattle.flood_laws.specs.NewInstances.{BringsLsa, IsLastCopy, IsNewInstance, installed_copy}
@@ -425,12 +425,12 @@ module _ (old : Router) (moment : ℕ) (event : Occurrence) where
 
   hello_last : (own place from : ℕ) (h : Hello) (link : Option Link) (o : Outcome) (t : ByKey ℕ)
       → AllLast t o.area.database → AllLast t
-      (heard_on own moment place from h link o).area.database
+      (receive_hello_on own moment place from h link o).area.database
   hello_last own place from h None o t last = last
   hello_last own place from h (Some link) o t last =
       let s = adjacencies.after_hello moment from (names own h) link.neighbor in
       chosen (λ (q : Outcome). AllLast t q.area.database) (accepts own from h link)
-      (hear moment place s o) o (λ e. all_marked t (sends_at place s.sends) o.area.database
+      (accept_hello moment place s o) o (λ e. all_marked t (sends_at place s.sends) o.area.database
       last) (λ e. last)
 
   -- ---- the induction

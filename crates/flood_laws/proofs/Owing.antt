@@ -22,7 +22,8 @@ use Rattle.adjacency.specs.Adjacencies.{loading_done_in, mismatch_step, requests
 use Rattle.adjacency.specs.Adjacencies.{two_way_received_in, with_hello_heard}
 use Rattle.adjacency.specs.Contents.{Requests, Step, Updates, no_sends}
 use Rattle.adjacency.specs.Descriptions.{Verdict, accept, act, after_description, announced_more}
-use Rattle.adjacency.specs.Descriptions.{as_received, changes_options, describe, exchange_done}
+use Rattle.adjacency.specs.Descriptions.{as_received, changes_options, exchange_done}
+use Rattle.adjacency.specs.Descriptions.{send_description}
 use Rattle.adjacency.specs.Descriptions.{exchange_over, expected_sequence, in_state, is_duplicate}
 use Rattle.adjacency.specs.Descriptions.{is_kept, is_over_for, is_wanted, knows_types}
 use Rattle.adjacency.specs.Descriptions.{master_goes_on, repeat, same_flag, slave_replies}
@@ -39,7 +40,7 @@ use Rattle.adjacency.specs.Retransmissions.{repeats_description, request_again, 
 use Rattle.adjacency.specs.Retransmissions.{update_again}
 use Rattle.adjacency.proofs.Kept.{chosen}
 use Rattle.received.specs.Holds.{Holds}
-use Rattle.events.specs.LsaInstances.{LsaInstance, instance_of_header}
+use Rattle.event_rules.specs.LsaInstances.{LsaInstance, instance_of_header}
 use Rattle.flood_laws.specs.TakenOff.{listed_instance, owes}
 use Rattle.flood_laws.proofs.Limits.{tied_key}
 use Rattle.flood_laws.proofs.Lists.{later_is}
@@ -258,14 +259,14 @@ module _ (key : Key) (name : LsaInstance) (Asked : Type 0) where
   master_owing : (moment : ℕ) (d : Description) (m : Neighbor) → Has m
       → Owing (master_goes_on moment d m).neighbor
   master_owing moment d m h =
-      chosen OfStep (announced_more m.described || d.more) (describe moment (record m {
+      chosen OfStep (announced_more m.described || d.more) (send_description moment (record m {
         sequence = (m.sequence + 1) % 2 ^ 32;
       })) (no_sends (exchange_done moment m)) (λ c. inr h) (λ c. inr h)
 
   slave_owing : (moment : ℕ) (d : Description) (m : Neighbor) → Has m
       → Owing (slave_replies moment d m).neighbor
   slave_owing moment d m h =
-      let replied : Step = describe moment (record m { sequence = d.sequence }) in
+      let replied : Step = send_description moment (record m { sequence = d.sequence }) in
       chosen OfStep (announced_more replied.neighbor.described || d.more) replied (record replied {
         neighbor = exchange_done moment replied.neighbor;
       }) (λ c. inr h) (λ c. inr h)

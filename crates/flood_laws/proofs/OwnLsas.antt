@@ -5,8 +5,8 @@ use Rattle.words.specs.declared.key.Key.{Key}
 use Rattle.words.specs.declared.route.External.{External}
 use Rattle.lsa.specs.declared.body.LsaBody.{LsaBody}
 use Rattle.lsdb.specs.Keys.{same_key}
-use Rattle.events.specs.Originations.{announced_body, router_body, router_key, wanted_body}
-use Rattle.events.specs.Routers.{Router}
+use Rattle.event_rules.specs.Originations.{announced_body, router_body, router_key, wanted_body}
+use Rattle.event_rules.specs.Routers.{Router}
 use Rattle.flood_laws.specs.LimitLaws.{AnnouncesExternals}
 use Rattle.flood_laws.specs.OwnLsas.{OnlyRouterAndExternalLsasAreWanted, is_router_or_external}
 use Rattle.flood_laws.proofs.Limits.{others_stay_within_limits, tied_key, wanted_type}

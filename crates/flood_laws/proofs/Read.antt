@@ -9,8 +9,8 @@ use Rattle.lsa.specs.declared.fault.LsaFault.{LsaFault}
 use Rattle.lsa.proofs.Headers.{header-reads_back}
 use Rattle.lsdb.specs.Headers.{Header, Lsa}
 use Rattle.flood_laws.specs.Known.{UpdatesTellWhatTheyBear}
-use Rattle.events.specs.LsaInstances.{LsaInstance, instance_of_lsa, instance_of_header}
-use Rattle.events.specs.LsaInstances.{instances_in_update}
+use Rattle.event_rules.specs.LsaInstances.{LsaInstance, instance_of_lsa, instance_of_header}
+use Rattle.event_rules.specs.LsaInstances.{instances_in_update}
 use Rattle.flood_laws.proofs.Known.{of_member}
 use Rattle.flood_laws.proofs.Worlds.{one_more}
 

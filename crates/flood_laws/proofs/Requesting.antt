@@ -23,12 +23,13 @@ use Rattle.adjacency.proofs.Kept.{chosen}
 use Rattle.received.specs.Holds.{Holds, HoldsOfEach}
 use Rattle.received.specs.Links.{Link, any_exchange_or_loading}
 use Rattle.received.specs.Outcomes.{Outcome, Stepping, on_database, step_on}
-use Rattle.events.specs.Endings.{describe_router, describe_router_later, end_event}
-use Rattle.events.specs.Endings.{link_loading_done, links_differ, loading_done, loading_done_on}
-use Rattle.events.specs.Endings.{request_all, stays}
-use Rattle.events.specs.EventState.{EventState, on_router}
-use Rattle.events.specs.Originations.{router_key, wait}
-use Rattle.events.specs.Routers.{Router}
+use Rattle.event_rules.specs.Endings.{end_event, originate_router_lsa, put_off_router_lsa}
+use Rattle.event_rules.specs.Endings.{link_loading_done, links_differ, loading_done}
+use Rattle.event_rules.specs.Endings.{loading_done_on}
+use Rattle.event_rules.specs.Endings.{request_all, stays}
+use Rattle.event_rules.specs.EventState.{EventState, on_router}
+use Rattle.event_rules.specs.Originations.{put_off, router_key}
+use Rattle.event_rules.specs.Routers.{Router}
 use Rattle.flood_laws.specs.NeighborLaws.{IsRequesting, WhatIsLeftIsRequested}
 
 -- ---- sets and lists
@@ -133,14 +134,14 @@ all_requesting f so k (link ∷ links) h =
 end_requests : (old : Router) (moment : ℕ) (p : EventState)
     → HoldsOfEach IsRequesting (end_event old moment p).router.area.links
 end_requests old moment p =
-    let described : EventState = describe_router old.area.links moment (loading_done p) in
+    let described : EventState = originate_router_lsa old.area.links moment (loading_done p) in
     let loaded : EventState = loading_done described in
-    let refilled : EventState = describe_router_later described.router.area.links loaded in
+    let refilled : EventState = put_off_router_lsa described.router.area.links loaded in
     let o : Outcome = record { area = refilled.router.area; sends = refilled.sends } in
     let before : HoldsOfEach IsLoaded o.area.links =
     chosen (λ (q : EventState). HoldsOfEach IsLoaded q.router.area.links)
     (links_differ described.router.area.links loaded.router.area.links)
-    (on_router (wait (router_key loaded.router.id)) loaded) loaded
+    (on_router (put_off (router_key loaded.router.id)) loaded) loaded
     (λ is. all_loaded described.router.area.links)
     (λ is. all_loaded described.router.area.links) in
     let requested : HoldsOfEach IsRequesting (request_all moment o).area.links =

@@ -46,21 +46,21 @@ use Rattle.received.specs.Outcomes.{step_on, stepped_links, stepping_sends}
 use Rattle.received.specs.Updates.{after_case, copy_of, install, send_copy}
 use Rattle.received.proofs.Holding.{changed_keeps, each_link_keeps, flood_to_kept, one_holds}
 use Rattle.received.proofs.Marks.{IsStill, changed_by, mark_all}
-use Rattle.events.specs.declared.model.Config.{Config}
-use Rattle.events.specs.declared.model.Out.{Out}
-use Rattle.events.specs.Commands.{taken_down}
-use Rattle.events.specs.Endings.{link_loading_done, stays, stays_as, with_age}
-use Rattle.events.specs.Events.{Happens, Run, Step as EventStep, initial}
-use Rattle.events.specs.EventState.{flood_from_nobody}
-use Rattle.events.specs.Hellos.{accepts, names}
-use Rattle.events.specs.Originations.{due_keys, new_instance, router_key}
-use Rattle.events.specs.Packets.{hear, heard_on, requested_lsas, with_neighbor}
-use Rattle.events.specs.Routers.{Occurrence, Router, fresh_link, unannounced_router}
-use Rattle.events.specs.Ticks.{acknowledgments_on, again, hello_sent_on, run_out, sends_of}
-use Rattle.events.specs.Ticks.{with_hello_sent, without_acknowledgments}
-use Rattle.events.proofs.Walk.{Brings, Invariant, IsKeptByParts, OfBrought, OfBytes}
-use Rattle.events.proofs.Walk.{originate_or_wait_kept}
-use Rattle.events.proofs.Walk as walk
+use Rattle.event_rules.specs.declared.model.Config.{Config}
+use Rattle.event_rules.specs.declared.model.Out.{Out}
+use Rattle.event_rules.specs.Commands.{taken_down}
+use Rattle.event_rules.specs.Endings.{link_loading_done, stays, stays_as, with_age}
+use Rattle.event_rules.specs.Events.{Happens, Run, Step as EventStep, initial}
+use Rattle.event_rules.specs.EventState.{flood_from_nobody}
+use Rattle.event_rules.specs.Hellos.{accepts, names}
+use Rattle.event_rules.specs.Originations.{due_keys, new_instance, router_key}
+use Rattle.event_rules.specs.Packets.{accept_hello, receive_hello_on, requested_lsas, with_neighbor}
+use Rattle.event_rules.specs.Routers.{Occurrence, Router, fresh_link, unannounced_router}
+use Rattle.event_rules.specs.Ticks.{acknowledgments_on, again, hello_sent_on, run_out, sends_of}
+use Rattle.event_rules.specs.Ticks.{with_hello_sent, without_acknowledgments}
+use Rattle.event_rules.proofs.Walk.{Brings, Invariant, IsKeptByParts, OfBrought, OfBytes}
+use Rattle.event_rules.proofs.Walk.{originate_or_wait_kept}
+use Rattle.event_rules.proofs.Walk as walk
 use Rattle.flood_laws.specs.Retransmissions.{AreOfTheDatabase, HasItsRetransmissions, IsOfCopy}
 use Rattle.flood_laws.specs.Retransmissions.{RetransmissionsAreOfTheDatabase}
 use Rattle.flood_laws.proofs.Always.{each_so}
@@ -518,7 +518,7 @@ heard_before db from moment (Some n) h = h
 
 hello_heard : (own moment number from : ℕ) (hello : Hello) (link : Option Link) (o : Outcome)
     → Holds (Of (OfIt o.area.database)) (neighbor_on link) → OfOutcome o
-    → OfOutcome (heard_on own moment number from hello link o)
+    → OfOutcome (receive_hello_on own moment number from hello link o)
 hello_heard own moment number from hello None o here h = h
 hello_heard own moment number from hello (Some link) o here h =
     let db : Database = o.area.database in
@@ -526,7 +526,7 @@ hello_heard own moment number from hello (Some link) o here h =
     let so : Of (OfIt db) s.neighbor =
     hello_kept (OfIt db) (its_kept db) moment from (names own hello) link.neighbor
     (heard_before db from moment link.neighbor here) in
-    chosen OfOutcome (accepts own from hello link) (hear moment number s o) o
+    chosen OfOutcome (accepts own from hello link) (accept_hello moment number s o) o
     (λ is. sending_kept moment (sends_at number s.sends)
     (on_links (change_link number (with_neighbor s.neighbor)) o)
     (record {

@@ -16,7 +16,7 @@ use Rattle.lsdb.specs.Order.{compare_ages, is_max_age}
 use Rattle.adjacency.specs.Neighbors.{Neighbor}
 use Rattle.received.specs.Cases.{Case, case_of_readable, first_case, is_wrapping}
 use Rattle.received.specs.Cases.{is_on_senders_list, was_requested}
-use Rattle.events.specs.LsaInstances.{LsaInstance, instance_of_header}
+use Rattle.event_rules.specs.LsaInstances.{LsaInstance, instance_of_header}
 
 -- ---- one entry
 

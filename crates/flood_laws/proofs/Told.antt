@@ -32,21 +32,24 @@ use Rattle.received.proofs.Told.{OfArea, OfLink, OfLinks, OfOutcome, OfSend, OfW
 use Rattle.received.proofs.Told.{change_told, changed_told, each_link_told, each_told, flood_told}
 use Rattle.received.proofs.Told.{joined, numbered_told, on_database_told, on_links_told}
 use Rattle.received.proofs.Told.{one_neighbor_told, one_told, sending_told}
-use Rattle.events.specs.Commands.{taken_down}
-use Rattle.events.specs.Endings.{start_event, link_loading_done, loading_done_on, end_event, stays}
-use Rattle.events.specs.Endings.{with_age}
-use Rattle.events.specs.Events.{OwnPart}
-use Rattle.events.specs.Hellos.{accepts, hello_is_due, hello_on, names}
-use Rattle.events.specs.Originations.{due_keys, external_key, has_max_sequence, install_and_flood}
-use Rattle.events.specs.Originations.{is_due, new_instance, originate_or_wait, router_key}
-use Rattle.events.specs.Originations.{wanted_body, wanted_keys}
-use Rattle.events.specs.Packets.{hear, heard_on, requested_lsas, with_neighbor}
-use Rattle.events.specs.EventState.{EventState, flood_from_nobody}
-use Rattle.events.specs.Routers.{Occurrence, Router}
-use Rattle.events.specs.Ticks.{acknowledgments_on, again, with_hello_sent, hello_sent_on, run_out}
-use Rattle.events.specs.Ticks.{sends_of, settled_exchange, without_acknowledgments}
-use Rattle.events.proofs.Walk.{Brings, Invariant, IsKeptByParts, OfEvent, event_kept}
-use Rattle.events.proofs.Walk.{originate_or_wait_kept, outcome}
+use Rattle.event_rules.specs.Commands.{taken_down}
+use Rattle.event_rules.specs.Endings.{start_event, link_loading_done, loading_done_on, end_event}
+use Rattle.event_rules.specs.Endings.{stays}
+use Rattle.event_rules.specs.Endings.{with_age}
+use Rattle.event_rules.specs.Events.{OwnPart}
+use Rattle.event_rules.specs.Hellos.{accepts, hello_is_due, hello_on, names}
+use Rattle.event_rules.specs.Originations.{due_keys, external_key, has_max_sequence}
+use Rattle.event_rules.specs.Originations.{install_and_flood}
+use Rattle.event_rules.specs.Originations.{is_due, new_instance, originate_or_put_off, router_key}
+use Rattle.event_rules.specs.Originations.{wanted_body, wanted_keys}
+use Rattle.event_rules.specs.Packets.{accept_hello, receive_hello_on, requested_lsas, with_neighbor}
+use Rattle.event_rules.specs.EventState.{EventState, flood_from_nobody}
+use Rattle.event_rules.specs.Routers.{Occurrence, Router}
+use Rattle.event_rules.specs.Ticks.{acknowledgments_on, again, with_hello_sent, hello_sent_on}
+use Rattle.event_rules.specs.Ticks.{run_out}
+use Rattle.event_rules.specs.Ticks.{sends_of, settled_exchange, without_acknowledgments}
+use Rattle.event_rules.proofs.Walk.{Brings, Invariant, IsKeptByParts, OfEvent, event_kept}
+use Rattle.event_rules.proofs.Walk.{originate_or_wait_kept, outcome}
 
 abbrev pub IsOwnKey : Telling → ℕ → Key → Type 0
 IsOwnKey t id key = (key.advertising_router ≡ id) × t.of_key key
@@ -143,12 +146,12 @@ module _ (t : Telling) where
 
   pub hello_heard : (own moment number from : ℕ) (hello : Hello) (link : Option Link) (o : Outcome)
       → OfOwedIfAny t (neighbor_on link) → OfOutcome t o
-      → OfOutcome t (heard_on own moment number from hello link o)
+      → OfOutcome t (receive_hello_on own moment number from hello link o)
   hello_heard own moment number from hello None o here h = h
   hello_heard own moment number from hello (Some link) o here h =
       let s : NeighborStep = adjacencies.after_hello moment from (names own hello) link.neighbor in
       let so : OfStep t s = hello_told t moment from (names own hello) link.neighbor here in
-      chosen (OfOutcome t) (accepts own from hello link) (hear moment number s o) o
+      chosen (OfOutcome t) (accepts own from hello link) (accept_hello moment number s o) o
       (λ is.
       sending_told t moment (sends_at number s.sends) _ (numbered_told t number s.sends so.sends)
       (change_told t number (with_neighbor s.neighbor) (λ l at. record {
@@ -300,7 +303,7 @@ module _ (t : Telling) (id : ℕ) (news : (key : Key) (copy : Option DatabaseCop
       })
 
   pub first_told : (moment : ℕ) (p : EventState) → OfEvent (told t id) p
-      → OfEvent (told t id) (originate_or_wait moment (router_key p.router.id) p)
+      → OfEvent (told t id) (originate_or_put_off moment (router_key p.router.id) p)
   first_told moment p h =
       originate_or_wait_kept (told t id) parts_told moment (router_key p.router.id) p
       (parts_told.own_router p.router h.announced) h

@@ -10,10 +10,10 @@ use Rattle.packet.specs.declared.model.Packet.{Packet}
 use Rattle.packet.specs.Text.{PacketText}
 use Rattle.words.specs.Numbers.{RouterNumber}
 use Rattle.packet.proofs.Whole.{one_packet}
-use Rattle.events.specs.declared.model.Config.{Config}
-use Rattle.events.specs.Events.{initial}
-use Rattle.events.specs.Routers.{Occurrence, Router}
-use Rattle.events.specs.LsaInstances.{LsaInstance, instances_received, instances_advertised}
+use Rattle.event_rules.specs.declared.model.Config.{Config}
+use Rattle.event_rules.specs.Events.{initial}
+use Rattle.event_rules.specs.Routers.{Occurrence, Router}
+use Rattle.event_rules.specs.LsaInstances.{LsaInstance, instances_received, instances_advertised}
 use Rattle.flood_laws.specs.Worlds.{AcknowledgedWasReceived, Brings, Datagram, IsHistory, IsKnown}
 use Rattle.flood_laws.specs.Worlds.{IsLawfulOut, Joins, Knowledge, Lives, Restarts, World}
 use Rattle.flood_laws.specs.Worlds.{WorldStep, all_known, begun_with, known_as, knows}

@@ -14,9 +14,9 @@ use Rattle.adjacency.specs.Retransmissions.{remove_retransmission}
 use Rattle.adjacency.proofs.Kept.{chosen}
 use Rattle.received.specs.Links.{Link, neighbor_at}
 use Rattle.received.proofs.Flooded.{removed}
-use Rattle.events.specs.declared.model.Out.{Out}
-use Rattle.events.specs.LsaInstances.{LsaInstance, instances_advertised}
-use Rattle.events.specs.Routers.{Occurrence, Router}
+use Rattle.event_rules.specs.declared.model.Out.{Out}
+use Rattle.event_rules.specs.LsaInstances.{LsaInstance, instances_advertised}
+use Rattle.event_rules.specs.Routers.{Occurrence, Router}
 use Rattle.flood_laws.specs.NewInstances.{BringsLsa, lsas_brought}
 use Rattle.flood_laws.specs.TakenOff.{IsFlooded, IsTakenOff, IsTold, listed_instance}
 use Rattle.flood_laws.specs.Worlds.{Keeps}

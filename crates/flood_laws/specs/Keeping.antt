@@ -10,13 +10,13 @@ use Rattle.words.specs.declared.key.Key.{Key}
 use Rattle.words.specs.declared.route.External.{External}
 use Rattle.received.specs.Links.{Link}
 use Rattle.received.specs.Outcomes.{Send}
-use Rattle.events.specs.declared.model.Config.{Config}
-use Rattle.events.specs.declared.model.Out.{Out}
-use Rattle.events.specs.Endings.{end_event}
-use Rattle.events.specs.Events.{Happens, Run, Step, initial}
-use Rattle.events.specs.LsaInstances.{LsaInstance}
-use Rattle.events.specs.Packing.{IsSentText, at_interface, bodies}
-use Rattle.events.specs.Routers.{Occurrence, Router}
+use Rattle.event_rules.specs.declared.model.Config.{Config}
+use Rattle.event_rules.specs.declared.model.Out.{Out}
+use Rattle.event_rules.specs.Endings.{end_event}
+use Rattle.event_rules.specs.Events.{Happens, Run, Step, initial}
+use Rattle.event_rules.specs.LsaInstances.{LsaInstance}
+use Rattle.event_rules.specs.Packing.{IsSentText, at_interface, bodies}
+use Rattle.event_rules.specs.Routers.{Occurrence, Router}
 use Rattle.flood_laws.specs.InOrder.{AnnouncesItsOwn, IsInOrder}
 use Rattle.flood_laws.specs.TakenOff.{TakesOffWhatIsTold}
 use Rattle.flood_laws.specs.Worlds.{Keeps, instances_stored}

@@ -10,12 +10,12 @@ use Rattle.packet.specs.declared.model.PacketBody.{PacketBody}
 use Rattle.packet.specs.declared.model.PacketBody.TheVariants as packets
 use Rattle.adjacency.specs.Contents.{Content}
 use Rattle.received.specs.Outcomes.{Send}
-use Rattle.events.specs.declared.model.Out.{Out}
-use Rattle.events.specs.Events.{Happens}
-use Rattle.events.specs.LsaInstances.{LsaInstance, instance_of_lsa, instance_of_header}
-use Rattle.events.specs.LsaInstances.{instances_in_update}
-use Rattle.events.specs.Packing.{out_of}
-use Rattle.events.specs.Routers.{Occurrence, Router}
+use Rattle.event_rules.specs.declared.model.Out.{Out}
+use Rattle.event_rules.specs.Events.{Happens}
+use Rattle.event_rules.specs.LsaInstances.{LsaInstance, instance_of_lsa, instance_of_header}
+use Rattle.event_rules.specs.LsaInstances.{instances_in_update}
+use Rattle.event_rules.specs.Packing.{out_of}
+use Rattle.event_rules.specs.Routers.{Occurrence, Router}
 use Rattle.flood_laws.specs.InOrder.{IsInOrder}
 use Rattle.flood_laws.specs.NewInstances.{IsNewInstance}
 use Rattle.flood_laws.specs.Worlds.{IsKnown, instances_stored}

@@ -8,7 +8,7 @@ use Rattle.lsdb.specs.Headers.{Header, Lsa}
 use Rattle.packet.specs.declared.model.PacketBody.TheVariants as body
 use Rattle.packet.specs.Text.{PacketText, canonical}
 use Rattle.adjacency.specs.Rooms.{Fits}
-use Rattle.events.specs.Packing.{packet_of}
+use Rattle.event_rules.specs.Packing.{packet_of}
 
 -- if there are at most 8,192 bytes, the header fields are in their ranges, and each LSA's length is
 -- that of its bytes

@@ -3,11 +3,11 @@ use Rattle.std.specs.Prelude.{◌≡◌, ℕ, Bool, true, false, List, Some}
 use Rattle.std.specs.FinMap as finite
 use Rattle.words.specs.declared.key.Key.{Key}
 use Rattle.words.specs.declared.route.External.{External}
-use Rattle.events.specs.declared.model.Config.{Config}
-use Rattle.events.specs.declared.model.Out.{Out}
-use Rattle.events.specs.Events.{Happens, Run, Step, initial}
-use Rattle.events.specs.Refusals.{WouldExceed, exceeds}
-use Rattle.events.specs.Routers.{Occurrence, Router}
+use Rattle.event_rules.specs.declared.model.Config.{Config}
+use Rattle.event_rules.specs.declared.model.Out.{Out}
+use Rattle.event_rules.specs.Events.{Happens, Run, Step, initial}
+use Rattle.event_rules.specs.Refusals.{WouldExceed, exceeds}
+use Rattle.event_rules.specs.Routers.{Occurrence, Router}
 
 -- a `Packet` may bring LSAs, and a `Redistribute` checks the limits only afterwards
 abbrev pub may_exceed : Occurrence → Bool

@@ -13,9 +13,9 @@ use Rattle.packet.specs.declared.model.PacketBody.{PacketBody}
 use Rattle.packet.specs.declared.model.PacketBody.TheVariants as body
 use Rattle.packet.specs.declared.model.Packet.{Packet}
 use Rattle.packet.specs.Text.{PacketText}
-use Rattle.events.specs.LsaInstances.{LsaInstance, instance_of_lsa}
-use Rattle.events.specs.Originations.{new_instance}
-use Rattle.events.specs.Routers.{Occurrence, Router}
+use Rattle.event_rules.specs.LsaInstances.{LsaInstance, instance_of_lsa}
+use Rattle.event_rules.specs.Originations.{new_instance}
+use Rattle.event_rules.specs.Routers.{Occurrence, Router}
 
 -- ---- what an event brings
 

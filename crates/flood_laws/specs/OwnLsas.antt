@@ -3,10 +3,10 @@ use Rattle.std.specs.Prelude.{◌≡◌, ℕ, ◌==◌, Bool, true, ◌||◌, Li
 use Rattle.words.specs.declared.key.Key.{Key}
 use Rattle.lsa.specs.Text.{type_of}
 use Rattle.lsa.specs.declared.body.LsaBody.{LsaBody}
-use Rattle.events.specs.declared.model.Config.{Config}
-use Rattle.events.specs.Events.{Run, Step, initial}
-use Rattle.events.specs.Originations.{wanted_body}
-use Rattle.events.specs.Routers.{Router}
+use Rattle.event_rules.specs.declared.model.Config.{Config}
+use Rattle.event_rules.specs.Events.{Run, Step, initial}
+use Rattle.event_rules.specs.Originations.{wanted_body}
+use Rattle.event_rules.specs.Routers.{Router}
 
 -- a router-LSA or an AS-external-LSA
 abbrev pub is_router_or_external : ℕ → Bool

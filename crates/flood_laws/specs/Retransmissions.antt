@@ -9,11 +9,11 @@ use Rattle.lsdb.specs.Headers.{lsa_key}
 use Rattle.lsdb.specs.Instances.{ListEntry, aged_header}
 use Rattle.adjacency.specs.Lists.{HasSoundLists}
 use Rattle.adjacency.specs.Neighbors.{Neighbor}
-use Rattle.events.specs.declared.model.Config.{Config}
-use Rattle.events.specs.declared.model.Out.{Out}
-use Rattle.events.specs.Events.{Happens, Run, Step, initial}
-use Rattle.events.specs.Routers.{Occurrence, Router}
-use Rattle.events.specs.RoomLaws.{OfEachNeighbor}
+use Rattle.event_rules.specs.declared.model.Config.{Config}
+use Rattle.event_rules.specs.declared.model.Out.{Out}
+use Rattle.event_rules.specs.Events.{Happens, Run, Step, initial}
+use Rattle.event_rules.specs.Routers.{Occurrence, Router}
+use Rattle.event_rules.specs.RoomLaws.{OfEachNeighbor}
 
 -- the database has a copy of the key, and at each moment since the entry was made, the entry's
 -- header is the copy's

@@ -15,8 +15,8 @@ use Rattle.packet.specs.declared.model.Packet.{Packet}
 use Rattle.packet.specs.Text.{PacketText}
 use Rattle.adjacency.specs.Neighbors.{Neighbor, is_exchange_or_later}
 use Rattle.received.specs.Links.{neighbor_at}
-use Rattle.events.specs.LsaInstances.{LsaInstance, instances_advertised}
-use Rattle.events.specs.Routers.{Occurrence, Router}
+use Rattle.event_rules.specs.LsaInstances.{LsaInstance, instances_advertised}
+use Rattle.event_rules.specs.Routers.{Occurrence, Router}
 use Rattle.flood_laws.specs.NewInstances.{BringsLsa, Originates}
 
 -- ---- an adjacency that isn't given up

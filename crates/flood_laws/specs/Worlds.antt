@@ -11,12 +11,12 @@ use Rattle.packet.specs.declared.model.Packet.{Packet}
 use Rattle.packet.specs.Text.{PacketText}
 use Rattle.adjacency.specs.Neighbors.{Neighbor}
 use Rattle.received.specs.Links.{Link}
-use Rattle.events.specs.declared.model.Config.{Config}
-use Rattle.events.specs.declared.model.Out.{Out}
-use Rattle.events.specs.Events.{initial}
-use Rattle.events.specs.LsaInstances.{LsaInstance, instance_of_lsa, instance_of_header}
-use Rattle.events.specs.LsaInstances.{instances_received, instances_advertised}
-use Rattle.events.specs.Routers.{Occurrence, Router, in_profile}
+use Rattle.event_rules.specs.declared.model.Config.{Config}
+use Rattle.event_rules.specs.declared.model.Out.{Out}
+use Rattle.event_rules.specs.Events.{initial}
+use Rattle.event_rules.specs.LsaInstances.{LsaInstance, instance_of_lsa, instance_of_header}
+use Rattle.event_rules.specs.LsaInstances.{instances_received, instances_advertised}
+use Rattle.event_rules.specs.Routers.{Occurrence, Router, in_profile}
 use Rattle.flood_laws.specs.NewInstances.{IsNewInstance}
 use Rattle.flood_laws.specs.TakenOff.{IsTakenOff, IsTold, TakesOffWhatIsTold}
 

@@ -11,9 +11,9 @@ use Rattle.packet.specs.Text.{PacketText}
 use Rattle.adjacency.specs.Neighbors.{Neighbor, is_exchange_or_later}
 use Rattle.adjacency.specs.Retransmissions.{remove_retransmission}
 use Rattle.received.specs.Links.{Link, change_link, neighbor_at}
-use Rattle.events.specs.declared.model.Out.{Out}
-use Rattle.events.specs.LsaInstances.{LsaInstance, instance_of_header}
-use Rattle.events.specs.Routers.{Occurrence, Router}
+use Rattle.event_rules.specs.declared.model.Out.{Out}
+use Rattle.event_rules.specs.LsaInstances.{LsaInstance, instance_of_header}
+use Rattle.event_rules.specs.Routers.{Occurrence, Router}
 use Rattle.flood_laws.specs.TakenOff.{comes_to_max_age, owes}
 use Rattle.flood_laws.specs.Worlds.{Keeps}
 

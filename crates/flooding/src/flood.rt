@@ -13,7 +13,7 @@ ghost use Rattle.flooding.specs.Links.{originate_outcome, present, settled_link,
 
 use crate::area::Area;
 use crate::link::Link;
-use crate::rows::acknowledge_later;
+use crate::on_links::acknowledge_later;
 use adjacency::{DatabaseCopy, Draft};
 use lsa::Lsa;
 use lsdb::CopyTimes;

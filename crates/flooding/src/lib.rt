@@ -6,17 +6,17 @@ mod area;
 mod cases;
 mod flood;
 mod link;
+mod on_links;
 mod place;
 mod receiving;
-mod rows;
 mod steps;
 
 pub use area::Area;
 pub use cases::Case;
 pub use link::Link;
-pub use link::packets::{Acknowledging, Answering, Describing};
+pub use link::packets::{ReceivingAcknowledgment, ReceivingDescription, ReceivingRequest};
 pub use link::timers::{EndLoading, NextRequest, RunOut, SendingAgain};
-pub use rows::any_exchange_or_loading;
+pub use on_links::any_exchange_or_loading;
 pub use steps::{LinkChange, LinkStep};
 // Names from the crates below that crates above use.
 pub use adjacency::{DatabaseCopy, Draft, Interface, Lsdb, NeighborState, Saved, Update};

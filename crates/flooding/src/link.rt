@@ -140,7 +140,7 @@ impl Link {
             self.new result }
     {
         let delay = self.interface.delay;
-        self.draft.update(alloc, delay, moment, copy)
+        self.draft.add_update(alloc, delay, moment, copy)
     }
 
     /// BadLSReq (RFC 2328, section 10.3, and section 13, step 6): from Exchange on, the neighbor

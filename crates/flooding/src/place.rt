@@ -105,7 +105,7 @@ impl Place {
         if names {
             let number = next_dd_sequence_start(moment, dd_sequence_start);
             let opened = initial_description(alloc, number);
-            draft.describe(opened)?;
+            draft.add_description(opened)?;
             let neighbor = Neighbor::started(alloc, moment, router, dd_sequence_start, moment);
             self.replace(Some(neighbor));
             return Ok(());
@@ -136,7 +136,7 @@ impl Place {
         let standing = neighbor.standing();
         let number = next_dd_sequence_start(moment, standing.dd_sequence_start);
         let opened = initial_description(alloc, number);
-        draft.describe(opened)?;
+        draft.add_description(opened)?;
         let started = Neighbor::started(
             alloc,
             moment,

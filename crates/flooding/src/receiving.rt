@@ -8,7 +8,9 @@ ghost use Rattle.flooding.specs.Links.{start};
 
 use crate::area::Area;
 use crate::cases::{Case, case_on};
-use crate::rows::{acknowledge, any_exchange_or_loading, mismatch, remove_retransmission, update};
+use crate::on_links::{
+    acknowledge_at_once, any_exchange_or_loading, bad_request, remove_retransmission, send_update,
+};
 use lsa::Lsa;
 use std::alloc::{AllocError, Global};
 use words::{Key, Second};
@@ -49,7 +51,7 @@ impl Area {
             return Ok(());
         };
         let header = copy.header(moment);
-        update(alloc, moment, number, &copy, &mut self.links)?;
+        send_update(alloc, moment, number, &copy, &mut self.links)?;
         let sent_key = header.key();
         self.database.mark_sent(moment, &sent_key)
     }
@@ -78,13 +80,13 @@ impl Area {
     {
         let header = lsa.header();
         match case {
-            Case::NothingToFlush => acknowledge(number, header, &mut self.links),
+            Case::NothingToFlush => acknowledge_at_once(number, header, &mut self.links),
             Case::TooSoon => Ok(()),
             // Excluded by what is required.
             Case::Newer => Ok(()),
-            Case::BadRequest => mismatch(alloc, moment, number, &mut self.links),
+            Case::BadRequest => bad_request(alloc, moment, number, &mut self.links),
             Case::ImpliedAcknowledgment => remove_retransmission(number, &header, &mut self.links),
-            Case::Duplicate => acknowledge(number, header, &mut self.links),
+            Case::Duplicate => acknowledge_at_once(number, header, &mut self.links),
             Case::SequenceWraps => Ok(()),
             Case::SentJustNow => Ok(()),
             Case::Older => {

@@ -8,7 +8,7 @@ ghost use Rattle.flooding.specs.Steps.{sends_of, update_count_on};
 
 use crate::area::Area;
 use crate::link::Link;
-use crate::rows::any_has_retransmission;
+use crate::on_links::any_has_retransmission;
 use adjacency::{Lsdb, Update};
 use std::alloc::{AllocError, Global};
 use words::{Key, Second};

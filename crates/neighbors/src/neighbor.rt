@@ -346,7 +346,7 @@ impl Neighbor {
         let gets = gets(from, passes);
         if gets {
             self.add_retransmission(moment, &header)?;
-            draft.update(alloc, delay, moment, copy)?;
+            draft.add_update(alloc, delay, moment, copy)?;
             return Ok(true);
         }
         // Nothing is sent, but an older instance leaves the list (RFC 2328, section 13 (5) (c)).

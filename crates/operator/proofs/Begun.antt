@@ -13,7 +13,7 @@ use Rattle.routes.specs.Routes.{IsBefore}
 use Rattle.routes.proofs.Determined.{never_both}
 use Rattle.routes.proofs.Listed.{other_default}
 use Rattle.routes.proofs.OneMore.{never_itself}
-use Rattle.events.specs.Routers.{Router}
+use Rattle.event_rules.specs.Routers.{Router}
 use Rattle.worker.specs.Offers.{AreCandidatesNow, IsTableNow}
 use Rattle.operator.specs.Shown.{IsPartOf}
 

@@ -9,7 +9,7 @@ use Rattle.maps.specs.declared.access.Access.TheVariants.{Read}
 use Rattle.adjacency.specs.declared.state.NeighborState.{NeighborState}
 use Rattle.tables.specs.Parts.{Ascend}
 use Rattle.tables.specs.Rows.{rows_of}
-use Rattle.events.specs.Routers.{Router}
+use Rattle.event_rules.specs.Routers.{Router}
 use Rattle.worker.specs.Offers.{IsTableNow}
 use Rattle.worker.specs.Replay.{Leads}
 use Rattle.worker.specs.Turns.{IsOfferedBySome, Offers}

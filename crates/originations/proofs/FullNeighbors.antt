@@ -22,8 +22,8 @@ use Rattle.flooding.specs.adjacency.Neighbors.{Neighbor, fresh, is_full}
 use Rattle.flooding.specs.adjacency.declared.interface.Interface.{Interface}
 use Rattle.flooding.specs.adjacency.declared.state.NeighborState.TheVariants.{Full}
 use Rattle.flooding.specs.received.Links.{Link}
-use Rattle.events.specs.Endings.{links_differ, same_body}
-use Rattle.events.specs.Originations.{links_of, point_to_point, router_body, stub}
+use Rattle.event_rules.specs.Endings.{links_differ, same_body}
+use Rattle.event_rules.specs.Originations.{links_of, point_to_point, router_body, stub}
 use Rattle.flooding.specs.Links.{present}
 use Rattle.flooding.proofs.Updates.{drop_end, drop_next}
 use Rattle.originations.specs.Described.{interface_links, described_body, described_links}

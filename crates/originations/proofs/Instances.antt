@@ -5,7 +5,7 @@ use Rattle.lsa.specs.Origination.{sealed_lsa}
 use Rattle.lsa.specs.declared.body.LsaBody.{LsaBody}
 use Rattle.flooding.specs.lsdb.Copies.{DatabaseCopy}
 use Rattle.flooding.specs.lsdb.Headers.{Lsa}
-use Rattle.events.specs.Originations.{has_max_sequence, new_instance, next_sequence}
+use Rattle.event_rules.specs.Originations.{has_max_sequence, new_instance, next_sequence}
 use Rattle.originations.specs.Instances.{next_instance, next_number}
 
 made : Key → ℤ → LsaBody → Lsa

@@ -13,9 +13,9 @@ use Rattle.lsa.specs.declared.body.LinkKind.TheVariants.{PointToPoint}
 use Rattle.flooding.specs.Kept.{KeptLink}
 use Rattle.flooding.specs.adjacency.Neighbors.{Neighbor, is_full}
 use Rattle.flooding.specs.received.Links.{Link}
-use Rattle.events.specs.Originations.{links_of, point_to_point, router_body, stub}
-use Rattle.events.proofs.Fitting.{router_few}
-use Rattle.events.proofs.Rooms.{both}
+use Rattle.event_rules.specs.Originations.{links_of, point_to_point, router_body, stub}
+use Rattle.event_rules.proofs.Fitting.{router_few}
+use Rattle.event_rules.proofs.Rooms.{both}
 use Rattle.flooding.specs.Links.{present}
 
 -- ---- one more interface

@@ -9,7 +9,7 @@ use Rattle.flooding.specs.adjacency.Neighbors.{Neighbor, is_full}
 use Rattle.flooding.specs.adjacency.declared.interface.Interface.{Interface}
 use Rattle.flooding.specs.adjacency.declared.state.NeighborState.{NeighborState}
 use Rattle.flooding.specs.received.Links.{Link}
-use Rattle.events.specs.Originations.{stub}
+use Rattle.event_rules.specs.Originations.{stub}
 
 abbrev pub full_router : Option (RouterNumber × NeighborState) → Option RouterNumber
 full_router None = None

@@ -7,7 +7,7 @@ use Rattle.words.specs.declared.key.Key.{Key}
 use Rattle.lsa.specs.declared.body.LsaBody.{LsaBody}
 use Rattle.flooding.specs.lsdb.Copies.{DatabaseCopy}
 use Rattle.flooding.specs.lsdb.Headers.{Lsa}
-use Rattle.events.specs.Originations.{has_max_sequence, new_instance, next_sequence}
+use Rattle.event_rules.specs.Originations.{has_max_sequence, new_instance, next_sequence}
 
 abbrev pub number_after : ℤ → Option ℤ
 number_after n = if is_eq (int_cmp n max_sequence_number) then None else Some (n +ℤ pos 1)

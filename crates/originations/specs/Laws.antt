@@ -3,8 +3,8 @@ use Rattle.std.specs.Prelude.{◌≡◌, ℕ, Bool, Some}
 use Rattle.std.specs.FinMap as finite
 use Rattle.words.specs.declared.key.Key.{Key}
 use Rattle.lsa.specs.declared.body.LsaBody.{LsaBody}
-use Rattle.events.specs.EventState.{EventState}
-use Rattle.events.specs.Originations.{originate_body}
+use Rattle.event_rules.specs.EventState.{EventState}
+use Rattle.event_rules.specs.Originations.{originate_body}
 use Rattle.originations.specs.Decisions.{after_origination, origination}
 
 abbrev pub OriginationsAreTheRules : Type 0

@@ -3,8 +3,8 @@ ghost use Rattle.std.specs.Prelude.{◌≡◌, ◌≤◌, List, length, map, IfO
 ghost use Rattle.lsa.specs.Ranges.{BodyFits};
 ghost use Rattle.lsa.specs.Text.{body_text};
 ghost use Rattle.flooding.specs.received.Links.{Link as OnLink};
-ghost use Rattle.events.specs.Endings.{copy_has_body, links_differ, same_body};
-ghost use Rattle.events.specs.Originations.{router_body};
+ghost use Rattle.event_rules.specs.Endings.{copy_has_body, links_differ, same_body};
+ghost use Rattle.event_rules.specs.Originations.{router_body};
 ghost use Rattle.flooding.specs.Links.{present};
 ghost use Rattle.originations.specs.Described.{
   described_body,

@@ -1,7 +1,7 @@
 //! The AS-external-LSAs of this router (RFC 2328, section 12.4.4).
 ghost use Rattle.std.specs.Prelude.{◌≡◌, ◌<◌, ◌^◌, IfOk};
 ghost use Rattle.std.specs.FinMap as finite;
-ghost use Rattle.events.specs.Originations.{external_body, external_key};
+ghost use Rattle.event_rules.specs.Originations.{external_body, external_key};
 ghost use Rattle.originations.specs.Instances.{next_instance};
 
 use crate::instance::next_instance;

@@ -1,7 +1,7 @@
 //! When a self-originated LSA is originated (RFC 2328, sections 12.1.6 and 12.4).
 ghost use Rattle.std.specs.Prelude.{◌≡◌, ◌≤◌, ◌<◌, ◌^◌, ◌&&◌, length, map, IfOk};
 ghost use Rattle.std.specs.FinMap as finite;
-ghost use Rattle.events.specs.Originations.{
+ghost use Rattle.event_rules.specs.Originations.{
   external_body,
   external_key,
   interval_is_over,

@@ -2,7 +2,7 @@
 ghost use Rattle.std.specs.Prelude.{◌≡◌, ◌≤◌, ◌++◌, length, map, IfOk, OnOk};
 ghost use Rattle.std.specs.FinMap as finite;
 ghost use Rattle.words.specs.Prefixes.{mask_of, network_address};
-ghost use Rattle.events.specs.Originations.{links_of, router_body, router_key, stub};
+ghost use Rattle.event_rules.specs.Originations.{links_of, router_body, router_key, stub};
 ghost use Rattle.flooding.specs.Links.{present};
 ghost use Rattle.originations.specs.Instances.{next_instance};
 ghost use Rattle.originations.specs.Described.{interface_links, full_router};

@@ -23,9 +23,9 @@ use Rattle.adjacency.specs.Neighbors.{Neighbor}
 use Rattle.adjacency.proofs.Kept.{chosen}
 use Rattle.received.specs.Links.{Link}
 use Rattle.received.proofs.Marks.{tied}
-use Rattle.events.specs.Endings.{link_loading_done, links_differ, loading_done_on, same_body}
-use Rattle.events.specs.Originations.{router_body, stub}
-use Rattle.events.specs.Ticks.{run_out, settled_exchange}
+use Rattle.event_rules.specs.Endings.{link_loading_done, links_differ, loading_done_on, same_body}
+use Rattle.event_rules.specs.Originations.{router_body, stub}
+use Rattle.event_rules.specs.Ticks.{run_out, settled_exchange}
 use Rattle.own_lsa_laws.proofs.Faces.{Face, body_by_faces, face_links, faces, faces_body}
 use Rattle.own_lsa_laws.proofs.Faces.{full_router, told_to}
 

@@ -32,24 +32,33 @@ use Rattle.received.specs.Flooding.{flood_to}
 use Rattle.received.specs.Links.{Link, any_exchange_or_loading, link_at, neighbor_at}
 use Rattle.received.specs.Outcomes.{Outcome, on_database, on_links, one_neighbor, only_at, sends_at}
 use Rattle.received.specs.Outcomes.{sending, stepping_sends}
-use Rattle.events.specs.Commands.{after_redistribute, after_withdraw, announce, announce_as}
-use Rattle.events.specs.Commands.{answered_external, end_want, is_announced_as, is_for, unannounce}
-use Rattle.events.specs.Endings.{copy_has_body, describe_router, describe_router_later, end_event}
-use Rattle.events.specs.Endings.{is_at, is_current, link_loading_done, links_differ, loading_done}
-use Rattle.events.specs.Endings.{remove_aged, request_all, stays}
-use Rattle.events.specs.EventState.{EventState, flood_from_nobody, on_area, on_router}
-use Rattle.events.specs.Hellos.{accepts, names}
-use Rattle.events.specs.Originations.{announced_body, due_keys, external_body, external_key, flush}
-use Rattle.events.specs.Originations.{flush_copy, forget_originations, has_max_sequence, has_room}
-use Rattle.events.specs.Originations.{is_due, may_originate, originate, originate_anyway}
-use Rattle.events.specs.Originations.{originate_body, originate_due, originate_or_wait, router_body}
-use Rattle.events.specs.Originations.{router_key, wait, wanted_body, wanted_keys}
-use Rattle.events.specs.Packets.{after_packet, from_neighbor, hear, heard_on, is_heard}
-use Rattle.events.specs.Packets.{is_in_exchange, is_there, requested_from, requested_lsas}
-use Rattle.events.specs.Routers.{Router}
-use Rattle.events.specs.Ticks.{acknowledge_all, acknowledgments_on, after_tick, again}
-use Rattle.events.specs.Ticks.{hello_sent_on, run_out, send_all_again, sends_of, with_hello_sent}
-use Rattle.events.specs.Ticks.{without_acknowledgments}
+use Rattle.event_rules.specs.Commands.{after_redistribute, after_withdraw, announce, announce_as}
+use Rattle.event_rules.specs.Commands.{answered_external, end_want, is_announced_as, is_for}
+use Rattle.event_rules.specs.Commands.{unannounce}
+use Rattle.event_rules.specs.Endings.{copy_has_body, end_event, originate_router_lsa}
+use Rattle.event_rules.specs.Endings.{put_off_router_lsa}
+use Rattle.event_rules.specs.Endings.{is_at, is_current, link_loading_done, links_differ}
+use Rattle.event_rules.specs.Endings.{loading_done}
+use Rattle.event_rules.specs.Endings.{remove_aged, request_all, stays}
+use Rattle.event_rules.specs.EventState.{EventState, flood_from_nobody, on_area, on_router}
+use Rattle.event_rules.specs.Hellos.{accepts, names}
+use Rattle.event_rules.specs.Originations.{announced_body, due_keys, external_body, external_key}
+use Rattle.event_rules.specs.Originations.{flush}
+use Rattle.event_rules.specs.Originations.{flush_copy, forget_originations, has_max_sequence}
+use Rattle.event_rules.specs.Originations.{has_room}
+use Rattle.event_rules.specs.Originations.{is_due, may_originate, originate, originate_anyway}
+use Rattle.event_rules.specs.Originations.{originate_body, originate_due, originate_or_put_off}
+use Rattle.event_rules.specs.Originations.{router_body}
+use Rattle.event_rules.specs.Originations.{put_off, router_key, wanted_body, wanted_keys}
+use Rattle.event_rules.specs.Packets.{accept_hello, after_packet, from_neighbor, is_heard}
+use Rattle.event_rules.specs.Packets.{receive_hello_on}
+use Rattle.event_rules.specs.Packets.{any_exchange_or_later, is_there, receive_request}
+use Rattle.event_rules.specs.Packets.{requested_lsas}
+use Rattle.event_rules.specs.Routers.{Router}
+use Rattle.event_rules.specs.Ticks.{acknowledgments_on, after_tick, again, send_acknowledgments}
+use Rattle.event_rules.specs.Ticks.{hello_sent_on, run_out, send_all_again, sends_of}
+use Rattle.event_rules.specs.Ticks.{with_hello_sent}
+use Rattle.event_rules.specs.Ticks.{without_acknowledgments}
 use Rattle.flood_laws.proofs.Limits.{one_less, one_more, tied_key}
 use Rattle.own_lsa_laws.proofs.Agreeing.{never_differs, once, text_of_same, undiffering}
 use Rattle.own_lsa_laws.proofs.Faces.{StaysFaced, again_so, asks_so, body_faces, each_faces, faces}
@@ -77,7 +86,7 @@ module _ (moment : ℕ) (t : Terms) where
   -- ---- packets
 
   hello_kept : (number from : ℕ) (h : Hello) (found : Option Link) (p : EventState) → So p
-      → So (on_area (heard_on p.router.id moment number from h found) p)
+      → So (on_area (receive_hello_on p.router.id moment number from h found) p)
   hello_kept number from h None p so = record {
     externals = so.externals;
     earlier = so.earlier;
@@ -85,7 +94,7 @@ module _ (moment : ℕ) (t : Terms) where
   }
   hello_kept number from h (Some link) p so =
       chosen (λ (q : Outcome). So (with_outcome p q)) (accepts p.router.id from h link)
-      (hear moment number (adjacencies.after_hello moment from (names p.router.id h)
+      (accept_hello moment number (adjacencies.after_hello moment from (names p.router.id h)
       link.neighbor) (outcome p)) (outcome p)
       (λ is. record {
         externals = so.externals;
@@ -97,7 +106,7 @@ module _ (moment : ℕ) (t : Terms) where
       (λ is. record { externals = so.externals; earlier = so.earlier; copies = so.copies })
 
   request_kept : (number : ℕ) (keys : List Key) (p : EventState) → So p
-      → So (on_area (requested_from moment number keys) p)
+      → So (on_area (receive_request moment number keys) p)
   request_kept number keys p so =
       chosen (λ (q : Outcome). So (with_outcome p q))
       (list_all (is_there p.router.area.database) keys)
@@ -149,7 +158,7 @@ module _ (moment : ℕ) (t : Terms) where
   pub packet_kept : (number : ℕ) (packet : Packet) (p : EventState) → Tells t p → So p
       → So (after_packet moment number packet p)
   packet_kept number packet p tells so =
-      let exchanges : Bool = is_in_exchange (neighbor_at number p.router.area.links) in
+      let exchanges : Bool = any_exchange_or_later (neighbor_at number p.router.area.links) in
       chosen So (is_heard p.router.id packet (neighbor_at number p.router.area.links))
       (from_neighbor moment number packet.router exchanges packet.body p) p
       (λ heard. from_kept number packet.router exchanges packet.body p tells so) (λ heard. so)
@@ -294,7 +303,7 @@ narrowed moment t u key keys r before now may here q c fits = (
 
 one_due : (moment : ℕ) (t : Terms) (key : Key) (keys : List Key) (p : EventState) → Tells t p
     → InProgress moment (full (among (key ∷ keys) t)) p
-    → InProgress moment (full (among keys t)) (originate_or_wait moment key p)
+    → InProgress moment (full (among keys t)) (originate_or_put_off moment key p)
 one_due moment t key keys p tells h =
     let r : Router = p.router in
     or_wait_kept moment (among keys t) key p
@@ -324,7 +333,7 @@ one_due moment t key keys p tells h =
     unwanted k some none = let e : Some some.0 ≡ None = sym some.1 ∙ none in absurd cc
 
 or_wait_faces : (moment : ℕ) (key : Key) (p : EventState)
-    → StaysFaced p (originate_or_wait moment key p)
+    → StaysFaced p (originate_or_put_off moment key p)
 or_wait_faces moment key p = body_faces (has_room key p.router) moment key
     (wanted_body p.router key) p
 
@@ -333,14 +342,14 @@ due_kept : (moment : ℕ) (t : Terms) (keys : List Key) (p : EventState) → Tel
     → InProgress moment (full (among [] t)) (originate_due moment keys p)
 due_kept moment t [] p tells h = h
 due_kept moment t (key ∷ keys) p tells h =
-    let q : EventState = originate_or_wait moment key p in
+    let q : EventState = originate_or_put_off moment key p in
     due_kept moment t keys q (still_tells t p q (or_wait_faces moment key p) tells)
     (one_due moment t key keys p tells h)
 
 due_faces : (moment : ℕ) (keys : List Key) (p : EventState)
     → StaysFaced p (originate_due moment keys p)
 due_faces moment [] p = refl
-due_faces moment (key ∷ keys) p = due_faces moment keys (originate_or_wait moment key p)
+due_faces moment (key ∷ keys) p = due_faces moment keys (originate_or_put_off moment key p)
     ∙ or_wait_faces moment key p
 
 -- the state of a Tick before anything is originated
@@ -358,7 +367,7 @@ tick_kept moment t p tells h =
     let so : InProgress moment u renewed =
     due_kept moment t (due_keys moment first.router) first tells h in
     let o : Outcome = send_all_again moment (outcome renewed) in
-    let acknowledged : Outcome = acknowledge_all moment o in
+    let acknowledged : Outcome = send_acknowledgments moment o in
     record {
       externals = so.externals;
       earlier = so.earlier;
@@ -377,7 +386,7 @@ tick_faces moment p =
     let first : EventState = run_down moment p in
     let renewed : EventState = originate_due moment (due_keys moment first.router) first in
     let o : Outcome = send_all_again moment (outcome renewed) in
-    let acknowledged : Outcome = acknowledge_all moment o in
+    let acknowledged : Outcome = send_acknowledgments moment o in
     mapped_faces (with_hello_sent moment) (λ link. refl) acknowledged.area.links
     ∙ mapped_faces without_acknowledgments (λ link. refl) o.area.links
     ∙ each_faces moment (again moment (outcome renewed)) (again_so moment (outcome renewed))
@@ -495,7 +504,7 @@ module _ (moment : ℕ) (t : Terms) (before : List Link) (p : EventState)
   says = router_body p.router.area.links
 
   abbrev at_once_kept : EventState
-  at_once_kept = originate_or_wait moment own_key p
+  at_once_kept = originate_or_put_off moment own_key p
 
   abbrev Told : EventState → Type 0
   Told = InProgress moment (told text t.may_wait)
@@ -539,7 +548,7 @@ module _ (moment : ℕ) (t : Terms) (before : List Link) (p : EventState)
       let e : t.before ≡ text = is_before ∙ undiffering before p.router.area.links same in
       agreed_all moment t text p e (agrees e ∙ e) h
 
-  pub described_kept : InProgress moment (full t) p → Told (describe_router before moment p)
+  pub described_kept : InProgress moment (full t) p → Told (originate_router_lsa before moment p)
   described_kept h =
       chosen Told (links_differ before p.router.area.links && not (is_current moment p.router))
       at_once_kept p (λ is. said_at_once h)
@@ -551,7 +560,7 @@ module _ (moment : ℕ) (t : Terms) (before : List Link) (p : EventState)
       by_reason (inl same) = unsaid h same
       by_reason (inr current) = said_already current h
 
-  pub described_faces : StaysFaced p (describe_router before moment p)
+  pub described_faces : StaysFaced p (originate_router_lsa before moment p)
   described_faces =
       chosen (StaysFaced p) (links_differ before p.router.area.links && not
       (is_current moment p.router)) at_once_kept p (λ is. or_wait_faces moment own_key p)
@@ -618,16 +627,16 @@ module _ (moment : ℕ) (p : EventState)
   some_settled may_now says =
       let may : Bool = may_originate moment own p.router in
       chosen Q (has_max_sequence (finite.get p.router.area.database own)) (flush moment own p)
-      (cond (may_now && may) (originate moment own says p) (on_router (wait own) p))
+      (cond (may_now && may) (originate moment own says p) (on_router (put_off own) p))
       (λ last. flushed_settled (finite.get p.router.area.database own) refl last)
-      (λ more. chosen Q (may_now && may) (originate moment own says p) (on_router (wait own) p)
+      (λ more. chosen Q (may_now && may) (originate moment own says p) (on_router (put_off own) p)
       (λ goes. inr (λ c there. inr (originated_now moment p.router.originated own)))
       (λ waits. inl filled))
 
-  pub described_settled : (before : List Link) → Q (describe_router before moment p)
+  pub described_settled : (before : List Link) → Q (originate_router_lsa before moment p)
   described_settled before =
       chosen Q (links_differ before p.router.area.links && not (is_current moment p.router))
-      (originate_or_wait moment own p) p
+      (originate_or_put_off moment own p) p
       (λ is. subst (λ (w : Option LsaBody). Q
       (originate_body (has_room own p.router) moment own w p))
       (sym (wants_router_lsa p.router))
@@ -636,7 +645,7 @@ module _ (moment : ℕ) (p : EventState)
 pub later_kept : (moment : ℕ) (t : Terms) (said : EventState) → t.before ≡ text_of said → t.now
     ≡ text_of said → IsFilledOrSettled moment said → InProgress moment (full t) said
     → InProgress moment (told (text_of (loading_done said)) t.may_wait)
-    (describe_router_later said.router.area.links (loading_done said))
+    (put_off_router_lsa said.router.area.links (loading_done said))
 later_kept moment t said before now settled h =
     let q : EventState = loading_done said in
     let r : Router = q.router in
@@ -649,7 +658,7 @@ later_kept moment t said before now settled h =
       copies = h.copies;
     } in
     chosen (InProgress moment u) (links_differ said.router.area.links q.router.area.links)
-    (on_router (wait key) q) q
+    (on_router (put_off key) q) q
     (λ differ. wait_kept moment u key q
     (λ c there. stands c (by_case differ settled c there)) (retold_all moment t text q there_so))
     (λ same.
@@ -677,9 +686,9 @@ later_kept moment t said before now settled h =
         Standing.HeldBack moment (inl (same_itself (router_key said.router.id)))
         (waits_there said.router.waiting (router_key said.router.id)) last (omega arith)
 
-later_faces : (before : List Link) (p : EventState) → StaysFaced p (describe_router_later before p)
+later_faces : (before : List Link) (p : EventState) → StaysFaced p (put_off_router_lsa before p)
 later_faces before p = chosen (StaysFaced p) (links_differ before p.router.area.links)
-    (on_router (wait (router_key p.router.id)) p) p (λ is. refl) (λ is. refl)
+    (on_router (put_off (router_key p.router.id)) p) p (λ is. refl) (λ is. refl)
 
 -- ---- the complete end
 
@@ -707,7 +716,7 @@ ended_kept old moment t p before agrees h =
       earlier = h.earlier;
       copies = h.copies;
     } in
-    let said : EventState = describe_router old.area.links moment first in
+    let said : EventState = originate_router_lsa old.area.links moment first in
     let u : Terms = told (text_of first) t.may_wait in
     let said_so : InProgress moment u said =
     described_kept moment t old.area.links first before agrees filled_first in
@@ -718,7 +727,7 @@ ended_kept old moment t p before agrees h =
     described_settled moment first (once p.router.area.links) old.area.links in
     let last : EventState = loading_done said in
     let v : Terms = told (text_of last) t.may_wait in
-    let refilled : EventState = describe_router_later said.router.area.links last in
+    let refilled : EventState = put_off_router_lsa said.router.area.links last in
     let so : InProgress moment v refilled =
     later_kept moment u said said_text said_text settled said_so in
     let r : Router = refilled.router in

@@ -32,12 +32,13 @@ use Rattle.received.specs.Flooding.{flood, flood_to, is_sender}
 use Rattle.received.specs.Links.{Link, acknowledge_later}
 use Rattle.received.specs.Outcomes.{Outcome, Stepping, each_neighbor, on_database, only_at, step_on}
 use Rattle.received.specs.Updates.{after_case, goes_on, send_copy}
-use Rattle.events.specs.Endings.{with_age}
-use Rattle.events.specs.EventState.{EventState, flood_from_nobody, on_area, on_router}
-use Rattle.events.specs.Originations.{flush, flush_copy, has_max_sequence, links_of, may_originate}
-use Rattle.events.specs.Originations.{new_instance, originate, originate_body, point_to_point}
-use Rattle.events.specs.Originations.{router_body, stub, wait}
-use Rattle.events.specs.Ticks.{again}
+use Rattle.event_rules.specs.Endings.{with_age}
+use Rattle.event_rules.specs.EventState.{EventState, flood_from_nobody, on_area, on_router}
+use Rattle.event_rules.specs.Originations.{flush, flush_copy, has_max_sequence, links_of}
+use Rattle.event_rules.specs.Originations.{may_originate}
+use Rattle.event_rules.specs.Originations.{new_instance, originate, originate_body, point_to_point}
+use Rattle.event_rules.specs.Originations.{put_off, router_body, stub}
+use Rattle.event_rules.specs.Ticks.{again}
 
 -- ---- what it depends on
 
@@ -272,10 +273,10 @@ body_faces may_now moment key (Some says) p =
     chosen (StaysFaced p) (has_max_sequence (finite.get p.router.area.database key))
     (flush moment key p)
     (cond (may_now && may_originate moment key p.router) (originate moment key says p)
-    (on_router (wait key) p))
+    (on_router (put_off key) p))
     (λ is. flush_faces moment key p)
     (λ is. chosen (StaysFaced p) (may_now && may_originate moment key p.router)
-    (originate moment key says p) (on_router (wait key) p)
+    (originate moment key says p) (on_router (put_off key) p)
     (λ may. originate_faces moment key says p) (λ may. refl))
 
 -- ---- what a Tick sends, and Link State Requests

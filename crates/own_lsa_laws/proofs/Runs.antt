@@ -14,16 +14,18 @@ use Rattle.lsdb.specs.Keys.{ByKey, KeySet, key_cmp, same_key}
 use Rattle.lsdb.proofs.Keys.{keys_total}
 use Rattle.adjacency.proofs.Kept.{chosen}
 use Rattle.adjacency.proofs.Maps.{AllIn, none_in}
-use Rattle.events.specs.declared.model.Config.{Config}
-use Rattle.events.specs.declared.model.Out.{Out}
-use Rattle.events.specs.Endings.{end_event, link_loading_done, start_event}
-use Rattle.events.specs.Events.{Happens, OwnPart, Run, Step, initial}
-use Rattle.events.specs.EventState.{EventState, on_router}
-use Rattle.events.specs.Originations.{due_keys, external_body, flush, has_max_sequence, has_room}
-use Rattle.events.specs.Originations.{is_recent, may_originate, originate, originate_body}
-use Rattle.events.specs.Originations.{originate_or_wait, router_body, router_key, wait, wanted_body}
-use Rattle.events.specs.Routers.{Occurrence, Router, unannounced_router}
-use Rattle.events.specs.Ticks.{after_tick}
+use Rattle.event_rules.specs.declared.model.Config.{Config}
+use Rattle.event_rules.specs.declared.model.Out.{Out}
+use Rattle.event_rules.specs.Endings.{end_event, link_loading_done, start_event}
+use Rattle.event_rules.specs.Events.{Happens, OwnPart, Run, Step, initial}
+use Rattle.event_rules.specs.EventState.{EventState, on_router}
+use Rattle.event_rules.specs.Originations.{due_keys, external_body, flush, has_max_sequence}
+use Rattle.event_rules.specs.Originations.{has_room}
+use Rattle.event_rules.specs.Originations.{is_recent, may_originate, originate, originate_body}
+use Rattle.event_rules.specs.Originations.{originate_or_put_off, put_off, router_body, router_key}
+use Rattle.event_rules.specs.Originations.{wanted_body}
+use Rattle.event_rules.specs.Routers.{Occurrence, Router, unannounced_router}
+use Rattle.event_rules.specs.Ticks.{after_tick}
 use Rattle.flood_laws.proofs.Retransmitted.{retransmissions_are_of_the_database}
 use Rattle.router_runs.specs.Clocks.{ClockRunsOn}
 use Rattle.own_lsa_laws.specs.OwnCopies.{EndsWithTick, IsHeldBack, IsOwnCopy}
@@ -257,9 +259,9 @@ moment_kept may_now moment key (Some says) p =
     let may : Bool = may_originate moment key p.router in
     let Same = λ (q : EventState). q.router.moment ≡ p.router.moment in
     chosen Same (has_max_sequence (finite.get p.router.area.database key)) (flush moment key p)
-    (cond (may_now && may) (originate moment key says p) (on_router (wait key) p))
+    (cond (may_now && may) (originate moment key says p) (on_router (put_off key) p))
     (λ is. refl) (λ is. chosen Same (may_now && may) (originate moment key says p)
-    (on_router (wait key) p) (λ goes. refl) (λ waits. refl))
+    (on_router (put_off key) p) (λ goes. refl) (λ waits. refl))
 
 no_external : (key : Key) (e : External)
     → finite.get (finite.empty {X = External} {R = key_cmp}) key ≡ Some e → key.ls_type ≡ 5
@@ -279,7 +281,7 @@ module _ (c : Config) where
   key = router_key c.router
 
   abbrev begins : EventState
-  begins = originate_or_wait c.start key bare
+  begins = originate_or_put_off c.start key bare
 
   bare_so : InProgress c.start (told (text_of bare) anything) bare
   bare_so = record {

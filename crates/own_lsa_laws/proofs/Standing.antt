@@ -22,9 +22,9 @@ use Rattle.adjacency.specs.Contents.{Content}
 use Rattle.adjacency.proofs.Kept.{chosen}
 use Rattle.adjacency.proofs.Maps.{AllIn, IfThere, inserted_in}
 use Rattle.received.specs.Outcomes.{Send, marked_database}
-use Rattle.events.specs.Originations.{announced_body, external_body, router_body, router_key}
-use Rattle.events.specs.Originations.{wanted_body}
-use Rattle.events.specs.Routers.{Router}
+use Rattle.event_rules.specs.Originations.{announced_body, external_body, router_body, router_key}
+use Rattle.event_rules.specs.Originations.{wanted_body}
+use Rattle.event_rules.specs.Routers.{Router}
 use Rattle.flood_laws.proofs.Limits.{tied_key}
 
 pub same_itself : (key : Key) → same_key key key ≡ true

@@ -9,11 +9,12 @@ use Rattle.lsdb.specs.Copies.{Database, DatabaseCopy, is_aged_out}
 use Rattle.lsdb.specs.Headers.{Lsa, lsa_aged}
 use Rattle.lsdb.specs.Keys.{ByKey, key_cmp, same_key}
 use Rattle.lsdb.proofs.Keys.{keys_total}
-use Rattle.events.specs.Endings.{same_body}
-use Rattle.events.specs.EventState.{EventState, on_area}
-use Rattle.events.specs.Originations.{announced_body, flush, flush_copy, router_body, router_key}
-use Rattle.events.specs.Originations.{wanted_body}
-use Rattle.events.specs.Routers.{Router}
+use Rattle.event_rules.specs.Endings.{same_body}
+use Rattle.event_rules.specs.EventState.{EventState, on_area}
+use Rattle.event_rules.specs.Originations.{announced_body, flush, flush_copy, router_body}
+use Rattle.event_rules.specs.Originations.{router_key}
+use Rattle.event_rules.specs.Originations.{wanted_body}
+use Rattle.event_rules.specs.Routers.{Router}
 use Rattle.flood_laws.proofs.Limits.{tied_key}
 use Rattle.own_lsa_laws.specs.OwnCopies.{IsHeldBack, IsOwnCopy, IsToBeReplaced, SaysWhatIsWanted}
 use Rattle.own_lsa_laws.specs.OwnCopies.{SpeaksForItself, SpeaksForItselfAfterTick}

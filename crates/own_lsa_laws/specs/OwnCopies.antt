@@ -9,12 +9,12 @@ use Rattle.words.specs.Numbers.{Moment}
 use Rattle.words.specs.declared.key.Key.{Key}
 use Rattle.lsa.specs.declared.body.LsaBody.{LsaBody}
 use Rattle.lsdb.specs.Copies.{DatabaseCopy, is_aged_out}
-use Rattle.events.specs.declared.model.Config.{Config}
-use Rattle.events.specs.declared.model.Out.{Out}
-use Rattle.events.specs.Endings.{same_body}
-use Rattle.events.specs.Events.{Happens, Run, Step, initial}
-use Rattle.events.specs.Originations.{wanted_body}
-use Rattle.events.specs.Routers.{Occurrence, Router}
+use Rattle.event_rules.specs.declared.model.Config.{Config}
+use Rattle.event_rules.specs.declared.model.Out.{Out}
+use Rattle.event_rules.specs.Endings.{same_body}
+use Rattle.event_rules.specs.Events.{Happens, Run, Step, initial}
+use Rattle.event_rules.specs.Originations.{wanted_body}
+use Rattle.event_rules.specs.Routers.{Occurrence, Router}
 use Rattle.router_runs.specs.Clocks.{ClockRunsOn}
 
 -- ---- a copy in this router's name

@@ -4,11 +4,11 @@ use Rattle.std.specs.Prelude.{ℕ, ◌+◌, ◌≤◌, Bool, List, Option}
 use Rattle.words.specs.Constants.{min_ls_interval}
 use Rattle.words.specs.Numbers.{Moment}
 use Rattle.words.specs.declared.key.Key.{Key}
-use Rattle.events.specs.received.lsdb.Copies.{DatabaseCopy}
-use Rattle.events.specs.declared.model.Config.{Config}
-use Rattle.events.specs.declared.model.Out.{Out}
-use Rattle.events.specs.Events.{Happens, initial}
-use Rattle.events.specs.Routers.{Occurrence, Router}
+use Rattle.event_rules.specs.received.lsdb.Copies.{DatabaseCopy}
+use Rattle.event_rules.specs.declared.model.Config.{Config}
+use Rattle.event_rules.specs.declared.model.Out.{Out}
+use Rattle.event_rules.specs.Events.{Happens, initial}
+use Rattle.event_rules.specs.Routers.{Occurrence, Router}
 use Rattle.own_lsa_laws.specs.OwnCopies.{IsOwnCopy, SaysWhatIsWanted, SpeaksForItself}
 use Rattle.own_lsa_laws.specs.OwnCopies.{SpeaksForItselfAfterTick}
 use Rattle.hooks.specs.declared.operation.LoaderOperation.{LoaderOperation}

@@ -10,8 +10,8 @@ use Rattle.lsa.specs.declared.body.LsaBody.{LsaBody}
 use Rattle.lsa.specs.declared.body.LsaBody.TheVariants as body
 use Rattle.lsa.specs.declared.body.LinkKind.TheVariants.{Stub}
 use Rattle.lsdb.specs.Headers.{Lsa}
-use Rattle.events.specs.Originations.{external_body, flush, router_key}
-use Rattle.events.specs.Routers.{Router, with_links}
+use Rattle.event_rules.specs.Originations.{external_body, flush, router_key}
+use Rattle.event_rules.specs.Routers.{Router, with_links}
 use Rattle.own_lsa_laws.specs.OwnCopies.{SpeaksForItself, SpeaksForItselfAfterTick}
 
 -- ---- LSAs that router 7 never originated

@@ -16,12 +16,13 @@ use Rattle.adjacency.specs.Rooms.{HasRoom}
 use Rattle.adjacency.specs.declared.draft.Update.{Update}
 use Rattle.received.specs.Links.{Link}
 use Rattle.received.specs.Outcomes.{Send}
-use Rattle.events.specs.Packing.{acknowledgments, at_interface, bodies, descriptions, first_key}
-use Rattle.events.specs.Packing.{header_size, hellos, in_key_order, is_after, lsa_size}
-use Rattle.events.specs.Packing.{packed_groups, insert_by_key, requests, sent_lsa, update_of}
-use Rattle.events.specs.Packing.{updates}
-use Rattle.events.specs.PackingLaws.{HasPacketRoom}
-use Rattle.events.proofs.Rooms.{order_all, ordered_and_packed, there}
+use Rattle.event_rules.specs.Packing.{acknowledgments, at_interface, bodies, descriptions}
+use Rattle.event_rules.specs.Packing.{first_key}
+use Rattle.event_rules.specs.Packing.{header_size, hellos, in_key_order, is_after, lsa_size}
+use Rattle.event_rules.specs.Packing.{packed_groups, insert_by_key, requests, sent_lsa, update_of}
+use Rattle.event_rules.specs.Packing.{updates}
+use Rattle.event_rules.specs.PackingLaws.{HasPacketRoom}
+use Rattle.event_rules.proofs.Rooms.{order_all, ordered_and_packed, there}
 use Rattle.packing.specs.Bodies.{IsShort, drafted_bodies, text_size, texts, update_bodies}
 use Rattle.packing.specs.Bodies.{update_key}
 use Rattle.packing.specs.Drafts.{IsDraftAt, nothing_drafted}

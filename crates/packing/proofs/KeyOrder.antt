@@ -11,9 +11,9 @@ use Rattle.std.proofs.lemmas.List.Sorted.{ranks_by, sorted_far}
 use Rattle.words.specs.declared.key.Key.{Key}
 use Rattle.lsdb.specs.Keys.{key_cmp, same_key}
 use Rattle.lsdb.proofs.Keys.{keys_exact, keys_total}
-use Rattle.events.specs.Packing.{in_key_order, is_after}
-use Rattle.events.specs.PackingLaws.{IsAscending}
-use Rattle.events.proofs.Packings.{ordered}
+use Rattle.event_rules.specs.Packing.{in_key_order, is_after}
+use Rattle.event_rules.specs.PackingLaws.{IsAscending}
+use Rattle.event_rules.proofs.Packings.{ordered}
 
 -- ---- keys
 

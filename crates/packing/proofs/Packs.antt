@@ -3,7 +3,7 @@ use Rattle.std.proofs.Common.{◌≡◌, ◌≤◌, ℕ, ◌+◌, Bool, true, fa
 use Rattle.std.proofs.Common.{refl, sym, ap, ◌∙◌, arith, append_assoc, append-nil, length, subst}
 use Rattle.std.specs.Prelude.{nat_le}
 use Rattle.std.specs.List.{AllByRecursion}
-use Rattle.events.specs.Packing.{fill_on, packed_groups}
+use Rattle.event_rules.specs.Packing.{fill_on, packed_groups}
 use Rattle.packing.specs.Fillings.{IsFilling, IsPackedSoFar, finished_packets}
 
 -- ---- one item after another

@@ -16,11 +16,12 @@ use Rattle.adjacency.specs.Drafts.{Drafted}
 use Rattle.adjacency.specs.Rooms.{HasRoom}
 use Rattle.received.specs.Links.{Link}
 use Rattle.received.specs.Outcomes.{Send}
-use Rattle.events.specs.Packing.{acknowledgments, at_interface, bodies, descriptions, first_key}
-use Rattle.events.specs.Packing.{header_size, hellos, in_key_order, lsa_size, packed_groups}
-use Rattle.events.specs.Packing.{requests, sent_lsa, update_of, updates}
-use Rattle.events.specs.PackingLaws.{HasPacketRoom}
-use Rattle.events.proofs.Rooms.{both, mapped_all, order_all, packed_all, there}
+use Rattle.event_rules.specs.Packing.{acknowledgments, at_interface, bodies, descriptions}
+use Rattle.event_rules.specs.Packing.{first_key}
+use Rattle.event_rules.specs.Packing.{header_size, hellos, in_key_order, lsa_size, packed_groups}
+use Rattle.event_rules.specs.Packing.{requests, sent_lsa, update_of, updates}
+use Rattle.event_rules.specs.PackingLaws.{HasPacketRoom}
+use Rattle.event_rules.proofs.Rooms.{both, mapped_all, order_all, packed_all, there}
 use Rattle.packing.specs.Bodies.{drafted_bodies}
 use Rattle.packing.specs.Drafts.{IsDraftAt}
 use Rattle.packing.specs.Texts.{CanBeSent}

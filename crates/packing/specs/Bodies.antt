@@ -8,7 +8,7 @@ use Rattle.packet.specs.declared.model.PacketBody.{PacketBody}
 use Rattle.packet.specs.declared.model.PacketBody.TheVariants as body
 use Rattle.adjacency.specs.Drafts.{Drafted}
 use Rattle.adjacency.specs.declared.draft.Update.{Update}
-use Rattle.events.specs.Packing.{first_key, header_size, in_key_order, packed_groups}
+use Rattle.event_rules.specs.Packing.{first_key, header_size, in_key_order, packed_groups}
 
 abbrev pub update_key : Update → Key
 update_key u = u.key

@@ -2,7 +2,7 @@
 use Rattle.std.specs.Prelude.{◌≡◌, ◌≤◌, ℕ, ◌+◌, List, [], ◌∷◌, ◌++◌}
 use Rattle.std.specs.List.{AllByRecursion}
 use Rattle.words.specs.Constants.{largest_packet}
-use Rattle.events.specs.Packing.{fill_on, packed_groups}
+use Rattle.event_rules.specs.Packing.{fill_on, packed_groups}
 
 -- the packet that is being filled begins with `start` bytes and has `used` bytes so far; without an
 -- item it has no more than it begins with

@@ -36,7 +36,7 @@ impl HasKey for Header {
 
 /// Link State Requests are sorted by their first keys.
 impl HasKey for Sequence<Key> {
-    ghost use Rattle.events.specs.Packing.{first_key};
+    ghost use Rattle.event_rules.specs.Packing.{first_key};
 
     ghost order_key = { λ keys. first_key keys };
 
@@ -74,7 +74,7 @@ impl HasSize for Sequence<u8> {
 }
 
 impl HasSize for Header {
-    ghost use Rattle.events.specs.Packing.{header_size};
+    ghost use Rattle.event_rules.specs.Packing.{header_size};
 
     ghost size = { λ header. header_size header };
 

@@ -1,6 +1,6 @@
 //! Sorting by keys.
 ghost use Rattle.std.specs.Prelude.{◌≡◌, OnOk};
-ghost use Rattle.events.specs.Packing.{in_key_order};
+ghost use Rattle.event_rules.specs.Packing.{in_key_order};
 
 use crate::contents::HasKey;
 use std::alloc::AllocError;

@@ -3,7 +3,7 @@ ghost use Rattle.std.specs.Prelude.{◌≡◌, ◌≤◌, ◌+◌, List, [], ◌
 ghost use Rattle.std.specs.Prelude.{IfOk, OnOk};
 ghost use Rattle.std.specs.List.{AllByRecursion};
 ghost use Rattle.words.specs.Constants.{largest_packet};
-ghost use Rattle.events.specs.Packing.{packed_groups};
+ghost use Rattle.event_rules.specs.Packing.{packed_groups};
 ghost use Rattle.packing.specs.Fillings.{IsFilling, finished_packets};
 
 use crate::contents::HasSize;

@@ -4,14 +4,14 @@ ghost use Rattle.received.specs.Links.{Link};
 ghost use Rattle.received.specs.Outcomes.{Send};
 ghost use Rattle.std.specs.List.{AllByRecursion, filter_map};
 ghost use Rattle.packet.specs.Ranges.{LsasAreWhole};
-ghost use Rattle.events.specs.Packing.{at_interface, bodies, out_of, outs_at};
-ghost use Rattle.events.specs.PackingLaws.{HasPacketRoom};
+ghost use Rattle.event_rules.specs.Packing.{at_interface, bodies, out_of, outs_at};
+ghost use Rattle.event_rules.specs.PackingLaws.{HasPacketRoom};
 ghost use Rattle.packing.specs.Drafts.{IsDraftAt};
 ghost use Rattle.packing.specs.Texts.{IsSentText};
 
 use crate::bodies::bodies;
 use adjacency::Draft;
-use events::Out;
+use event_rules::Out;
 use packet::{Packet, PacketBody, write};
 use std::alloc::{AllocError, Global};
 use words::{RouterId, Sequence};

@@ -7,11 +7,12 @@ use Rattle.words.specs.declared.route.External.{External}
 use Rattle.keyed_map.specs.Keys.{same_key}
 use Rattle.lsa.specs.declared.body.LsaBody.{LsaBody}
 use Rattle.adjacency.specs.lsdb.Copies.{Database}
-use Rattle.events.specs.received.Links.{Link}
-use Rattle.events.specs.EventState.{EventState}
-use Rattle.events.specs.Originations.{announced_body, external_body, external_key, originate_body}
-use Rattle.events.specs.Originations.{router_body, router_key, wanted_body}
-use Rattle.events.specs.Routers.{Router}
+use Rattle.event_rules.specs.received.Links.{Link}
+use Rattle.event_rules.specs.EventState.{EventState}
+use Rattle.event_rules.specs.Originations.{announced_body, external_body, external_key}
+use Rattle.event_rules.specs.Originations.{originate_body}
+use Rattle.event_rules.specs.Originations.{router_body, router_key, wanted_body}
+use Rattle.event_rules.specs.Routers.{Router}
 use Rattle.originations.proofs.Decided.{are_the_rules}
 use Rattle.originations.specs.Decisions.{after_origination, origination}
 use Rattle.originations.specs.declared.origination.Origination.{Origination}

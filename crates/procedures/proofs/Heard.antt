@@ -11,20 +11,23 @@ use Rattle.packet.specs.declared.model.Hello.{Hello}
 use Rattle.packet.specs.declared.model.Packet.{Packet}
 use Rattle.adjacency.specs.Neighbors.{Neighbor}
 use Rattle.adjacency.specs.Steps.{named_neighbor}
-use Rattle.events.specs.received.Links.{neighbor_at}
-use Rattle.events.specs.EventState.{EventState, on_area}
-use Rattle.events.specs.Packets.{acknowledged_by, after_hello, after_lsas, after_packet}
-use Rattle.events.specs.Packets.{describe_to, from_neighbor, is_from, is_heard, is_in_exchange}
-use Rattle.events.specs.Packets.{requested_from}
-use Rattle.events.specs.Routers.{Router}
+use Rattle.event_rules.specs.received.Links.{neighbor_at}
+use Rattle.event_rules.specs.EventState.{EventState, on_area}
+use Rattle.event_rules.specs.Packets.{after_lsas, after_packet, receive_acknowledgment}
+use Rattle.event_rules.specs.Packets.{receive_hello}
+use Rattle.event_rules.specs.Packets.{any_exchange_or_later, from_neighbor, is_from, is_heard}
+use Rattle.event_rules.specs.Packets.{receive_description}
+use Rattle.event_rules.specs.Packets.{receive_request}
+use Rattle.event_rules.specs.Routers.{Router}
 use Rattle.router_state.specs.Kept.{KeptRouter}
 use Rattle.procedures.specs.Making.{Does, Makes}
 use Rattle.procedures.proofs.Making.{does_if_true, does_same, makes_nothing, makes_same}
-use Rattle.procedures.specs.Received.{counts_before_exchange, is_from_named, is_in_exchange_named}
+use Rattle.procedures.specs.Received.{counts_before_exchange, is_exchange_or_later_named}
+use Rattle.procedures.specs.Received.{is_from_named}
 use Rattle.procedures.specs.Received.{is_processed}
 
 pub exchange_named : (o : Option Neighbor)
-    → is_in_exchange_named (named_neighbor o) ≡ is_in_exchange o
+    → is_exchange_or_later_named (named_neighbor o) ≡ any_exchange_or_later o
 exchange_named None = refl
 exchange_named (Some n) = refl
 
@@ -64,7 +67,7 @@ module _ (moment number : ℕ) (packet : Packet) where
   is_heard_at r = is_heard r.id packet (neighbor_at number r.area.links)
 
   abbrev pub exchanges_at : Router → Bool
-  exchanges_at r = is_in_exchange (neighbor_at number r.area.links)
+  exchanges_at r = any_exchange_or_later (neighbor_at number r.area.links)
 
   abbrev pub is_processed_at : Router → Bool
   is_processed_at r = is_processed r.id packet (neighbor_at number r.area.links)
@@ -105,13 +108,13 @@ module _ (moment number : ℕ) (packet : Packet) where
 
   pub greets : {X E : Type 0} {old new : KeptRouter} (r : Result X E) (h : Hello)
       → is_processed_at old.present ≡ true → packet.body ≡ body.Hello h
-      → Does (on_area (after_hello old.present.id moment number packet.router h)) old new r
+      → Does (on_area (receive_hello old.present.id moment number packet.router h)) old new r
       → Does (after_packet moment number packet) old new r
   greets {old = old} r h holds is a =
       is_taken r (exchanges_at old.present) holds refl
       (does_same r
       (λ p here.
-      ap (λ (own : ℕ). on_area (after_hello own moment number packet.router h) p)
+      ap (λ (own : ℕ). on_area (receive_hello own moment number packet.router h) p)
       (sym (ap (λ (r : Router). r.id) here))
       ∙ ap (λ (k : PacketBody). from_neighbor moment number packet.router
       (exchanges_at old.present) k p) (sym is))
@@ -119,13 +122,13 @@ module _ (moment number : ℕ) (packet : Packet) where
 
   pub describes : {X E : Type 0} {old new : KeptRouter} (r : Result X E) (d : Description)
       → is_processed_at old.present ≡ true → packet.body ≡ body.Description d
-      → Does (on_area (describe_to old.present.id moment number d)) old new r
+      → Does (on_area (receive_description old.present.id moment number d)) old new r
       → Does (after_packet moment number packet) old new r
   describes {old = old} r d holds is a =
       is_taken r (exchanges_at old.present) holds refl
       (does_same r
       (λ p here.
-      ap (λ (own : ℕ). on_area (describe_to own moment number d) p)
+      ap (λ (own : ℕ). on_area (receive_description own moment number d) p)
       (sym (ap (λ (r : Router). r.id) here))
       ∙ ap (λ (k : PacketBody). from_neighbor moment number packet.router
       (exchanges_at old.present) k p) (sym is))
@@ -134,13 +137,13 @@ module _ (moment number : ℕ) (packet : Packet) where
   pub requests : {X E : Type 0} {old new : KeptRouter} (r : Result X E)
       (keys read : List Key)
       → is_processed_at old.present ≡ true → packet.body ≡ body.Request keys → read ≡ keys
-      → Does (on_area (requested_from moment number read)) old new r
+      → Does (on_area (receive_request moment number read)) old new r
       → Does (after_packet moment number packet) old new r
   requests {old = old} r keys read holds is same a =
       is_taken r true holds (came_in_exchange old.present holds (ap counts_before_exchange is))
       (does_same r
       (λ p _.
-      ap (λ (ks : List Key). on_area (requested_from moment number ks) p) same
+      ap (λ (ks : List Key). on_area (receive_request moment number ks) p) same
       ∙ ap (λ (k : PacketBody). from_neighbor moment number packet.router true k p) (sym is))
       a)
 
@@ -160,12 +163,12 @@ module _ (moment number : ℕ) (packet : Packet) where
   pub acknowledges : {X E : Type 0} {old new : KeptRouter} (r : Result X E)
       (headers read : List Header) → is_processed_at old.present ≡ true
       → packet.body ≡ body.Acknowledgment headers → read ≡ headers
-      → Does (on_area (acknowledged_by moment number read)) old new r
+      → Does (on_area (receive_acknowledgment moment number read)) old new r
       → Does (after_packet moment number packet) old new r
   acknowledges {old = old} r headers read holds is same a =
       is_taken r true holds (came_in_exchange old.present holds (ap counts_before_exchange is))
       (does_same r
       (λ p _.
-      ap (λ (hs : List Header). on_area (acknowledged_by moment number hs) p) same
+      ap (λ (hs : List Header). on_area (receive_acknowledgment moment number hs) p) same
       ∙ ap (λ (k : PacketBody). from_neighbor moment number packet.router true k p) (sym is))
       a)

@@ -8,12 +8,12 @@ use Rattle.lsa.specs.declared.fault.LsaError.TheVariants as errors
 use Rattle.lsa.specs.Outcome.{Reads}
 use Rattle.lsa.specs.Reading.{lsa_in, lsa_of}
 use Rattle.adjacency.specs.lsdb.Headers.{Lsa}
-use Rattle.events.specs.received.Cases.{Case}
-use Rattle.events.specs.received.Updates.{after_case, case_at, goes_on, install}
-use Rattle.events.specs.EventState.{EventState, on_area}
-use Rattle.events.specs.Originations.{receive_self_originated}
-use Rattle.events.specs.Packets.{after_lsa, after_lsas, after_unread, case_in}
-use Rattle.events.specs.Routers.{Router}
+use Rattle.event_rules.specs.received.Cases.{Case}
+use Rattle.event_rules.specs.received.Updates.{after_case, case_at, goes_on, install}
+use Rattle.event_rules.specs.EventState.{EventState, on_area}
+use Rattle.event_rules.specs.Originations.{receive_self_originated}
+use Rattle.event_rules.specs.Packets.{after_lsa, after_lsas, after_unread, case_in}
+use Rattle.event_rules.specs.Routers.{Router}
 use Rattle.originations.specs.flooding.Cases.{is_newer}
 use Rattle.originations.proofs.flooding.Updates.{drop_end}
 use Rattle.router_state.specs.Kept.{KeptRouter}

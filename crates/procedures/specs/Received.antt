@@ -7,15 +7,15 @@ use Rattle.packet.specs.declared.model.PacketBody.TheVariants as body
 use Rattle.adjacency.specs.lsdb.Headers.{Lsa}
 use Rattle.adjacency.specs.Neighbors.{Neighbor, is_exchange_or_later}
 use Rattle.adjacency.specs.declared.state.NeighborState.{NeighborState}
-use Rattle.events.specs.received.Updates.{goes_on}
-use Rattle.events.specs.Packets.{case_in, is_heard, is_in_exchange}
-use Rattle.events.specs.Routers.{Router}
+use Rattle.event_rules.specs.received.Updates.{goes_on}
+use Rattle.event_rules.specs.Packets.{any_exchange_or_later, case_in, is_heard}
+use Rattle.event_rules.specs.Routers.{Router}
 
 -- ---- by the neighbor's Router ID and state
 
-abbrev pub is_in_exchange_named : Option (RouterNumber × NeighborState) → Bool
-is_in_exchange_named None = false
-is_in_exchange_named (Some named) = is_exchange_or_later named.1
+abbrev pub is_exchange_or_later_named : Option (RouterNumber × NeighborState) → Bool
+is_exchange_or_later_named None = false
+is_exchange_or_later_named (Some named) = is_exchange_or_later named.1
 
 abbrev pub is_from_named : (from : RouterNumber) → Option (RouterNumber × NeighborState) → Bool
 is_from_named from None = false
@@ -34,7 +34,7 @@ counts_before_exchange (body.Acknowledgment headers) = false
 -- it is heard, and doesn't wait for Exchange before that
 abbrev pub is_processed : RouterNumber → Packet → Option Neighbor → Bool
 is_processed own packet n =
-    is_heard own packet n && (is_in_exchange n || counts_before_exchange packet.body)
+    is_heard own packet n && (any_exchange_or_later n || counts_before_exchange packet.body)
 
 -- ---- LSAs of a Link State Update
 

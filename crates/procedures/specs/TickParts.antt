@@ -2,10 +2,10 @@
 -- `after_tick`.
 use Rattle.std.specs.Prelude.{map}
 use Rattle.words.specs.Numbers.{Moment}
-use Rattle.events.specs.received.Outcomes.{on_links}
-use Rattle.events.specs.EventState.{EventState, on_area, on_router}
-use Rattle.events.specs.Originations.{due_keys, forget_originations, originate_due}
-use Rattle.events.specs.Ticks.{run_out}
+use Rattle.event_rules.specs.received.Outcomes.{on_links}
+use Rattle.event_rules.specs.EventState.{EventState, on_area, on_router}
+use Rattle.event_rules.specs.Originations.{due_keys, forget_originations, originate_due}
+use Rattle.event_rules.specs.Ticks.{run_out}
 
 abbrev pub run_out_all : Moment → EventState → EventState
 run_out_all moment p =

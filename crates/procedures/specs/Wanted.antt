@@ -4,9 +4,9 @@ use Rattle.std.specs.FinMap as finite
 use Rattle.words.specs.Numbers.{Moment}
 use Rattle.words.specs.declared.key.Key.{Key}
 use Rattle.lsa.specs.declared.body.LsaBody.{LsaBody}
-use Rattle.events.specs.EventState.{EventState}
-use Rattle.events.specs.Originations.{originate_body, wanted_body}
-use Rattle.events.specs.Routers.{Router}
+use Rattle.event_rules.specs.EventState.{EventState}
+use Rattle.event_rules.specs.Originations.{originate_body, wanted_body}
+use Rattle.event_rules.specs.Routers.{Router}
 use Rattle.originations.specs.Decisions.{origination}
 use Rattle.originations.specs.declared.origination.Origination.{Origination}
 

@@ -1,9 +1,9 @@
 //! External destinations that an operator redistributes and withdraws (RFC 2328, section 12.4.4).
 ghost use Rattle.std.specs.Prelude.{◌≡◌, ◌<◌, ◌^◌, option_copied};
-ghost use Rattle.events.specs.Commands.{after_redistribute, after_withdraw, announce_as};
-ghost use Rattle.events.specs.Commands.{answered_external, end_want, is_announced_as, is_for};
-ghost use Rattle.events.specs.Commands.{same_external, same_kind, same_network};
-ghost use Rattle.events.specs.Originations.{external_key};
+ghost use Rattle.event_rules.specs.Commands.{after_redistribute, after_withdraw, announce_as};
+ghost use Rattle.event_rules.specs.Commands.{answered_external, end_want, is_announced_as, is_for};
+ghost use Rattle.event_rules.specs.Commands.{same_external, same_kind, same_network};
+ghost use Rattle.event_rules.specs.Originations.{external_key};
 ghost use Rattle.procedures.specs.Making.{Does};
 
 use crate::origination::originate;

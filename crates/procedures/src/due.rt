@@ -1,9 +1,9 @@
 //! The self-originated LSAs that a Tick originates.
 ghost use Rattle.std.specs.Prelude.{◌≡◌, ◌++◌, [], ◌∷◌, IfOk, OnOk, if◌then◌else◌};
-ghost use Rattle.events.specs.Originations.{due_keys, is_due, originate_due};
+ghost use Rattle.event_rules.specs.Originations.{due_keys, is_due, originate_due};
 ghost use Rattle.router_state.specs.Making.{Does};
 
-use crate::origination::originate_or_wait;
+use crate::origination::originate_or_put_off;
 use crate::wanted::router_key;
 use router_state::Router;
 use std::alloc::{AllocError, Global};
@@ -36,7 +36,7 @@ pub fn due_keys(router: &Router, alloc: Global, moment: Second) -> Result<Vec<Ke
     Ok(due)
 }
 
-/// Originates the LSAs of these keys in turn, as in `originate_or_wait`.
+/// Originates the LSAs of these keys in turn, as in `originate_or_put_off`.
 ///
 /// Errors with `AllocError` if an allocation is refused.
 pub fn originate_due(
@@ -48,7 +48,7 @@ pub fn originate_due(
     ensures { Does (originate_due moment keys.now) router.old router.new result }
 {
     for key in keys {
-        originate_or_wait(router, alloc, moment, key)?;
+        originate_or_put_off(router, alloc, moment, key)?;
     }
     Ok(())
 }

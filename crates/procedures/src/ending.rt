@@ -1,19 +1,19 @@
 //! The end of an event in its parts.
 ghost use Rattle.std.specs.Prelude.{◌≡◌, List, length};
-ghost use Rattle.events.specs.received.Links.{Link};
-ghost use Rattle.events.specs.Endings.{describe_router, describe_router_later, end_event};
+ghost use Rattle.event_rules.specs.received.Links.{Link};
+ghost use Rattle.event_rules.specs.Endings.{end_event, originate_router_lsa, put_off_router_lsa};
 ghost use Rattle.procedures.specs.Full.{full_routers};
 ghost use Rattle.procedures.specs.EndingParts.{fill, refill};
 ghost use Rattle.procedures.specs.Making.{Does, interfaces_of};
 
-use crate::origination::originate_or_wait;
+use crate::origination::originate_or_put_off;
 use crate::telling::{full_routers, has_changed, is_untold, router_key};
 use router_state::Router;
 use std::alloc::{AllocError, Global};
 use words::{RouterId, Second};
 
 // Originates the router-LSA, at once or at a Tick, if this event has changed its body.
-fn describe_router(
+fn originate_router_lsa(
     router: &mut Router,
     alloc: Global,
     moment: Second,
@@ -23,18 +23,18 @@ fn describe_router(
     ensures { (old : List Link)
         → interfaces_of old ≡ interfaces_of router.old.present.area.links
         → full_routers old ≡ before.now
-        → Does (describe_router old moment) router.old router.new result }
+        → Does (originate_router_lsa old moment) router.old router.new result }
 {
     let untold = is_untold(router, alloc, moment, before)?;
     if !untold {
         return Ok(());
     }
     let key = router_key(router.id());
-    originate_or_wait(router, alloc, moment, &key)
+    originate_or_put_off(router, alloc, moment, &key)
 }
 
 // If the body of the router-LSA has changed, it waits for a Tick.
-fn describe_router_later(
+fn put_off_router_lsa(
     router: &mut Router,
     alloc: Global,
     before: &[Option<RouterId>],
@@ -43,14 +43,14 @@ fn describe_router_later(
     ensures { (old : List Link)
         → interfaces_of old ≡ interfaces_of router.old.present.area.links
         → full_routers old ≡ before.now
-        → Does (describe_router_later old) router.old router.new result }
+        → Does (put_off_router_lsa old) router.old router.new result }
 {
     let differ = has_changed(router, alloc, before)?;
     if !differ {
         return Ok(());
     }
     let key = router_key(router.id());
-    router.wait(&key)
+    router.put_off(&key)
 }
 
 // LoadingDone for each neighbor whose request list is empty, and the router-LSA is originated if
@@ -68,7 +68,7 @@ fn fill(
         → Does (fill old moment) router.old router.new result }
 {
     router.end_loading();
-    describe_router(router, alloc, moment, before)
+    originate_router_lsa(router, alloc, moment, before)
 }
 
 // LoadingDone once more, since flooding the router-LSA may have satisfied requests; what that
@@ -78,7 +78,7 @@ fn refill(router: &mut Router, alloc: Global) -> Result<(), AllocError>
 {
     let before = full_routers(router, alloc)?;
     router.end_loading();
-    describe_router_later(router, alloc, &before)
+    put_off_router_lsa(router, alloc, &before)
 }
 
 /// The end of an event: each neighbor goes from Loading to Full if its request list is empty; the

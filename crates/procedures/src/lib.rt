@@ -20,7 +20,7 @@ mod wanted;
 
 pub use announcements::{redistribute, same_external, same_network, withdraw};
 pub use ending::end_event;
-pub use origination::originate_or_wait;
+pub use origination::originate_or_put_off;
 pub use packets::receive_packet;
 pub use router_state::{Router, external_key};
 pub use telling::full_routers;

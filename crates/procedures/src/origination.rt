@@ -1,6 +1,6 @@
 //! New instances of self-originated LSAs.
 ghost use Rattle.std.specs.Prelude.{◌≡◌};
-ghost use Rattle.events.specs.Originations.{originate_or_wait, receive_self_originated};
+ghost use Rattle.event_rules.specs.Originations.{originate_or_put_off, receive_self_originated};
 ghost use Rattle.adjacency.specs.lsdb.Headers.{Lsa};
 ghost use Rattle.originations.specs.Decisions.{after_origination};
 ghost use Rattle.router_state.specs.Making.{Does};
@@ -25,7 +25,7 @@ fn carry_out(
 {
     match found {
         Origination::Flushes => router.flush(alloc, moment, key),
-        Origination::Waits => router.wait(key),
+        Origination::Waits => router.put_off(key),
         Origination::Originates(lsa) => router.originate(alloc, moment, key, lsa),
     }
 }
@@ -55,13 +55,13 @@ pub fn originate(
 /// 2328, sections 12.1.6 and 12.4).
 ///
 /// Errors with `AllocError` if an allocation is refused.
-pub fn originate_or_wait(
+pub fn originate_or_put_off(
     router: &mut Router,
     alloc: Global,
     moment: Second,
     key: &Key,
 ) -> Result<(), AllocError>
-    ensures { Does (originate_or_wait moment key.now) router.old router.new result }
+    ensures { Does (originate_or_put_off moment key.now) router.old router.new result }
 {
     let has_room = router.area().database().has_room(key);
     originate(router, alloc, has_room, moment, key)
@@ -86,7 +86,7 @@ pub fn receive_self_originated(
     }
     let key = header.key();
     if is_wanted(router, &key) {
-        return originate_or_wait(router, alloc, moment, &key);
+        return originate_or_put_off(router, alloc, moment, &key);
     }
     router.flush(alloc, moment, &key)
 }

@@ -1,11 +1,12 @@
 //! Received packets by their types.
 ghost use Rattle.std.specs.Prelude.{◌≡◌, ◌≤◌, length};
 ghost use Rattle.adjacency.specs.Steps.{named_neighbor};
-ghost use Rattle.events.specs.received.Links.{neighbor_at};
-ghost use Rattle.events.specs.Packets.{after_packet, is_from, is_heard, is_hello, is_in_exchange};
+ghost use Rattle.event_rules.specs.received.Links.{neighbor_at};
+ghost use Rattle.event_rules.specs.Packets.{after_packet, any_exchange_or_later, is_from, is_heard};
+ghost use Rattle.event_rules.specs.Packets.{is_hello};
 ghost use Rattle.procedures.specs.Making.{Does};
 ghost use Rattle.procedures.specs.Received.{counts_before_exchange, is_from_named};
-ghost use Rattle.procedures.specs.Received.{is_in_exchange_named, is_processed};
+ghost use Rattle.procedures.specs.Received.{is_exchange_or_later_named, is_processed};
 
 use crate::updates::receive_lsas;
 use adjacency::NeighborState;
@@ -40,8 +41,8 @@ fn counts_before_exchange(body: &PacketBody) -> bool
     }
 }
 
-fn is_in_exchange_named(neighbor: Option<(RouterId, NeighborState)>) -> bool
-    ensures { result ≡ is_in_exchange_named neighbor }
+fn is_exchange_or_later_named(neighbor: Option<(RouterId, NeighborState)>) -> bool
+    ensures { result ≡ is_exchange_or_later_named neighbor }
 {
     match neighbor {
         None => false,
@@ -70,13 +71,13 @@ fn neighbor_at(router: &Router, number: usize) -> Option<(RouterId, NeighborStat
 }
 
 // Whether the neighbor at the interface with this number is in Exchange or later.
-fn is_in_exchange(router: &Router, number: usize) -> bool
+fn is_exchange_or_later(router: &Router, number: usize) -> bool
     requires first { 1 ≤ number }
     requires last { number ≤ length router.now.present.area.links }
-    ensures { result ≡ is_in_exchange (neighbor_at number router.now.present.area.links) }
+    ensures { result ≡ any_exchange_or_later (neighbor_at number router.now.present.area.links) }
 {
     let neighbor = neighbor_at(router, number);
-    is_in_exchange_named(neighbor)
+    is_exchange_or_later_named(neighbor)
 }
 
 // Whether this is the Router ID of the neighbor at the interface with this number.
@@ -112,7 +113,7 @@ fn is_processed(packet: &Packet, router: &Router, number: usize) -> bool
         (neighbor_at number router.now.present.area.links) }
 {
     let heard = is_heard(packet, router, number);
-    let exchanging = is_in_exchange(router, number);
+    let exchanging = is_exchange_or_later(router, number);
     let early = counts_before_exchange(&packet.body);
     heard && (exchanging || early)
 }
@@ -139,14 +140,14 @@ pub fn receive_packet(
     }
     let from = packet.router;
     match &packet.body {
-        PacketBody::Hello(hello) => router.hear(alloc, moment, number, from, hello),
+        PacketBody::Hello(hello) => router.receive_hello(alloc, moment, number, from, hello),
         PacketBody::Description(description) => {
-            router.describe(alloc, moment, number, description)
+            router.receive_description(alloc, moment, number, description)
         }
-        PacketBody::Request(keys) => router.answer(alloc, moment, number, keys.as_slice()),
+        PacketBody::Request(keys) => router.receive_request(alloc, moment, number, keys.as_slice()),
         PacketBody::Update(lsas) => { receive_lsas(router, alloc, moment, number, lsas.as_slice()) }
         PacketBody::Acknowledgment(headers) => {
-            router.acknowledged(alloc, moment, number, headers.as_slice())
+            router.receive_acknowledgment(alloc, moment, number, headers.as_slice())
         }
     }
 }

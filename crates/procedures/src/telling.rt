@@ -1,8 +1,8 @@
 //! Whether the router-LSA has changed (RFC 2328, section 12.4.1).
 ghost use Rattle.std.specs.Prelude.{◌≡◌, ◌&&◌, List, IfOk, length, not};
-ghost use Rattle.events.specs.received.Links.{Link};
-ghost use Rattle.events.specs.Endings.{is_at, is_current, links_differ};
-ghost use Rattle.events.specs.Originations.{router_key};
+ghost use Rattle.event_rules.specs.received.Links.{Link};
+ghost use Rattle.event_rules.specs.Endings.{is_at, is_current, links_differ};
+ghost use Rattle.event_rules.specs.Originations.{router_key};
 ghost use Rattle.procedures.specs.Full.{full_routers};
 ghost use Rattle.procedures.specs.Making.{interfaces_of};
 

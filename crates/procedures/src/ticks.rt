@@ -1,6 +1,6 @@
 //! A Tick (RFC 2328, sections 9.5, 10.3, 12.4, 13.5 and 13.6).
-ghost use Rattle.events.specs.Originations.{due_keys};
-ghost use Rattle.events.specs.Ticks.{after_tick};
+ghost use Rattle.event_rules.specs.Originations.{due_keys};
+ghost use Rattle.event_rules.specs.Ticks.{after_tick};
 ghost use Rattle.procedures.specs.Making.{Does};
 ghost use Rattle.procedures.specs.TickParts.{originate_what_is_due, run_out_all};
 

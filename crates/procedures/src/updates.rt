@@ -1,8 +1,8 @@
 //! The LSAs of a received Link State Update in turn (RFC 2328, section 13).
 ghost use Rattle.std.specs.Prelude.{◌≡◌, ◌≤◌, IfOk, length};
 ghost use Rattle.lsa.specs.Reading.{lsa_in};
-ghost use Rattle.events.specs.received.Updates.{goes_on};
-ghost use Rattle.events.specs.Packets.{after_lsas, after_unread};
+ghost use Rattle.event_rules.specs.received.Updates.{goes_on};
+ghost use Rattle.event_rules.specs.Packets.{after_lsas, after_unread};
 ghost use Rattle.originations.specs.flooding.Cases.{case_of, is_newer};
 ghost use Rattle.procedures.specs.Making.{Does};
 ghost use Rattle.procedures.specs.Received.{goes_on_at};

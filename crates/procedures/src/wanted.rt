@@ -1,7 +1,7 @@
 //! Which self-originated LSAs are wanted, and what happens to them.
 ghost use Rattle.std.specs.Prelude.{◌≡◌, IfOk};
 ghost use Rattle.keyed_map.specs.Keys.{same_key};
-ghost use Rattle.events.specs.Originations.{is_wanted, router_key, wanted_body};
+ghost use Rattle.event_rules.specs.Originations.{is_wanted, router_key, wanted_body};
 ghost use Rattle.procedures.specs.Wanted.{wanted_origination};
 
 use originations::{Origination, originate_external, originate_router};

@@ -24,25 +24,32 @@ use Rattle.received.specs.Cases.{Case}
 use Rattle.received.specs.Links.{neighbor_at}
 use Rattle.received.specs.Outcomes.{on_links}
 use Rattle.received.specs.Updates.{after_case, case_at, goes_on}
-use Rattle.events.specs.Commands.{after_redistribute, after_withdraw, announce, announce_as}
-use Rattle.events.specs.Commands.{answered_external, end_want, is_announced_as, is_for}
-use Rattle.events.specs.Endings.{describe_router, end_event, is_current, links_differ, loading_done}
-use Rattle.events.specs.Endings.{start_event}
-use Rattle.events.specs.Events.{Happens, OwnPart, Run, Step, initial}
-use Rattle.events.specs.EventState.{EventState, on_area, on_router}
-use Rattle.events.specs.Originations.{announced_body, due_keys, external_body, external_key, flush}
-use Rattle.events.specs.Originations.{forget_originations, has_max_sequence, has_room, is_wanted}
-use Rattle.events.specs.Originations.{may_originate, originate, originate_anyway, originate_body}
-use Rattle.events.specs.Originations.{originate_due, originate_or_flush, originate_or_wait}
-use Rattle.events.specs.Originations.{receive_self_originated, router_body, router_key, wait}
-use Rattle.events.specs.Originations.{wanted_body}
-use Rattle.events.specs.Packets.{acknowledged_by, after_lsas, after_packet, after_self_originated}
-use Rattle.events.specs.Packets.{after_unread, case_in, from_neighbor, is_heard, is_in_exchange}
-use Rattle.events.specs.Packets.{requested_from}
-use Rattle.events.specs.Routers.{Occurrence, Router, unannounced_router}
-use Rattle.events.specs.Ticks.{after_tick, run_out}
-use Rattle.events.specs.declared.model.Config.{Config}
-use Rattle.events.specs.declared.model.Out.{Out}
+use Rattle.event_rules.specs.Commands.{after_redistribute, after_withdraw, announce, announce_as}
+use Rattle.event_rules.specs.Commands.{answered_external, end_want, is_announced_as, is_for}
+use Rattle.event_rules.specs.Endings.{end_event, is_current, links_differ, loading_done}
+use Rattle.event_rules.specs.Endings.{originate_router_lsa}
+use Rattle.event_rules.specs.Endings.{start_event}
+use Rattle.event_rules.specs.Events.{Happens, OwnPart, Run, Step, initial}
+use Rattle.event_rules.specs.EventState.{EventState, on_area, on_router}
+use Rattle.event_rules.specs.Originations.{announced_body, due_keys, external_body, external_key}
+use Rattle.event_rules.specs.Originations.{flush}
+use Rattle.event_rules.specs.Originations.{forget_originations, has_max_sequence, has_room}
+use Rattle.event_rules.specs.Originations.{is_wanted}
+use Rattle.event_rules.specs.Originations.{may_originate, originate, originate_anyway}
+use Rattle.event_rules.specs.Originations.{originate_body}
+use Rattle.event_rules.specs.Originations.{originate_due, originate_or_flush, originate_or_put_off}
+use Rattle.event_rules.specs.Originations.{put_off, receive_self_originated, router_body}
+use Rattle.event_rules.specs.Originations.{router_key}
+use Rattle.event_rules.specs.Originations.{wanted_body}
+use Rattle.event_rules.specs.Packets.{after_lsas, after_packet, after_self_originated}
+use Rattle.event_rules.specs.Packets.{receive_acknowledgment}
+use Rattle.event_rules.specs.Packets.{after_unread, any_exchange_or_later, case_in, from_neighbor}
+use Rattle.event_rules.specs.Packets.{is_heard}
+use Rattle.event_rules.specs.Packets.{receive_request}
+use Rattle.event_rules.specs.Routers.{Occurrence, Router, unannounced_router}
+use Rattle.event_rules.specs.Ticks.{after_tick, run_out}
+use Rattle.event_rules.specs.declared.model.Config.{Config}
+use Rattle.event_rules.specs.declared.model.Out.{Out}
 use Rattle.program_laws.specs.Announced.{IsAskedFor, WhatIsAnnouncedWasAskedFor}
 use Rattle.program_laws.proofs.Apart.{tied_key}
 
@@ -67,16 +74,16 @@ by_body may_now moment key None p = refl
 by_body may_now moment key (Some s) p =
     either (told p) (has_max_sequence (finite.get p.router.area.database key)) (flush moment key p)
     (cond (may_now && may_originate moment key p.router) (originate moment key s p)
-    (on_router (wait key) p)) refl
+    (on_router (put_off key) p)) refl
     (either (told p) (may_now && may_originate moment key p.router) (originate moment key s p)
-    (on_router (wait key) p) refl refl)
+    (on_router (put_off key) p) refl refl)
 
-originates : (moment : Moment) (key : Key) → Leaves (originate_or_wait moment key)
+originates : (moment : Moment) (key : Key) → Leaves (originate_or_put_off moment key)
 originates moment key p = by_body (has_room key p.router) moment key (wanted_body p.router key) p
 
 each_due : (moment : Moment) (keys : List Key) → Leaves (originate_due moment keys)
 each_due moment [] p = refl
-each_due moment (key ∷ keys) p = each_due moment keys (originate_or_wait moment key p)
+each_due moment (key ∷ keys) p = each_due moment keys (originate_or_put_off moment key p)
     ∙ originates moment key p
 
 pub ticked : (moment : Moment) → Leaves (after_tick moment)
@@ -131,20 +138,21 @@ from : (moment : Moment) (number : InterfaceNumber) (router : RouterNumber) (in_
 from moment number router in_exchange (body.Hello h) p = refl
 from moment number router in_exchange (body.Description d) p = refl
 from moment number router in_exchange (body.Request keys) p =
-    either (told p) in_exchange (on_area (requested_from moment number keys) p) p refl refl
+    either (told p) in_exchange (on_area (receive_request moment number keys) p) p refl refl
 from moment number router in_exchange (body.Update lsas) p =
     either (told p) in_exchange (after_lsas moment number lsas p) p (updated moment number lsas p)
     refl
 from moment number router in_exchange (body.Acknowledgment headers) p =
-    either (told p) in_exchange (on_area (acknowledged_by moment number headers) p) p refl refl
+    either (told p) in_exchange (on_area (receive_acknowledgment moment number headers) p) p refl
+    refl
 
 pub received : (moment : Moment) (number : InterfaceNumber) (packet : Packet)
     → Leaves (after_packet moment number packet)
 received moment number packet p =
     let n = neighbor_at number p.router.area.links in
     either (told p) (is_heard p.router.id packet n)
-    (from_neighbor moment number packet.router (is_in_exchange n) packet.body p) p
-    (from moment number packet.router (is_in_exchange n) packet.body p) refl
+    (from_neighbor moment number packet.router (any_exchange_or_later n) packet.body p) p
+    (from moment number packet.router (any_exchange_or_later n) packet.body p) refl
 
 pub ended : (old : Router) (moment : Moment) → Leaves (end_event old moment)
 ended old moment p =
@@ -152,11 +160,11 @@ ended old moment p =
     let key : Key = router_key loaded.router.id in
     let differ : Bool = links_differ old.area.links loaded.router.area.links && not
     (is_current moment loaded.router) in
-    let q : EventState = describe_router old.area.links moment loaded in
+    let q : EventState = originate_router_lsa old.area.links moment loaded in
     let again : EventState = loading_done q in
     either (told q) (links_differ q.router.area.links again.router.area.links)
-    (on_router (wait (router_key again.router.id)) again) again refl refl
-    ∙ either (told p) differ (originate_or_wait moment key loaded) loaded
+    (on_router (put_off (router_key again.router.id)) again) again refl refl
+    ∙ either (told p) differ (originate_or_put_off moment key loaded) loaded
     (originates moment key loaded) refl
 
 -- ---- what an event adds

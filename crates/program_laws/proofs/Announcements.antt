@@ -11,15 +11,16 @@ use Rattle.words.specs.Prefixes.{Network}
 use Rattle.words.specs.declared.key.Key.{Key}
 use Rattle.words.specs.declared.route.External.{External}
 use Rattle.lsdb.specs.Keys.{ByKey, same_key}
-use Rattle.events.specs.Commands.{after_redistribute, announce, announce_as, answered_external}
-use Rattle.events.specs.Commands.{end_want, is_announced_as, is_for}
-use Rattle.events.specs.Endings.{end_event, start_event}
-use Rattle.events.specs.Events.{Happens, OwnPart, Run, Step}
-use Rattle.events.specs.EventState.{EventState, on_router}
-use Rattle.events.specs.Originations.{announced_body, external_key, originate_anyway, router_body}
-use Rattle.events.specs.Originations.{router_key, wanted_body}
-use Rattle.events.specs.Routers.{Occurrence, Router}
-use Rattle.events.specs.declared.model.Out.{Out}
+use Rattle.event_rules.specs.Commands.{after_redistribute, announce, announce_as, answered_external}
+use Rattle.event_rules.specs.Commands.{end_want, is_announced_as, is_for}
+use Rattle.event_rules.specs.Endings.{end_event, start_event}
+use Rattle.event_rules.specs.Events.{Happens, OwnPart, Run, Step}
+use Rattle.event_rules.specs.EventState.{EventState, on_router}
+use Rattle.event_rules.specs.Originations.{announced_body, external_key, originate_anyway}
+use Rattle.event_rules.specs.Originations.{router_body}
+use Rattle.event_rules.specs.Originations.{router_key, wanted_body}
+use Rattle.event_rules.specs.Routers.{Occurrence, Router}
+use Rattle.event_rules.specs.declared.model.Out.{Out}
 use Rattle.program_laws.specs.Announcements.{OtherAnnouncementsStayTheSame, asked_but, asked_in}
 use Rattle.program_laws.proofs.Announced.{Told, by_body, ended, received, redistributed_id, ticked}
 use Rattle.program_laws.proofs.Announced.{told, withdrawn_id}

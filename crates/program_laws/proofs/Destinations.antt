@@ -31,16 +31,21 @@ use Rattle.received.specs.Links.{Link, any_exchange_or_loading, any_has_retransm
 use Rattle.received.specs.Links.{neighbor_is_exchange_or_loading}
 use Rattle.received.specs.Outcomes.{Outcome, Send, Stepping, each_neighbor, on_database, on_links}
 use Rattle.received.specs.Outcomes.{stepping_sends}
-use Rattle.events.specs.Endings as Endings
-use Rattle.events.specs.Endings.{copy_has_body, describe_router, describe_router_later, end_event}
-use Rattle.events.specs.Endings.{is_at, is_current, link_loading_done, links_differ, loading_done}
-use Rattle.events.specs.Endings.{loading_done_on, remove_aged, request_all, same_body, stays_as}
-use Rattle.events.specs.EventState.{EventState, flood_from_nobody, on_area, on_router}
-use Rattle.events.specs.Originations.{announced_body, as_originated, flush_copy, has_max_sequence}
-use Rattle.events.specs.Originations.{has_room, interval_is_over, originate_body, originate_or_wait}
-use Rattle.events.specs.Originations.{wanted_body, install_and_flood, links_of, new_instance}
-use Rattle.events.specs.Originations.{router_body, router_key, wait}
-use Rattle.events.specs.Routers.{Router}
+use Rattle.event_rules.specs.Endings as Endings
+use Rattle.event_rules.specs.Endings.{copy_has_body, end_event, originate_router_lsa}
+use Rattle.event_rules.specs.Endings.{put_off_router_lsa}
+use Rattle.event_rules.specs.Endings.{is_at, is_current, link_loading_done, links_differ}
+use Rattle.event_rules.specs.Endings.{loading_done}
+use Rattle.event_rules.specs.Endings.{loading_done_on, remove_aged, request_all, same_body}
+use Rattle.event_rules.specs.Endings.{stays_as}
+use Rattle.event_rules.specs.EventState.{EventState, flood_from_nobody, on_area, on_router}
+use Rattle.event_rules.specs.Originations.{announced_body, as_originated, flush_copy}
+use Rattle.event_rules.specs.Originations.{has_max_sequence}
+use Rattle.event_rules.specs.Originations.{has_room, interval_is_over, originate_body}
+use Rattle.event_rules.specs.Originations.{originate_or_put_off}
+use Rattle.event_rules.specs.Originations.{wanted_body, install_and_flood, links_of, new_instance}
+use Rattle.event_rules.specs.Originations.{put_off, router_body, router_key}
+use Rattle.event_rules.specs.Routers.{Router}
 use Rattle.program_laws.specs.Destinations.{link_without, neighbor_on_without, router_without}
 use Rattle.program_laws.specs.Destinations.{sends_without, updates}
 use Rattle.program_laws.proofs.Apart as apart
@@ -291,7 +296,7 @@ module _ (key : Key) where
         sends = sends i;
       }
 
-  waits : (k : Key) → Overlooks (on_router (wait k))
+  waits : (k : Key) → Overlooks (on_router (put_off k))
   waits k p =
       let r : Router = p.router in
       let links = links_twice r.area.links in
@@ -325,7 +330,7 @@ module _ (key : Key) where
   own_lsa wraps may moment k x says p =
       cond wraps (on_area (flush_copy moment k x) p)
       (cond may (on_router (as_originated moment k)
-      (on_area (install_and_flood moment (new_instance k x says)) p)) (on_router (wait k) p))
+      (on_area (install_and_flood moment (new_instance k x says)) p)) (on_router (put_off k) p))
 
   own_lsas : (wraps may : Bool) (moment : Moment) (k : Key) (x : Option DatabaseCopy)
       (says : LsaBody) → Overlooks (own_lsa wraps may moment k x says)
@@ -376,7 +381,7 @@ module _ (key : Key) where
         (finite.get p.router.area.database k) (router_body p.router.area.links) p
 
     is_told : (moment : Moment) (p : EventState) → HasRouterLsa p
-        → originate_or_wait moment (router_key p.router.id) p ≡ told moment p
+        → originate_or_put_off moment (router_key p.router.id) p ≡ told moment p
     is_told moment p there =
         let r : Router = p.router in
         let k : Key = router_key r.id in
@@ -420,14 +425,15 @@ module _ (key : Key) where
         (is_at moment (times i) && copy_has_body (body i) (copies i))
 
     described : (before : List Link) (moment : Moment) (p : EventState) → HasRouterLsa p
-        → cut (describe_router before moment p) ≡ cut (describe_router before moment (cut p))
+        → cut (originate_router_lsa before moment p)
+        ≡ cut (originate_router_lsa before moment (cut p))
     described before moment p there =
         let k : Key = router_key p.router.id in
-        chosen (differs before moment p) (originate_or_wait moment k p) p
-        (originate_or_wait moment k (cut p)) (cut p)
+        chosen (differs before moment p) (originate_or_put_off moment k p) p
+        (originate_or_put_off moment k (cut p)) (cut p)
         (ap cut (is_told moment p there) ∙ tells moment p
         ∙ sym (ap cut (is_told moment (cut p) (still_there p there)))) (stays p)
-        ∙ ap (λ b. cut (cond b (originate_or_wait moment k (cut p)) (cut p)))
+        ∙ ap (λ b. cut (cond b (originate_or_put_off moment k (cut p)) (cut p)))
         (differs_alike before moment p)
 
     -- ---- Loading to Full
@@ -468,7 +474,7 @@ module _ (key : Key) where
     -- ---- the rest of an event's end
 
     abbrev refilled : EventState → EventState
-    refilled q = describe_router_later q.router.area.links (loading_done q)
+    refilled q = put_off_router_lsa q.router.area.links (loading_done q)
 
     refills : Overlooks refilled
     refills q =
@@ -479,11 +485,11 @@ module _ (key : Key) where
         let after_loading : router_body loaded ≡ router_body again = bodies loaded
         ∙ ap router_body (loading_links links) ∙ sym (bodies again) in
         let k : Key = router_key q.router.id in
-        chosen (links_differ links loaded) (on_router (wait k) (loading_done q)) (loading_done q)
-        (on_router (wait k) (loading_done (cut q))) (loading_done (cut q))
-        (one_after_another loading_done (on_router (wait k)) loads (waits k) q) (loads q)
+        chosen (links_differ links loaded) (on_router (put_off k) (loading_done q)) (loading_done q)
+        (on_router (put_off k) (loading_done (cut q))) (loading_done (cut q))
+        (one_after_another loading_done (on_router (put_off k)) loads (waits k) q) (loads q)
         ∙ (λ i. cut (cond (not (same_body (before i) (after_loading i)))
-        (on_router (wait k) (loading_done (cut q))) (loading_done (cut q))))
+        (on_router (put_off k) (loading_done (cut q))) (loading_done (cut q))))
 
     requests_by : (b : Bool) (moment : Moment) (n : Neighbor)
         → apart.AreAlike key
@@ -606,11 +612,11 @@ module _ (key : Key) where
         → cut (end_event old moment p) ≡ cut (end_event old moment (cut p))
     ended old moment p there =
         let before : List Link = old.area.links in
-        let x : EventState = describe_router before moment (loading_done p) in
-        let y : EventState = describe_router before moment (loading_done (cut p)) in
+        let x : EventState = originate_router_lsa before moment (loading_done p) in
+        let y : EventState = originate_router_lsa before moment (loading_done (cut p)) in
         let same : cut x ≡ cut y =
         described before moment (loading_done p) there
-        ∙ ap (λ (q : EventState). cut (describe_router before moment q)) (loads p)
+        ∙ ap (λ (q : EventState). cut (originate_router_lsa before moment q)) (loads p)
         ∙ sym (described before moment (loading_done (cut p)) (still_there p there)) in
         let rest = one_after_another refilled (last moment) refills (lasts moment) in
         rest x ∙ ap (λ (q : EventState). cut (last moment (refilled q))) same ∙ sym (rest y)

@@ -27,17 +27,18 @@ use Rattle.received.specs.Flooding.{flood_to}
 use Rattle.received.specs.Links.{Link}
 use Rattle.received.specs.Outcomes.{Outcome, Send, marked_database, sends_at, on_database, sent_on}
 use Rattle.received.specs.Outcomes.{step_on, stepping_sends}
-use Rattle.events.specs.Commands.{after_redistribute, announce, announce_as, answered_external}
-use Rattle.events.specs.Commands.{end_want, is_announced_as, unannounce}
-use Rattle.events.specs.Endings.{end_event, start_event, with_age}
-use Rattle.events.specs.Events.{Happens}
-use Rattle.events.specs.EventState.{EventState, flood_from_nobody, on_area, on_router}
-use Rattle.events.specs.Originations.{announced_body, as_originated, external_body, external_key}
-use Rattle.events.specs.Originations.{flush, flush_copy, has_max_sequence, install_and_flood}
-use Rattle.events.specs.Originations.{may_originate, new_instance, originate, originate_anyway}
-use Rattle.events.specs.Originations.{originate_body, router_key, wait}
-use Rattle.events.specs.Routers.{Occurrence, Router}
-use Rattle.events.specs.declared.model.Out.{Out}
+use Rattle.event_rules.specs.Commands.{after_redistribute, announce, announce_as, answered_external}
+use Rattle.event_rules.specs.Commands.{end_want, is_announced_as, unannounce}
+use Rattle.event_rules.specs.Endings.{end_event, start_event, with_age}
+use Rattle.event_rules.specs.Events.{Happens}
+use Rattle.event_rules.specs.EventState.{EventState, flood_from_nobody, on_area, on_router}
+use Rattle.event_rules.specs.Originations.{announced_body, as_originated, external_body}
+use Rattle.event_rules.specs.Originations.{external_key}
+use Rattle.event_rules.specs.Originations.{flush, flush_copy, has_max_sequence, install_and_flood}
+use Rattle.event_rules.specs.Originations.{may_originate, new_instance, originate, originate_anyway}
+use Rattle.event_rules.specs.Originations.{originate_body, put_off, router_key}
+use Rattle.event_rules.specs.Routers.{Occurrence, Router}
+use Rattle.event_rules.specs.declared.model.Out.{Out}
 use Rattle.program_laws.specs.Destinations.{AnswersReachOneDestination, IsUnderItsKey, is_requested}
 use Rattle.program_laws.specs.Destinations.{link_without, neighbor_on_without, router_without}
 use Rattle.program_laws.specs.Destinations.{sends_without, updates}
@@ -282,7 +283,7 @@ module _ (key : Key) (is_external : key.ls_type ≡ 5) where
       (finite.insert p.router.originated key moment) (unchanged p.router.announced)
       (removed_set p.router.waiting) (apart.inserted_agrees key p.router.originated moment)
 
-  waiting_ : (p : EventState) → cut (on_router (wait key) p) ≡ cut p
+  waiting_ : (p : EventState) → cut (on_router (put_off key) p) ≡ cut p
   waiting_ p = noted p p.router.announced (set.insert p.router.waiting key) p.router.originated
       (unchanged p.router.announced) (inserted_set p.router.waiting) (unchanged p.router.originated)
 
@@ -311,9 +312,9 @@ module _ (key : Key) (is_external : key.ls_type ≡ 5) where
       let installed : EventState = on_area (install_and_flood moment lsa) p in
       one_of (has_max_sequence copy) (flush moment key p)
       (cond (true && may_originate moment key p.router) (originate moment key says p)
-      (on_router (wait key) p)) p (flush_kept moment p none under)
+      (on_router (put_off key) p)) p (flush_kept moment p none under)
       (one_of (true && may_originate moment key p.router) (originate moment key says p)
-      (on_router (wait key) p) p
+      (on_router (put_off key) p) p
       (originated_ moment installed ∙ lifted (install_and_flood moment lsa) p
       (own_installed moment lsa (new_key key is_external copy e) (record {
         area = p.router.area;

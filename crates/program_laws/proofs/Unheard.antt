@@ -20,21 +20,23 @@ use Rattle.received.specs.Cases.{Case}
 use Rattle.received.specs.Links.{neighbor_at}
 use Rattle.received.specs.Updates.{after_case, case_at, goes_on}
 use Rattle.received.specs.Outcomes.{Outcome}
-use Rattle.events.specs.Commands.{after_redistribute, after_withdraw, announce, announce_as}
-use Rattle.events.specs.Commands.{answered_external, end_want, is_announced_as, is_for}
-use Rattle.events.specs.Endings.{end_event, start_event}
-use Rattle.events.specs.Events.{Happens, OwnPart, Run, Step}
-use Rattle.events.specs.EventState.{EventState, on_area, on_router}
-use Rattle.events.specs.Originations.{due_keys, external_key, forget_originations, has_room}
-use Rattle.events.specs.Originations.{is_wanted, originate_anyway, originate_due}
-use Rattle.events.specs.Originations.{originate_or_flush, originate_or_wait}
-use Rattle.events.specs.Originations.{receive_self_originated, wanted_body}
-use Rattle.events.specs.Packets.{after_lsa, after_lsas, after_packet, after_self_originated}
-use Rattle.events.specs.Packets.{after_unread, case_in, from_neighbor, is_heard, is_in_exchange}
-use Rattle.events.specs.Packing.{outs_of}
-use Rattle.events.specs.Routers.{Occurrence, Router}
-use Rattle.events.specs.Ticks.{acknowledge_all, after_tick, run_out, send_all_again, send_hellos}
-use Rattle.events.specs.declared.model.Out.{Out}
+use Rattle.event_rules.specs.Commands.{after_redistribute, after_withdraw, announce, announce_as}
+use Rattle.event_rules.specs.Commands.{answered_external, end_want, is_announced_as, is_for}
+use Rattle.event_rules.specs.Endings.{end_event, start_event}
+use Rattle.event_rules.specs.Events.{Happens, OwnPart, Run, Step}
+use Rattle.event_rules.specs.EventState.{EventState, on_area, on_router}
+use Rattle.event_rules.specs.Originations.{due_keys, external_key, forget_originations, has_room}
+use Rattle.event_rules.specs.Originations.{is_wanted, originate_anyway, originate_due}
+use Rattle.event_rules.specs.Originations.{originate_or_flush, originate_or_put_off}
+use Rattle.event_rules.specs.Originations.{receive_self_originated, wanted_body}
+use Rattle.event_rules.specs.Packets.{after_lsa, after_lsas, after_packet, after_self_originated}
+use Rattle.event_rules.specs.Packets.{after_unread, any_exchange_or_later, case_in, from_neighbor}
+use Rattle.event_rules.specs.Packets.{is_heard}
+use Rattle.event_rules.specs.Packing.{outs_of}
+use Rattle.event_rules.specs.Routers.{Occurrence, Router}
+use Rattle.event_rules.specs.Ticks.{after_tick, run_out, send_acknowledgments, send_all_again}
+use Rattle.event_rules.specs.Ticks.{send_hellos}
+use Rattle.event_rules.specs.declared.model.Out.{Out}
 use Rattle.received.specs.Outcomes.{on_links}
 use Rattle.program_laws.specs.Vetoes.{without_answers}
 use Rattle.program_laws.specs.Unheard.{Act, Acts, Cause, Datagram, History, Network}
@@ -45,7 +47,7 @@ use Rattle.program_laws.proofs.Vetoes.{Overlooks, by_body, ended, one_of, withou
 
 -- ---- each part of an event does the same without the answers
 
-or_waits : (moment : Moment) (key : Key) → Overlooks (originate_or_wait moment key)
+or_waits : (moment : Moment) (key : Key) → Overlooks (originate_or_put_off moment key)
 or_waits moment key p = by_body (has_room key p.router) moment key (wanted_body p.router key) p
 
 anyway : (moment : Moment) (key : Key) → Overlooks (originate_anyway moment key)
@@ -123,7 +125,7 @@ a_packet : (moment : Moment) (number : InterfaceNumber) (packet : Packet) → Ov
     (after_packet moment number packet)
 a_packet moment number packet p =
     let heard : Bool = is_heard p.router.id packet (neighbor_at number p.router.area.links) in
-    let exchanges : Bool = is_in_exchange (neighbor_at number p.router.area.links) in
+    let exchanges : Bool = any_exchange_or_later (neighbor_at number p.router.area.links) in
     one_of heard (from_neighbor moment number packet.router exchanges packet.body p) p
     ∙ ap (λ (q : EventState). cond heard q (without p))
     (from_its_neighbor moment number packet.router exchanges packet.body p)
@@ -131,7 +133,7 @@ a_packet moment number packet p =
 all_due : (moment : Moment) (keys : List Key) → Overlooks (originate_due moment keys)
 all_due moment [] p = refl
 all_due moment (key ∷ keys) p =
-    all_due moment keys (originate_or_wait moment key p)
+    all_due moment keys (originate_or_put_off moment key p)
     ∙ ap (originate_due moment keys) (or_waits moment key p)
 
 a_tick : (moment : Moment) → Overlooks (after_tick moment)
@@ -139,7 +141,7 @@ a_tick moment p =
     let quiet : EventState = on_router (forget_originations moment)
     (on_area (on_links (map (run_out moment))) p) in
     ap (on_area
-    (λ (o : Outcome). send_hellos moment (acknowledge_all moment (send_all_again moment o))))
+    (λ (o : Outcome). send_hellos moment (send_acknowledgments moment (send_all_again moment o))))
     (all_due moment (due_keys moment quiet.router) quiet)
 
 announced : (moment : Moment) (key : Key) (e : External) → Overlooks (announce_as moment key e)

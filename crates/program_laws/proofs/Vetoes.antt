@@ -7,16 +7,20 @@ use Rattle.words.specs.declared.key.Key.{Key}
 use Rattle.words.specs.declared.route.Route.{Route}
 use Rattle.lsa.specs.declared.body.LsaBody.{LsaBody}
 use Rattle.received.specs.Links.{Link}
-use Rattle.events.specs.Endings.{describe_router, describe_router_later, end_event, is_current}
-use Rattle.events.specs.Endings.{links_differ, loading_done, remove_aged, request_all, start_event}
-use Rattle.events.specs.Events.{Happens}
-use Rattle.events.specs.EventState.{EventState, on_area, on_router}
-use Rattle.events.specs.Originations.{flush, has_max_sequence, has_room, may_originate, originate}
-use Rattle.events.specs.Originations.{originate_body, originate_or_wait, router_key, wait}
-use Rattle.events.specs.Originations.{wanted_body}
-use Rattle.events.specs.Packing.{outs_of}
-use Rattle.events.specs.Routers.{Occurrence, Router}
-use Rattle.events.specs.declared.model.Out.{Out}
+use Rattle.event_rules.specs.Endings.{end_event, is_current, originate_router_lsa}
+use Rattle.event_rules.specs.Endings.{put_off_router_lsa}
+use Rattle.event_rules.specs.Endings.{links_differ, loading_done, remove_aged, request_all}
+use Rattle.event_rules.specs.Endings.{start_event}
+use Rattle.event_rules.specs.Events.{Happens}
+use Rattle.event_rules.specs.EventState.{EventState, on_area, on_router}
+use Rattle.event_rules.specs.Originations.{flush, has_max_sequence, has_room, may_originate}
+use Rattle.event_rules.specs.Originations.{originate}
+use Rattle.event_rules.specs.Originations.{originate_body, originate_or_put_off, put_off}
+use Rattle.event_rules.specs.Originations.{router_key}
+use Rattle.event_rules.specs.Originations.{wanted_body}
+use Rattle.event_rules.specs.Packing.{outs_of}
+use Rattle.event_rules.specs.Routers.{Occurrence, Router}
+use Rattle.event_rules.specs.declared.model.Out.{Out}
 use Rattle.program_laws.specs.Vetoes.{VetoesAreNotHeard, without_answers}
 
 -- ---- a part that doesn't depend on the answers does the same without them
@@ -42,20 +46,21 @@ by_body may_now moment key None p = refl
 by_body may_now moment key (Some says) p =
     one_of_three (has_max_sequence (finite.get p.router.area.database key))
     (may_now && may_originate moment key p.router)
-    (flush moment key p) (originate moment key says p) (on_router (wait key) p)
+    (flush moment key p) (originate moment key says p) (on_router (put_off key) p)
 
-pub described : (before : List Link) (moment : Moment) → Overlooks (describe_router before moment)
+pub described : (before : List Link) (moment : Moment)
+    → Overlooks (originate_router_lsa before moment)
 described before moment p =
     let b : Bool = links_differ before p.router.area.links && not (is_current moment p.router) in
     let key : Key = router_key p.router.id in
-    one_of b (originate_or_wait moment key p) p
+    one_of b (originate_or_put_off moment key p) p
     ∙ ap (λ (q : EventState). cond b q (without p))
     (by_body (has_room key p.router) moment key (wanted_body p.router key) p)
 
 -- the end after the router-LSA is originated
 abbrev rest : Moment → EventState → EventState
 rest moment p =
-    let refilled : EventState = describe_router_later p.router.area.links (loading_done p) in
+    let refilled : EventState = put_off_router_lsa p.router.area.links (loading_done p) in
     on_router (λ (r : Router). record r { moment = moment })
     (on_area (λ o. remove_aged moment (request_all moment o)) refilled)
 
@@ -66,11 +71,11 @@ rested moment p =
     let last : EventState → EventState = λ q. on_router (λ (r : Router). record r {
       moment = moment;
     }) (on_area (λ o. remove_aged moment (request_all moment o)) q) in
-    ap last (one_of b (on_router (wait (router_key loaded.router.id)) loaded) loaded)
+    ap last (one_of b (on_router (put_off (router_key loaded.router.id)) loaded) loaded)
 
 pub ended : (old : Router) (moment : Moment) → Overlooks (end_event old moment)
 ended old moment p =
-    rested moment (describe_router old.area.links moment (loading_done p))
+    rested moment (originate_router_lsa old.area.links moment (loading_done p))
     ∙ ap (rest moment) (described old.area.links moment (loading_done p))
 
 -- ---- an `Install`

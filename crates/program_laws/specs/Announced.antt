@@ -8,11 +8,11 @@ use Rattle.words.specs.declared.key.Key.{Key}
 use Rattle.words.specs.declared.route.External.{External}
 use Rattle.lsa.specs.declared.body.LsaBody.TheVariants as body
 use Rattle.lsa.specs.declared.body.ExternalLsa.{ExternalLsa}
-use Rattle.events.specs.Commands.{answered_external}
-use Rattle.events.specs.Events.{Run, Step, initial}
-use Rattle.events.specs.Originations.{external_body, external_key, wanted_body}
-use Rattle.events.specs.Routers.{Occurrence, Router}
-use Rattle.events.specs.declared.model.Config.{Config}
+use Rattle.event_rules.specs.Commands.{answered_external}
+use Rattle.event_rules.specs.Events.{Run, Step, initial}
+use Rattle.event_rules.specs.Originations.{external_body, external_key, wanted_body}
+use Rattle.event_rules.specs.Routers.{Occurrence, Router}
+use Rattle.event_rules.specs.declared.model.Config.{Config}
 
 -- One of the events asked to announce the destination: it is the operator's, with the metric and
 -- the tag that programs answered, and that metric is below LSInfinity.

@@ -6,9 +6,9 @@ use Rattle.std.specs.FinMap as finite
 use Rattle.words.specs.Numbers.{RouterNumber}
 use Rattle.words.specs.declared.key.Key.{Key}
 use Rattle.lsdb.specs.Keys.{same_key}
-use Rattle.events.specs.Events.{Run, Step}
-use Rattle.events.specs.Originations.{external_key, router_key, wanted_body}
-use Rattle.events.specs.Routers.{Occurrence, Router}
+use Rattle.event_rules.specs.Events.{Run, Step}
+use Rattle.event_rules.specs.Originations.{external_key, router_key, wanted_body}
+use Rattle.event_rules.specs.Routers.{Occurrence, Router}
 
 -- what the operator asks for in the event, without what programs answer about the destination whose
 -- LSA has this key

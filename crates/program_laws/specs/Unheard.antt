@@ -3,9 +3,9 @@
 use Rattle.std.specs.Prelude.{◌≡◌, ℕ, List, [], ◌∷◌, ◌++◌, map, Option, None, Some, slice_get}
 use Rattle.std.specs.Prelude.{slice_set}
 use Rattle.words.specs.Numbers.{InterfaceNumber, Moment}
-use Rattle.events.specs.Events.{Happens, Run, Step}
-use Rattle.events.specs.Routers.{Occurrence, Router}
-use Rattle.events.specs.declared.model.Out.{Out}
+use Rattle.event_rules.specs.Events.{Happens, Run, Step}
+use Rattle.event_rules.specs.Routers.{Occurrence, Router}
+use Rattle.event_rules.specs.declared.model.Out.{Out}
 use Rattle.program_laws.specs.Vetoes.{without_answers}
 
 -- the event without the answers of an `Install`

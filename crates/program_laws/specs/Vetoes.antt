@@ -2,9 +2,9 @@
 use Rattle.std.specs.Prelude.{◌≡◌, ℕ, List, []}
 use Rattle.words.specs.Numbers.{Moment}
 use Rattle.words.specs.declared.route.Route.{Route}
-use Rattle.events.specs.Events.{Happens}
-use Rattle.events.specs.Routers.{Occurrence, Router}
-use Rattle.events.specs.declared.model.Out.{Out}
+use Rattle.event_rules.specs.Events.{Happens}
+use Rattle.event_rules.specs.Routers.{Occurrence, Router}
+use Rattle.event_rules.specs.declared.model.Out.{Out}
 
 -- a router without the answers of its last `Install`
 abbrev pub without_answers : Router → Router

@@ -8,7 +8,7 @@ use Rattle.words.specs.declared.route.Route.{Route}
 use Rattle.lsa.specs.declared.body.LsaBody.TheVariants as body
 use Rattle.lsa.specs.declared.body.ExternalLsa.{ExternalLsa}
 use Rattle.area_routes.specs.Offers.{root_by}
-use Rattle.events.specs.Originations.{router_body, router_key}
+use Rattle.event_rules.specs.Originations.{router_body, router_key}
 use Rattle.candidates.specs.Borders.{IsLongest}
 use Rattle.routes.specs.Candidates.{AreCandidates, Offers}
 use Rattle.routes.specs.Links.{IsRouterLsa, LeadsTo, Says}

@@ -4,7 +4,7 @@ use Rattle.std.proofs.Common.{◌≡◌, ◌≢◌, ℕ, ◌+◌, inl, inr, IsTr
 use Rattle.std.proofs.Common.{arith, refl, sym}
 use Rattle.words.specs.Interfaces.{has_interface}
 use Rattle.area_routes.specs.Offers.{root_by}
-use Rattle.events.specs.Originations.{router_body, router_key}
+use Rattle.event_rules.specs.Originations.{router_body, router_key}
 use Rattle.routes.specs.Candidates.{AreCandidates, OffersExternal}
 use Rattle.routes.specs.Links.{IsRouterLsa, LeadsTo}
 use Rattle.routes.specs.Paths.{Step, price_of}

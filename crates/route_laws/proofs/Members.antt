@@ -4,7 +4,7 @@ use Rattle.std.proofs.Common.{subst}
 use Rattle.std.specs.List.{flat_map}
 use Rattle.lsa.specs.declared.body.LsaBody.TheVariants as body
 use Rattle.lsa.specs.declared.body.RouterLsa.{RouterLsa}
-use Rattle.events.specs.Originations.{links_of, router_body}
+use Rattle.event_rules.specs.Originations.{links_of, router_body}
 use Rattle.routes.specs.Candidates.{AreCandidates}
 use Rattle.routes.specs.Links.{IsRouterLsa, Leads, LeadsTo}
 use Rattle.routes.specs.Paths.{IsWalk, IsWay, Step, Way}

@@ -15,8 +15,8 @@ use Rattle.lsa.specs.declared.body.RouterLsa.{RouterLsa}
 use Rattle.adjacency.specs.Neighbors.{Neighbor, is_full}
 use Rattle.adjacency.specs.declared.interface.Interface.{Interface}
 use Rattle.area_routes.specs.Offers.{root_by}
-use Rattle.events.specs.Originations.{links_of, point_to_point, router_body, stub}
-use Rattle.events.specs.Routers.{are_distinct}
+use Rattle.event_rules.specs.Originations.{links_of, point_to_point, router_body, stub}
+use Rattle.event_rules.specs.Routers.{are_distinct}
 use Rattle.received.specs.Links.{Link, neighbor_at}
 use Rattle.routes.proofs.Lists.{first_is, later_is, of_cons, of_empty}
 use Rattle.routes.specs.Candidates.{IsCandidate}

@@ -10,7 +10,7 @@ use Rattle.lsa.specs.declared.body.RouterLink.{RouterLink}
 use Rattle.adjacency.specs.Neighbors.{Neighbor, is_full}
 use Rattle.adjacency.specs.declared.interface.Interface.{Interface}
 use Rattle.area_routes.specs.Offers.{root_by}
-use Rattle.events.specs.Originations.{links_of as links_made, router_body, router_key, stub}
+use Rattle.event_rules.specs.Originations.{links_of as links_made, router_body, router_key, stub}
 use Rattle.candidates.specs.Borders.{IsLongest}
 use Rattle.received.specs.Links.{Link, neighbor_at}
 use Rattle.routes.proofs.Lists.{later_is, of_cons}

@@ -11,7 +11,7 @@ use Rattle.words.specs.declared.route.Route.{Route}
 use Rattle.lsa.specs.declared.body.LsaBody.TheVariants as body
 use Rattle.lsa.specs.declared.body.ExternalLsa.{ExternalLsa}
 use Rattle.lsa.specs.declared.body.RouterLink.{RouterLink}
-use Rattle.events.specs.Originations.{router_body, router_key}
+use Rattle.event_rules.specs.Originations.{router_body, router_key}
 use Rattle.candidates.specs.Borders.{IsLongest}
 use Rattle.routes.proofs.Determined.{one_way}
 use Rattle.routes.proofs.Prefixes.{one_prefix}

@@ -9,8 +9,8 @@ use Rattle.lsa.specs.declared.body.RouterLink.{RouterLink}
 use Rattle.lsa.specs.declared.body.LinkKind.TheVariants.{PointToPoint}
 use Rattle.adjacency.specs.Neighbors.{Neighbor, is_full}
 use Rattle.area_routes.specs.Offers.{root_by}
-use Rattle.events.specs.Originations.{router_body, router_key}
-use Rattle.events.specs.Routers.{are_distinct}
+use Rattle.event_rules.specs.Originations.{router_body, router_key}
+use Rattle.event_rules.specs.Routers.{are_distinct}
 use Rattle.received.specs.Links.{Link, neighbor_at}
 use Rattle.routes.specs.Candidates.{IsCandidate}
 use Rattle.routes.specs.Links.{HasLink, LeadsTo, Says}

@@ -11,7 +11,7 @@ use Rattle.lsa.specs.declared.body.LsaBody.TheVariants as body
 use Rattle.lsa.specs.declared.body.ExternalLsa.{ExternalLsa}
 use Rattle.adjacency.specs.Neighbors.{Neighbor, is_full}
 use Rattle.area_routes.specs.Offers.{IsTableOf, root_by}
-use Rattle.events.specs.Routers.{Router}
+use Rattle.event_rules.specs.Routers.{Router}
 use Rattle.candidates.specs.Borders.{IsLongest}
 use Rattle.received.specs.Links.{neighbor_at}
 use Rattle.routes.specs.Candidates.{IsCandidate}

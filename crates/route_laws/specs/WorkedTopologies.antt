@@ -17,7 +17,7 @@ use Rattle.lsdb.specs.Copies.{DatabaseCopy}
 use Rattle.adjacency.specs.Neighbors.{Neighbor, fresh}
 use Rattle.adjacency.specs.declared.interface.Interface.{Interface}
 use Rattle.adjacency.specs.declared.state.NeighborState.TheVariants.{Full}
-use Rattle.events.specs.Originations.{router_body, router_key}
+use Rattle.event_rules.specs.Originations.{router_body, router_key}
 use Rattle.route_laws.specs.Premises.{HaveCosts, HaveOwnAddresses}
 use Rattle.candidates.specs.Borders.{IsLongest}
 use Rattle.received.specs.Links.{Link}

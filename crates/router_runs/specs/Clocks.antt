@@ -1,11 +1,11 @@
 -- Runs in which the clock doesn't go back, and that a router takes no others.
 use Rattle.std.specs.Prelude.{◌≡◌, ◌≤◌, false, List, [], ◌∷◌, ◌++◌, None}
 use Rattle.words.specs.Numbers.{Moment}
-use Rattle.events.specs.declared.model.Config.{Config}
-use Rattle.events.specs.declared.model.Out.{Out}
-use Rattle.events.specs.Events.{Happens, Run, Step, initial}
-use Rattle.events.specs.Refusals.{first_refusal, is_clock_back}
-use Rattle.events.specs.Routers.{Occurrence, Router}
+use Rattle.event_rules.specs.declared.model.Config.{Config}
+use Rattle.event_rules.specs.declared.model.Out.{Out}
+use Rattle.event_rules.specs.Events.{Happens, Run, Step, initial}
+use Rattle.event_rules.specs.Refusals.{first_refusal, is_clock_back}
+use Rattle.event_rules.specs.Routers.{Occurrence, Router}
 
 -- no event is earlier than the one before it, and the first is no earlier than this moment
 abbrev pub ClockRunsOn : Moment → List Step → Type 0

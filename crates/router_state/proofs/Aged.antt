@@ -12,7 +12,7 @@ use Rattle.flooding.specs.lsdb.Copies.{Database, DatabaseCopy, aged_keys, is_age
 use Rattle.flooding.specs.lsdb.Keys.{key_cmp}
 use Rattle.flooding.proofs.lsdb.Keys.{keys_exact, keys_total}
 use Rattle.flooding.specs.received.Links.{Area, Link, any_has_retransmission}
-use Rattle.events.specs.Endings.{stays, stays_as}
+use Rattle.event_rules.specs.Endings.{stays, stays_as}
 use Rattle.flooding.specs.Links.{without_acknowledged}
 use Rattle.router_state.specs.Aging.{without_each}
 

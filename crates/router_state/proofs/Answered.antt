@@ -3,7 +3,7 @@
 use Rattle.std.proofs.Common.{◌≡◌, [], Result, Ok, Err, OnOk, sym, ap, ◌∙◌}
 use Rattle.flooding.specs.received.Links.{Area}
 use Rattle.flooding.specs.received.Outcomes.{Outcome}
-use Rattle.events.specs.EventState.{EventState, on_area}
+use Rattle.event_rules.specs.EventState.{EventState, on_area}
 use Rattle.flooding.specs.Doing.{AreaDoes}
 use Rattle.flooding.specs.Drafted.{drafts_with, nothing_at}
 use Rattle.flooding.specs.Kept.{RouterArea}

@@ -15,9 +15,10 @@ use Rattle.flooding.specs.adjacency.Descriptions.{after_description}
 use Rattle.flooding.specs.adjacency.Retransmissions.{after_acknowledgment}
 use Rattle.flooding.specs.received.Links.{Area, Link, link_at}
 use Rattle.flooding.specs.received.Outcomes.{Outcome, sends_at, one_neighbor, only_at, sending}
-use Rattle.events.specs.Hellos.{accepts, names}
-use Rattle.events.specs.Packets.{acknowledged_by, after_hello, describe_to, hear, heard_on}
-use Rattle.events.specs.Packets.{is_there, requested_from, requested_lsas, with_neighbor}
+use Rattle.event_rules.specs.Hellos.{accepts, names}
+use Rattle.event_rules.specs.Packets.{accept_hello, receive_acknowledgment, receive_description}
+use Rattle.event_rules.specs.Packets.{receive_hello, receive_hello_on}
+use Rattle.event_rules.specs.Packets.{is_there, receive_request, requested_lsas, with_neighbor}
 use Rattle.flooding.specs.Links.{start}
 use Rattle.router_state.specs.Aging.{outcomes_in_turn}
 use Rattle.router_state.specs.Making.{interfaces_of}
@@ -31,42 +32,42 @@ module _ (own moment number from : ℕ) (h : Hello) where
   heard l = adjacencies.after_hello moment from (names own h) l.neighbor
 
   accepted_after : (s : Step) (o : Outcome) (b : Bool)
-      → cond b (hear moment number s o) o
-      ≡ outcomes_in_turn o (cond b (hear moment number s (start o.area)) (start o.area))
+      → cond b (accept_hello moment number s o) o
+      ≡ outcomes_in_turn o (cond b (accept_hello moment number s (start o.area)) (start o.area))
   accepted_after s o true = refl
   accepted_after s o false = appends_nothing o
 
   heard_after : (l : Option Link) (o : Outcome)
-      → heard_on own moment number from h l o
-      ≡ outcomes_in_turn o (heard_on own moment number from h l (start o.area))
+      → receive_hello_on own moment number from h l o
+      ≡ outcomes_in_turn o (receive_hello_on own moment number from h l (start o.area))
   heard_after None o = appends_nothing o
   heard_after (Some l) o = accepted_after (heard l) o (accepts own from h l)
 
-  pub appends_hello : Appends (after_hello own moment number from h)
+  pub appends_hello : Appends (receive_hello own moment number from h)
   appends_hello o = heard_after (link_at number o.area.links) o
 
   accepted_keeps : (s : Step) (a : Area) (b : Bool)
-      → interfaces_of (cond b (hear moment number s (start a)) (start a)).area.links
+      → interfaces_of (cond b (accept_hello moment number s (start a)) (start a)).area.links
       ≡ interfaces_of a.links
   accepted_keeps s a true = change_interfaces number (with_neighbor s.neighbor) (λ l. refl) a.links
   accepted_keeps s a false = refl
 
   heard_keeps : (l : Option Link) (a : Area)
-      → interfaces_of (heard_on own moment number from h l (start a)).area.links
+      → interfaces_of (receive_hello_on own moment number from h l (start a)).area.links
       ≡ interfaces_of a.links
   heard_keeps None a = refl
   heard_keeps (Some l) a = accepted_keeps (heard l) a (accepts own from h l)
 
-  pub keeps_hello : KeepsInterfaces (after_hello own moment number from h)
+  pub keeps_hello : KeepsInterfaces (receive_hello own moment number from h)
   keeps_hello a = heard_keeps (link_at number a.links) a
 
 -- ---- Database Descriptions
 
 module _ (own moment number : ℕ) (d : Description) where
-  pub appends_description : Appends (describe_to own moment number d)
+  pub appends_description : Appends (receive_description own moment number d)
   appends_description o = refl
 
-  pub keeps_description : KeepsInterfaces (describe_to own moment number d)
+  pub keeps_description : KeepsInterfaces (receive_description own moment number d)
   keeps_description a = keeps_neighbors moment
       (only_at number (after_description own moment a.database d)) a
 
@@ -83,7 +84,7 @@ module _ (moment number : ℕ) (keys : List Key) where
   requested_after o true = refl
   requested_after o false = refl
 
-  pub appends_request : Appends (requested_from moment number keys)
+  pub appends_request : Appends (receive_request moment number keys)
   appends_request o = requested_after o (list_all (is_there o.area.database) keys)
 
   requested_keeps : (a : Area) (b : Bool)
@@ -93,15 +94,15 @@ module _ (moment number : ℕ) (keys : List Key) where
   requested_keeps a true = refl
   requested_keeps a false = keeps_neighbors moment (only_at number (mismatch_step moment)) a
 
-  pub keeps_request : KeepsInterfaces (requested_from moment number keys)
+  pub keeps_request : KeepsInterfaces (receive_request moment number keys)
   keeps_request a = requested_keeps a (list_all (is_there a.database) keys)
 
 -- ---- Link State Acknowledgments
 
 module _ (moment number : ℕ) (headers : List Header) where
-  pub appends_acknowledgment : Appends (acknowledged_by moment number headers)
+  pub appends_acknowledgment : Appends (receive_acknowledgment moment number headers)
   appends_acknowledgment o = refl
 
-  pub keeps_acknowledgment : KeepsInterfaces (acknowledged_by moment number headers)
+  pub keeps_acknowledgment : KeepsInterfaces (receive_acknowledgment moment number headers)
   keeps_acknowledgment a = keeps_neighbors moment
       (only_at number (λ n. no_sends (after_acknowledgment moment headers n))) a

@@ -7,10 +7,10 @@ use Rattle.words.specs.declared.route.External.{External}
 use Rattle.words.specs.declared.route.Route.{Route}
 use Rattle.keyed_map.proofs.Helds.{on_ok}
 use Rattle.flooding.specs.lsdb.Keys.{ByKey, KeySet}
-use Rattle.events.specs.Commands.{after_install, announce, unannounce}
-use Rattle.events.specs.EventState.{on_router}
-use Rattle.events.specs.Originations.{as_originated, forget_originations, is_recent, wait}
-use Rattle.events.specs.Routers.{Router}
+use Rattle.event_rules.specs.Commands.{after_install, announce, unannounce}
+use Rattle.event_rules.specs.EventState.{on_router}
+use Rattle.event_rules.specs.Originations.{as_originated, forget_originations, is_recent, put_off}
+use Rattle.event_rules.specs.Routers.{Router}
 use Rattle.router_state.specs.Kept.{KeptRouter}
 use Rattle.router_state.specs.Making.{Does, Makes, interfaces_of}
 use Rattle.router_state.proofs.Making.{makes_on_router}
@@ -72,13 +72,13 @@ module _ {X E : Type 0} (shown old : KeptRouter) (r : Result X E) (view : shown 
   -- the keys that wait, and as they were when last settled
   module _ (w v : KeySet) (rests : v ≡ shown.settled.waiting) (key : Key) where
     pub waits : OnOk r (w ≡ set.insert shown.present.waiting key)
-        → Does (on_router (wait key)) old (record {
+        → Does (on_router (put_off key)) old (record {
           present = record shown.present { waiting = w };
           settled = record shown.settled { waiting = v };
           drafted = shown.drafted;
         }) r
     waits is =
-        edit_does (wait key) (λ x. refl) shown old (record {
+        edit_does (put_off key) (λ x. refl) shown old (record {
           present = record shown.present { waiting = w };
           settled = record shown.settled { waiting = v };
           drafted = shown.drafted;

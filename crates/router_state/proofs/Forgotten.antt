@@ -12,7 +12,7 @@ use Rattle.words.specs.declared.key.Key.{Key}
 use Rattle.keyed_map.specs.Slots.{keys_where}
 use Rattle.flooding.specs.lsdb.Keys.{ByKey, key_cmp}
 use Rattle.flooding.proofs.lsdb.Keys.{keys_exact, keys_total}
-use Rattle.events.specs.Originations.{interval_is_over, is_recent}
+use Rattle.event_rules.specs.Originations.{interval_is_over, is_recent}
 
 first : (a b : Bool) → T (a && b) → T a
 first true b p = tt

@@ -20,13 +20,14 @@ use Rattle.flooding.specs.received.Links.{Area, acknowledge_later, any_exchange_
 use Rattle.flooding.specs.received.Links.{change_link}
 use Rattle.flooding.specs.received.Outcomes.{Outcome, on_database, on_links, only_at, stepped_links}
 use Rattle.flooding.specs.received.Updates.{after_case, copy_of, send_copy}
-use Rattle.events.specs.Commands.{after_link_down, taken_down}
-use Rattle.events.specs.Endings.{link_loading_done, remove_aged, request_all, stays}
-use Rattle.events.specs.Endings.{with_age, with_ages}
-use Rattle.events.specs.EventState.{EventState, flood_from_nobody, on_area}
-use Rattle.events.specs.Originations.{flush, flush_copy, install_and_flood}
-use Rattle.events.specs.Ticks.{acknowledge_all, again, run_out, send_all_again, send_hellos}
-use Rattle.events.specs.Ticks.{with_hello_sent, without_acknowledgments}
+use Rattle.event_rules.specs.Commands.{after_link_down, taken_down}
+use Rattle.event_rules.specs.Endings.{link_loading_done, remove_aged, request_all, stays}
+use Rattle.event_rules.specs.Endings.{with_age, with_ages}
+use Rattle.event_rules.specs.EventState.{EventState, flood_from_nobody, on_area}
+use Rattle.event_rules.specs.Originations.{flush, flush_copy, install_and_flood}
+use Rattle.event_rules.specs.Ticks.{again, run_out, send_acknowledgments, send_all_again}
+use Rattle.event_rules.specs.Ticks.{send_hellos}
+use Rattle.event_rules.specs.Ticks.{with_hello_sent, without_acknowledgments}
 use Rattle.flooding.specs.Links.{aged_copy, start}
 use Rattle.router_state.specs.Aging.{outcomes_in_turn}
 use Rattle.router_state.specs.Making.{interfaces_of}
@@ -186,10 +187,10 @@ module _ (moment : ℕ) where
   pub keeps_again : KeepsInterfaces (send_all_again moment)
   keeps_again a = keeps_neighbors moment (again moment (start a)) a
 
-  pub appends_acknowledgments : Appends (acknowledge_all moment)
+  pub appends_acknowledgments : Appends (send_acknowledgments moment)
   appends_acknowledgments o = refl
 
-  pub keeps_acknowledgments : KeepsInterfaces (acknowledge_all moment)
+  pub keeps_acknowledgments : KeepsInterfaces (send_acknowledgments moment)
   keeps_acknowledgments a = map_interfaces without_acknowledgments (λ l. refl) a.links
 
   pub appends_hellos : Appends (send_hellos moment)

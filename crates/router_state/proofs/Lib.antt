@@ -8,11 +8,11 @@ pub mod Answered
 pub mod Edited
 pub mod Conversed
 pub mod OneLink
-pub mod Heard
+pub mod ReceivedHellos
 pub mod Replies
 pub mod Stepped
 pub mod RunOut
-pub mod Greeted
+pub mod SentHellos
 pub mod Aged
 pub mod OfAge
 mod Within

@@ -7,8 +7,8 @@ use Rattle.keyed_map.proofs.Helds.{on_ok}
 use Rattle.flooding.specs.adjacency.Drafts.{Drafted}
 use Rattle.flooding.specs.received.Links.{Area, Link}
 use Rattle.flooding.specs.received.Outcomes.{Outcome}
-use Rattle.events.specs.EventState.{EventState, on_area, on_router}
-use Rattle.events.specs.Routers.{Router}
+use Rattle.event_rules.specs.EventState.{EventState, on_area, on_router}
+use Rattle.event_rules.specs.Routers.{Router}
 use Rattle.flooding.specs.Drafted.{drafts_with}
 use Rattle.flooding.specs.Links.{start}
 use Rattle.flooding.proofs.Doing.{always}

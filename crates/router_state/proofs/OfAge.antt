@@ -14,7 +14,7 @@ use Rattle.flooding.specs.received.Flooding.{flood, flood_to}
 use Rattle.flooding.specs.received.Links.{Area}
 use Rattle.flooding.specs.received.Outcomes.{Outcome, Send, stepping_sends}
 use Rattle.flooding.proofs.received.Marks.{IsStill, mark_all}
-use Rattle.events.specs.Endings.{with_age, with_ages}
+use Rattle.event_rules.specs.Endings.{with_age, with_ages}
 use Rattle.flooding.specs.Drafted.{drafts_with}
 use Rattle.flooding.specs.Links.{come_of_age, come_of_age_copy, start}
 use Rattle.flooding.proofs.Sends.{append_none}

@@ -8,8 +8,8 @@ use Rattle.flooding.specs.adjacency.Neighbors.{Neighbor}
 use Rattle.flooding.specs.adjacency.Timers as neighbor
 use Rattle.flooding.specs.received.Links.{Link}
 use Rattle.flooding.specs.Links.{with_neighbor}
-use Rattle.events.specs.Endings.{link_loading_done, loading_done_on}
-use Rattle.events.specs.Ticks.{run_out, settled_exchange}
+use Rattle.event_rules.specs.Endings.{link_loading_done, loading_done_on}
+use Rattle.event_rules.specs.Ticks.{run_out, settled_exchange}
 
 given_up : (moment dead : ℕ) (o : Option Neighbor)
     → step_on (λ m. no_sends (without_old_description moment dead m)) o

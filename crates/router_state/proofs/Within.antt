@@ -6,8 +6,8 @@ use Rattle.std.specs.FinMap as finite
 use Rattle.words.specs.declared.key.Key.{Key}
 use Rattle.flooding.specs.lsdb.Copies.{DatabaseCopy, is_aged_out, lsa_now}
 use Rattle.flooding.specs.received.Outcomes.{Outcome}
-use Rattle.events.specs.EventState.{flood_from_nobody}
-use Rattle.events.specs.Endings.{with_age, with_ages}
+use Rattle.event_rules.specs.EventState.{flood_from_nobody}
+use Rattle.event_rules.specs.Endings.{with_age, with_ages}
 
 not_both : (b : Bool) → (b && not b) ≡ false
 not_both true = refl

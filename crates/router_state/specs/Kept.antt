@@ -2,7 +2,7 @@
 use Rattle.std.specs.Prelude.{List, refl}
 use Rattle.std.specs.Coded.{Coded, code_by, coded×, coded_list}
 use Rattle.flooding.specs.adjacency.Drafts.{Drafted}
-use Rattle.events.specs.Routers.{Router}
+use Rattle.event_rules.specs.Routers.{Router}
 
 -- the router, what it was when it was last settled, and what was drafted since, one draft for each
 -- of its interfaces

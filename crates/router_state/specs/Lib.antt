@@ -1,7 +1,7 @@
 pub mod Kept
 pub mod Making
 pub mod Owned
-pub mod Heard
+pub mod ReceivedHellos
 pub mod Aging
-pub mod Greetings
+pub mod SentHellos
 pub mod Parts

@@ -8,7 +8,7 @@ use Rattle.flooding.specs.adjacency.Drafts.{Drafted}
 use Rattle.flooding.specs.adjacency.declared.interface.Interface.{Interface}
 use Rattle.flooding.specs.received.Links.{Link}
 use Rattle.flooding.specs.Drafted.{drafts_with}
-use Rattle.events.specs.EventState.{EventState}
+use Rattle.event_rules.specs.EventState.{EventState}
 use Rattle.router_state.specs.Kept.{KeptRouter}
 
 -- the router is that of the event so far, and its drafts, which began as `first`, have what was

@@ -5,7 +5,7 @@ use Rattle.words.specs.Numbers.{RouterNumber}
 use Rattle.words.specs.declared.key.Key.{Key}
 use Rattle.words.specs.declared.route.External.{External}
 use Rattle.flooding.specs.lsdb.Keys.{ByKey}
-use Rattle.events.specs.Originations.{external_key}
+use Rattle.event_rules.specs.Originations.{external_key}
 
 -- the destination has the key of its AS-external-LSA, and a metric of 24 bits
 pub record IsOwn (id : RouterNumber) (k : Key) (e : External) : Type 0 where

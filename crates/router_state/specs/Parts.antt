@@ -2,11 +2,11 @@
 use Rattle.words.specs.Numbers.{Moment}
 use Rattle.words.specs.declared.key.Key.{Key}
 use Rattle.flooding.specs.lsdb.Headers.{Lsa}
-use Rattle.events.specs.Endings.{remove_aged, request_all}
-use Rattle.events.specs.EventState.{EventState, on_area, on_router}
-use Rattle.events.specs.Originations.{as_originated, install_and_flood}
-use Rattle.events.specs.Routers.{Router}
-use Rattle.events.specs.Ticks.{acknowledge_all, send_all_again, send_hellos}
+use Rattle.event_rules.specs.Endings.{remove_aged, request_all}
+use Rattle.event_rules.specs.EventState.{EventState, on_area, on_router}
+use Rattle.event_rules.specs.Originations.{as_originated, install_and_flood}
+use Rattle.event_rules.specs.Routers.{Router}
+use Rattle.event_rules.specs.Ticks.{send_acknowledgments, send_all_again, send_hellos}
 
 -- a self-originated LSA is installed and flooded; it no longer waits, and MinLSInterval starts
 abbrev pub put_out : Moment → Key → Lsa → EventState → EventState
@@ -16,7 +16,7 @@ put_out moment key lsa p =
 -- what a Tick retransmits, delayed acknowledgments, and Hellos
 abbrev pub send_what_is_due : Moment → EventState → EventState
 send_what_is_due moment p =
-    on_area (λ o. send_hellos moment (acknowledge_all moment (send_all_again moment o))) p
+    on_area (λ o. send_hellos moment (send_acknowledgments moment (send_all_again moment o))) p
 
 abbrev pub at_moment : Moment → Router → Router
 at_moment moment r = record r { moment = moment }

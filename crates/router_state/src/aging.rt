@@ -1,7 +1,7 @@
 //! Copies that have reached MaxAge (RFC 2328, section 14).
 ghost use Rattle.flooding.specs.Doing.{AreaDoes};
 ghost use Rattle.flooding.specs.Links.{start};
-ghost use Rattle.events.specs.Endings.{remove_aged, with_ages};
+ghost use Rattle.event_rules.specs.Endings.{remove_aged, with_ages};
 ghost use Rattle.router_state.specs.Aging.{each_come_of_age, without_each};
 
 use flooding::{Area, any_exchange_or_loading};

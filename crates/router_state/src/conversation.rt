@@ -2,14 +2,15 @@
 //! 13.7).
 ghost use Rattle.std.specs.Prelude.{◌≡◌, ◌≤◌, length, true};
 ghost use Rattle.flooding.specs.received.Links.{neighbor_at};
-ghost use Rattle.events.specs.EventState.{on_area};
-ghost use Rattle.events.specs.Packets.{acknowledged_by, after_hello, describe_to, is_in_exchange};
-ghost use Rattle.events.specs.Packets.{requested_from};
+ghost use Rattle.event_rules.specs.EventState.{on_area};
+ghost use Rattle.event_rules.specs.Packets.{any_exchange_or_later, receive_acknowledgment};
+ghost use Rattle.event_rules.specs.Packets.{receive_description, receive_hello};
+ghost use Rattle.event_rules.specs.Packets.{receive_request};
 ghost use Rattle.router_state.specs.Making.{Does};
 
-use crate::hearing::Hearing;
+use crate::received_hellos::ReceivingHello;
 use crate::router::Router;
-use flooding::{Acknowledging, Answering, Describing};
+use flooding::{ReceivingAcknowledgment, ReceivingDescription, ReceivingRequest};
 use lsa::Header;
 use packet::{Description, Hello};
 use std::alloc::{AllocError, Global};
@@ -21,7 +22,7 @@ impl Router {
     /// E-bit, or if the interface has another neighbor.
     ///
     /// Errors with `AllocError` if an allocation is refused.
-    pub fn hear(
+    pub fn receive_hello(
         &mut self,
         alloc: Global,
         moment: Second,
@@ -31,23 +32,23 @@ impl Router {
     ) -> Result<(), AllocError>
         requires first { 1 ≤ number }
         requires last { number ≤ length self.old.present.area.links }
-        ensures { Does (on_area (after_hello self.old.present.id moment number from hello.now))
+        ensures { Does (on_area (receive_hello self.old.present.id moment number from hello.now))
             self.old self.new result }
     {
-        let hearing = Hearing {
+        let receiving = ReceivingHello {
             own: self.id,
             moment,
             from,
             hello,
         };
-        self.area.step_link(alloc, moment, number, &hearing)
+        self.area.step_link(alloc, moment, number, &receiving)
     }
 
     /// A Database Description from the neighbor at the interface with this number (RFC 2328,
     /// section 10.6).
     ///
     /// Errors with `AllocError` if an allocation is refused.
-    pub fn describe(
+    pub fn receive_description(
         &mut self,
         alloc: Global,
         moment: Second,
@@ -56,15 +57,15 @@ impl Router {
     ) -> Result<(), AllocError>
         requires first { 1 ≤ number }
         requires last { number ≤ length self.old.present.area.links }
-        ensures { Does (on_area (describe_to self.old.present.id moment number description.now))
+        ensures { Does (on_area (receive_description self.old.present.id moment number description.now))
             self.old self.new result }
     {
-        let describing = Describing {
+        let receiving = ReceivingDescription {
             own: self.id,
             moment,
             description,
         };
-        self.area.step_link(alloc, moment, number, &describing)
+        self.area.step_link(alloc, moment, number, &receiving)
     }
 
     /// A Link State Request for these keys from the neighbor at the interface with this number,
@@ -72,7 +73,7 @@ impl Router {
     /// sent; if one is missing, none is sent (BadLSReq).
     ///
     /// Errors with `AllocError` if an allocation is refused.
-    pub fn answer(
+    pub fn receive_request(
         &mut self,
         alloc: Global,
         moment: Second,
@@ -81,19 +82,19 @@ impl Router {
     ) -> Result<(), AllocError>
         requires first { 1 ≤ number }
         requires last { number ≤ length self.old.present.area.links }
-        requires exchange { is_in_exchange
+        requires exchange { any_exchange_or_later
             (neighbor_at number self.old.present.area.links) ≡ true }
-        ensures { Does (on_area (requested_from moment number keys.now)) self.old self.new result }
+        ensures { Does (on_area (receive_request moment number keys.now)) self.old self.new result }
     {
-        let answering = Answering { moment, keys };
-        self.area.step_link(alloc, moment, number, &answering)
+        let receiving = ReceivingRequest { moment, keys };
+        self.area.step_link(alloc, moment, number, &receiving)
     }
 
     /// A Link State Acknowledgment of these instances from the neighbor at the interface with this
     /// number (RFC 2328, section 13.7).
     ///
     /// Errors with `AllocError` if an allocation is refused.
-    pub fn acknowledged(
+    pub fn receive_acknowledgment(
         &mut self,
         alloc: Global,
         moment: Second,
@@ -102,10 +103,10 @@ impl Router {
     ) -> Result<(), AllocError>
         requires first { 1 ≤ number }
         requires last { number ≤ length self.old.present.area.links }
-        ensures { Does (on_area (acknowledged_by moment number headers.now))
+        ensures { Does (on_area (receive_acknowledgment moment number headers.now))
             self.old self.new result }
     {
-        let acknowledging = Acknowledging { moment, headers };
-        self.area.step_link(alloc, moment, number, &acknowledging)
+        let receiving = ReceivingAcknowledgment { moment, headers };
+        self.area.step_link(alloc, moment, number, &receiving)
     }
 }

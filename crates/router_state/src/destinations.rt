@@ -3,9 +3,9 @@
 ghost use Rattle.std.specs.Prelude.{◌≡◌, ◌<◌, ◌^◌, OnOk};
 ghost use Rattle.std.specs.List.{fold};
 ghost use Rattle.std.specs.FinMap as finite;
-ghost use Rattle.events.specs.Commands.{announce, unannounce};
-ghost use Rattle.events.specs.EventState.{on_router};
-ghost use Rattle.events.specs.Originations.{external_key, forget_originations, wait};
+ghost use Rattle.event_rules.specs.Commands.{announce, unannounce};
+ghost use Rattle.event_rules.specs.EventState.{on_router};
+ghost use Rattle.event_rules.specs.Originations.{external_key, forget_originations, put_off};
 ghost use Rattle.router_state.specs.Making.{Does};
 
 use crate::router::Router;
@@ -33,7 +33,7 @@ struct IsOver {
 
 impl KeyTest<Second> for IsOver {
     ghost use Rattle.std.specs.Prelude.{Some};
-    ghost use Rattle.events.specs.Originations.{interval_is_over};
+    ghost use Rattle.event_rules.specs.Originations.{interval_is_over};
 
     ghost accepts = { λ a key at. interval_is_over a.moment (Some at) };
 
@@ -82,8 +82,8 @@ impl Router {
     /// The self-originated LSA of this key waits for a Tick.
     ///
     /// Errors with `AllocError` if an allocation is refused.
-    pub fn wait(&mut self, key: &Key) -> Result<(), AllocError>
-        ensures { Does (on_router (wait key.now)) self.old self.new result }
+    pub fn put_off(&mut self, key: &Key) -> Result<(), AllocError>
+        ensures { Does (on_router (put_off key.now)) self.old self.new result }
     {
         self.waiting.insert(*key, ())
     }

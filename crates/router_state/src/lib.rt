@@ -13,13 +13,13 @@ mod aging;
 mod conversation;
 mod copying;
 mod destinations;
-mod greeting;
-mod hearing;
 mod own_lsas;
+mod received_hellos;
 mod receiving;
 mod router;
+mod sent_hellos;
 mod times;
 
 pub use destinations::external_key;
-pub use hearing::is_foreign;
+pub use received_hellos::is_foreign;
 pub use router::Router;

@@ -1,6 +1,6 @@
 //! Self-originated LSAs (RFC 2328, sections 12.4 and 14.1).
 ghost use Rattle.std.specs.Prelude.{◌≡◌};
-ghost use Rattle.events.specs.Originations.{flush, is_due, is_stale};
+ghost use Rattle.event_rules.specs.Originations.{flush, is_due, refresh_time_is_over};
 ghost use Rattle.router_state.specs.Making.{Does};
 ghost use Rattle.router_state.specs.Parts.{put_out};
 
@@ -13,8 +13,8 @@ use words::{Key, Second};
 // LSRefreshTime: the age in seconds at which a self-originated LSA is originated again.
 const LS_REFRESH_TIME: u16 = 1800;
 
-fn is_stale(moment: Second, copy: Option<DatabaseCopy<'_>>) -> bool
-    ensures { result ≡ is_stale moment copy.entry }
+fn refresh_time_is_over(moment: Second, copy: Option<DatabaseCopy<'_>>) -> bool
+    ensures { result ≡ refresh_time_is_over moment copy.entry }
 {
     let Some(copy) = copy else {
         return true;
@@ -33,7 +33,7 @@ impl Router {
         if waits {
             return true;
         }
-        is_stale(moment, self.area.database().get(key))
+        refresh_time_is_over(moment, self.area.database().get(key))
     }
 
     /// Installs an LSA of this key that this router originated, and floods it to every neighbor. It

@@ -1,7 +1,7 @@
 //! Processing an LSA of a received Link State Update (RFC 2328, section 13).
 ghost use Rattle.std.specs.Prelude.{◌≡◌, ◌≤◌, false, length};
 ghost use Rattle.flooding.specs.received.Updates.{after_case, install};
-ghost use Rattle.events.specs.EventState.{on_area};
+ghost use Rattle.event_rules.specs.EventState.{on_area};
 ghost use Rattle.flooding.specs.Cases.{case_of, is_newer};
 ghost use Rattle.router_state.specs.Making.{Does};
 

@@ -1,8 +1,8 @@
 //! The router.
 ghost use Rattle.std.specs.Prelude.{◌≡◌, ◌≤◌, IfOk, OnOk, length, map};
 ghost use Rattle.std.specs.FinMap as finite;
-ghost use Rattle.events.specs.Commands.{after_install};
-ghost use Rattle.events.specs.Routers.{with_links};
+ghost use Rattle.event_rules.specs.Commands.{after_install};
+ghost use Rattle.event_rules.specs.Routers.{with_links};
 ghost use Rattle.flooding.specs.Drafted.{nothing_at};
 ghost use Rattle.flooding.specs.Links.{draft_of, present, settled_link};
 ghost use Rattle.router_state.specs.Making.{Makes};
@@ -163,7 +163,7 @@ impl Router {
     }
 
     /// Replaces the routes and the programs' answers of the last `Install`. It doesn't allocate.
-    pub fn install(&mut self, answers: Sequence<(Route, u64)>)
+    pub fn set_answers(&mut self, answers: Sequence<(Route, u64)>)
         ensures { Makes (after_install answers) self.old self.new }
     {
         self.answers.set(answers);

@@ -2,33 +2,33 @@
 //! 10.3, 10.8, 10.9, 13.5, 13.6 and 14).
 ghost use Rattle.std.specs.Prelude.{map};
 ghost use Rattle.flooding.specs.received.Outcomes.{on_links};
-ghost use Rattle.events.specs.Commands.{after_link_down};
-ghost use Rattle.events.specs.EventState.{on_area};
-ghost use Rattle.events.specs.Endings.{loading_done, with_ages};
-ghost use Rattle.events.specs.Ticks.{run_out};
+ghost use Rattle.event_rules.specs.Commands.{after_link_down};
+ghost use Rattle.event_rules.specs.EventState.{on_area};
+ghost use Rattle.event_rules.specs.Endings.{loading_done, with_ages};
+ghost use Rattle.event_rules.specs.Ticks.{run_out};
 ghost use Rattle.router_state.specs.Making.{Does, Makes};
 ghost use Rattle.router_state.specs.Parts.{finish, send_what_is_due};
 
 use crate::aging::{remove_aged, with_ages};
-use crate::greeting::Greeting;
 use crate::router::Router;
+use crate::sent_hellos::SendingHello;
 use flooding::{EndLoading, Link, LinkStep, Lsdb, NextRequest, RunOut, SendingAgain};
 use std::alloc::{AllocError, Global};
 use words::Second;
 
 // Each link's delayed acknowledgments, in the order of their keys.
 #[derive(Drop)]
-struct Acknowledgments;
+struct SendingAcknowledgments;
 
-impl LinkStep for Acknowledgments {
-    ghost use Rattle.events.specs.Ticks.{acknowledgments_on, without_acknowledgments};
+impl LinkStep for SendingAcknowledgments {
+    ghost use Rattle.event_rules.specs.Ticks.{acknowledgments_on, without_acknowledgments};
 
     ghost after = { λ a database link. without_acknowledgments link };
 
     ghost sends = { λ a database link. acknowledgments_on link };
 
     fn take(&self, alloc: Global, _database: &Lsdb, link: &mut Link) -> Result<(), AllocError> {
-        link.acknowledge(alloc)
+        link.send_delayed_acknowledgments(alloc)
     }
 }
 
@@ -55,9 +55,10 @@ impl Router {
     {
         let again = SendingAgain { moment };
         self.area.step_links(alloc, moment, &again)?;
-        self.area.step_links(alloc, moment, &Acknowledgments)?;
-        let greeting = Greeting { moment };
-        self.area.step_links(alloc, moment, &greeting)
+        self.area
+            .step_links(alloc, moment, &SendingAcknowledgments)?;
+        let sending = SendingHello { moment };
+        self.area.step_links(alloc, moment, &sending)
     }
 
     /// The end of an event on links and database: the next LSAs are requested from each neighbor

@@ -65,7 +65,7 @@ module _ {Socket : Type 0} (hands : Socket → List ℕ → Type 0) (refuses : S
   heard_or_lost wire bytes (Some datagram) is handed same =
       given_at wire datagram is (subst (λ b. hands wire.socket b) (sym same) handed)
 
-pub ruleset hearing = (heard_or_lost, silent_at, no_wire)
+pub ruleset receiving = (heard_or_lost, silent_at, no_wire)
 
 module _ {Ear Socket : Type 0} (listens : Ear → Socket → Type 0) (wires : List (Wire Socket))
     (interface : ℕ) where

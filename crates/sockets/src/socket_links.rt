@@ -194,7 +194,7 @@ fn wait<E: Waits>(ear: &mut Option<E>) -> Result<(), LinkFault>
 
 /// A datagram that is there, or that comes within a second. The poll is edge-triggered: it needn't
 /// report a datagram that was left before, so the socket is read first.
-fn hear<S: DatagramSocket, E: Waits>(
+fn take_or_wait<S: DatagramSocket, E: Waits>(
     wire: &Wire<S>,
     ear: &mut Option<E>,
     buffer: &mut [u8; 8193],
@@ -213,8 +213,8 @@ fn hear<S: DatagramSocket, E: Waits>(
 }
 
 // What the socket of this interface gives, as a datagram of its own.
-#[tactic(auto, using(crate::proofs::Silent::hearing))]
-fn heard<S: DatagramSocket, E: Waits>(
+#[tactic(auto, using(crate::proofs::Silent::receiving))]
+fn receive_at<S: DatagramSocket, E: Waits>(
     wires: &[Wire<S>],
     interface: u16,
     ear: &mut Option<E>,
@@ -228,7 +228,7 @@ fn heard<S: DatagramSocket, E: Waits>(
     let Some(wire) = wire_at(wires, interface) else {
         return Ok(None);
     };
-    match hear(wire, ear, buffer) {
+    match take_or_wait(wire, ear, buffer) {
         Ok(Some(length)) => Ok(datagram(alloc, &buffer[..length])),
         Ok(None) => Ok(None),
         Err(fault) => Err(fault),
@@ -267,7 +267,7 @@ impl<'a, S: DatagramSocket, E: Waits> Transport for Sockets<'a, S, E> {
         if self.faults > 0 {
             return Ok(None);
         }
-        match heard(self.wires, self.own, &mut self.ear, alloc, buffer) {
+        match receive_at(self.wires, self.own, &mut self.ear, alloc, buffer) {
             Ok(heard) => Ok(heard),
             Err(fault) => {
                 self.faults = 1;

@@ -3,7 +3,7 @@ use Rattle.std.proofs.Common.{◌≡◌, ◌⊎◌, inl, inr, ℕ, List, Option,
 use Rattle.std.specs.Prelude.{IfNone, IfSome}
 use Rattle.words.specs.Numbers.{InterfaceNumber, Moment}
 use Rattle.maps.specs.Words.{SeatView}
-use Rattle.book.specs.events.declared.model.CoreError.TheVariants as core_error
+use Rattle.book.specs.event_rules.declared.model.CoreError.TheVariants as core_error
 use Rattle.hooks.specs.declared.operation.LoaderOperation.{LoaderOperation}
 use Rattle.hooks.specs.Answered.{IsAnswered}
 use Rattle.hooks.specs.Questions.{count_input}

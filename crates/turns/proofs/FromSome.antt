@@ -5,9 +5,9 @@ use Rattle.std.specs.Prelude.{◌↔◌, Result, Ok, Err, IfSome, IsTrue, MatchR
 use Rattle.words.specs.Numbers.{Moment}
 use Rattle.words.specs.declared.route.Route.{Route}
 use Rattle.words.specs.declared.route.TableRow.{TableRow}
-use Rattle.book.specs.events.declared.model.Out.{Out}
-use Rattle.book.specs.events.Events.{Happens}
-use Rattle.book.specs.events.Routers.{Router}
+use Rattle.book.specs.event_rules.declared.model.Out.{Out}
+use Rattle.book.specs.event_rules.Events.{Happens}
+use Rattle.book.specs.event_rules.Routers.{Router}
 use Rattle.book.specs.Event.{Event}
 use Rattle.book.specs.Occurrences.{occurrence_of}
 use Rattle.book.specs.Refusals.{AnswersAnew}

@@ -17,7 +17,7 @@ use Rattle.tables.specs.Parts.{AreLetIn}
 use Rattle.tables.specs.Rows.{rows_of}
 use Rattle.book.specs.area_routes.Offers.{root_by}
 use Rattle.tables.specs.routes.Said.{said_at}
-use Rattle.book.specs.events.Routers.{Router}
+use Rattle.book.specs.event_rules.Routers.{Router}
 use Rattle.book.specs.Offers.{AreCandidatesNow, IsOffered}
 
 same_or_not : (a b : Route × ℕ) → (a ≡ b) ⊎ (a ≡ b → ⊥)

@@ -4,8 +4,8 @@ use Rattle.words.specs.Numbers.{InterfaceNumber, Moment}
 use Rattle.words.specs.declared.route.External.{External}
 use Rattle.words.specs.declared.route.Route.{Route}
 use Rattle.words.specs.declared.route.TableRow.{TableRow}
-use Rattle.book.specs.events.declared.model.Out.{Out}
-use Rattle.book.specs.events.Routers.{Router}
+use Rattle.book.specs.event_rules.declared.model.Out.{Out}
+use Rattle.book.specs.event_rules.Routers.{Router}
 use Rattle.hooks.specs.declared.operation.LoaderOperation.{LoaderOperation}
 use Rattle.hooks.specs.Questions.{ExternalAnswer}
 use Rattle.book.specs.Event.{Event}

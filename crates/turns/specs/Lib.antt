@@ -7,4 +7,4 @@ pub mod Laws
 pub mod Numbers
 -- what crates above name of those below
 pub use Rattle.book.specs as book
-pub use Rattle.book.specs.events as events
+pub use Rattle.book.specs.event_rules as event_rules

@@ -14,12 +14,12 @@ use Rattle.words.specs.declared.route.TableRow.{TableRow}
 use Rattle.hooks.specs.machine.Given.{Given}
 use Rattle.hooks.specs.machine.Label.{Label}
 use Rattle.maps.specs.Words.{SeatView}
-use Rattle.book.specs.events.declared.model.CoreError.TheVariants as core_error
-use Rattle.book.specs.events.declared.model.Out.{Out}
-use Rattle.book.specs.events.Commands.{is_for}
-use Rattle.book.specs.events.Events.{Happens}
-use Rattle.book.specs.events.Originations.{external_key}
-use Rattle.book.specs.events.Routers.{Router}
+use Rattle.book.specs.event_rules.declared.model.CoreError.TheVariants as core_error
+use Rattle.book.specs.event_rules.declared.model.Out.{Out}
+use Rattle.book.specs.event_rules.Commands.{is_for}
+use Rattle.book.specs.event_rules.Events.{Happens}
+use Rattle.book.specs.event_rules.Originations.{external_key}
+use Rattle.book.specs.event_rules.Routers.{Router}
 use Rattle.hooks.specs.declared.operation.LoaderOperation.{LoaderOperation}
 use Rattle.hooks.specs.Answered.{IsAnswered}
 use Rattle.hooks.specs.Operations.{Answers}

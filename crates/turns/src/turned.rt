@@ -50,7 +50,7 @@ impl From<BookError> for TurnError {
 }
 
 impl From<AllocError> for TurnError {
-    ghost use Rattle.book.specs.events.declared.model.CoreError.TheVariants.{Memory};
+    ghost use Rattle.book.specs.event_rules.declared.model.CoreError.TheVariants.{Memory};
     ghost use Rattle.book.specs.declared.error.BookError.TheVariants.{Core};
     ghost use Rattle.turns.specs.declared.turned.TurnError.TheVariants.{Book};
 

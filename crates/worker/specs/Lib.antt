@@ -11,4 +11,4 @@ pub mod Refusals
 pub mod Lives
 pub mod Opening
 -- what crates above name of those below
-pub use Rattle.turns.specs.events as events
+pub use Rattle.turns.specs.event_rules as event_rules

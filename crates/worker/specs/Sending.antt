@@ -1,6 +1,6 @@
 -- What a link is given to send.
 use Rattle.std.specs.Prelude.{◌≡◌, ℕ, List, [], ◌∷◌}
-use Rattle.turns.specs.events.declared.model.Out.{Out}
+use Rattle.turns.specs.event_rules.declared.model.Out.{Out}
 
 -- what is said of a link before and after bytes for an interface were given to it
 abbrev pub Gives : (Link : Type 0) → Type 1

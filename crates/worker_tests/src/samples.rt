@@ -1,5 +1,5 @@
 //! Routers, a destination, packets and programs for tests.
-use events::{Config, Interface};
+use event_rules::{Config, Interface};
 use std::alloc::{AllocError, Global};
 use words::{Address, External, ExternalType, Prefix, RouterId, Second, Sequence};
 use worker::{Core, Work};

@@ -4,7 +4,7 @@ use crate::samples::{COUNTING, VETOING};
 use crate::scenes::{End, Scene, end_of};
 use crate::serving::Heard;
 use crate::stage::{Deed, Seen, StageStep};
-use events::CoreError;
+use event_rules::CoreError;
 use isa::Hook;
 use packet::PacketFault;
 use words::ExternalType;

@@ -1,7 +1,7 @@
 //! A router one of whose sockets fails. Nothing can be sent to port 0, which no configuration says.
 use console::ConfiguredInterface;
 use daemon::{RouteError, operate};
-use events::{Config, Interface};
+use event_rules::{Config, Interface};
 use log::Log;
 use sockets::{SocketError, Sockets, Wire, bind_each, listening};
 use std::alloc::{AllocError, Global};

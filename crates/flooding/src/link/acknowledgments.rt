@@ -19,7 +19,7 @@ fn draft_headers(headers: &KeyedMap<Header>, draft: &mut Draft) -> Result<(), Al
         (map Acknowledges (finite.values headers.now.present)) draft.old) }
 {
     for (_, header) in headers.entries() {
-        draft.acknowledge(*header)?;
+        draft.add_acknowledgment(*header)?;
     }
     Ok(())
 }
@@ -41,7 +41,7 @@ impl Link {
     /// section 13.5).
     ///
     /// Errors with `AllocError` if an allocation is refused.
-    pub fn acknowledge(&mut self, alloc: Global) -> Result<(), AllocError>
+    pub fn send_delayed_acknowledgments(&mut self, alloc: Global) -> Result<(), AllocError>
         ensures { LinkDoes (λ link. record link { acknowledgments = finite.empty })
             (λ link. map Acknowledges (finite.values link.acknowledgments))
             self.old self.new result }
@@ -59,6 +59,6 @@ impl Link {
         ensures { LinkDoes (λ link. link) (λ link. Acknowledges header ∷ []) self.old self.new
             result }
     {
-        self.draft.acknowledge(header)
+        self.draft.add_acknowledgment(header)
     }
 }

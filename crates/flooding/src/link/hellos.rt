@@ -19,12 +19,12 @@ impl Link {
     /// Sends a Hello at this moment.
     ///
     /// Errors with `AllocError` if an allocation is refused.
-    pub fn greet(&mut self, moment: Second, hello: Hello) -> Result<(), AllocError>
+    pub fn send_hello(&mut self, moment: Second, hello: Hello) -> Result<(), AllocError>
         ensures { LinkDoes (λ link. record link { last_hello_sent = Some moment })
             (λ link. SendsHello hello ∷ [])
             self.old self.new result }
     {
         self.last_hello_sent.set(Some(moment));
-        self.draft.greet(hello)
+        self.draft.add_hello(hello)
     }
 }

@@ -37,7 +37,7 @@ impl Link {
     /// cleared in constant time.
     ///
     /// Errors with `AllocError` if an allocation is refused.
-    pub fn hello(
+    pub fn receive_hello(
         &mut self,
         alloc: Global,
         moment: Second,
@@ -70,15 +70,15 @@ impl Link {
 }
 
 /// A Database Description from the neighbor to the router with the Router ID `own` (RFC 2328,
-/// section 10.6), as in `Place::description`.
+/// section 10.6), as in `Place::receive_description`.
 #[derive(Drop)]
-pub struct Describing<'a> {
+pub struct ReceivingDescription<'a> {
     pub own: RouterId,
     pub moment: Second,
     pub description: &'a Description,
 }
 
-impl<'a> LinkStep for Describing<'a> {
+impl<'a> LinkStep for ReceivingDescription<'a> {
     ghost use Rattle.adjacency.specs.Descriptions.{after_description};
     ghost use Rattle.flooding.specs.Links.{neighbor_sends, neighbor_step};
 
@@ -89,7 +89,7 @@ impl<'a> LinkStep for Describing<'a> {
         neighbor_sends (after_description a.own a.moment database a.description.now) };
 
     fn take(&self, alloc: Global, database: &Lsdb, link: &mut Link) -> Result<(), AllocError> {
-        link.place.description(
+        link.place.receive_description(
             alloc,
             self.own,
             self.moment,
@@ -101,14 +101,14 @@ impl<'a> LinkStep for Describing<'a> {
 }
 
 /// A Link State Request for these keys from the neighbor (RFC 2328, section 10.7), as in
-/// `Place::answer`.
+/// `Place::receive_request`.
 #[derive(Drop)]
-pub struct Answering<'a> {
+pub struct ReceivingRequest<'a> {
     pub moment: Second,
     pub keys: &'a [Key],
 }
 
-impl<'a> LinkStep for Answering<'a> {
+impl<'a> LinkStep for ReceivingRequest<'a> {
     ghost use Rattle.adjacency.specs.Steps.{after_request};
     ghost use Rattle.flooding.specs.Links.{neighbor_sends, neighbor_step};
 
@@ -118,7 +118,7 @@ impl<'a> LinkStep for Answering<'a> {
 
     fn take(&self, alloc: Global, database: &Lsdb, link: &mut Link) -> Result<(), AllocError> {
         let delay = link.interface.delay;
-        link.place.answer(
+        link.place.receive_request(
             alloc,
             self.moment,
             delay,
@@ -132,12 +132,12 @@ impl<'a> LinkStep for Answering<'a> {
 /// A Link State Acknowledgment of these instances from the neighbor (RFC 2328, section 13.7):
 /// exactly these are removed from its retransmission list.
 #[derive(Drop)]
-pub struct Acknowledging<'a> {
+pub struct ReceivingAcknowledgment<'a> {
     pub moment: Second,
     pub headers: &'a [Header],
 }
 
-impl<'a> LinkStep for Acknowledging<'a> {
+impl<'a> LinkStep for ReceivingAcknowledgment<'a> {
     ghost use Rattle.adjacency.specs.Contents.{no_sends};
     ghost use Rattle.adjacency.specs.Retransmissions.{after_acknowledgment};
     ghost use Rattle.flooding.specs.Links.{neighbor_sends, neighbor_step};

@@ -107,7 +107,7 @@ impl Place {
     /// to ExStart (SeqNumberMismatch). It scans the database only when the negotiation is done.
     ///
     /// Errors with `AllocError` if an allocation is refused; the caller then rolls back.
-    pub fn description(
+    pub fn receive_description(
         &mut self,
         alloc: Global,
         own: RouterId,

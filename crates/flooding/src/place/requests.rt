@@ -46,7 +46,7 @@ fn send_copy(
 {
     match database.get(key) {
         None => Ok(()),
-        Some(copy) => draft.update(alloc, delay, moment, &copy),
+        Some(copy) => draft.add_update(alloc, delay, moment, &copy),
     }
 }
 
@@ -74,7 +74,7 @@ impl Place {
     /// database lacks one, none is sent, and the neighbor goes back to ExStart (BadLSReq).
     ///
     /// Errors with `AllocError` if an allocation is refused; the caller then rolls back.
-    pub fn answer(
+    pub fn receive_request(
         &mut self,
         alloc: Global,
         moment: Second,

@@ -6,13 +6,13 @@ ghost use Rattle.std.specs.List.{filter_map, fold};
 ghost use Rattle.adjacency.specs.lsdb.Instances.{aged_header};
 ghost use Rattle.adjacency.specs.Descriptions.{
   announced_more,
-  describe,
   exchange_done,
   is_wanted,
   master_goes_on,
   negotiated_neighbor,
   next_description,
   repeat,
+  send_description,
   slave_replies,
   with_request,
 };
@@ -172,7 +172,7 @@ impl Neighbor {
         };
         let again = copy(kept)?;
         self.standing.described_at = moment;
-        draft.describe(again)
+        draft.add_description(again)
     }
 
     // The exchange continues with this DD sequence number.
@@ -229,15 +229,16 @@ impl Neighbor {
 
     // Sends the next Database Description (RFC 2328, section 10.8), and keeps it, since it may have
     // to be sent again.
-    fn describe(
+    fn send_description(
         &mut self,
         alloc: Global,
         moment: Second,
         draft: &mut Draft,
     ) -> Result<(), AllocError>
-        ensures ok { OnOk result (self.new.present ≡ (describe moment self.old.present).neighbor) }
+        ensures ok { OnOk result (self.new.present
+            ≡ (send_description moment self.old.present).neighbor) }
         ensures draft { OnOk result ((delay : ℕ) → draft.new
-            ≡ drafting delay (describe moment self.old.present).sends draft.old) }
+            ≡ drafting delay (send_description moment self.old.present).sends draft.old) }
         ensures settled { self.new.settled ≡ self.old.settled }
     {
         let keys = self.summary.first(alloc, MOST_HEADERS_DESCRIBED)?;
@@ -246,7 +247,7 @@ impl Neighbor {
         let kept = copy(&next)?;
         self.described.set(Some(kept));
         self.standing.described_at = moment;
-        draft.describe(next)
+        draft.add_description(next)
     }
 
     // Whether the last one sent had the M-bit set.
@@ -280,7 +281,7 @@ impl Neighbor {
             let sequence = self.sequence();
             let next = sequence.wrapping_add(1);
             self.count_on(next);
-            return self.describe(alloc, moment, draft);
+            return self.send_description(alloc, moment, draft);
         }
         self.finish(moment);
         Ok(())
@@ -303,7 +304,7 @@ impl Neighbor {
         ensures settled { self.new.settled ≡ self.old.settled }
     {
         self.count_on(description.sequence);
-        self.describe(alloc, moment, draft)?;
+        self.send_description(alloc, moment, draft)?;
         let announced = self.announced_more();
         let more = either(announced, description.more);
         if more {

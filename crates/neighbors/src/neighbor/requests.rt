@@ -65,7 +65,7 @@ impl Neighbor {
         let keys = self.requests.first(alloc, MOST_KEYS_REQUESTED)?;
         put_keys(&mut self.outstanding, &keys)?;
         self.standing.requested_at = moment;
-        draft.request(Sequence::from_vec(keys))
+        draft.add_request(Sequence::from_vec(keys))
     }
 
     /// In Exchange or Loading, if nothing is outstanding, sends a Link State Request for the first

@@ -109,7 +109,7 @@ fn send_if_it_fits(
     let filled = u32::from(used) + u32::from(header.length);
     let fits = filled <= LARGEST_PACKET as u32;
     if fits {
-        draft.update(alloc, delay, moment, copy)?;
+        draft.add_update(alloc, delay, moment, copy)?;
         return Ok(Some(filled as u16));
     }
     Ok(None)
@@ -264,7 +264,7 @@ impl Neighbor {
     {
         let keys = self.still_outstanding(alloc)?;
         self.standing.requested_at = moment;
-        draft.request(Sequence::from_vec(keys))
+        draft.add_request(Sequence::from_vec(keys))
     }
 
     // Requests the outstanding keys again if RxmtInterval (`interval`, in seconds) has passed.

@@ -8,7 +8,7 @@ use Rattle.flood.proofs.making.make_part.Goals as goal
 pub returns-in-Install : goal.returns-in-Install
 returns-in-Install c =
     done _ (subst (λ (p : Part). Makes (after_part p c.args.moment) c.args.router.now
-    c.install.new.self) (sym c.in-Install.is) c.install.ensures)
+    c.set_answers.new.self) (sym c.in-Install.is) c.set_answers.ensures)
 
 pub returns-in-LinkDown : goal.returns-in-LinkDown
 returns-in-LinkDown c =

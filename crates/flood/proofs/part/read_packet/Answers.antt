@@ -1,5 +1,5 @@
 use Rattle.std.proofs.Common.{ap}
-use Rattle.events.specs.Packets.{after_packet}
+use Rattle.event_rules.specs.Packets.{after_packet}
 use Rattle.flood.proofs.part.read_packet.Goals as goal
 
 pub returns-clause-part : goal.returns-clause-part

@@ -1,5 +1,5 @@
 use Rattle.std.proofs.Common.{◌≡◌, drop}
-use Rattle.events.specs.Routers.{are_distinct}
+use Rattle.event_rules.specs.Routers.{are_distinct}
 use Rattle.flood.proofs.profile.are_distinct.Given as goal
 
 abbrev pub invariant-loop-i : goal.invariant-loop-i

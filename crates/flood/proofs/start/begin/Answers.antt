@@ -1,5 +1,5 @@
 use Rattle.std.proofs.Common.{map, ap, ◌∙◌}
-use Rattle.events.specs.Routers.{with_links}
+use Rattle.event_rules.specs.Routers.{with_links}
 use Rattle.area_routes.specs.flooding.Links.{present}
 use Rattle.flood.specs.Starts.{fresh_kept}
 use Rattle.flood.proofs.Starting.{few_links, fresh_links}
@@ -14,8 +14,8 @@ new-router-requires c = record {
       ∙ fresh_links c.args.config.now.interfaces);
 }
 
-pub describe_links-requires : goal.describe_links-requires
-describe_links-requires c =
+pub originate_first_router_lsa-requires : goal.originate_first_router_lsa-requires
+originate_first_router_lsa-requires c =
     let config = c.args.config.now in
     let links = ap (λ ls. map present ls) c.in_ok-links.ensures
     ∙ ap (λ is. map present (map fresh_kept is)) c.as_slice.ensures

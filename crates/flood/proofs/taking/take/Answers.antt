@@ -1,6 +1,6 @@
 use Rattle.std.proofs.Common.{◌≡◌, ◌≤◌, None, sym, ap, ◌∙◌, subst, arith}
 use Rattle.area_routes.specs.Kept.{AreKept, ServesOnlyThen}
-use Rattle.events.specs.Routers.{Router}
+use Rattle.event_rules.specs.Routers.{Router}
 use Rattle.flood_laws.specs.Keeping.{AreTexts}
 use Rattle.procedures.specs.Full.{full_routers}
 use Rattle.procedures.specs.Kept.{KeptRouter}

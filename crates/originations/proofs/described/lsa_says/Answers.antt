@@ -1,5 +1,5 @@
 use Rattle.std.proofs.Common.{ap, map, ◌∙◌}
-use Rattle.events.specs.Endings.{same_body}
+use Rattle.event_rules.specs.Endings.{same_body}
 use Rattle.flooding.specs.Links.{present}
 use Rattle.originations.specs.Described.{described_body, interfaces}
 use Rattle.originations.proofs.FullNeighbors.{body_now}

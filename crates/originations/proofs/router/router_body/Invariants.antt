@@ -1,7 +1,7 @@
 use Rattle.std.proofs.Common.{◌≡◌, take}
 use Rattle.std.specs.List.{flat_map}
 use Rattle.flooding.specs.Kept.{KeptLink}
-use Rattle.events.specs.Originations.{links_of}
+use Rattle.event_rules.specs.Originations.{links_of}
 use Rattle.originations.proofs.router.router_body.Given as goal
 
 abbrev pub invariant-loop-link : goal.invariant-loop-link

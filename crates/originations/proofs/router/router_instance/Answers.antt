@@ -2,7 +2,7 @@ use Rattle.std.proofs.Common.{◌≡◌, IfOk, subst}
 use Rattle.std.specs.Prelude.{map}
 use Rattle.std.specs.FinMap as finite
 use Rattle.words.specs.declared.key.Key.{Key}
-use Rattle.events.specs.Originations.{router_body}
+use Rattle.event_rules.specs.Originations.{router_body}
 use Rattle.flooding.specs.Links.{present}
 use Rattle.originations.specs.Instances.{next_instance}
 use Rattle.originations.proofs.Links.{router_fits, router_size}

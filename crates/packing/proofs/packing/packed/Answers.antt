@@ -1,7 +1,7 @@
 use Rattle.std.proofs.Common.{◌≡◌, ◌≤◌, ◌+◌, IfOk, ap, sym, ◌∙◌, arith, length, subst}
 use Rattle.std.specs.List.{AllByRecursion}
 use Rattle.std.specs.Vec.Iter.{into_iter_items, into_iter_len}
-use Rattle.events.specs.Packing.{packed_groups}
+use Rattle.event_rules.specs.Packing.{packed_groups}
 use Rattle.packing.proofs.Packs.{all_packed, more_packed, next_room, none_left, nothing_packed}
 use Rattle.packing.proofs.packing.packed.Goals as goal
 

@@ -1,6 +1,6 @@
 use Rattle.std.proofs.Common.{subst}
 use Rattle.packet.specs.Text.{PacketText}
-use Rattle.events.specs.Packing.{packet_of}
+use Rattle.event_rules.specs.Packing.{packet_of}
 use Rattle.packing.proofs.writing.put_out.Goals as goal
 
 pub returns-clause-text : goal.returns-clause-text

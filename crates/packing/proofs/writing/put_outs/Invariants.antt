@@ -1,7 +1,7 @@
 use Rattle.std.proofs.Common.{◌≡◌, ◌++◌, length, map}
 use Rattle.std.specs.List.{AllByRecursion}
 use Rattle.std.specs.Vec.Iter.{into_iter_items, into_iter_len}
-use Rattle.events.specs.Packing.{out_of}
+use Rattle.event_rules.specs.Packing.{out_of}
 use Rattle.packing.specs.Texts.{CanBeSent, IsSentText}
 use Rattle.packing.proofs.writing.put_outs.Given as goal
 

@@ -1,10 +1,10 @@
 use Rattle.std.proofs.Common.{◌≡◌, false, sym, ap, ◌∙◌}
 use Rattle.std.specs.FinMap as finite
 use Rattle.words.specs.declared.key.Key.{Key}
-use Rattle.events.specs.Commands.{announce, is_announced_as}
-use Rattle.events.specs.EventState.{EventState, on_router}
-use Rattle.events.specs.Originations.{originate_anyway}
-use Rattle.events.specs.Routers.{Router}
+use Rattle.event_rules.specs.Commands.{announce, is_announced_as}
+use Rattle.event_rules.specs.EventState.{EventState, on_router}
+use Rattle.event_rules.specs.Originations.{originate_anyway}
+use Rattle.event_rules.specs.Routers.{Router}
 use Rattle.procedures.proofs.Making.{does_if_false, makes_same, then_does}
 use Rattle.procedures.proofs.announcements.announce_as.Goals as goal
 

@@ -1,7 +1,7 @@
 use Rattle.std.proofs.Common.{[], ◌∷◌, ◌++◌, cond, ap, sym, ◌∙◌, append-nil}
 use Rattle.std.specs.FinMap as finite
 use Rattle.std.specs.List.{filter}
-use Rattle.events.specs.Originations.{is_due, router_key}
+use Rattle.event_rules.specs.Originations.{is_due, router_key}
 use Rattle.procedures.proofs.Filtered.{next_filtered}
 use Rattle.procedures.proofs.due.due_keys.Goals as goal
 

@@ -1,6 +1,6 @@
 use Rattle.std.proofs.Common.{◌≡◌, ◌++◌}
 use Rattle.std.specs.List.{filter}
-use Rattle.events.specs.Originations.{due_keys, is_due}
+use Rattle.event_rules.specs.Originations.{due_keys, is_due}
 use Rattle.procedures.proofs.due.due_keys.Given as goal
 
 -- the keys found so far, and the due ones of the keys still to be tested

@@ -1,5 +1,5 @@
 use Rattle.std.proofs.Common.{take}
-use Rattle.events.specs.Originations.{originate_due}
+use Rattle.event_rules.specs.Originations.{originate_due}
 use Rattle.router_state.specs.Making.{Makes}
 use Rattle.procedures.proofs.due.originate_due.Given as goal
 

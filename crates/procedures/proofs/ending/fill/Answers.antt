@@ -1,15 +1,16 @@
 use Rattle.std.proofs.Common.{sym, ◌∙◌}
-use Rattle.events.specs.Endings.{describe_router, loading_done}
+use Rattle.event_rules.specs.Endings.{loading_done, originate_router_lsa}
 use Rattle.procedures.proofs.Making.{as_many_links, then_does}
 use Rattle.procedures.proofs.ending.fill.Goals as goal
 
-pub describe_router-requires : goal.describe_router-requires
-describe_router-requires c = record {
+pub originate_router_lsa-requires : goal.originate_router_lsa-requires
+originate_router_lsa-requires c = record {
   before = c.requires.before ∙ sym (as_many_links c.end_loading.ensures);
 }
 
 pub returns : goal.returns
 returns c old same full =
-    then_does {f = loading_done} {g = describe_router old c.args.moment} c.describe_router.result
+    then_does {f = loading_done} {g = originate_router_lsa old c.args.moment}
+    c.originate_router_lsa.result
     c.end_loading.ensures
-    (c.describe_router.ensures old (same ∙ sym c.end_loading.ensures.interfaces) full)
+    (c.originate_router_lsa.ensures old (same ∙ sym c.end_loading.ensures.interfaces) full)

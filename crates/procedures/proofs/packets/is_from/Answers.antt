@@ -1,5 +1,5 @@
 use Rattle.std.proofs.Common.{ap, ◌∙◌}
-use Rattle.events.specs.received.Links.{neighbor_at}
+use Rattle.event_rules.specs.received.Links.{neighbor_at}
 use Rattle.procedures.specs.Received.{is_from_named}
 use Rattle.procedures.proofs.Heard.{from_named}
 use Rattle.procedures.proofs.packets.is_from.Goals as goal

@@ -1,7 +1,7 @@
 use Rattle.std.proofs.Common.{◌-◌, length, ap, ◌∙◌, arith}
 use Rattle.std.proofs.lemmas.List.{length-map}
 use Rattle.adjacency.specs.Steps.{named_neighbor}
-use Rattle.events.specs.received.Links.{neighbor_at}
+use Rattle.event_rules.specs.received.Links.{neighbor_at}
 use Rattle.originations.specs.flooding.Kept.{KeptLink, RouterArea}
 use Rattle.originations.specs.flooding.Links.{present}
 use Rattle.originations.proofs.flooding.Synchronizing.{shown_neighbor}

@@ -10,28 +10,29 @@ returns-then-not-is_processed c =
     done _ (is_discarded c.args.moment c.args.number c.args.packet.now c.args.router.now
     (sym c.is_processed.ensures ∙ c.if-not-is_processed.true))
 
-pub answer-requires-clause-exchange : goal.answer-requires-clause-exchange
-answer-requires-clause-exchange c =
+pub receive_request-requires-clause-exchange : goal.receive_request-requires-clause-exchange
+receive_request-requires-clause-exchange c =
     came_in_exchange c.args.moment c.args.number c.args.packet.now c.args.router.now.present
     (sym c.is_processed.ensures ∙ c.if-not-is_processed.false)
     (ap counts_before_exchange c.in-Request.is)
 
 pub returns-in-Hello : goal.returns-in-Hello
 returns-in-Hello c =
-    greets c.args.moment c.args.number c.args.packet.now c.hear.result c.in-Hello.hello
-    (sym c.is_processed.ensures ∙ c.if-not-is_processed.false) c.in-Hello.is c.hear.ensures
+    greets c.args.moment c.args.number c.args.packet.now c.receive_hello.result c.in-Hello.hello
+    (sym c.is_processed.ensures ∙ c.if-not-is_processed.false) c.in-Hello.is c.receive_hello.ensures
 
 pub returns-in-Description : goal.returns-in-Description
 returns-in-Description c =
-    describes c.args.moment c.args.number c.args.packet.now c.describe.result
+    describes c.args.moment c.args.number c.args.packet.now c.receive_description.result
     c.in-Description.description (sym c.is_processed.ensures ∙ c.if-not-is_processed.false)
-    c.in-Description.is c.describe.ensures
+    c.in-Description.is c.receive_description.ensures
 
 pub returns-in-Request : goal.returns-in-Request
 returns-in-Request c =
-    requests c.args.moment c.args.number c.args.packet.now c.answer.result c.in-Request.keys
+    requests c.args.moment c.args.number c.args.packet.now c.receive_request.result
+    c.in-Request.keys
     c.as_slice.result.now (sym c.is_processed.ensures ∙ c.if-not-is_processed.false)
-    c.in-Request.is c.as_slice.ensures c.answer.ensures
+    c.in-Request.is c.as_slice.ensures c.receive_request.ensures
 
 pub returns-in-Update : goal.returns-in-Update
 returns-in-Update c =
@@ -41,7 +42,7 @@ returns-in-Update c =
 
 pub returns-in-Acknowledgment : goal.returns-in-Acknowledgment
 returns-in-Acknowledgment c =
-    acknowledges c.args.moment c.args.number c.args.packet.now c.acknowledged.result
+    acknowledges c.args.moment c.args.number c.args.packet.now c.receive_acknowledgment.result
     c.in-Acknowledgment.headers c.as_slice-in-Acknowledgment.result.now
     (sym c.is_processed.ensures ∙ c.if-not-is_processed.false)
-    c.in-Acknowledgment.is c.as_slice-in-Acknowledgment.ensures c.acknowledged.ensures
+    c.in-Acknowledgment.is c.as_slice-in-Acknowledgment.ensures c.receive_acknowledgment.ensures

@@ -1,7 +1,7 @@
-use Rattle.events.specs.EventState.{on_area, on_router}
-use Rattle.events.specs.Originations.{forget_originations}
-use Rattle.events.specs.Ticks.{run_out}
-use Rattle.events.specs.received.Outcomes.{on_links}
+use Rattle.event_rules.specs.EventState.{on_area, on_router}
+use Rattle.event_rules.specs.Originations.{forget_originations}
+use Rattle.event_rules.specs.Ticks.{run_out}
+use Rattle.event_rules.specs.received.Outcomes.{on_links}
 use Rattle.std.proofs.Common.{map}
 use Rattle.procedures.proofs.Making.{then_does}
 use Rattle.procedures.proofs.ticks.run_out.Goals as goal

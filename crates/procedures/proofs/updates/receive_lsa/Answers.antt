@@ -1,8 +1,8 @@
 use Rattle.std.proofs.Common.{sym, ap, subst, ◌∙◌}
 use Rattle.std.specs.Prelude.{Option}
 use Rattle.adjacency.specs.lsdb.Headers.{Lsa}
-use Rattle.events.specs.received.Updates.{case_at, goes_on}
-use Rattle.events.specs.Packets.{after_unread}
+use Rattle.event_rules.specs.received.Updates.{case_at, goes_on}
+use Rattle.event_rules.specs.Packets.{after_unread}
 use Rattle.originations.specs.flooding.Cases.{case_of}
 use Rattle.originations.specs.flooding.Kept.{RouterArea}
 use Rattle.procedures.specs.Making.{Makes}

@@ -5,7 +5,7 @@ use Rattle.flooding.specs.received.Links.{Area, any_exchange_or_loading}
 use Rattle.flooding.specs.Links.{start}
 use Rattle.flooding.specs.received.Outcomes.{Outcome, on_database}
 use Rattle.flooding.proofs.Doing.{area_rests, area_same}
-use Rattle.events.specs.Endings.{remove_aged, stays}
+use Rattle.event_rules.specs.Endings.{remove_aged, stays}
 use Rattle.router_state.specs.Aging.{without_each}
 use Rattle.router_state.proofs.Aged.{aged_leave}
 use Rattle.router_state.proofs.aging.remove_aged.Goals as goal

@@ -3,7 +3,7 @@ use Rattle.flooding.specs.lsdb.Copies.{aged_keys}
 use Rattle.flooding.specs.received.Links.{Area}
 use Rattle.flooding.specs.Links.{start}
 use Rattle.flooding.proofs.Doing.{area_rests, area_same}
-use Rattle.events.specs.Endings.{with_ages}
+use Rattle.event_rules.specs.Endings.{with_ages}
 use Rattle.router_state.specs.Aging.{each_come_of_age}
 use Rattle.router_state.proofs.OfAge.{ages_are}
 use Rattle.router_state.proofs.Within.{nothing_ages}

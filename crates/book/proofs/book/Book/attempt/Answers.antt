@@ -1,7 +1,7 @@
 use Rattle.std.proofs.Common.{◌≡◌, ◌<◌, ◌^◌, ◌+◌, List, [], ◌∷◌, ◌++◌, Some, length, sym, subst}
 use Rattle.std.proofs.Common.{ap, ◌∙◌, arith, rules}
 use Rattle.std.proofs.lemmas.List.{length-append}
-use Rattle.events.specs.Routers.{Router}
+use Rattle.event_rules.specs.Routers.{Router}
 use Rattle.flood.specs.Occurrences.{occurrence_of}
 use Rattle.book.specs.declared.entry.JournalEntry.{JournalEntry}
 use Rattle.book.specs.Bytes.{bytes_of, with_event}

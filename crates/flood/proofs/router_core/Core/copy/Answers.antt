@@ -1,8 +1,8 @@
 use Rattle.std.proofs.Common.{◌≤◌, length, ap, sym, subst, ◌∙◌}
 use Rattle.std.specs.FinMap as finite
 use Rattle.area_routes.proofs.Limits.{within}
-use Rattle.events.specs.RoomLaws.{IsRoomy}
-use Rattle.events.specs.Refusals.{exceeds}
+use Rattle.event_rules.specs.RoomLaws.{IsRoomy}
+use Rattle.event_rules.specs.Refusals.{exceeds}
 use Rattle.area_routes.specs.flooding.Drafted.{nothing_at}
 use Rattle.area_routes.specs.flooding.Kept.{RouterArea}
 use Rattle.procedures.specs.Kept.{KeptRouter}

@@ -1,10 +1,10 @@
 use Rattle.std.proofs.Common.{◌≡◌, ◌≤◌, true, length, rules, sym, ap, ◌∙◌, subst}
 use Rattle.std.specs.FinMap as finite
 use Rattle.area_routes.proofs.Limits.{within}
-use Rattle.events.specs.RoomLaws.{IsRoomy}
-use Rattle.events.proofs.Roomy.{every_packet_has_room}
-use Rattle.events.specs.Refusals.{exceeds}
-use Rattle.events.specs.Routers.{in_profile}
+use Rattle.event_rules.specs.RoomLaws.{IsRoomy}
+use Rattle.event_rules.proofs.Roomy.{every_packet_has_room}
+use Rattle.event_rules.specs.Refusals.{exceeds}
+use Rattle.event_rules.specs.Routers.{in_profile}
 use Rattle.flood_laws.specs.InOrder.{IsInOrder}
 use Rattle.flood_laws.specs.Keeping.{HoldsInstances}
 use Rattle.flood_laws.proofs.Keeping.{instances_stay_in_range}

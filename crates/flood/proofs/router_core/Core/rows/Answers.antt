@@ -3,7 +3,7 @@ use Rattle.std.specs.FinMap as finite
 use Rattle.area_routes.proofs.Limits.{within}
 use Rattle.area_routes.specs.Kept.{AreRoutesOf}
 use Rattle.area_routes.specs.Offers.{IsTableOf}
-use Rattle.events.specs.Routers.{Router}
+use Rattle.event_rules.specs.Routers.{Router}
 use Rattle.area_routes.specs.flooding.Kept.{RouterArea}
 use Rattle.flood.specs.Offers.{IsTableNow}
 use Rattle.flood.proofs.Offering.{of_parts, of_router}

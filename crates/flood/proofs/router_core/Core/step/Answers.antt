@@ -1,7 +1,7 @@
 use Rattle.std.proofs.Common.{sym, ap, ◌∙◌, subst}
-use Rattle.events.specs.RoomLaws.{IsRoomy}
-use Rattle.events.specs.Refusals.{exceeds}
-use Rattle.events.specs.Routers.{Router}
+use Rattle.event_rules.specs.RoomLaws.{IsRoomy}
+use Rattle.event_rules.specs.Refusals.{exceeds}
+use Rattle.event_rules.specs.Routers.{Router}
 use Rattle.area_routes.specs.flooding.Drafted.{nothing_at}
 use Rattle.procedures.specs.Kept.{KeptRouter}
 use Rattle.flood_laws.specs.InOrder.{IsInOrder}

@@ -1,9 +1,9 @@
 use Rattle.std.proofs.Common.{ap, ◌∙◌}
 use Rattle.std.specs.FinMap as finite
 use Rattle.words.specs.declared.key.Key.{Key}
-use Rattle.events.specs.Commands.{is_for}
-use Rattle.events.specs.Originations.{external_key}
-use Rattle.events.specs.Routers.{Router}
+use Rattle.event_rules.specs.Commands.{is_for}
+use Rattle.event_rules.specs.Originations.{external_key}
+use Rattle.event_rules.specs.Routers.{Router}
 use Rattle.flood.proofs.router_core.Core.wants.Goals as goal
 
 pub returns-in-None : goal.returns-in-None

@@ -27,13 +27,14 @@ returns-in-NothingToFlush c =
     let old = c.args.self.now in
     let cs = Acknowledges c.header-header.result ∷ [] in
     area_same (on_links_alone (λ (ls : List Link). ls) (λ (ls : List Link). sends_at n cs))
-    (λ (a : Area). after_case (case_of c.args.case) m n lsa (start a)) old _ c.acknowledge.result
+    (λ (a : Area). after_case (case_of c.args.case) m n lsa (start a)) old _
+    c.acknowledge_at_once.result
     (ap (λ (h : Header). acknowledge_at_once m n h (start old.present)) c.header-header.ensures
     ∙ ap (λ k. after_case (case_of k) m n lsa (start old.present)) (sym c.in-NothingToFlush.is))
     (lent_do (λ (ls : List Link). ls) (λ (ls : List Link). sends_at n cs)
-    c.self.inside.links.items c.deref_mut.result.now c.acknowledge.new.links
-    c.self.inside.links.len c.self.inside.database old c.acknowledge.result
-    c.deref_mut.ensures.value c.deref_mut.ensures.len c.self.view_is c.acknowledge.ensures)
+    c.self.inside.links.items c.deref_mut.result.now c.acknowledge_at_once.new.links
+    c.self.inside.links.len c.self.inside.database old c.acknowledge_at_once.result
+    c.deref_mut.ensures.value c.deref_mut.ensures.len c.self.view_is c.acknowledge_at_once.ensures)
 
 pub returns-in-TooSoon : goal.returns-in-TooSoon
 returns-in-TooSoon c =
@@ -66,15 +67,15 @@ returns-in-BadRequest c =
     ap (λ (ls : List KeptLink). area_of ls d) lend.ensures.value
     ∙ ap (λ (v : RouterArea). v.present) it.view_is in
     area_same (on_links_alone (stepped_links F) (stepping_sends F))
-    (λ (a : Area). after_case (case_of c.args.case) m n lsa (start a)) old _ c.mismatch.result
+    (λ (a : Area). after_case (case_of c.args.case) m n lsa (start a)) old _ c.bad_request.result
     (subst (λ (a : Area). on_links_alone (stepped_links F) (stepping_sends F) a
     ≡ one_neighbor m n (mismatch_step m) (start a)) there
     (mismatch_alone lent (n - 1) n (omega (arith, c.requires.first, c.requires.last, count))
     (omega (arith, c.requires.first)) m d)
     ∙ ap (λ k. after_case (case_of k) m n lsa (start old.present)) (sym c.in-BadRequest.is))
-    (lent_do (stepped_links F) (stepping_sends F) it.inside.links.items lent c.mismatch.new.links
-    it.inside.links.len it.inside.database old c.mismatch.result lend.ensures.value
-    lend.ensures.len it.view_is c.mismatch.ensures)
+    (lent_do (stepped_links F) (stepping_sends F) it.inside.links.items lent c.bad_request.new.links
+    it.inside.links.len it.inside.database old c.bad_request.result lend.ensures.value
+    lend.ensures.len it.view_is c.bad_request.ensures)
 
 pub returns-in-ImpliedAcknowledgment : goal.returns-in-ImpliedAcknowledgment
 returns-in-ImpliedAcknowledgment c =
@@ -119,7 +120,7 @@ returns-in-Duplicate c =
     let old = c.args.self.now in
     let it = c.self-in-Duplicate in
     let lend = c.deref_mut-in-Duplicate in
-    let call = c.acknowledge-in-Duplicate in
+    let call = c.acknowledge_at_once-in-Duplicate in
     let cs = Acknowledges c.header-header.result ∷ [] in
     area_same (on_links_alone (λ (ls : List Link). ls) (λ (ls : List Link). sends_at n cs))
     (λ (a : Area). after_case (case_of c.args.case) m n lsa (start a)) old _ call.result

@@ -23,13 +23,13 @@ returns-in_default c =
     (ap (λ q. send_copy c.args.moment c.args.number q (start a)) (c.in_default.ensures
     ∙ ap (λ (v : RouterArea). finite.get v.present.database k) c.self.view_is))
 
-pub returns-in_err-update : goal.returns-in_err-update
-returns-in_err-update c = record {
+pub returns-in_err-send_update : goal.returns-in_err-send_update
+returns-in_err-send_update c = record {
   area = tt;
   drafts = tt;
   settled = area_is (settled_back c.self.inside.links.items c.deref_mut.result.now
-      c.update.new.links c.self.inside.links.len c.deref_mut.ensures.value
-      c.deref_mut.ensures.len c.in_err-update.ensures.settled) refl
+      c.send_update.new.links c.self.inside.links.len c.deref_mut.ensures.value
+      c.deref_mut.ensures.len c.in_err-send_update.ensures.settled) refl
       ∙ ap (λ (v : RouterArea). v.settled) c.self.view_is;
   router = ap (λ (v : RouterArea). v.router) c.self.view_is;
 }
@@ -42,9 +42,9 @@ returns c =
     let items = c.self.inside.links.items in
     let len = c.self.inside.links.len in
     let lent = c.deref_mut.result.now in
-    let made = c.update.new.links in
+    let made = c.send_update.new.links in
     let d = c.self.inside.database.present in
-    let does = c.in_ok-update.ensures in
+    let does = c.in_ok-send_update.ensures in
     let back = given_back items lent made len c.deref_mut.ensures.len does.settled in
     record {
       area = on_ok c.mark_sent.result (λ is.

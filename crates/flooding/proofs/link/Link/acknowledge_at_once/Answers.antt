@@ -7,12 +7,12 @@ use Rattle.flooding.proofs.link.Link.acknowledge_at_once.Goals as goal
 
 pub returns : goal.returns
 returns c = record {
-  link = on_ok c.acknowledge.result
-      (λ _. ap (λ (k : KeptLink). k.present) c.self.view_is) c.acknowledge.ensures;
-  draft = on_ok c.acknowledge.result
+  link = on_ok c.add_acknowledgment.result
+      (λ _. ap (λ (k : KeptLink). k.present) c.self.view_is) c.add_acknowledgment.ensures;
+  draft = on_ok c.add_acknowledgment.result
       (λ sent. sent c.self.inside.interface.delay
       ∙ ap (λ (k : KeptLink). drafting k.present.interface.delay
       (Acknowledges c.args.header ∷ []) k.drafted) c.self.view_is)
-      c.acknowledge.ensures;
+      c.add_acknowledgment.ensures;
   settled = ap (λ (k : KeptLink). k.settled) c.self.view_is;
 }

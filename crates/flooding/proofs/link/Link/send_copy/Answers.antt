@@ -10,11 +10,11 @@ pub returns : goal.returns
 returns c =
     let cs = Updates (lsa_now c.args.moment c.args.copy.now) ∷ [] in
     record {
-      link = on_ok c.update.result
-          (λ _. ap (λ (k : KeptLink). k.present) c.self.view_is) c.update.ensures;
-      draft = on_ok c.update.result
+      link = on_ok c.add_update.result
+          (λ _. ap (λ (k : KeptLink). k.present) c.self.view_is) c.add_update.ensures;
+      draft = on_ok c.add_update.result
           (λ sent. sent ∙ ap (λ (k : KeptLink). drafting k.present.interface.delay cs k.drafted)
           c.self.view_is)
-          c.update.ensures;
+          c.add_update.ensures;
       settled = ap (λ (k : KeptLink). k.settled) c.self.view_is;
     }

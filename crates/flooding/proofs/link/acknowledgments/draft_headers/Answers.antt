@@ -14,7 +14,7 @@ loop-header-init c = λ delay.
 
 pub loop-header-preserved : goal.loop-header-preserved
 loop-header-preserved c = λ delay.
-    ap (drafting delay (named c.next.new.self)) (c.in_ok-acknowledge.ensures delay)
+    ap (drafting delay (named c.next.new.self)) (c.in_ok-add_acknowledgment.ensures delay)
     ∙ sym (drafting-more delay (Acknowledges c.in-Some.header.now) (named c.next.new.self)
     c.loop-header.draft)
     ∙ ap (λ (es : List (Key × Header)). drafting delay (named es) c.loop-header.draft)

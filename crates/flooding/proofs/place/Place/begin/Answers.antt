@@ -14,7 +14,7 @@ returns-then-names-clause-ok c =
 
 pub returns-then-names-clause-draft : goal.returns-then-names-clause-draft
 returns-then-names-clause-draft c delay =
-    c.in_ok-describe.ensures delay
+    c.in_ok-add_description.ensures delay
     ∙ ap (λ d. drafting delay (Describes d ∷ []) c.args.draft.now)
     (c.initial_description-opened.ensures
     ∙ ap initial_description c.next_dd_sequence_start-number.ensures)

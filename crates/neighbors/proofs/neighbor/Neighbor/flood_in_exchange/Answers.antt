@@ -37,7 +37,7 @@ returns-then-gets-clause-draft c =
     } in
     let B : Step = no_sends (remove_retransmission (lsa_key lsa) m) in
     let is = c.gets-gets.ensures ∙ ap (λ b. not c.args.from && b) c.in_ok-passes.ensures.passes in
-    c.in_ok-update.ensures ∙ ap (λ b. drafting c.args.delay (cond b A B).sends c.args.draft.now)
+    c.in_ok-add_update.ensures ∙ ap (λ b. drafting c.args.delay (cond b A B).sends c.args.draft.now)
     (sym c.if-gets.true ∙ is)
 
 pub returns-then-gets-clause-sent : goal.returns-then-gets-clause-sent

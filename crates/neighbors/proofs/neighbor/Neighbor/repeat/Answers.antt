@@ -29,16 +29,16 @@ returns-in_default-clause-draft c delay =
 
 pub returns-clause-ok : goal.returns-clause-ok
 returns-clause-ok c =
-    on_ok c.describe.result (λ sent.
+    on_ok c.add_description.result (λ sent.
     ap (λ s. s.neighbor) (repeated c.self.inside.standing c.self.inside.summary.present
     c.self.inside.requests.present c.self.inside.outstanding.present
     c.self.inside.retransmissions.present c.args.moment c.self.inside.described.present
     c.in-Some.kept (sym c.get.ensures ∙ c.in-Some.is))
-    ∙ ap (λ h. (repeat c.args.moment h.present).neighbor) c.self.view_is) c.describe.ensures
+    ∙ ap (λ h. (repeat c.args.moment h.present).neighbor) c.self.view_is) c.add_description.ensures
 
 pub returns-clause-draft : goal.returns-clause-draft
 returns-clause-draft c =
-    on_ok c.describe.result (λ sent delay.
+    on_ok c.add_description.result (λ sent delay.
     sent delay ∙ ap (λ d. drafting delay (Describes d ∷ []) c.args.draft.now) c.in_ok-again.ensures
     ∙ ap (λ s. drafting delay s.sends c.args.draft.now)
     (repeated c.self.inside.standing c.self.inside.summary.present
@@ -46,4 +46,4 @@ returns-clause-draft c =
     c.self.inside.retransmissions.present c.args.moment c.self.inside.described.present
     c.in-Some.kept (sym c.get.ensures ∙ c.in-Some.is))
     ∙ ap (λ h. drafting delay (repeat c.args.moment h.present).sends c.args.draft.now)
-    c.self.view_is) c.describe.ensures
+    c.self.view_is) c.add_description.ensures

@@ -17,7 +17,7 @@ put_keys-requires c =
 
 pub returns-clause-ok : goal.returns-clause-ok
 returns-clause-ok c =
-    on_ok c.request.result (λ sent.
+    on_ok c.add_request.result (λ sent.
     requests_out c.self.inside.standing c.self.inside.described.present
     c.self.inside.summary.present c.self.inside.requests.present
     c.self.inside.outstanding.present c.self.inside.retransmissions.present c.args.moment
@@ -26,14 +26,14 @@ returns-clause-ok c =
     ∙ ap (λ h. record h.present {
       outstanding = set.from_list (next_request h.present);
       requested_at = c.args.moment;
-    }) c.self.view_is) c.request.ensures
+    }) c.self.view_is) c.add_request.ensures
 
 pub returns-clause-draft : goal.returns-clause-draft
 returns-clause-draft c =
-    on_ok c.request.result (λ sent delay.
+    on_ok c.add_request.result (λ sent delay.
     sent delay ∙ ap (λ ks. drafting delay (Requests ks ∷ []) c.args.draft.now)
     (c.from_vec.ensures ∙ c.in_ok-keys.ensures
     ∙ first_now c.self.inside.standing c.self.inside.described.present
     c.self.inside.summary.present c.self.inside.requests.present
     c.self.inside.outstanding.present c.self.inside.retransmissions.present
-    ∙ ap (λ h. next_request h.present) c.self.view_is)) c.request.ensures
+    ∙ ap (λ h. next_request h.present) c.self.view_is)) c.add_request.ensures

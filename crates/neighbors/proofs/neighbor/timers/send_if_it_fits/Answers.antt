@@ -17,7 +17,7 @@ returns-then-fits c = λ rest.
     let room : nat_le (c.args.used + lsa.header.length) 8192 ≡ true =
     le-leb (c.args.used + lsa.header.length) 8192 (subst (λ n. n ≤ 8192) filled c.if-fits.true)
     in
-    ap (λ n. drafting c.args.delay (map Updates (that_fit n rest)) c.update.new.self) filled
+    ap (λ n. drafting c.args.delay (map Updates (that_fit n rest)) c.add_update.new.self) filled
     ∙ ap (drafting c.args.delay (map Updates (that_fit (c.args.used + lsa.header.length) rest)))
-    c.in_ok-update.ensures
+    c.in_ok-add_update.ensures
     ∙ fits_one c.args.delay c.args.used lsa rest c.args.draft.now room

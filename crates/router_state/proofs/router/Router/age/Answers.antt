@@ -1,6 +1,6 @@
 use Rattle.std.proofs.Common.{ℕ, refl, ap}
-use Rattle.events.specs.Endings.{with_ages}
-use Rattle.events.specs.EventState.{on_area}
+use Rattle.event_rules.specs.Endings.{with_ages}
+use Rattle.event_rules.specs.EventState.{on_area}
 use Rattle.router_state.proofs.Answered.{area_does}
 use Rattle.router_state.proofs.Leaves.{appends_ages, keeps_ages}
 use Rattle.router_state.proofs.Making.{does_same}

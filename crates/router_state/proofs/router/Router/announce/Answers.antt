@@ -2,9 +2,9 @@ use Rattle.std.proofs.Common.{sym, ap, subst, ◌∙◌}
 use Rattle.std.specs.FinMap as finite
 use Rattle.words.specs.declared.key.Key.{Key}
 use Rattle.keyed_map.proofs.Helds.{after}
-use Rattle.events.specs.Commands.{announce}
-use Rattle.events.specs.EventState.{on_router}
-use Rattle.events.specs.Originations.{external_key}
+use Rattle.event_rules.specs.Commands.{announce}
+use Rattle.event_rules.specs.EventState.{on_router}
+use Rattle.event_rules.specs.Originations.{external_key}
 use Rattle.router_state.specs.Owned.{AreOwn}
 use Rattle.router_state.proofs.Announced.{insert_own}
 use Rattle.router_state.proofs.Edited.{announces}

@@ -1,7 +1,7 @@
 use Rattle.std.proofs.Common.{map, refl, ◌∙◌}
 use Rattle.flooding.specs.Kept.{RouterArea}
 use Rattle.flooding.specs.received.Outcomes.{on_links}
-use Rattle.events.specs.Endings.{link_loading_done}
+use Rattle.event_rules.specs.Endings.{link_loading_done}
 use Rattle.router_state.proofs.Answered.{makes_alone}
 use Rattle.router_state.proofs.Leaves.{appends_loading, keeps_loading}
 use Rattle.router_state.proofs.RunOut.{loading_done_is}

@@ -3,8 +3,8 @@ use Rattle.flooding.specs.lsdb.Copies.{Database}
 use Rattle.flooding.specs.adjacency.Requests.{request_next}
 use Rattle.flooding.specs.adjacency.Views.{keys_of}
 use Rattle.flooding.specs.received.Links.{Area, Link}
-use Rattle.events.specs.Endings.{remove_aged, request_all}
-use Rattle.events.specs.EventState.{on_area, on_router}
+use Rattle.event_rules.specs.Endings.{remove_aged, request_all}
+use Rattle.event_rules.specs.EventState.{on_area, on_router}
 use Rattle.router_state.specs.Kept.{KeptRouter}
 use Rattle.router_state.specs.Parts.{at_moment}
 use Rattle.router_state.proofs.Answered.{area_does, area_then}

@@ -4,9 +4,9 @@ use Rattle.std.specs.FinMap as finite
 use Rattle.flooding.specs.lsdb.Copies.{DatabaseCopy}
 use Rattle.flooding.specs.received.Links.{Area}
 use Rattle.flooding.specs.Links.{start}
-use Rattle.events.specs.EventState.{on_area}
-use Rattle.events.specs.Originations.{flush, flush_copy}
-use Rattle.events.specs.Routers.{Router}
+use Rattle.event_rules.specs.EventState.{on_area}
+use Rattle.event_rules.specs.Originations.{flush, flush_copy}
+use Rattle.event_rules.specs.Routers.{Router}
 use Rattle.router_state.proofs.Answered.{area_does}
 use Rattle.router_state.proofs.Leaves.{appends_flush, flushed_is, keeps_flush, rests_aged}
 use Rattle.router_state.proofs.Leaves.{rests_without}

@@ -1,7 +1,7 @@
 use Rattle.std.proofs.Common.{refl, ap, ◌∙◌}
 use Rattle.flooding.specs.adjacency.Views.{keys_of}
-use Rattle.events.specs.EventState.{on_area, on_router}
-use Rattle.events.specs.Originations.{as_originated, install_and_flood}
+use Rattle.event_rules.specs.EventState.{on_area, on_router}
+use Rattle.event_rules.specs.Originations.{as_originated, install_and_flood}
 use Rattle.router_state.specs.Kept.{KeptRouter}
 use Rattle.router_state.proofs.Announced.{keys_remove}
 use Rattle.router_state.proofs.Answered.{area_does}

@@ -1,7 +1,7 @@
 use Rattle.std.proofs.Common.{map, refl, ◌∙◌}
 use Rattle.flooding.specs.Kept.{RouterArea}
 use Rattle.flooding.specs.received.Outcomes.{on_links}
-use Rattle.events.specs.Ticks.{run_out}
+use Rattle.event_rules.specs.Ticks.{run_out}
 use Rattle.router_state.proofs.Answered.{makes_alone}
 use Rattle.router_state.proofs.Leaves.{appends_expiry, keeps_expiry}
 use Rattle.router_state.proofs.RunOut.{run_out_is}

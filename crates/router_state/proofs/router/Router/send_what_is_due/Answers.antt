@@ -2,7 +2,7 @@ use Rattle.std.proofs.Common.{refl}
 use Rattle.flooding.specs.lsdb.Copies.{Database}
 use Rattle.flooding.specs.adjacency.Retransmissions.{send_again}
 use Rattle.flooding.specs.received.Links.{Area, Link}
-use Rattle.events.specs.Ticks.{acknowledge_all, send_all_again, send_hellos}
+use Rattle.event_rules.specs.Ticks.{send_acknowledgments, send_all_again, send_hellos}
 use Rattle.router_state.proofs.Answered.{area_does, area_then}
 use Rattle.router_state.proofs.Leaves.{appends_acknowledgments, appends_again, appends_hellos}
 use Rattle.router_state.proofs.Leaves.{keeps_acknowledgments, keeps_again, keeps_hellos}
@@ -25,7 +25,7 @@ returns-in_err-step_links-2 c =
     let m = c.args.moment in
     let a : Area = c.self.inside.area.present in
     refused _
-    (area_then (acknowledge_all m) (keeps_acknowledgments m) (appends_acknowledgments m) _
+    (area_then (send_acknowledgments m) (keeps_acknowledgments m) (appends_acknowledgments m) _
     c.args.self.now c.step_links.new.self c.step_links-2.new.self _ c.self.view_is
     (area_does (send_all_again m) (keeps_again m) (appends_again m) _ c.args.self.now
     c.self.inside.area c.step_links.new.self _ c.self.view_is refl c.in_ok-step_links.ensures
@@ -39,7 +39,7 @@ returns c =
     let a : Area = c.self.inside.area.present in
     area_then (send_hellos m) (keeps_hellos m) (appends_hellos m) _ c.args.self.now
     c.step_links-2.new.self c.step_links-3.new.self c.step_links-3.result c.self.view_is
-    (area_then (acknowledge_all m) (keeps_acknowledgments m) (appends_acknowledgments m) _
+    (area_then (send_acknowledgments m) (keeps_acknowledgments m) (appends_acknowledgments m) _
     c.args.self.now c.step_links.new.self c.step_links-2.new.self _ c.self.view_is
     (area_does (send_all_again m) (keeps_again m) (appends_again m) _ c.args.self.now
     c.self.inside.area c.step_links.new.self _ c.self.view_is refl c.in_ok-step_links.ensures

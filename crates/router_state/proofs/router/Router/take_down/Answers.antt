@@ -4,8 +4,8 @@ use Rattle.flooding.specs.Links.{present}
 use Rattle.flooding.specs.received.Links.{change_link}
 use Rattle.flooding.specs.received.Outcomes.{on_links}
 use Rattle.flooding.proofs.OneLink.{changed_after, changed_before}
-use Rattle.events.specs.Commands.{after_link_down, taken_down}
-use Rattle.events.specs.Routers.{Router}
+use Rattle.event_rules.specs.Commands.{after_link_down, taken_down}
+use Rattle.event_rules.specs.Routers.{Router}
 use Rattle.router_state.proofs.Answered.{makes_alone}
 use Rattle.router_state.proofs.Leaves.{appends_down, keeps_down, stays_up}
 use Rattle.router_state.proofs.Making.{makes_nothing, makes_same}

@@ -1,7 +1,7 @@
 use Rattle.std.proofs.Common.{◌≤◌, ap, subst, sym, ◌∙◌}
 use Rattle.std.specs.Prelude.{◌↔◌, IfErr, IfSome, IsTrue, Result}
 use Rattle.book.specs.declared.error.BookError.{BookError}
-use Rattle.book.specs.events.Routers.{Router}
+use Rattle.book.specs.event_rules.Routers.{Router}
 use Rattle.book.specs.Offers.{IsStaleNow}
 use Rattle.book.specs.Replay.{BookView}
 use Rattle.book.proofs.Late.{no_earlier}

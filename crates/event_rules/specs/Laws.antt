@@ -1,0 +1,33 @@
+-- Laws about events.
+use Rattle.std.specs.Prelude.{◌≡◌, ℕ, true, List, None}
+use Rattle.words.specs.declared.route.Route.{Route}
+use Rattle.received.specs.Cases.{Case}
+use Rattle.received.specs.Updates.{goes_on}
+use Rattle.event_rules.specs.declared.model.Out.{Out}
+use Rattle.event_rules.specs.Commands.{after_install}
+use Rattle.event_rules.specs.Events.{Happens}
+use Rattle.event_rules.specs.EventState.{EventState}
+use Rattle.event_rules.specs.Packets.{after_unread, case_in}
+use Rattle.event_rules.specs.Routers.{Occurrence, Router}
+
+-- an event has only one outcome
+abbrev pub EventsAreDetermined : Type 0
+EventsAreDetermined =
+    (old : Router) (moment : ℕ) (event : Occurrence) (sent others : List Out)
+    (new another : Router)
+    → Happens old moment event sent new → Happens old moment event others another
+    → (sent ≡ others) × (new ≡ another)
+
+-- the answers of the programs, vetoes included, change neither the database nor a link, and send
+-- nothing
+abbrev pub AnswersLeaveTheArea : Type 0
+AnswersLeaveTheArea = (answers : List (Route × ℕ)) (before : EventState)
+    → ((after_install answers before).router.area ≡ before.router.area)
+    × ((after_install answers before).sends ≡ before.sends)
+
+-- bytes of a Link State Update that encode no LSA are skipped, and the LSAs after them are
+-- processed
+abbrev pub WhatIsNoLsaIsSkipped : Type 0
+WhatIsNoLsaIsSkipped = (moment number : ℕ) (before : EventState)
+    → (case_in moment number None before ≡ Case.Unreadable)
+    × (after_unread moment number None before ≡ before) × (goes_on Case.Unreadable ≡ true)

@@ -1,0 +1,151 @@
+-- What a received packet does to the router (RFC 2328, sections 8.2, 10.5 to 10.7, 13 and 13.7).
+use Rattle.std.specs.Prelude.{ℕ, ◌==◌, Bool, true, false, ◌&&◌, ◌||◌, if◌then◌else◌, List, [], ◌∷◌}
+use Rattle.std.specs.Prelude.{map, Option, None, Some}
+use Rattle.std.specs.List.{filter_map, list_all}
+use Rattle.std.specs.FinMap as finite
+use Rattle.words.specs.Numbers.{InterfaceNumber, Moment, RouterNumber}
+use Rattle.words.specs.declared.key.Key.{Key}
+use Rattle.lsa.specs.Reading.{lsa_in}
+use Rattle.received.specs.lsdb.Copies.{Database}
+use Rattle.received.specs.lsdb.Headers.{Header, Lsa}
+use Rattle.packet.specs.declared.model.PacketBody.{PacketBody}
+use Rattle.packet.specs.declared.model.PacketBody.TheVariants as body
+use Rattle.packet.specs.declared.model.Description.{Description}
+use Rattle.packet.specs.declared.model.Hello.{Hello}
+use Rattle.packet.specs.declared.model.Packet.{Packet}
+use Rattle.received.specs.adjacency.Adjacencies as adjacencies
+use Rattle.received.specs.adjacency.Contents.{Content, Step, no_sends}
+use Rattle.received.specs.adjacency.Descriptions.{after_description}
+use Rattle.received.specs.adjacency.Neighbors.{Neighbor, is_exchange_or_later}
+use Rattle.received.specs.adjacency.Retransmissions.{after_acknowledgment, lsa_of}
+pub use Rattle.received.specs.adjacency.Steps.{any_exchange_or_later, is_there}
+use Rattle.received.specs.Cases.{Case}
+use Rattle.received.specs.Links.{Link, change_link, link_at, neighbor_at}
+use Rattle.received.specs.Outcomes.{Outcome, sends_at, on_links, one_neighbor, sending}
+use Rattle.received.specs.Updates.{after_case, case_at, goes_on}
+pub use Rattle.event_rules.specs.Hellos.{accepts, agrees, is_foreign, may_be, names}
+use Rattle.event_rules.specs.Originations.{receive_self_originated}
+use Rattle.event_rules.specs.EventState.{EventState, on_area}
+
+-- ---- Hellos (section 10.5)
+
+abbrev pub with_neighbor : Neighbor → Link → Link
+with_neighbor n link = record link { neighbor = Some n }
+
+abbrev pub accept_hello : Moment → InterfaceNumber → Step → Outcome → Outcome
+accept_hello moment number s o =
+    sending moment (sends_at number s.sends)
+    (on_links (change_link number (with_neighbor s.neighbor)) o)
+
+abbrev pub receive_hello_on : (own : RouterNumber) → Moment → InterfaceNumber
+    → (from : RouterNumber) → Hello → Option Link → Outcome → Outcome
+receive_hello_on own moment number from h None o = o
+receive_hello_on own moment number from h (Some link) o =
+    if accepts own from h link
+    then accept_hello moment number
+    (adjacencies.after_hello moment from (names own h) link.neighbor) o else o
+
+abbrev pub receive_hello : (own : RouterNumber) → Moment → InterfaceNumber
+    → (from : RouterNumber) → Hello → Outcome → Outcome
+receive_hello own moment number from h o =
+    receive_hello_on own moment number from h (link_at number o.area.links) o
+
+-- ---- Link State Requests (section 10.7)
+
+abbrev pub requested_lsas : Moment → Database → List Key → List Lsa
+requested_lsas moment db keys = filter_map (λ (key : Key). lsa_of moment (finite.get db key)) keys
+
+-- the LSAs are sent, without being put on the retransmission list; if one is missing, none is sent
+abbrev pub receive_request : Moment → InterfaceNumber → List Key → Outcome → Outcome
+receive_request moment number keys o =
+    if list_all (is_there o.area.database) keys
+    then sending moment
+    (sends_at number (map Content.Updates (requested_lsas moment o.area.database keys))) o
+    else one_neighbor moment number (adjacencies.mismatch_step moment) o
+
+-- ---- Link State Updates (section 13)
+
+-- a self-originated LSA that was installed is originated again or flushed
+abbrev pub after_self_originated : Case → Moment → Lsa → EventState → EventState
+after_self_originated Case.Unreadable moment lsa p = p
+after_self_originated Case.NothingToFlush moment lsa p = p
+after_self_originated Case.TooSoon moment lsa p = p
+after_self_originated Case.Newer moment lsa p = receive_self_originated moment lsa p
+after_self_originated Case.BadRequest moment lsa p = p
+after_self_originated Case.ImpliedAcknowledgment moment lsa p = p
+after_self_originated Case.Duplicate moment lsa p = p
+after_self_originated Case.SequenceWraps moment lsa p = p
+after_self_originated Case.SentJustNow moment lsa p = p
+after_self_originated Case.Older moment lsa p = p
+
+abbrev pub after_lsa : Case → Moment → InterfaceNumber → Lsa → EventState → EventState
+after_lsa case moment number lsa p =
+    after_self_originated case moment lsa (on_area (after_case case moment number lsa) p)
+
+-- the case of the LSA in the bytes, or `Unreadable` if they encode none
+abbrev pub case_in : Moment → InterfaceNumber → Option Lsa → EventState → Case
+case_in moment number None p = Case.Unreadable
+case_in moment number (Some lsa) p = case_at moment number lsa p.router.area
+
+abbrev pub after_unread : Moment → InterfaceNumber → Option Lsa → EventState → EventState
+after_unread moment number None p = p
+after_unread moment number (Some lsa) p =
+    after_lsa (case_at moment number lsa p.router.area) moment number lsa p
+
+-- the LSAs of a Link State Update in order, up to a bad request
+abbrev pub after_lsas : Moment → InterfaceNumber → List (List ℕ) → EventState → EventState
+after_lsas moment number [] p = p
+after_lsas moment number (bytes ∷ rest) p =
+    let q : EventState = after_unread moment number (lsa_in bytes) p in
+    if goes_on (case_in moment number (lsa_in bytes) p) then after_lsas moment number rest q else q
+
+-- ---- the complete packet
+
+-- the packet's sender is the interface's neighbor
+abbrev pub is_from : RouterNumber → Option Neighbor → Bool
+is_from from None = false
+is_from from (Some n) = n.router == from
+
+abbrev pub receive_description : RouterNumber → Moment → InterfaceNumber → Description → Outcome
+    → Outcome
+receive_description own moment number d o =
+    one_neighbor moment number (after_description own moment o.area.database d) o
+
+abbrev pub receive_acknowledgment : Moment → InterfaceNumber → List Header → Outcome → Outcome
+receive_acknowledgment moment number headers o =
+    one_neighbor moment number (λ n. no_sends (after_acknowledgment moment headers n)) o
+
+-- a packet that is heard: a Hello of any other router, or another packet from the interface's
+-- neighbor; Link State Requests, Updates and Acknowledgments are ignored before Exchange
+abbrev pub from_neighbor : Moment → InterfaceNumber → RouterNumber → Bool → PacketBody → EventState
+    → EventState
+from_neighbor moment number from counts (body.Hello h) p =
+    on_area (receive_hello p.router.id moment number from h) p
+from_neighbor moment number from counts (body.Description d) p =
+    on_area (receive_description p.router.id moment number d) p
+from_neighbor moment number from counts (body.Request keys) p =
+    if counts then on_area (receive_request moment number keys) p else p
+from_neighbor moment number from counts (body.Update lsas) p =
+    if counts then after_lsas moment number lsas p else p
+from_neighbor moment number from counts (body.Acknowledgment headers) p =
+    if counts then on_area (receive_acknowledgment moment number headers) p else p
+
+abbrev pub is_hello : PacketBody → Bool
+is_hello (body.Hello h) = true
+is_hello (body.Description d) = false
+is_hello (body.Request keys) = false
+is_hello (body.Update lsas) = false
+is_hello (body.Acknowledgment headers) = false
+
+-- a packet is heard if its Router ID is neither 0 nor this router's own, and if it is a Hello or
+-- comes from the interface's neighbor; any other one is discarded
+abbrev pub is_heard : RouterNumber → Packet → Option Neighbor → Bool
+is_heard own packet n =
+    is_foreign own packet.router && (is_hello packet.body || is_from packet.router n)
+
+abbrev pub after_packet : Moment → InterfaceNumber → Packet → EventState → EventState
+after_packet moment number packet p =
+    let n : Option Neighbor = neighbor_at number p.router.area.links in
+    if is_heard p.router.id packet n
+    then from_neighbor moment number packet.router (any_exchange_or_later n) packet.body p
+    else p

@@ -1,0 +1,102 @@
+-- The state of a router, what may happen to it, and its start.
+use Rattle.std.specs.Prelude.{ℕ, Bool, true, not, ◌&&◌, ◌==◌, nat_le, nat_lt, List, [], ◌∷◌, length}
+use Rattle.std.specs.Prelude.{map, Option, None}
+use Rattle.std.specs.List.{list_all, list_any}
+use Rattle.std.specs.FinMap as finite
+use Rattle.std.specs.FinSet as set
+use Rattle.words.specs.Constants.{clock_end, max_age, most_interfaces}
+use Rattle.words.specs.Numbers.{InterfaceNumber, Moment, RouterNumber}
+use Rattle.words.specs.Prefixes.{Network}
+use Rattle.words.specs.declared.route.External.{External}
+use Rattle.words.specs.declared.route.Route.{Route}
+use Rattle.received.specs.lsdb.Keys.{ByKey, KeySet}
+use Rattle.received.specs.adjacency.declared.interface.Interface.{Interface}
+use Rattle.received.specs.adjacency.declared.state.NeighborState.{NeighborState}
+use Rattle.received.specs.adjacency.Steps.{named_neighbor}
+use Rattle.received.specs.Links.{Area, Link, neighbor_at}
+use Rattle.event_rules.specs.declared.model.Config.{Config}
+
+pub record Router : Type 0 where
+  -- the router's own Router ID
+  pub id : RouterNumber
+  -- the links, interface n at index n - 1, and the database
+  pub area : Area
+  -- the announced external destinations by the keys of their LSAs, with the metric and the tag from
+  -- the answers
+  pub announced : ByKey External
+  -- the keys of self-originated LSAs that wait for a Tick
+  pub waiting : KeySet
+  -- when each self-originated LSA was last originated, kept for MinLSInterval
+  pub originated : ByKey Moment
+  -- the routes that the last `Install` offered, with the programs' answers
+  pub answers : List (Route × ℕ)
+  -- the moment of the last event
+  pub moment : Moment
+
+-- ---- what may happen
+
+pub data Occurrence : Type 0 where
+  -- these bytes were received at the interface with this number
+  Packet : (interface : InterfaceNumber) (bytes : List ℕ) → Occurrence
+  Tick : Occurrence
+  -- a destination is to be announced: an answer for its tag and one for its metric, each with the
+  -- destination that it is for
+  Redistribute : (tagged : External) (tag : ℕ) (priced : External) (price : ℕ) → Occurrence
+  Withdraw : (prefix : Network) → Occurrence
+  -- the routes that were offered, each with the answer for it
+  Install : (answers : List (Route × ℕ)) → Occurrence
+  LinkDown : (interface : InterfaceNumber) → Occurrence
+
+-- ---- which configurations are valid
+
+abbrev pub is_lawful : Interface → Bool
+is_lawful i =
+    nat_le i.length 32 && nat_le 1 i.cost && nat_le 1 i.hello_interval && nat_le 1 i.dead_interval
+    && nat_le 1 i.retransmit_interval
+    && nat_le 1 i.delay && nat_le i.delay max_age
+
+-- no two have the same address
+abbrev pub are_distinct : List Interface → Bool
+are_distinct [] = true
+are_distinct (i ∷ others) =
+    not (list_any (λ j. j.address == i.address) others) && are_distinct others
+
+abbrev pub in_profile : Config → Bool
+in_profile c =
+    not (c.router == 0) && nat_lt c.start clock_end && nat_le 1 (length c.interfaces)
+    && nat_le (length c.interfaces) most_interfaces
+    && list_all is_lawful c.interfaces && are_distinct c.interfaces
+
+-- ---- the start
+
+-- a link on which nothing was received or sent
+abbrev pub fresh_link : Interface → Link
+fresh_link i = record {
+  interface = i;
+  neighbor = None;
+  acknowledgments = finite.empty;
+  last_hello_sent = None;
+}
+
+-- a router with these links and nothing else
+abbrev pub with_links : RouterNumber → List Link → Moment → Router
+with_links id links moment = record {
+  id = id;
+  area = record { links = links; database = finite.empty };
+  announced = finite.empty;
+  waiting = set.empty;
+  originated = finite.empty;
+  answers = [];
+  moment = moment;
+}
+
+-- before it originates anything; the start counts as the moment of the last event
+abbrev pub unannounced_router : Config → Router
+unannounced_router c = with_links c.router (map fresh_link c.interfaces) c.start
+
+-- ---- what is shown
+
+-- the Router ID and the state of the neighbor at the interface with this number, unless it is Down
+-- or there is no such interface
+abbrev pub shown_at : Router → InterfaceNumber → Option (ℕ × NeighborState)
+shown_at r number = named_neighbor (neighbor_at number r.area.links)

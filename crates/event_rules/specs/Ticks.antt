@@ -1,0 +1,78 @@
+-- What a Tick does, in order (RFC 2328, sections 9.5, 10.3, 12.4, 13.5 and 13.6).
+use Rattle.std.specs.Prelude.{ℕ, if◌then◌else◌, List, [], ◌∷◌, map, Option, None, Some}
+use Rattle.std.specs.List.{enumerate_from, flat_map}
+use Rattle.std.specs.FinMap as finite
+use Rattle.words.specs.Numbers.{Moment, Seconds}
+use Rattle.received.specs.adjacency.Adjacencies.{after_inactivity_timer}
+use Rattle.received.specs.adjacency.Contents.{Content}
+use Rattle.received.specs.adjacency.Descriptions.{without_old_description}
+use Rattle.received.specs.adjacency.Neighbors.{Neighbor}
+use Rattle.received.specs.adjacency.Retransmissions.{send_again}
+use Rattle.received.specs.Links.{Link}
+use Rattle.received.specs.Outcomes.{Outcome, Send, Stepping, each_neighbor, sends_at, on_links}
+use Rattle.received.specs.Outcomes.{sending}
+pub use Rattle.event_rules.specs.Hellos.{with_hello_sent, hello_is_due, hello_on, is_due}
+use Rattle.event_rules.specs.Originations.{due_keys, forget_originations, originate_due}
+use Rattle.event_rules.specs.EventState.{EventState, on_area, on_router}
+
+-- ---- timers that have expired
+
+abbrev pub settled_exchange : Moment → Seconds → Option Neighbor → Option Neighbor
+settled_exchange moment dead None = None
+settled_exchange moment dead (Some n) = Some (without_old_description moment dead n)
+
+-- an inactive neighbor is Down; the last Database Description is discarded some time after the
+-- exchange
+abbrev pub run_out : Moment → Link → Link
+run_out moment link = record link {
+  neighbor =
+      settled_exchange moment link.interface.dead_interval
+      (after_inactivity_timer moment link.interface.dead_interval link.neighbor);
+}
+
+-- ---- what is retransmitted
+
+abbrev pub again : ℕ → Outcome → Stepping
+again moment o number link n =
+    send_again moment link.interface.retransmit_interval o.area.database n
+
+abbrev pub send_all_again : Moment → Outcome → Outcome
+send_all_again moment o = each_neighbor moment (again moment o) o
+
+-- ---- delayed acknowledgments
+
+abbrev pub acknowledgments_on : Link → List Content
+acknowledgments_on link = map Content.Acknowledges (finite.values link.acknowledgments)
+
+abbrev pub without_acknowledgments : Link → Link
+without_acknowledgments link = record link { acknowledgments = finite.empty }
+
+-- what each link sends by itself
+abbrev pub sends_of : (Link → List Content) → List Link → List Send
+sends_of f links = flat_map (λ (e : ℕ × Link). sends_at e.0 (f e.1)) (enumerate_from 1 links)
+
+abbrev pub send_acknowledgments : Moment → Outcome → Outcome
+send_acknowledgments moment o =
+    sending moment (sends_of acknowledgments_on o.area.links)
+    (on_links (map without_acknowledgments) o)
+
+-- ---- Hellos
+
+abbrev pub hello_sent_on : Moment → Link → List Content
+hello_sent_on moment link =
+    if hello_is_due moment link then Content.SendsHello (hello_on link) ∷ [] else []
+
+abbrev pub send_hellos : Moment → Outcome → Outcome
+send_hellos moment o =
+    sending moment (sends_of (hello_sent_on moment) o.area.links)
+    (on_links (map (with_hello_sent moment)) o)
+
+-- ---- the complete Tick
+
+abbrev pub after_tick : Moment → EventState → EventState
+after_tick moment p =
+    let no_sends : EventState =
+    on_router (forget_originations moment) (on_area (on_links (map (run_out moment))) p) in
+    let renewed : EventState = originate_due moment (due_keys moment no_sends.router) no_sends in
+    on_area (λ o. send_hellos moment (send_acknowledgments moment (send_all_again moment o)))
+    renewed

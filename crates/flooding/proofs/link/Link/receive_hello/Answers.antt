@@ -1,0 +1,101 @@
+use Rattle.std.proofs.Common.{◌≡◌, rules, arith, sym, ap, ◌∙◌}
+use Rattle.std.proofs.lemmas.Grind.{common_steps}
+use Rattle.std.specs.Prelude.{Option, None, Some}
+use Rattle.keyed_map.proofs.Helds.{on_ok}
+use Rattle.adjacency.specs.Adjacencies.{after_hello}
+use Rattle.adjacency.specs.Contents.{Step}
+use Rattle.adjacency.specs.Drafts.{drafting}
+use Rattle.adjacency.specs.Neighbors.{Neighbor}
+use Rattle.adjacency.specs.Views.{begins, begun}
+use Rattle.adjacency.proofs.Floods.{drafting-none}
+use Rattle.adjacency.proofs.Neighbors.{none_begins, some_begins, some_rests}
+use Rattle.flooding.specs.Kept.{KeptLink}
+use Rattle.flooding.proofs.Shown.{place_becomes, shown}
+use Rattle.flooding.proofs.link.Link.receive_hello.Goals as goal
+
+pub returns-in_default : goal.returns-in_default
+returns-in_default c =
+    let old = c.args.self.now in
+    let l = old.present in
+    let delay = l.interface.delay in
+    let none : l.neighbor ≡ None = search rules in
+    let after = after_hello c.args.moment c.args.from c.args.names in
+    let starts = none_begins c.args.moment c.args.from c.args.names ∙ ap after (sym none) in
+    place_becomes (λ (o : Option Neighbor). Some (after o).neighbor)
+    (λ (o : Option Neighbor). (after o).sends) _ old c.begin.new.self.present
+    c.begin.new.self.settled c.begin.new.draft c.begin.result
+    (ap shown c.self-inside.view_is ∙ c.self.view_is)
+    (on_ok c.begin.result (λ is. is ∙ ap (λ (s : Step). Some s.neighbor) starts)
+    c.begin.ensures.ok)
+    (on_ok c.begin.result
+    (λ is. is delay
+    ∙ (λ i. drafting delay (starts i).sends
+    ((ap (λ v. v.draft) c.self-inside.view_is ∙ ap (λ (k : KeptLink). k.drafted) c.self.view_is)
+    i)))
+    c.begin.ensures.draft)
+    (c.begin.ensures.settled ∙ ap (λ v. v.place.settled) c.self-inside.view_is
+    ∙ ap (λ (k : KeptLink). k.settled.neighbor) c.self.view_is)
+
+pub returns-then-begins : goal.returns-then-begins
+returns-then-begins c =
+    let old = c.args.self.now in
+    let l = old.present in
+    let delay = l.interface.delay in
+    let n = c.in-Some.neighbor.present in
+    let some : l.neighbor ≡ Some n = search rules in
+    let after = after_hello c.args.moment c.args.from c.args.names in
+    let stands = c.standing-standing.ensures in
+    let starts = some_begins c.args.moment c.args.from n c.args.names
+    (sym (ap (λ s. begins s.state c.args.names) stands) ∙ sym c.begins-begins.ensures
+    ∙ c.if-begins.true) ∙ ap after (sym some) in
+    place_becomes (λ (o : Option Neighbor). Some (after o).neighbor)
+    (λ (o : Option Neighbor). (after o).sends) _ old c.begin-then-begins.new.self.present
+    c.begin-then-begins.new.self.settled c.begin-then-begins.new.draft c.begin-then-begins.result
+    (ap shown c.self-inside.view_is ∙ c.self.view_is)
+    (on_ok c.begin-then-begins.result
+    (λ is. is
+    ∙ (λ i. Some (begun c.args.moment (stands i).router (stands i).dd_sequence_start
+    c.args.names).neighbor)
+    ∙ ap (λ (s : Step). Some s.neighbor) starts)
+    c.begin-then-begins.ensures.ok)
+    (on_ok c.begin-then-begins.result
+    (λ is. is delay
+    ∙ (λ i. drafting delay (begun c.args.moment (stands i).router (stands i).dd_sequence_start
+    c.args.names).sends
+    ((ap (λ v. v.draft) c.self-inside.view_is ∙ ap (λ (k : KeptLink). k.drafted) c.self.view_is)
+    i))
+    ∙ ap (λ (s : Step). drafting delay s.sends old.drafted) starts)
+    c.begin-then-begins.ensures.draft)
+    (c.begin-then-begins.ensures.settled ∙ ap (λ v. v.place.settled) c.self-inside.view_is
+    ∙ ap (λ (k : KeptLink). k.settled.neighbor) c.self.view_is)
+
+pub returns : goal.returns
+returns c =
+    let old = c.args.self.now in
+    let l = old.present in
+    let delay = l.interface.delay in
+    let n = c.in-Some.neighbor.present in
+    let some : l.neighbor ≡ Some n = search rules in
+    let after = after_hello c.args.moment c.args.from c.args.names in
+    let stands = c.standing-standing.ensures in
+    let rests = some_rests c.args.moment c.args.from n c.args.names
+    (sym (ap (λ s. begins s.state c.args.names) stands) ∙ sym c.begins-begins.ensures
+    ∙ c.if-begins.false) ∙ ap after (sym some) in
+    let now = ap (λ k. Some k.present) c.restart_inactivity_timer.ensures
+    ∙ ap (λ (s : Step). Some s.neighbor) rests in
+    record {
+      link =
+          (λ i. record l {
+            interface = (c.self-inside.view_is i).interface;
+            neighbor = now i;
+            acknowledgments = (c.self-inside.view_is i).acknowledgments.present;
+            last_hello_sent = (c.self-inside.view_is i).last_hello_sent.present;
+          })
+          ∙ ap (λ (k : KeptLink). record k.present { neighbor = Some (after l.neighbor).neighbor })
+          c.self.view_is;
+      draft =
+          ap (λ v. v.draft) c.self-inside.view_is ∙ ap (λ (k : KeptLink). k.drafted) c.self.view_is
+          ∙ drafting-none delay old.drafted
+          ∙ ap (λ (s : Step). drafting delay s.sends old.drafted) rests;
+      settled = first_of (search rules, grind (arith, common_steps));
+    }

@@ -1,0 +1,127 @@
+//! What is asked of all links, and what the cases of a received LSA do to links.
+ghost use Rattle.std.specs.Prelude.{◌≡◌, ◌≤◌, [], ◌∷◌, length, map};
+ghost use Rattle.lsa.specs.Headers.{key_of};
+ghost use Rattle.adjacency.specs.lsdb.Copies.{lsa_now};
+ghost use Rattle.adjacency.specs.Adjacencies.{mismatch_step};
+ghost use Rattle.adjacency.specs.Contents.{Acknowledges, Updates, no_sends};
+ghost use Rattle.adjacency.specs.Retransmissions.{remove_retransmission};
+ghost use Rattle.received.specs.Links.{acknowledge_later, any_exchange_or_loading};
+ghost use Rattle.received.specs.Links.{any_has_retransmission, change_link};
+ghost use Rattle.received.specs.Outcomes.{sends_at, only_at, stepped_links, stepping_sends};
+ghost use Rattle.flooding.specs.Doing.{LinksDo};
+ghost use Rattle.flooding.specs.Links.{present};
+
+use crate::link::Link;
+use adjacency::DatabaseCopy;
+use lsa::Header;
+use std::alloc::{AllocError, Global};
+use words::{Key, Second};
+
+/// Whether some neighbor is in Exchange or Loading.
+pub fn any_exchange_or_loading(links: &[Link]) -> bool
+    ensures { result ≡ any_exchange_or_loading (map present links.now) }
+{
+    for i in 0..links.len() {
+        let is = links[i].is_exchange_or_loading();
+        if is {
+            return true;
+        }
+    }
+    false
+}
+
+/// Whether the key is on some neighbor's retransmission list.
+pub fn any_has_retransmission(key: &Key, links: &[Link]) -> bool
+    ensures { result ≡ any_has_retransmission key.now (map present links.now) }
+{
+    for i in 0..links.len() {
+        let has = links[i].has_retransmission(key);
+        if has {
+            return true;
+        }
+    }
+    false
+}
+
+/// BadLSReq at one interface: from Exchange on, the neighbor goes back to ExStart.
+pub fn bad_request(
+    alloc: Global,
+    moment: Second,
+    number: usize,
+    links: &mut [Link],
+) -> Result<(), AllocError>
+    requires first { 1 ≤ number }
+    requires last { number ≤ length links.old }
+    ensures { LinksDo (stepped_links (only_at number (mismatch_step moment)))
+        (stepping_sends (only_at number (mismatch_step moment)))
+        links.old links.new result }
+{
+    let i = number - 1;
+    links[i].bad_request(alloc, moment)
+}
+
+/// Removes the header's key from the retransmission list of the neighbor at one interface.
+pub fn remove_retransmission(
+    number: usize,
+    header: &Header,
+    links: &mut [Link],
+) -> Result<(), AllocError>
+    requires first { 1 ≤ number }
+    requires last { number ≤ length links.old }
+    ensures { LinksDo
+        (stepped_links (only_at number (λ n. no_sends (remove_retransmission (key_of header.now)
+        n))))
+        (λ ls. [])
+        links.old links.new result }
+{
+    let i = number - 1;
+    links[i].remove_retransmission(header)
+}
+
+/// Adds a delayed acknowledgment at one interface.
+pub fn acknowledge_later(
+    number: usize,
+    header: Header,
+    links: &mut [Link],
+) -> Result<(), AllocError>
+    requires first { 1 ≤ number }
+    requires last { number ≤ length links.old }
+    ensures { LinksDo (change_link number (acknowledge_later header)) (λ ls. []) links.old
+        links.new result }
+{
+    let i = number - 1;
+    links[i].acknowledge_later(header)
+}
+
+/// Sends a direct acknowledgment at one interface.
+pub fn acknowledge_at_once(
+    number: usize,
+    header: Header,
+    links: &mut [Link],
+) -> Result<(), AllocError>
+    requires first { 1 ≤ number }
+    requires last { number ≤ length links.old }
+    ensures { LinksDo (λ ls. ls) (λ ls. sends_at number (Acknowledges header ∷ [])) links.old
+        links.new result }
+{
+    let i = number - 1;
+    links[i].acknowledge_at_once(header)
+}
+
+/// Sends the copy in a Link State Update at one interface.
+pub fn send_update(
+    alloc: Global,
+    moment: Second,
+    number: usize,
+    copy: &DatabaseCopy<'_>,
+    links: &mut [Link],
+) -> Result<(), AllocError>
+    requires first { 1 ≤ number }
+    requires last { number ≤ length links.old }
+    ensures { LinksDo (λ ls. ls)
+        (λ ls. sends_at number (Updates (lsa_now moment copy.now) ∷ []))
+        links.old links.new result }
+{
+    let i = number - 1;
+    links[i].send_copy(alloc, moment, copy)
+}
