@@ -7,7 +7,7 @@ use Rattle.std.specs.FinMap as finite
 use Rattle.std.specs.FinSet as set
 use Rattle.std.specs.Ordering.{int_cmp, is_eq}
 pub use Rattle.words.specs.Constants.{max_sequence_number}
-pub use Rattle.words.specs.Keys.{router_key}
+pub use Rattle.words.specs.Keys.{external_key, router_key}
 pub use Rattle.words.specs.Constants.{initial_sequence_number}
 use Rattle.words.specs.Constants.{e_bit, ls_refresh_time, max_age, min_ls_interval}
 use Rattle.words.specs.Numbers.{Moment, RouterNumber}
@@ -34,14 +34,6 @@ use Rattle.event_rules.specs.EventState.{EventState, flood_from_nobody, on_area,
 use Rattle.event_rules.specs.Routers.{Router}
 
 -- ---- which LSAs are wanted
-
--- the Link State ID is the address of the destination
-abbrev pub external_key : RouterNumber → Network → Key
-external_key id prefix = record {
-  ls_type = 5;
-  link_state_id = prefix.address;
-  advertising_router = id;
-}
 
 abbrev pub point_to_point : Interface → Option Neighbor → List RouterLink
 point_to_point i None = []

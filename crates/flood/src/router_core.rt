@@ -19,10 +19,10 @@ use crate::taking::{refuses, take};
 use area_routes::{AreaRoutes, Offered};
 use event_rules::{Config, ConfigError, CoreError, Out};
 use flood_laws::{Lsdb, NeighborState};
-use procedures::{Router, external_key, same_network};
+use procedures::{Router, same_network};
 use std::alloc::{AllocError, Global};
 use std::marker::Model;
-use words::{Prefix, Route, RouterId, Second};
+use words::{Prefix, Route, RouterId, Second, external_key};
 
 /// A router as one value. It has no clock, no socket and no lock: moments, bytes and answers are
 /// passed to it.

@@ -132,7 +132,7 @@ impl Area {
         let key = header.key();
         let sent = flood_received(alloc, moment, Some(number), &lsa, &mut self.links)?;
         acknowledge_later(number, header, &mut self.links)?;
-        self.database.install_flooded(moment, lsa)?;
+        self.database.install(moment, lsa, Some(moment))?;
         if sent {
             return self.database.mark_sent(moment, &key);
         }
@@ -149,7 +149,7 @@ impl Area {
         lsa.check_age();
         let header = lsa.header();
         let key = header.key();
-        self.database.install_originated(moment, lsa)?;
+        self.database.install(moment, lsa, None)?;
         self.flood(alloc, moment, &key)
     }
 

@@ -4,8 +4,6 @@ ghost use Rattle.std.specs.FinMap as finite;
 ghost use Rattle.lsdb.specs.Copies.{
   age_out,
   aged_keys,
-  install_flooded,
-  install_originated,
   mark_sent,
   put_copy,
   said_by,
@@ -331,9 +329,18 @@ impl Lsdb {
         self.copies.keeps(alloc, &SameUpTo { last_type, moment })
     }
 
-    // The LSA replaces the copy of its key; `installed` is the moment if it was received by
-    // flooding.
-    fn put(&mut self, moment: Second, lsa: Lsa, installed: Option<Second>) -> Result<(), AllocError>
+    /// Installs an LSA at this moment in place of the copy of its key (RFC 2328, section 13.2).
+    /// `installed` is the moment too if the LSA was received by flooding, and none if this router
+    /// originated it (section 12.4).
+    ///
+    /// # Errors
+    /// `AllocError` if an allocation is refused; the caller then rolls back.
+    pub fn install(
+        &mut self,
+        moment: Second,
+        lsa: Lsa,
+        installed: Option<Second>,
+    ) -> Result<(), AllocError>
         ensures ok { OnOk result (self.new.present ≡ put_copy moment lsa installed
             self.old.present) }
         ensures settled { self.new.settled ≡ self.old.settled }
@@ -355,31 +362,6 @@ impl Lsdb {
         self.copies.insert(*key, copy)?;
         self.externals = recount(self.router, &self.copies, key, held, true, self.externals);
         Ok(())
-    }
-
-    /// Installs an LSA that was received by flooding at this moment (RFC 2328, section 13.2).
-    ///
-    /// # Errors
-    /// `AllocError` if an allocation is refused; the caller then rolls back.
-    pub fn install_flooded(&mut self, moment: Second, lsa: Lsa) -> Result<(), AllocError>
-        ensures ok { OnOk result (self.new.present ≡ install_flooded moment lsa self.old.present) }
-        ensures settled { self.new.settled ≡ self.old.settled }
-        ensures router { self.new.router ≡ self.old.router }
-    {
-        self.put(moment, lsa, Some(moment))
-    }
-
-    /// Installs an LSA that this router originated at this moment (RFC 2328, section 12.4).
-    ///
-    /// # Errors
-    /// `AllocError` if an allocation is refused; the caller then rolls back.
-    pub fn install_originated(&mut self, moment: Second, lsa: Lsa) -> Result<(), AllocError>
-        ensures ok { OnOk result (self.new.present ≡ install_originated moment lsa
-            self.old.present) }
-        ensures settled { self.new.settled ≡ self.old.settled }
-        ensures router { self.new.router ≡ self.old.router }
-    {
-        self.put(moment, lsa, None)
     }
 
     /// Notes that the copy of this key was sent in a Link State Update at this moment. Without a

@@ -8,17 +8,7 @@ use crate::instance::next_instance;
 use flooding::Lsdb;
 use lsa::{ExternalLsa, Lsa, LsaBody};
 use std::alloc::{AllocError, Global};
-use words::{Address, External, Key, LinkStateId, RouterId, Sequence};
-
-pub fn external_key(own: RouterId, external: &External) -> Key
-    ensures { result ≡ external_key own external.now.prefix }
-{
-    Key {
-        ls_type: 5,
-        link_state_id: LinkStateId::new(external.prefix.address().bits()),
-        advertising_router: own,
-    }
-}
+use words::{Address, External, RouterId, Sequence, external_key};
 
 // The body for the destination, without a forwarding address.
 fn external_body(alloc: Global, external: &External) -> LsaBody
@@ -51,7 +41,7 @@ pub fn external_instance(
         IfOk result (λ instance. instance
         ≡ next_instance key (finite.get database.now.present key) (external_body external.now)) }
 {
-    let key = external_key(own, external);
+    let key = external_key(own, external.prefix);
     let says = external_body(alloc, external);
     next_instance(alloc, database, &key, says)
 }

@@ -11,13 +11,13 @@ ghost use Rattle.event_rules.specs.Originations.{
 ghost use Rattle.flooding.specs.Links.{present};
 ghost use Rattle.originations.specs.Decisions.{of_instance, origination, unless_flushed};
 
-use crate::external::{external_instance, external_key};
+use crate::external::external_instance;
 use crate::router::router_instance;
 use crate::sequence::next_number;
 use flooding::{DatabaseCopy, Link, Lsdb};
 use lsa::Lsa;
 use std::alloc::{AllocError, Global};
-use words::{External, MIN_LS_INTERVAL, RouterId, Second, router_key};
+use words::{External, MIN_LS_INTERVAL, RouterId, Second, external_key, router_key};
 
 /// What happens to a wanted self-originated LSA.
 #[derive(Debug, Drop)]
@@ -119,6 +119,6 @@ pub fn originate_external(
         let instance = external_instance(alloc, own, external, database)?;
         return Ok(of_instance(instance));
     }
-    let key = external_key(own, external);
+    let key = external_key(own, external.prefix);
     Ok(unless_flushed(database.get(&key)))
 }

@@ -7,9 +7,9 @@ ghost use Rattle.event_rules.specs.Originations.{external_key};
 ghost use Rattle.procedures.specs.Making.{Does};
 
 use crate::origination::originate;
-use router_state::{Router, external_key};
+use router_state::Router;
 use std::alloc::{AllocError, Global};
-use words::{External, ExternalType, Key, LS_INFINITY, Prefix, Second};
+use words::{External, ExternalType, Key, LS_INFINITY, Prefix, Second, external_key};
 
 /// Whether two prefixes are the same: one address and one length.
 pub fn same_network(a: Prefix, b: Prefix) -> bool

@@ -4,10 +4,9 @@ ghost use Rattle.event_rules.specs.Originations.{due_keys, is_due, originate_due
 ghost use Rattle.router_state.specs.Making.{Does};
 
 use crate::origination::originate_or_put_off;
-use crate::wanted::router_key;
 use router_state::Router;
 use std::alloc::{AllocError, Global};
-use words::{Key, Second};
+use words::{Key, Second, router_key};
 
 fn put_due(router: &Router, moment: Second, key: Key, due: &mut Vec<Key>) -> Result<(), AllocError>
     ensures { OnOk result (due.new.items ≡ due.old.items

@@ -7,10 +7,10 @@ ghost use Rattle.procedures.specs.EndingParts.{fill, refill};
 ghost use Rattle.procedures.specs.Making.{Does, interfaces_of};
 
 use crate::origination::originate_or_put_off;
-use crate::telling::{full_routers, has_changed, is_untold, router_key};
+use crate::telling::{full_routers, has_changed, is_untold};
 use router_state::Router;
 use std::alloc::{AllocError, Global};
-use words::{RouterId, Second};
+use words::{RouterId, Second, router_key};
 
 // Originates the router-LSA, at once or at a Tick, if this event has changed its body.
 fn originate_router_lsa(

@@ -22,6 +22,6 @@ pub use announcements::{redistribute, same_external, same_network, withdraw};
 pub use ending::end_event;
 pub use origination::originate_or_put_off;
 pub use packets::receive_packet;
-pub use router_state::{Router, external_key};
+pub use router_state::Router;
 pub use telling::full_routers;
 pub use ticks::tick;

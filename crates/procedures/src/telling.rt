@@ -2,13 +2,12 @@
 ghost use Rattle.std.specs.Prelude.{◌≡◌, ◌&&◌, List, IfOk, length, not};
 ghost use Rattle.event_rules.specs.received.Links.{Link};
 ghost use Rattle.event_rules.specs.Endings.{is_at, is_current, links_differ};
-ghost use Rattle.event_rules.specs.Originations.{router_key};
 ghost use Rattle.procedures.specs.Full.{full_routers};
 ghost use Rattle.procedures.specs.Making.{interfaces_of};
 
 use router_state::Router;
 use std::alloc::{AllocError, Global};
-use words::{Key, LinkStateId, RouterId, Second};
+use words::{RouterId, Second, router_key};
 
 /// The Router IDs of the neighbors that are Full, interface n at index n - 1, `None` if there is
 /// none. Together with the configuration they determine the router-LSA.
@@ -18,17 +17,6 @@ pub fn full_routers(router: &Router, alloc: Global) -> Result<Vec<Option<RouterI
     ensures { IfOk result (λ full. full.items ≡ full_routers router.now.present.area.links) }
 {
     originations::full_routers(alloc, router.area().links())
-}
-
-// The key of this router's router-LSA.
-pub fn router_key(own: RouterId) -> Key
-    ensures { result ≡ router_key own }
-{
-    Key {
-        ls_type: 1,
-        link_state_id: LinkStateId::new(own.number()),
-        advertising_router: own,
-    }
 }
 
 fn is_at(moment: Second, at: Option<Second>) -> bool

@@ -7,18 +7,7 @@ ghost use Rattle.procedures.specs.Wanted.{wanted_origination};
 use originations::{Origination, originate_external, originate_router};
 use router_state::Router;
 use std::alloc::{AllocError, Global};
-use words::{Key, LinkStateId, RouterId, Second};
-
-/// The key of this router's router-LSA (RFC 2328, section 12.4.1).
-pub fn router_key(own: RouterId) -> Key
-    ensures { result ≡ router_key own }
-{
-    Key {
-        ls_type: 1,
-        link_state_id: LinkStateId::new(own.number()),
-        advertising_router: own,
-    }
-}
+use words::{Key, RouterId, Second, router_key};
 
 fn is_same(a: &Key, b: &Key) -> bool
     ensures { result ≡ same_key a.now b.now }

@@ -11,19 +11,7 @@ ghost use Rattle.router_state.specs.Making.{Does};
 use crate::router::Router;
 use keyed_map::{KeyTest, KeyedMap};
 use std::alloc::{AllocError, Global};
-use words::{External, Key, LinkStateId, MIN_LS_INTERVAL, Prefix, RouterId, Second};
-
-/// The key of the AS-external-LSA for a destination, whose address is the Link State ID (RFC 2328,
-/// section 12.4.4).
-pub fn external_key(own: RouterId, prefix: Prefix) -> Key
-    ensures { result ≡ external_key own prefix }
-{
-    Key {
-        ls_type: 5,
-        link_state_id: LinkStateId::new(prefix.address().bits()),
-        advertising_router: own,
-    }
-}
+use words::{External, Key, MIN_LS_INTERVAL, Second, external_key};
 
 // Selects the originations since which MinLSInterval has passed (RFC 2328, section 12.4).
 #[derive(Drop)]

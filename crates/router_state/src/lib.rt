@@ -20,6 +20,5 @@ mod router;
 mod sent_hellos;
 mod times;
 
-pub use destinations::external_key;
 pub use received_hellos::is_foreign;
 pub use router::Router;

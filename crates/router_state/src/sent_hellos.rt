@@ -1,28 +1,20 @@
 //! Hellos that are sent (RFC 2328, section 9.5).
 ghost use Rattle.std.specs.Prelude.{◌≡◌, ◌≤◌, IfOk};
 ghost use Rattle.words.specs.Prefixes.{mask_of};
-ghost use Rattle.flooding.specs.adjacency.Adjacencies.{has_passed};
 ghost use Rattle.event_rules.specs.Hellos.{heard_of, hello_is_due, hello_on, is_due};
 ghost use Rattle.router_state.specs.SentHellos.{routers_of};
 
-use flooding::{Link, LinkStep, Lsdb, NeighborState};
+use flooding::{Link, LinkStep, Lsdb, NeighborState, has_passed};
 use packet::Hello;
 use std::alloc::{AllocError, Global};
 use words::{E_BIT, RouterId, Second, Sequence};
-
-// Whether at least `interval` seconds have passed from the start to the moment.
-fn has_passed(start: Second, interval: u16, moment: Second) -> bool
-    ensures { result ≡ has_passed start interval moment }
-{
-    u64::from(interval) <= moment.since(start)
-}
 
 fn is_due(moment: Second, interval: u16, last: Option<Second>) -> bool
     ensures { result ≡ is_due moment interval last }
 {
     match last {
         None => true,
-        Some(last) => has_passed(last, interval, moment),
+        Some(last) => has_passed(last, u32::from(interval), moment),
     }
 }
 

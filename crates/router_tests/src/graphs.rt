@@ -121,7 +121,11 @@ fn root(alloc: Global) -> Result<Root, AllocError> {
 
 fn install(alloc: Global, db: &mut Lsdb, texts: &[&[u8]]) -> Result<(), Fail> {
     for text in texts {
-        db.install_flooded(Second::new(1000), read(alloc, text)?)?;
+        db.install(
+            Second::new(1000),
+            read(alloc, text)?,
+            Some(Second::new(1000)),
+        )?;
         db.settle();
     }
     Ok(())
@@ -135,7 +139,7 @@ fn is_followed(alloc: Global, db: &mut Lsdb, root: &Root, lsa: Lsa) -> Result<bo
     let (before, now) = (Second::new(1000), Second::new(1001));
     db.settle();
     let graph = AreaGraph::new(alloc, db, root, before)?;
-    db.install_flooded(now, lsa)?;
+    db.install(now, lsa, Some(now))?;
     let next = follow_graph(alloc, db, graph, before, now)?;
     Ok(next.is_some())
 }

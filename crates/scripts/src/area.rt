@@ -113,7 +113,7 @@ impl ScriptArea {
     fn takes_lsa(&mut self, moment: Second, bytes: &[u8]) -> Result<bool, AllocError> {
         match lsa::read(self.alloc, bytes) {
             Ok(lsa) => {
-                self.database.install_flooded(moment, lsa)?;
+                self.database.install(moment, lsa, Some(moment))?;
                 self.database.settle();
                 Ok(true)
             }

@@ -61,8 +61,8 @@ returns-in_err-acknowledge_later c =
       router = ap (λ (v : RouterArea). v.router) c.self.view_is;
     }
 
-pub returns-in_err-install_flooded : goal.returns-in_err-install_flooded
-returns-in_err-install_flooded c =
+pub returns-in_err-install : goal.returns-in_err-install
+returns-in_err-install c =
     let items = c.self.inside.links.items in
     let n = c.self.inside.links.len in
     let made = c.flood_received.new.links in
@@ -75,9 +75,9 @@ returns-in_err-install_flooded c =
           c.in_ok-acknowledge_later.ensures.settled
           ∙ settled_back items c.deref_mut.result.now made n c.deref_mut.ensures.value
           c.deref_mut.ensures.len c.in_ok-sent.ensures.does.settled)
-          c.in_err-install_flooded.ensures.settled
+          c.in_err-install.ensures.settled
           ∙ ap (λ (v : RouterArea). v.settled) c.self.view_is;
-      router = c.in_err-install_flooded.ensures.router
+      router = c.in_err-install.ensures.router
           ∙ ap (λ (v : RouterArea). v.router) c.self.view_is;
     }
 
@@ -111,7 +111,7 @@ returns-then-sent c =
           (ap (map present) again ∙ floods.links)
           ∙ ap (λ (h : Header). change_link k (acknowledge_later h)
           (stepped_links (flood_to m (Some k) lsa) P)) c.header-header.ensures)
-          (is ∙ ap (mark_sent m c.key-key.result) c.in_ok-install_flooded.ensures.ok
+          (is ∙ ap (mark_sent m c.key-key.result) c.in_ok-install.ensures.ok
           ∙ ap (λ j. mark_sent m j db) (c.key-key.ensures ∙ ap key_of c.header-header.ensures)
           ∙ mark)
           ∙ ap (λ (ls : List KeptLink). (install m k lsa (start (area_of ls d))).area)
@@ -130,9 +130,9 @@ returns-then-sent c =
           c.deref_mut-2.ensures.len later.settled
           ∙ settled_back items lent made n c.deref_mut.ensures.value c.deref_mut.ensures.len
           floods.settled)
-          (c.mark_sent.ensures.settled ∙ c.in_ok-install_flooded.ensures.settled)
+          (c.mark_sent.ensures.settled ∙ c.in_ok-install.ensures.settled)
           ∙ ap (λ (v : RouterArea). v.settled) c.self.view_is;
-      router = c.mark_sent.ensures.router ∙ c.in_ok-install_flooded.ensures.router
+      router = c.mark_sent.ensures.router ∙ c.in_ok-install.ensures.router
           ∙ ap (λ (v : RouterArea). v.router) c.self.view_is;
     }
 
@@ -166,7 +166,7 @@ returns c =
           (ap (map present) again ∙ floods.links)
           ∙ ap (λ (h : Header). change_link k (acknowledge_later h)
           (stepped_links (flood_to m (Some k) lsa) P)) c.header-header.ensures)
-          (c.in_ok-install_flooded.ensures.ok ∙ mark)
+          (c.in_ok-install.ensures.ok ∙ mark)
           ∙ ap (λ (ls : List KeptLink). (install m k lsa (start (area_of ls d))).area)
           c.deref_mut.ensures.value
           ∙ ap (λ (v : RouterArea). (install m k lsa (start v.present)).area) c.self.view_is;
@@ -182,8 +182,8 @@ returns c =
           c.deref_mut-2.ensures.len later.settled
           ∙ settled_back items lent made n c.deref_mut.ensures.value c.deref_mut.ensures.len
           floods.settled)
-          c.in_ok-install_flooded.ensures.settled
+          c.in_ok-install.ensures.settled
           ∙ ap (λ (v : RouterArea). v.settled) c.self.view_is;
-      router = c.in_ok-install_flooded.ensures.router
+      router = c.in_ok-install.ensures.router
           ∙ ap (λ (v : RouterArea). v.router) c.self.view_is;
     }

@@ -22,11 +22,11 @@ returns c =
     let ls = c.self.inside.links.items in
     let key = c.key-key.ensures ∙ ap key_of c.header-header.ensures in
     let whole : flooded_copy m None
-    (finite.get c.install_originated.new.self.present c.key-key.result)
-    (start (area_of ls c.install_originated.new.self.present))
+    (finite.get c.install.new.self.present c.key-key.result)
+    (start (area_of ls c.install.new.self.present))
     ≡ flood m None lsa (start (area_of ls (install_originated m lsa d))) =
     ap (λ e. flooded_copy m None (finite.get e c.key-key.result) (start (area_of ls e)))
-    c.in_ok-install_originated.ensures.ok
+    c.in_ok-install.ensures.ok
     ∙ ap (λ j. flooded_copy m None (finite.get (install_originated m lsa d) j)
     (start (area_of ls (install_originated m lsa d)))) key
     ∙ ap (λ o. flooded_copy m None o (start (area_of ls (install_originated m lsa d))))
@@ -42,8 +42,8 @@ returns c =
           ∙ ap (λ (v : RouterArea). drafts_with (originate_outcome m lsa v.present).sends
           v.present.links v.drafted) c.self.view_is) c.flood.ensures.drafts;
       settled = c.flood.ensures.settled
-          ∙ area_is (λ i. map settled_link ls) c.in_ok-install_originated.ensures.settled
+          ∙ area_is (λ i. map settled_link ls) c.in_ok-install.ensures.settled
           ∙ ap (λ (v : RouterArea). v.settled) c.self.view_is;
-      router = c.flood.ensures.router ∙ c.in_ok-install_originated.ensures.router
+      router = c.flood.ensures.router ∙ c.in_ok-install.ensures.router
           ∙ ap (λ (v : RouterArea). v.router) c.self.view_is;
     }

@@ -5,7 +5,7 @@ use Rattle.lsdb.specs.Foresight.{ForeseesAll}
 use Rattle.lsdb.specs.Limits.{count_own_externals, is_own_external}
 use Rattle.lsdb.proofs.Foresight.{foresees_put}
 use Rattle.lsdb.proofs.Owned.{count_put, counts_if_own}
-use Rattle.lsdb.proofs.database.Lsdb.put.Goals as goal
+use Rattle.lsdb.proofs.database.Lsdb.install.Goals as goal
 
 pub recount-self-inside-requires : goal.recount-self-inside-requires
 recount-self-inside-requires c =
