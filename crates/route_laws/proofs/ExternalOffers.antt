@@ -79,7 +79,7 @@ module _ (said : Said) (root : Root) where
     -- it offers just this, by the way to its originator
     module _ (none : lsa.forwarding ≡ 0) (way : Way)
         (reaches : IsBoundaryWay said root originator way) where
-      pub offered_directly : OffersExternal said root (its_offer way)
+      unfoldable pub offered_directly : OffersExternal said root (its_offer way)
       offered_directly = record {
         id = id;
         originator = originator;

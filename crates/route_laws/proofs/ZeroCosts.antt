@@ -51,8 +51,8 @@ use Rattle.route_laws.proofs.ThreeRouters.{at_middle, at_right, at_second, betwe
 use Rattle.route_laws.proofs.ThreeRouters.{inner, is_current, lsa_of, middle_ways, narrow_offer}
 use Rattle.route_laws.proofs.ThreeRouters.{offered, right_candidates, three_places, up_to_date}
 use Rattle.route_laws.proofs.ThreeRouters.{wide_offer, wide_stub}
-use Rattle.route_laws.proofs.Ordered.{in_order}
-use Rattle.route_laws.proofs.Listed.{each_route, lone}
+use Rattle.route_laws.proofs.Ordered.{in_order, one_for_prefix}
+use Rattle.route_laws.proofs.Listed.{each_route}
 use Rattle.route_laws.proofs.ExternalOffers.{CountsAsExternal, IsOfferOf, counts_24, each_external}
 use Rattle.route_laws.proofs.ExternalOffers.{is_offer_of, offered_by_address, only_by_address}
 use Rattle.route_laws.proofs.Parts.{not_under, one_of}
@@ -272,7 +272,9 @@ to_forwarding : IsForwarded (OffersInside zero_says at_middle) forwarding (way 5
 to_forwarding = record {
   by = route_of (wide_offer 5 2);
   is_route = alone_among (OffersInside zero_says at_middle) (wide_offer 5 2) (inl wide_there)
-      (lone (OffersInside zero_says at_middle) nearby nearby_inside 1 (wide_offer 5 2) refl refl);
+      (λ o given same. inl (one_for_prefix (λ (x : Offer). x.prefix) nearby
+      (in_order (λ (x : Offer). x.prefix) nearby refl) o (wide_offer 5 2) (nearby_inside o given)
+      (1, omega arith, refl) same));
   under = refl;
   longest = λ r k u. short r k u;
   is = refl;
