@@ -17,7 +17,8 @@ use Rattle.book.specs.Bytes.{bytes_of, with_event}
 use Rattle.book.specs.Replay.{IsInstalledLast, IsLightened, Replays, entry_occurrence, forgotten_at}
 use Rattle.book.specs.Replay.{step_occurrence}
 use Rattle.book.specs.Replay.{without_answers}
-use Rattle.book.proofs.Unheeded.{installed, overlooked, replaced, told}
+use Rattle.router_runs.proofs.Unheeded.{told}
+use Rattle.book.proofs.Unheeded.{installed, overlooked, replaced}
 
 -- ---- the first event of a journal
 

@@ -1,196 +1,44 @@
 -- No event of a router depends on the answers of an `Install`, and an event has only one outcome.
 -- So two runs of a router, or two histories of a network, that are the same except for these
 -- answers send the same.
-use Rattle.std.proofs.Common.{◌≡◌, ℕ, zero, suc, Bool, true, false, cond, List, [], ◌∷◌}
-use Rattle.std.proofs.Common.{◌++◌, map, Option, None, Some, refl, sym, ◌∙◌, ap, subst}
-use Rattle.std.specs.Prelude.{◌==◌, nat_le, set, slice_get}
-use Rattle.std.specs.FinMap as finite
-use Rattle.words.specs.Constants.{ls_infinity}
+use Rattle.std.proofs.Common.{◌≡◌, ℕ, zero, suc, Bool, true, false, List, [], ◌∷◌, ◌++◌, map}
+use Rattle.std.proofs.Common.{Option, None, Some, refl, sym, ◌∙◌, ap, subst}
+use Rattle.std.specs.Prelude.{set, slice_get}
 use Rattle.words.specs.Numbers.{InterfaceNumber, Moment}
-use Rattle.words.specs.Prefixes.{Network as Prefix}
-use Rattle.words.specs.declared.key.Key.{Key}
-use Rattle.words.specs.declared.route.External.{External}
-use Rattle.lsa.specs.Reading.{lsa_in}
-use Rattle.lsdb.specs.Headers.{Lsa, lsa_key}
 use Rattle.packet.proofs.Whole.{one_packet}
-use Rattle.packet.specs.declared.model.PacketBody.{PacketBody}
-use Rattle.packet.specs.declared.model.PacketBody.TheVariants as body
 use Rattle.packet.specs.declared.model.Packet.{Packet}
-use Rattle.received.specs.Cases.{Case}
-use Rattle.received.specs.Links.{neighbor_at}
-use Rattle.received.specs.Updates.{after_case, case_at, goes_on}
-use Rattle.received.specs.Outcomes.{Outcome}
-use Rattle.event_rules.specs.Commands.{after_redistribute, after_withdraw, announce, announce_as}
-use Rattle.event_rules.specs.Commands.{answered_external, end_want, is_announced_as, is_for}
 use Rattle.event_rules.specs.Endings.{end_event, start_event}
 use Rattle.event_rules.specs.Events.{Happens, OwnPart, Run, Step}
-use Rattle.event_rules.specs.EventState.{EventState, on_area, on_router}
-use Rattle.event_rules.specs.Originations.{due_keys, external_key, forget_originations, has_room}
-use Rattle.event_rules.specs.Originations.{is_wanted, originate_anyway, originate_due}
-use Rattle.event_rules.specs.Originations.{originate_or_flush, originate_or_put_off}
-use Rattle.event_rules.specs.Originations.{receive_self_originated, wanted_body}
-use Rattle.event_rules.specs.Packets.{after_lsa, after_lsas, after_packet, after_self_originated}
-use Rattle.event_rules.specs.Packets.{after_unread, any_exchange_or_later, case_in, from_neighbor}
-use Rattle.event_rules.specs.Packets.{is_heard}
+use Rattle.event_rules.specs.EventState.{EventState}
+use Rattle.event_rules.specs.Packets.{after_packet}
 use Rattle.event_rules.specs.Packing.{outs_of}
 use Rattle.event_rules.specs.Routers.{Occurrence, Router}
-use Rattle.event_rules.specs.Ticks.{after_tick, run_out, send_acknowledgments, send_all_again}
-use Rattle.event_rules.specs.Ticks.{send_hellos}
 use Rattle.event_rules.specs.declared.model.Out.{Out}
-use Rattle.received.specs.Outcomes.{on_links}
 use Rattle.program_laws.specs.Vetoes.{without_answers}
 use Rattle.program_laws.specs.Unheard.{Act, Acts, Cause, Datagram, History, Network}
 use Rattle.program_laws.specs.Unheard.{VetoesAreNeverHeard, act_without_words, asked}
 use Rattle.program_laws.specs.Unheard.{cause_without_words, event_of, network_without_answers}
 use Rattle.program_laws.specs.Unheard.{received_at, sent, sent_at, without_words}
-use Rattle.program_laws.proofs.Vetoes.{Overlooks, by_body, ended, one_of, without}
+use Rattle.router_runs.proofs.Unheeded.{answered_alike, bringing}
 
--- ---- each part of an event does the same without the answers
+-- ---- an event does the same without the answers
 
-or_waits : (moment : Moment) (key : Key) → Overlooks (originate_or_put_off moment key)
-or_waits moment key p = by_body (has_room key p.router) moment key (wanted_body p.router key) p
-
-anyway : (moment : Moment) (key : Key) → Overlooks (originate_anyway moment key)
-anyway moment key p = by_body true moment key (wanted_body p.router key) p
-
-or_flushes : (wanted : Bool) (moment : Moment) (key : Key) → Overlooks
-    (originate_or_flush wanted moment key)
-or_flushes true moment key p = or_waits moment key p
-or_flushes false moment key p = refl
-
-own_received : (moment : Moment) (lsa : Lsa) → Overlooks (receive_self_originated moment lsa)
-own_received moment lsa p =
-    let wanted : Bool = is_wanted (wanted_body p.router (lsa_key lsa)) in
-    let own : Bool = lsa.header.advertising_router == p.router.id in
-    one_of own (originate_or_flush wanted moment (lsa_key lsa) p) p
-    ∙ ap (λ (q : EventState). cond own q (without p)) (or_flushes wanted moment (lsa_key lsa) p)
-
-settled : (case : Case) (moment : Moment) (lsa : Lsa) → Overlooks
-    (after_self_originated case moment lsa)
-settled Case.Unreadable moment lsa p = refl
-settled Case.NothingToFlush moment lsa p = refl
-settled Case.TooSoon moment lsa p = refl
-settled Case.Newer moment lsa p = own_received moment lsa p
-settled Case.BadRequest moment lsa p = refl
-settled Case.ImpliedAcknowledgment moment lsa p = refl
-settled Case.Duplicate moment lsa p = refl
-settled Case.SequenceWraps moment lsa p = refl
-settled Case.SentJustNow moment lsa p = refl
-settled Case.Older moment lsa p = refl
-
-one_lsa : (case : Case) (moment : Moment) (number : InterfaceNumber) (lsa : Lsa) → Overlooks
-    (after_lsa case moment number lsa)
-one_lsa case moment number lsa p = settled case moment lsa
-    (on_area (after_case case moment number lsa) p)
-
-unread : (moment : Moment) (number : InterfaceNumber) (lsa : Option Lsa) → Overlooks
-    (after_unread moment number lsa)
-unread moment number None p = refl
-unread moment number (Some lsa) p = one_lsa
-    (case_at moment number lsa p.router.area) moment number lsa p
-
-same_case : (moment : Moment) (number : InterfaceNumber) (lsa : Option Lsa) (p : EventState)
-    → case_in moment number lsa p ≡ case_in moment number lsa (without p)
-same_case moment number None p = refl
-same_case moment number (Some lsa) p = refl
-
-all_lsas : (moment : Moment) (number : InterfaceNumber) (texts : List (List ℕ)) → Overlooks
-    (after_lsas moment number texts)
-all_lsas moment number [] p = refl
-all_lsas moment number (bytes ∷ rest) p =
-    let q : EventState = after_unread moment number (lsa_in bytes) p in
-    let on : Bool = goes_on (case_in moment number (lsa_in bytes) p) in
-    let same : without q ≡ after_unread moment number (lsa_in bytes) (without p) =
-    unread moment number (lsa_in bytes) p in
-    one_of on (after_lsas moment number rest q) q
-    ∙ ap (λ (r : EventState). cond on r (without q)) (all_lsas moment number rest q)
-    ∙ ap (λ (r : EventState). cond on (after_lsas moment number rest r) r) same
-    ∙ ap (λ (c : Case). cond (goes_on c)
-    (after_lsas moment number rest (after_unread moment number (lsa_in bytes) (without p)))
-    (after_unread moment number (lsa_in bytes) (without p)))
-    (same_case moment number (lsa_in bytes) p)
-
-from_its_neighbor : (moment : Moment) (number : InterfaceNumber) (from : ℕ) (in_exchange : Bool)
-    (says : PacketBody) → Overlooks (from_neighbor moment number from in_exchange says)
-from_its_neighbor moment number from in_exchange (body.Hello h) p = refl
-from_its_neighbor moment number from in_exchange (body.Description d) p = refl
-from_its_neighbor moment number from true (body.Request keys) p = refl
-from_its_neighbor moment number from false (body.Request keys) p = refl
-from_its_neighbor moment number from true (body.Update lsas) p = all_lsas moment number lsas p
-from_its_neighbor moment number from false (body.Update lsas) p = refl
-from_its_neighbor moment number from true (body.Acknowledgment headers) p = refl
-from_its_neighbor moment number from false (body.Acknowledgment headers) p = refl
-
-a_packet : (moment : Moment) (number : InterfaceNumber) (packet : Packet) → Overlooks
-    (after_packet moment number packet)
-a_packet moment number packet p =
-    let heard : Bool = is_heard p.router.id packet (neighbor_at number p.router.area.links) in
-    let exchanges : Bool = any_exchange_or_later (neighbor_at number p.router.area.links) in
-    one_of heard (from_neighbor moment number packet.router exchanges packet.body p) p
-    ∙ ap (λ (q : EventState). cond heard q (without p))
-    (from_its_neighbor moment number packet.router exchanges packet.body p)
-
-all_due : (moment : Moment) (keys : List Key) → Overlooks (originate_due moment keys)
-all_due moment [] p = refl
-all_due moment (key ∷ keys) p =
-    all_due moment keys (originate_or_put_off moment key p)
-    ∙ ap (originate_due moment keys) (or_waits moment key p)
-
-a_tick : (moment : Moment) → Overlooks (after_tick moment)
-a_tick moment p =
-    let quiet : EventState = on_router (forget_originations moment)
-    (on_area (on_links (map (run_out moment))) p) in
-    ap (on_area
-    (λ (o : Outcome). send_hellos moment (send_acknowledgments moment (send_all_again moment o))))
-    (all_due moment (due_keys moment quiet.router) quiet)
-
-announced : (moment : Moment) (key : Key) (e : External) → Overlooks (announce_as moment key e)
-announced moment key e p =
-    let same : Bool = is_announced_as e (finite.get p.router.announced key) in
-    one_of same p (originate_anyway moment key (on_router (announce key e) p))
-    ∙ ap (λ (q : EventState). cond same (without p) q)
-    (anyway moment key (on_router (announce key e) p))
-
-redistributed : (moment : Moment) (e : External) (tag price : ℕ) → Overlooks
-    (after_redistribute moment e tag price)
-redistributed moment e tag price p =
-    let key : Key = external_key p.router.id e.prefix in
-    let ends : Bool = nat_le ls_infinity price in
-    one_of ends (end_want moment key p) (announce_as moment key (answered_external e tag price) p)
-    ∙ ap (λ (q : EventState). cond ends (end_want moment key (without p)) q)
-    (announced moment key (answered_external e tag price) p)
-
-withdrawn : (moment : Moment) (prefix : Prefix) → Overlooks (after_withdraw moment prefix)
-withdrawn moment prefix p =
-    let key : Key = external_key p.router.id prefix in
-    one_of (is_for prefix (finite.get p.router.announced key)) (end_want moment key p) p
-
-own_part : (moment : Moment) (event : Occurrence) (before after : EventState)
-    → OwnPart moment event before after → OwnPart moment (without_words event) (without before)
-    (without after)
-own_part moment (Occurrence.Packet number bytes) before after part =
-    (part.0, part.1, ap without part.2 ∙ a_packet moment number part.0 before)
-own_part moment Occurrence.Tick before after part = ap without part ∙ a_tick moment before
-own_part moment (Occurrence.Redistribute tagged tag priced price) before after part =
-    ap without part ∙ redistributed moment priced tag price before
-own_part moment (Occurrence.Withdraw prefix) before after part = ap without part
-    ∙ withdrawn moment prefix before
-own_part moment (Occurrence.Install answers) before after part = ap without part
-own_part moment (Occurrence.LinkDown number) before after part = ap without part
+brings_none : (event : Occurrence) → bringing [] event ≡ without_words event
+brings_none (Occurrence.Packet number bytes) = refl
+brings_none Occurrence.Tick = refl
+brings_none (Occurrence.Redistribute tagged tag priced price) = refl
+brings_none (Occurrence.Withdraw prefix) = refl
+brings_none (Occurrence.Install answers) = refl
+brings_none (Occurrence.LinkDown number) = refl
 
 happens_without : (old : Router) (moment : Moment) (event : Occurrence) (outs : List Out)
     (new : Router)
     → Happens old moment event outs new → Happens (without_answers old) moment
     (without_words event) outs (without_answers new)
 happens_without old moment event outs new it =
-    let same : without (end_event old moment it.after) ≡ end_event (without_answers old) moment
-    (without it.after) = ended old moment it.after in
-    record {
-      after = without it.after;
-      own = own_part moment event (start_event moment old) it.after it.own;
-      router = ap without_answers it.router ∙ ap (λ (p : EventState). p.router) same;
-      sent = it.sent ∙ ap (λ (p : EventState). outs_of old.id old.area.links p.sends) same;
-    }
+    let P : Occurrence → Type 0 = λ o. Happens (without_answers old) moment o outs
+    (without_answers new) in
+    subst P (brings_none event) (answered_alike [] old moment event outs new it)
 
 -- ---- an event has only one outcome
 
