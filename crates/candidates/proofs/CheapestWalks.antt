@@ -33,7 +33,7 @@ use Rattle.routes.specs.Routes.{IsNoWorse, rank}
 
 -- ---- offers in parallel
 
-no_worse_kind : (a b : Offer) → IsNoWorse a b → rank a.kind ≤ rank b.kind
+pub no_worse_kind : (a b : Offer) → IsNoWorse a b → rank a.kind ≤ rank b.kind
 no_worse_kind a b (ByKind p) = omega (arith, p)
 no_worse_kind a b (ByCost p q) = omega (arith, p)
 no_worse_kind a b (ByDistance p q r) = omega (arith, p)
@@ -55,7 +55,7 @@ intra_or_not Inter = inr (omega arith)
 intra_or_not External1 = inr (omega arith)
 intra_or_not External2 = inr (omega arith)
 
-external_rank : (t : ExternalType) (prefix : Network) (lsa : ExternalLsa) (originator : ℕ)
+pub external_rank : (t : ExternalType) (prefix : Network) (lsa : ExternalLsa) (originator : ℕ)
     (way : Way) → 1 ≤ rank (external_offer t prefix lsa originator way).kind
 external_rank Type1 prefix lsa originator way = omega arith
 external_rank Type2 prefix lsa originator way = omega arith

@@ -1,5 +1,5 @@
-mod LeastWalks
-mod CheapestWalks
+pub mod LeastWalks
+pub mod CheapestWalks
 mod Offered
 pub mod Gathered
 pub mod Flags

@@ -1,15 +1,14 @@
 -- The keys of the AS-external-LSAs whose Link State IDs are in a network are contiguous.
 use Rattle.std.proofs.Common.{◌≡◌, ℕ, zero, suc, ◌+◌, ◌-◌, ◌*◌, ◌/◌, ◌%◌, ◌<◌, ◌≤◌, ◌⊎◌, inl, inr}
-use Rattle.std.proofs.Common.{Bool, true, false, cond, T, ◌&&◌, nat_lt, nat_eq, List, [], ◌∷◌}
-use Rattle.std.proofs.Common.{length, get_or, map, take, Some, None, ltb-true, ltb-false, eqb-true}
-use Rattle.std.proofs.Common.{arith, refl, sym, ap, subst, ◌∙◌}
+use Rattle.std.proofs.Common.{Bool, true, false, cond, T, nat_lt, nat_eq, List, [], ◌∷◌, length}
+use Rattle.std.proofs.Common.{get_or, map, take, Some, ltb-false, arith, refl, sym, ap, subst, ◌∙◌}
 use mathlib.Core.Bool.{false≢true}
-use Rattle.std.specs.Prelude.{Option, slice_get}
-use Rattle.std.specs.Cmp.{Equal-is, nat_cmp_total, tied_itself}
+use Rattle.std.specs.Prelude.{slice_get}
+use Rattle.std.specs.Cmp.{Equal-is}
 use Rattle.std.specs.FinMap as finite
 use Rattle.std.specs.FinMap.Entries.{below_all, is_sorted}
 use Rattle.std.specs.List.{All, AllPairs, Contains, filter}
-use Rattle.std.specs.Ordering.{eq_by_cmp, is_eq, is_le, is_lt, nat_cmp, ordering_then}
+use Rattle.std.specs.Ordering.{eq_by_cmp, is_le, nat_cmp, ordering_then}
 use Rattle.std.specs.declared.cmp.Ordering.{Ordering}
 use Rattle.std.specs.declared.cmp.Ordering.TheVariants.{Equal, Greater, Less}
 use Rattle.std.proofs.lemmas.Bool.{cases_lt, eqb-false}
@@ -21,12 +20,13 @@ use Rattle.std.proofs.lemmas.Option.{slice_get-get_or}
 use Rattle.std.proofs.Math.Nat.{add-mul, lt_of_mul-lt-mul_right, mod-lt}
 use Rattle.words.specs.Prefixes.{Network, block, network_address}
 use Rattle.words.specs.declared.key.Key.{Key}
-use Rattle.keyed_map.specs.Keys.{ByKey, key_cmp}
+use Rattle.keyed_map.specs.Keys.{key_cmp}
 use Rattle.keyed_map.specs.Slots.{keys_from}
 use Rattle.keyed_map.proofs.Keys.{keys_exact}
 use Rattle.routes.specs.lsdb.Copies.{Database}
 use Rattle.routes.proofs.Lists.{first_is, later_is, of_cons, of_empty}
 use Rattle.routes.proofs.Listed.{other_default}
+use Rattle.kept_routes.proofs.Named.{first_part, from_zero, id_cmp, less, not_more, second_part}
 use Rattle.external_updates.specs.Destinations.{HaveAllUnder, LiesUnder, first_key}
 
 -- ---- addresses of one network
@@ -55,27 +55,6 @@ between n first middle last low high is =
     omega (arith, of_middle, times, base)
 
 -- ---- the order of keys
-
--- not more by a number, then by something else
-not_more : (a b : ℕ) (r : Ordering) → is_le (ordering_then (nat_cmp a b) r) ≡ true
-    → (a < b) ⊎ ((a ≡ b) × (is_le r ≡ true))
-not_more a b r is =
-    elim (nat_lt a b) as (λ c. nat_lt a b ≡ c
-    → is_le (ordering_then (cond c Less (cond (nat_eq a b) Equal Greater)) r) ≡ true
-    → (a < b) ⊎ ((a ≡ b) × (is_le r ≡ true))) [
-      | true ↦ λ t f. inl (ltb-true a b t)
-      | false ↦ λ t f.
-          elim (nat_eq a b) as (λ d. nat_eq a b ≡ d
-          → is_le (ordering_then (cond d Equal Greater) r) ≡ true
-          → (a < b) ⊎ ((a ≡ b) × (is_le r ≡ true))) [
-            | true ↦ λ u g. inr (eqb-true a b u, g)
-            | false ↦ λ u g. absurd (false≢true g)
-          ] refl f
-    ] refl is
-
-abbrev id_cmp : Key → Key → Ordering
-id_cmp a b = ordering_then (nat_cmp a.link_state_id b.link_state_id)
-    (nat_cmp a.advertising_router b.advertising_router)
 
 -- sorted keys have sorted types, and sorted Link State IDs if they have one type
 types : (a b : Key) → is_le (key_cmp a b) ≡ true → a.ls_type ≤ b.ls_type
@@ -113,14 +92,6 @@ middle_lies prefix middle last low high lies =
 
 -- ---- the least key of a network
 
-from_zero : (n : ℕ) → is_le (nat_cmp 0 n) ≡ true
-from_zero zero = refl
-from_zero (suc n) = by (nat_lt 0 (suc n)) (nat_eq 0 (suc n)) refl
-  where
-    by : (b c : Bool) → nat_lt 0 (suc n) ≡ b → is_le (cond b Less (cond c Equal Greater)) ≡ true
-    by true c is = refl
-    by false c is = absurd (let low : suc n ≤ 0 = ltb-false 0 (suc n) is in omega (arith, low))
-
 -- not more by a number, nor by what follows if the numbers are equal
 in_turn : (a b : ℕ) (r : Ordering) → a ≤ b → is_le r ≡ true
     → is_le (ordering_then (nat_cmp a b) r) ≡ true
@@ -150,19 +121,6 @@ is_least prefix key lies =
     (from_zero key.advertising_router))
 
 -- ---- keys in order
-
-first_part : (a b : Bool) → T (a && b) → T a
-first_part true b p = tt
-first_part false b p = p
-
-second_part : (a b : Bool) → T (a && b) → T b
-second_part true b p = p
-second_part false b p = absurd p
-
-less : (r : Ordering) → T (is_lt r) → r ≡ Less
-less Less p = refl
-less Equal p = absurd p
-less Greater p = absurd p
 
 abbrev Ascending : Key → Key → Type 0
 Ascending a b = key_cmp a b ≡ Less

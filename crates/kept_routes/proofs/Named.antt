@@ -24,7 +24,7 @@ the_some (Some x) is = (x, refl)
 -- ---- the order of keys
 
 -- not more by a number, then by something else
-not_more : (a b : ℕ) (r : Ordering) → is_le (ordering_then (nat_cmp a b) r) ≡ true
+pub not_more : (a b : ℕ) (r : Ordering) → is_le (ordering_then (nat_cmp a b) r) ≡ true
     → (a < b) ⊎ ((a ≡ b) × (is_le r ≡ true))
 not_more a b r is =
     elim (nat_lt a b) as (λ c. nat_lt a b ≡ c
@@ -40,7 +40,7 @@ not_more a b r is =
           ] refl f
     ] refl is
 
-abbrev id_cmp : Key → Key → Ordering
+abbrev pub id_cmp : Key → Key → Ordering
 id_cmp a b = ordering_then (nat_cmp a.link_state_id b.link_state_id)
     (nat_cmp a.advertising_router b.advertising_router)
 
@@ -82,7 +82,7 @@ between first middle last low high types ids =
           ]
     ]
 
-from_zero : (n : ℕ) → is_le (nat_cmp 0 n) ≡ true
+pub from_zero : (n : ℕ) → is_le (nat_cmp 0 n) ≡ true
 from_zero zero = refl
 from_zero (suc n) = by (nat_lt 0 (suc n)) (nat_eq 0 (suc n)) refl
   where
@@ -104,15 +104,15 @@ is_least router key names =
 
 -- ---- keys in order
 
-first_part : (a b : Bool) → T (a && b) → T a
+pub first_part : (a b : Bool) → T (a && b) → T a
 first_part true b p = tt
 first_part false b p = p
 
-second_part : (a b : Bool) → T (a && b) → T b
+pub second_part : (a b : Bool) → T (a && b) → T b
 second_part true b p = p
 second_part false b p = absurd p
 
-less : (r : Ordering) → T (is_lt r) → r ≡ Less
+pub less : (r : Ordering) → T (is_lt r) → r ≡ Less
 less Less p = refl
 less Equal p = absurd p
 less Greater p = absurd p

@@ -26,23 +26,12 @@ use Rattle.routes.proofs.Determined.{one_candidate, one_way}
 use Rattle.routes.proofs.Prefixes.{one_prefix}
 use Rattle.route_laws.proofs.Entries.{all_pass, has_link, is_no_network, is_said, kept, links_of}
 use Rattle.route_laws.proofs.Entries.{sayings}
+pub use Rattle.routes.proofs.OneMore.{no_worse_itself}
+pub use Rattle.routes.specs.Best.{route_of}
 use Rattle.routes.specs.Said.{Said, said_at}
 use Rattle.routes.specs.Routes.{IsBefore, IsBestAmong, IsNoLater, IsNoWorse, IsRouteAmong, rank}
 
 -- ---- candidates
-
-abbrev pub route_of : Offer → Route
-route_of o = record {
-  prefix = o.prefix;
-  kind = o.kind;
-  cost = o.cost;
-  distance = o.distance;
-  hops = o.hops;
-  tag = o.tag;
-}
-
-pub no_worse_itself : (o : Offer) → IsNoWorse o o
-no_worse_itself o = ByDistance refl refl (omega arith)
 
 -- of the same kind, a costs less than b
 pub dearer : (a b : Offer) → rank a.kind ≡ rank b.kind → a.cost < b.cost → IsNoWorse b a → ⊥

@@ -1,28 +1,22 @@
 -- Along the routers that forward a packet the routes become better, so that it visits none twice.
 use Rattle.std.proofs.Common.{◌≡◌, ℕ, zero, suc, ◌<◌, ◌≤◌, inl, inr, List, [], ◌∷◌, Some, length}
-use Rattle.std.proofs.Common.{get_or, arith, refl, sym, ◌∙◌, ap, subst}
+use Rattle.std.proofs.Common.{get_or, arith, refl, sym, ◌∙◌, subst}
 use Rattle.std.specs.List.{Contains}
 use Rattle.std.proofs.lemmas.Bool.{cases_lt}
 use Rattle.std.proofs.lemmas.Option.{slice_get_within}
-use Rattle.words.specs.Prefixes.{IsUnder, Network, network_address}
 use Rattle.words.specs.declared.route.Route.{Route}
 use Rattle.candidates.specs.Borders.{IsLongest}
 use Rattle.routes.proofs.Determined.{one_candidate}
 use Rattle.routes.proofs.Lists.{first_is, later_is}
 use Rattle.route_laws.specs.Outward.{IsBetter}
 use Rattle.route_laws.proofs.Fewer.{no_longer}
+use Rattle.route_laws.proofs.Longest.{same_prefix}
 use Rattle.route_laws.proofs.Outward.{better_still, not_itself}
 use Rattle.route_laws.specs.Networks.{EachHopLeadsOn, LeadsOn, RoutersForwardWithoutLoops}
 use Rattle.route_laws.specs.Networks.LeadsOn.{AtHome, Further, ToAnnouncer}
 use Rattle.route_laws.specs.Topologies.{Forwarder, HandsTo, HasConverged, IsAnnouncedAt}
 use Rattle.route_laws.specs.Topologies.{IsHandedAlong, StandsAt, Topology, root_of, says_of}
 use Rattle.route_laws.proofs.Members.{one_forwarder}
-
-same_prefix : (address : ℕ) (a b : Network) → IsUnder address a → IsUnder address b → a.length
-    ≡ b.length → a ≡ b
-same_prefix address a b p q long =
-    let at : a.address ≡ b.address = sym p ∙ ap (λ k. network_address k address) long ∙ q in
-    λ i. record { address = at i; length = long i }
 
 -- the numbers below n
 upto : ℕ → List ℕ

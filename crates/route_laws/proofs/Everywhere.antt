@@ -1,14 +1,13 @@
 -- A packet by a route of any kind is forwarded to better routes, until a router is attached or
 -- forwards it to the originator.
-use Rattle.std.proofs.Common.{◌≡◌, ℕ, zero, suc, ◌<◌, ◌⊎◌, inl, inr, IsTrue, List, [], ◌∷◌, arith}
-use Rattle.std.proofs.Common.{refl, sym, ◌∙◌, ap, subst}
+use Rattle.std.proofs.Common.{◌≡◌, ℕ, zero, suc, ◌<◌, inl, inr, IsTrue, List, [], ◌∷◌, arith, refl}
+use Rattle.std.proofs.Common.{sym, ◌∙◌, ap, subst}
 use Rattle.std.specs.List.{All, Contains}
 use Rattle.std.proofs.lemmas.Bool.{cases_eq, cases_lt}
 use Rattle.words.specs.Interfaces.{has_interface}
 use Rattle.words.specs.Prefixes.{Network}
 use Rattle.words.specs.declared.route.Route.{Route}
-use Rattle.words.specs.declared.route.RouteKind.{RouteKind}
-use Rattle.words.specs.declared.route.RouteKind.TheVariants.{External1, External2, Inter, Intra}
+use Rattle.words.specs.declared.route.RouteKind.TheVariants.{Intra}
 use Rattle.candidates.specs.Laws.{CandidatesAreCheapestWalks, EveryOfferHasACandidate}
 use Rattle.routes.specs.Candidates.{IsBest, IsCandidate, Offers, OffersExternal}
 use Rattle.routes.specs.Candidates.Offers.{Between, External, Within}
@@ -27,8 +26,8 @@ use Rattle.route_laws.specs.Forwarding.{AreRouters, EachHopIsNearer, ForwardsFor
 use Rattle.route_laws.specs.Forwarding.{IsOtherEnd, RoutesEndAtTheNetwork, Stop, last_of}
 use Rattle.route_laws.specs.Outward.{AllPacketsArrive, AreBoundariesPlain}
 use Rattle.route_laws.specs.Outward.{EachHopLeadsToAnOriginator, HandsFurther, HandsToward}
-use Rattle.route_laws.specs.Outward.{IsBetter, IsFollowed, IsPassedFurther, IsStopAmong}
-use Rattle.route_laws.specs.Outward.{IsTheLast, IsToward}
+use Rattle.route_laws.specs.Outward.{IsBetter, IsFollowed, IsPassedFurther, IsStopAmong, IsTheLast}
+use Rattle.route_laws.specs.Outward.{IsToward}
 use Rattle.route_laws.specs.Outward.HandsFurther.{TowardAnother, InTheArea}
 use Rattle.route_laws.specs.Outward.IsBetter.{ByCost, ByDistance, ByKind}
 use Rattle.route_laws.specs.Outward.IsFollowed.{AtHome, AtTheOriginator, Further}
@@ -36,16 +35,11 @@ use Rattle.route_laws.specs.Outward.IsTheLast.{Attached, BeforeTheOriginator}
 use Rattle.route_laws.specs.Outward.IsToward.{Border, Boundary, Told}
 use Rattle.route_laws.proofs.Fewer.{no_longer}
 use Rattle.route_laws.proofs.Found.{each_is_nearer}
+use Rattle.route_laws.proofs.Inside.{within_or_not}
 use Rattle.route_laws.proofs.Nearer.{last_hop, price_of_own}
 use Rattle.route_laws.proofs.Outward.{candidate_is_as_good, external_hops, none_twice}
 use Rattle.route_laws.proofs.Outward.{to_an_originator}
 use Rattle.routes.proofs.Determined.{same_kind}
-
-within_or_not : (k : RouteKind) → (k ≡ Intra) ⊎ (k ≡ Intra → ⊥)
-within_or_not Intra = inl refl
-within_or_not Inter = inr (λ e. cc)
-within_or_not External1 = inr (λ e. cc)
-within_or_not External2 = inr (λ e. cc)
 
 -- ---- the next hops toward another router
 

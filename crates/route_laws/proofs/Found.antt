@@ -1,26 +1,24 @@
 -- A list of all candidates has a route to each network that a walk reaches.
-use Rattle.std.proofs.Common.{◌≡◌, ℕ, ◌+◌, ◌<◌, ◌⊎◌, inl, inr, List, [], ◌∷◌, length, arith, refl}
-use Rattle.std.proofs.Common.{◌∙◌, ap}
+use Rattle.std.proofs.Common.{◌≡◌, ℕ, ◌+◌, ◌<◌, ◌⊎◌, inl, inr, List, [], ◌∷◌, length, refl, ◌∙◌, ap}
 use Rattle.std.specs.List.{Contains}
 use Rattle.std.proofs.lemmas.Bool.{cases_eq}
-use Rattle.std.proofs.lemmas.Option.{slice_get_within}
 use Rattle.words.specs.Prefixes.{Network}
 use Rattle.words.specs.declared.route.Route.{Route}
-use Rattle.lsa.specs.declared.body.LinkKind.{LinkKind}
 use Rattle.candidates.specs.Laws.{CandidatesAreCheapestWalks, EveryOfferHasACandidate, IsReached}
 use Rattle.routes.proofs.Lists.{first_is, later_is, of_cons, of_empty}
 use Rattle.routes.specs.Candidates.{AreCandidates, Offers}
 use Rattle.routes.specs.Candidates.Offers.{Within}
-use Rattle.routes.specs.Links.{Counts, Leads, LeadsTo}
+use Rattle.routes.specs.Links.{Leads, LeadsTo}
 use Rattle.routes.specs.Offers.{intra}
 use Rattle.routes.specs.Paths.{IsWay, Way}
 use Rattle.routes.specs.Said.{Said}
 use Rattle.routes.specs.declared.node.Node.{Node}
-use Rattle.routes.specs.declared.node.Node.TheVariants.{ANetwork, ARouter}
+use Rattle.routes.specs.declared.node.Node.TheVariants.{ARouter}
 use Rattle.routes.specs.declared.offer.Offer.{Offer}
 use Rattle.routes.specs.declared.root.Root.{Root}
 use Rattle.route_laws.specs.Forwarding.{EachHopIsNearer}
-use Rattle.route_laws.proofs.Least as least
+use Rattle.candidates.proofs.CheapestWalks.{counted, is_root}
+use Rattle.candidates.proofs.LeastWalks as least
 use Rattle.route_laws.proofs.Nearer.{IsNearer, each_hop, reached_next}
 
 -- ---- a list has a route for the prefix, or has none
@@ -58,32 +56,15 @@ has_route (r ∷ routes) prefix =
 -- ---- what a walk reaches is offered
 
 module _ (said : Said) (root : Root) where
-  leaves_within : (kind : LinkKind) (id price exit : ℕ)
-      → Counts said root root.router kind id price exit → exit < length root.addresses + 1
-  leaves_within kind id price exit c =
-      let by = c.by_interface refl in
-      let within : by.0 < length root.addresses =
-      slice_get_within root.addresses by.0 c.link.link_data by.2 in
-      omega (arith, within, by.1)
-
   pub exit_within : (target : Node) (price exit : ℕ)
       → LeadsTo said root (ARouter root.router) target price exit → exit < length root.addresses + 1
-  exit_within (ARouter b) price exit l = leaves_within _ b price exit l.0
-  exit_within (ANetwork id by) price exit l = leaves_within _ id price exit l.0
-
-  pub is_root : (node : Node) → (node ≡ ARouter root.router) ⊎ (node ≡ ARouter root.router → ⊥)
-  is_root (ANetwork id by) = inr (λ e. cc)
-  is_root (ARouter router) =
-      elim (cases_eq router root.router) [
-        | inl e ↦ inl (ap (λ n. ARouter n) e)
-        | inr other ↦ inr (λ e. let same : router ≡ root.router = cc in other same)
-      ]
+  exit_within target price exit l = (counted said root target price exit l).1
 
   offered : (prefix : Network) (cost i : ℕ) (x : IsReached said root prefix cost i) (w : Way)
       → IsWay (Leads said root) (ARouter root.router) x.node w → (o : Offer) × Offers said root o
       × (o.prefix ≡ prefix)
   offered prefix cost i x w is =
-      elim (is_root x.node) [
+      elim (is_root said root x.node) [
         | inl e ↦ (
           intra prefix (w.distance + x.more) 1,
           Within (record {

@@ -36,7 +36,7 @@ use Rattle.route_laws.specs.Outward.{EachHopLeadsToAnOriginator, HandsToward, Is
 use Rattle.route_laws.specs.Outward.IsBetter.{ByCost}
 use Rattle.route_laws.specs.Outward.IsToward.{Boundary}
 use Rattle.route_laws.proofs.Found.{HasRoute, exit_within, has_one, has_route}
-use Rattle.route_laws.proofs.Least as least
+use Rattle.candidates.proofs.LeastWalks as least
 use Rattle.route_laws.proofs.Nearer.{price_of_own, walk_there}
 use Rattle.route_laws.proofs.Outward.{Again, again_has_route, again_is_better}
 use Rattle.route_laws.proofs.Outward.{candidate_is_as_good, external_beats, external_hops}

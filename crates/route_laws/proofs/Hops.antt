@@ -1,16 +1,9 @@
 -- Each next hop of a candidate is 0, or the interface of a link of the root that counts.
-use Rattle.std.proofs.Common.{◌≡◌, ℕ, zero, suc, ◌⊎◌, inl, inr, IsTrue, arith, refl, ◌∙◌, ap, subst}
-use Rattle.std.specs.Int.{bit_at}
+use Rattle.std.proofs.Common.{◌≡◌, ℕ, ◌⊎◌, inl, inr, IsTrue, ◌∙◌, ap, subst}
 use Rattle.std.proofs.lemmas.Bool.{cases_eq}
-use Rattle.std.proofs.lemmas.Nat.Bits.{bit_at-suc, bit_at-zero}
 use Rattle.words.specs.Interfaces.{has_interface}
-use Rattle.words.specs.Prefixes.{Network}
-use Rattle.words.specs.declared.route.ExternalType.{ExternalType}
-use Rattle.words.specs.declared.route.ExternalType.TheVariants.{Type1, Type2}
 use Rattle.words.specs.declared.route.Route.{Route}
-use Rattle.lsa.specs.declared.body.ExternalLsa.{ExternalLsa}
-use Rattle.routes.proofs.Determined.{bit_of_member}
-use Rattle.routes.specs.Candidates.{IsCandidate, Offers, OffersExternal, external_offer}
+use Rattle.routes.specs.Candidates.{IsCandidate, Offers, OffersExternal}
 use Rattle.routes.specs.Candidates.Offers.{Between, External, Within}
 use Rattle.routes.specs.Links.{Leads, LeadsTo}
 use Rattle.routes.specs.Offers.{OffersWithin}
@@ -23,17 +16,8 @@ use Rattle.routes.specs.declared.node.Node.{Node}
 use Rattle.routes.specs.declared.node.Node.TheVariants.{ARouter}
 use Rattle.routes.specs.declared.offer.Offer.{Offer}
 use Rattle.routes.specs.declared.root.Root.{Root}
-use Rattle.route_laws.proofs.Found.{is_root}
-
-only_zero : (i : ℕ) → IsTrue (has_interface 1 i) → i ≡ 0
-only_zero zero t = refl
-only_zero (suc i) t = absurd (let e : bit_at 1 (suc i) ≡ 0 = bit_at-suc 1 i ∙ bit_at-zero i in
-    omega (arith, e, bit_of_member 1 (suc i) t))
-
-external_hops : (t : ExternalType) (prefix : Network) (lsa : ExternalLsa) (by : ℕ) (way : Way)
-    → (external_offer t prefix lsa by way).hops ≡ way.hops
-external_hops Type1 prefix lsa by way = refl
-external_hops Type2 prefix lsa by way = refl
+use Rattle.candidates.proofs.CheapestWalks.{is_root, only_zero}
+use Rattle.route_laws.proofs.Outward.{external_hops}
 
 -- a link of the root that counts uses the interface
 pub record IsLeft (said : Said) (root : Root) (interface : ℕ) : Type 0 where

@@ -5,39 +5,26 @@ use Rattle.std.proofs.Common.{ap, subst}
 use Rattle.std.specs.List.{Contains}
 use Rattle.std.proofs.lemmas.Bool.{cases_eq, cases_lt}
 use Rattle.words.specs.Prefixes.{IsUnder, Network, network_address}
-use Rattle.words.specs.declared.route.ExternalType.{ExternalType}
-use Rattle.words.specs.declared.route.ExternalType.TheVariants.{Type1, Type2}
 use Rattle.words.specs.declared.route.Route.{Route}
 use Rattle.words.specs.declared.route.RouteKind.{RouteKind}
 use Rattle.words.specs.declared.route.RouteKind.TheVariants.{External1, External2, Inter, Intra}
-use Rattle.lsa.specs.declared.body.ExternalLsa.{ExternalLsa}
 use Rattle.routes.proofs.Determined.{same_kind}
 use Rattle.routes.proofs.Lists.{first_is, later_is, of_cons, of_empty}
-use Rattle.routes.specs.Candidates.{IsBest, IsCandidate, Offers, OffersExternal, external_offer}
+use Rattle.routes.specs.Candidates.{IsBest, IsCandidate, Offers, OffersExternal}
 use Rattle.routes.specs.Candidates.Offers.{Between, External, Within}
-use Rattle.routes.specs.Paths.{Way}
 use Rattle.routes.specs.Routes.{IsBestAmong, IsNoWorse, IsRouteAmong, rank}
-use Rattle.routes.specs.Routes.IsNoWorse.{ByCost, ByDistance, ByKind}
+use Rattle.routes.specs.Routes.IsNoWorse.{ByKind}
 use Rattle.routes.specs.Said.{Said}
 use Rattle.routes.specs.Summaries.{OffersBetween, OffersInside}
 use Rattle.routes.specs.declared.offer.Offer.{Offer}
 use Rattle.routes.specs.declared.root.Root.{Root}
+use Rattle.candidates.proofs.CheapestWalks.{external_rank, no_worse_kind}
 
 pub within_or_not : (k : RouteKind) → (k ≡ Intra) ⊎ (k ≡ Intra → ⊥)
 within_or_not Intra = inl refl
 within_or_not Inter = inr (λ e. cc)
 within_or_not External1 = inr (λ e. cc)
 within_or_not External2 = inr (λ e. cc)
-
-rank_low : (a b : Offer) → IsNoWorse a b → rank a.kind ≤ rank b.kind
-rank_low a b (ByKind p) = omega (arith, p)
-rank_low a b (ByCost p q) = omega (arith, p)
-rank_low a b (ByDistance p q r) = omega (arith, p)
-
-external_rank : (t : ExternalType) (prefix : Network) (lsa : ExternalLsa) (by : ℕ) (way : Way)
-    → 0 < rank (external_offer t prefix lsa by way).kind
-external_rank Type1 prefix lsa by way = omega arith
-external_rank Type2 prefix lsa by way = omega arith
 
 module _ (said : Said) (root : Root) (none : (o : Offer) → OffersBetween said root o → ⊥) where
   abbrev Inside : Offer → Type 0
@@ -52,8 +39,11 @@ module _ (said : Said) (root : Root) (none : (o : Offer) → OffersBetween said 
   inside_rank o (inr x) = absurd (none o x)
 
   outside_rank : (o : Offer) → OffersExternal said root o → 0 < rank o.kind
-  outside_rank o x = let P : Offer → Type 0 = λ y. 0 < rank y.kind in
-      subst P (sym x.is) (external_rank x.lsa.kind x.prefix x.lsa x.originator x.way)
+  outside_rank o x =
+      let P : Offer → Type 0 = λ y. 1 ≤ rank y.kind in
+      let some : 1 ≤ rank o.kind = subst P (sym x.is)
+      (external_rank x.lsa.kind x.prefix x.lsa x.originator x.way) in
+      omega (arith, some)
 
   lowered : (o : Offer) → Offers said root o → rank o.kind ≡ 0 → Inside o
   lowered o (Within x) e = inl x
@@ -87,7 +77,7 @@ module _ (said : Said) (root : Root) (none : (o : Offer) → OffersBetween said 
   also_inside : (prefix : Network) (first other : Offer) → IsBest said root prefix first
       → rank first.kind ≡ 0 → IsBest said root prefix other → IsBestAmong Inside prefix other
   also_inside prefix first other k e best =
-      let low = rank_low other first (best.best first k.offered k.is_for) in
+      let low = no_worse_kind other first (best.best first k.offered k.is_for) in
       best_inside prefix other best (omega (arith, low, e))
 
   pub is_intra : (r : Route) → IsRouteAmong Inside r → r.kind ≡ Intra

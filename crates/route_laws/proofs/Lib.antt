@@ -19,7 +19,6 @@ mod Transit
 mod Uncounted
 mod Summaries
 mod Left
-pub mod Least
 pub mod Nearer
 mod Passed
 pub mod Found

@@ -39,7 +39,7 @@ use Rattle.route_laws.specs.Outward.HandsFurther.{TowardAnother, InTheArea}
 use Rattle.route_laws.specs.Outward.IsBetter.{ByCost, ByDistance, ByKind}
 use Rattle.route_laws.specs.Outward.IsToward.{Border, Boundary, Told}
 use Rattle.route_laws.proofs.Found.{exit_within, has_route}
-use Rattle.route_laws.proofs.Least as least
+use Rattle.candidates.proofs.LeastWalks as least
 use Rattle.route_laws.proofs.Nearer.{each_hop, price_of_own, walk_there}
 
 -- ---- the way from the next router

@@ -1,9 +1,8 @@
 -- The links of a router's own router-LSA are those of interfaces with Full neighbors, and of
 -- subnets.
-use Rattle.std.proofs.Common.{◌≡◌, ℕ, ◌<◌, ◌≤◌, zero, suc, ◌⊎◌, ◌&&◌, ◌||◌, ◌==◌, inl, inr, Bool}
-use Rattle.std.proofs.Common.{true, false, cond, not, IsTrue, eq-eqb, leb-true, nat_le, List, []}
-use Rattle.std.proofs.Common.{◌∷◌, map, Option, None, Some, slice_get, arith, refl, sym, ◌∙◌, ap}
-use Rattle.std.proofs.Common.{subst}
+use Rattle.std.proofs.Common.{◌≡◌, ℕ, ◌<◌, ◌≤◌, zero, suc, ◌⊎◌, ◌==◌, inl, inr, Bool, true, false}
+use Rattle.std.proofs.Common.{cond, not, IsTrue, eq-eqb, leb-true, nat_le, List, [], ◌∷◌, map}
+use Rattle.std.proofs.Common.{Option, None, Some, slice_get, arith, refl, sym, ◌∙◌, ap, subst}
 use Rattle.std.specs.List.{Contains, flat_map, list_all, list_any}
 use Rattle.std.proofs.lemmas.List.Elements.{Contains-append_cases}
 use Rattle.words.specs.Numbers.{InterfaceNumber, RouterNumber}
@@ -22,14 +21,16 @@ use Rattle.routes.proofs.Lists.{first_is, later_is, of_cons, of_empty}
 use Rattle.routes.specs.Candidates.{IsCandidate}
 use Rattle.words.specs.Interfaces.{has_interface}
 use Rattle.words.specs.declared.route.Route.{Route}
+use Rattle.route_laws.proofs.Entries.{both_true}
 use Rattle.route_laws.proofs.Hops.{of_candidate}
+use Rattle.route_laws.proofs.Labels.{not_both, or_left, or_right}
 use Rattle.routes.specs.Links.{Counts, HasLink, LeadsTo}
 use Rattle.routes.specs.Said.{Said}
 use Rattle.routes.specs.declared.node.Node.{Node}
 use Rattle.routes.specs.declared.node.Node.TheVariants.{ANetwork, ARouter}
 use Rattle.route_laws.specs.Forwarding.{IsOtherEnd, NamesItsInterfaces}
-use Rattle.route_laws.specs.Premises.{HaveCosts, HaveOwnAddresses, IsCurrent, IsNextHop}
-use Rattle.route_laws.specs.Premises.{LeadsAlong, OwnRouterLsasMeetThePremises}
+use Rattle.route_laws.specs.Premises.{HaveCosts, HaveOwnAddresses, IsCurrent, IsNextHop, LeadsAlong}
+use Rattle.route_laws.specs.Premises.{OwnRouterLsasMeetThePremises}
 
 -- ---- one interface
 
@@ -166,22 +167,6 @@ interfaces_of links = map (λ (link : Link). link.interface) links
 abbrev has_it : ℕ → List Link → Bool
 has_it address links = list_any (λ (j : Interface). j.address == address) (interfaces_of links)
 
-or_left : (x y : Bool) → x ≡ true → (x || y) ≡ true
-or_left true y e = refl
-or_left false y e = absurd (cc)
-
-or_right : (x y : Bool) → y ≡ true → (x || y) ≡ true
-or_right true y e = refl
-or_right false y e = e
-
-and_both : (x y : Bool) → (x && y) ≡ true → (x ≡ true) × (y ≡ true)
-and_both true y e = (refl, e)
-and_both false y e = absurd (cc)
-
-not_both : (x : Bool) → not x ≡ true → x ≡ true → ⊥
-not_both true e f = cc
-not_both false e f = cc
-
 is_there : (links : List Link) (place : ℕ) (at : Link) (address : ℕ) → slice_get links place
     ≡ Some at → at.interface.address ≡ address → has_it address links ≡ true
 is_there [] place at address e f = absurd (cc)
@@ -200,20 +185,20 @@ one_place [] apart m n a b p q e = absurd (cc)
 one_place (x ∷ links) apart zero zero a b p q e = refl
 one_place (x ∷ links) apart zero (suc n) a b p q e =
     let same : x ≡ a = cc in
-    let parts = and_both (not (has_it x.interface.address links))
+    let parts = both_true (not (has_it x.interface.address links))
     (are_distinct (interfaces_of links)) apart in
     absurd (not_both (has_it x.interface.address links) parts.0
     (is_there links n b x.interface.address q
     (sym e ∙ ap (λ (y : Link). y.interface.address) (sym same))))
 one_place (x ∷ links) apart (suc m) zero a b p q e =
     let same : x ≡ b = cc in
-    let parts = and_both (not (has_it x.interface.address links))
+    let parts = both_true (not (has_it x.interface.address links))
     (are_distinct (interfaces_of links)) apart in
     absurd (not_both (has_it x.interface.address links) parts.0
     (is_there links m a x.interface.address p
     (e ∙ ap (λ (y : Link). y.interface.address) (sym same))))
 one_place (x ∷ links) apart (suc m) (suc n) a b p q e =
-    let parts = and_both (not (has_it x.interface.address links))
+    let parts = both_true (not (has_it x.interface.address links))
     (are_distinct (interfaces_of links)) apart in
     ap (λ k. suc k) (one_place links parts.1 m n a b p q e)
 
@@ -232,12 +217,12 @@ cost_at : (links : List Link) → list_all (λ (link : Link). nat_le 1 link.inte
 cost_at [] costs place at e = absurd (cc)
 cost_at (x ∷ links) costs zero at e =
     let same : x ≡ at = cc in
-    let parts = and_both (nat_le 1 x.interface.cost)
+    let parts = both_true (nat_le 1 x.interface.cost)
     (list_all (λ (link : Link). nat_le 1 link.interface.cost) links) costs in
     let some : 1 ≤ x.interface.cost = leb-true 1 x.interface.cost parts.0 in
     omega (arith, some, ap (λ (y : Link). y.interface.cost) same)
 cost_at (x ∷ links) costs (suc place) at e =
-    cost_at links (and_both (nat_le 1 x.interface.cost)
+    cost_at links (both_true (nat_le 1 x.interface.cost)
     (list_all (λ (link : Link). nat_le 1 link.interface.cost) links) costs).1 place at e
 
 not_free : (said : Said) (router : RouterNumber) (links : List Link) → IsCurrent said router links

@@ -21,7 +21,7 @@ use Rattle.routes.specs.declared.offer.Offer.{Offer}
 use Rattle.route_laws.proofs.Alone.{is_stub, kind_is_stub}
 use Rattle.route_laws.proofs.Entries.{all_pass, both_true, has_link, is_no_network, is_said, kept}
 use Rattle.route_laws.proofs.Entries.{links_of, sayings}
-use Rattle.route_laws.proofs.Labels.{AreChecked, either_true, is_point, not_both}
+use Rattle.route_laws.proofs.Labels.{AreChecked, either_true, is_point, not_both, or_left, or_right}
 use Rattle.route_laws.proofs.Made.{back, from_root, linked, only_one}
 use Rattle.route_laws.proofs.NoSummaries.{is_inside, nothing_between}
 use Rattle.route_laws.specs.Worked.{ipv4, point_to_point}
@@ -75,17 +75,9 @@ has_at : (addresses : List ℕ) (n d : ℕ) → slice_get addresses n ≡ Some d
 has_at [] n d e = absurd (cc)
 has_at (a ∷ addresses) zero d e =
     let same : a ≡ d = cc in
-    either_left (nat_eq a d) (has addresses d) (eq-eqb a d same)
-  where
-    either_left : (x y : Bool) → x ≡ true → (x || y) ≡ true
-    either_left true y e = refl
-    either_left false y e = absurd (cc)
+    or_left (nat_eq a d) (has addresses d) (eq-eqb a d same)
 has_at (a ∷ addresses) (suc n) d e =
-    either_right (nat_eq a d) (has addresses d) (has_at addresses n d e)
-  where
-    either_right : (x y : Bool) → y ≡ true → (x || y) ≡ true
-    either_right true y e = refl
-    either_right false y e = e
+    or_right (nat_eq a d) (has addresses d) (has_at addresses n d e)
 
 near_step : (router b price exit : ℕ) → (router ≡ at_right → ⊥)
     → LeadsTo row_says renumbered_middle (ARouter router) (ARouter b) price exit
