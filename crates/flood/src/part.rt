@@ -54,6 +54,7 @@ fn read_answers(router: &Router, tag: &TagAnswer, price: &PriceAnswer) -> Result
         tag.now.external tag.now.word price.now.external price.now.word)) result }
     ensures address { price.now.external.prefix.address < 2 ^ 32 }
 {
+    // For the prover alone, by what the call ensures.
     check_address(price);
     if clashes(router, tag.external(), price.external()) {
         return Err(CoreError::Clash);

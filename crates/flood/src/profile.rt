@@ -1,4 +1,4 @@
-//! Which configurations are valid, and the links at the start.
+//! Which configurations are valid.
 ghost use Rattle.std.specs.Prelude.{◌≡◌, ◌==◌, ◌<◌, ◌^◌};
 ghost use Rattle.std.specs.List.{list_all, list_any};
 ghost use Rattle.event_rules.specs.Routers.{are_distinct, in_profile, is_lawful};

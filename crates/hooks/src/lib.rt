@@ -1,5 +1,10 @@
 //! Programs that a loader publishes at the hooks, and askers that run them.
 //!
+//! The programs of the four hooks stand in two copies (the kit's `left_right`): askers read one
+//! while the loader writes the other. `attach` and `detach` add the operation, swap the copies and
+//! wait until nobody reads the one that was swapped out; an asker sees the operation when it is
+//! asked next.
+//!
 //! An asker runs the program that is attached at a hook on its own thread, and never locks, blocks
 //! or allocates. The operations that it sees begin with all those that it saw before, and with all
 //! that a notice told it.

@@ -312,6 +312,7 @@ impl<L: Origin> Taker<L> for Book<L> {
             → result ≡ Err (BookError.Core CoreError.ClockBack)
             → IsOwn L.origin self.old × (clock_end ≤ max moment self.old.current.moment) }
     {
+        // For the prover alone, by what the call ensures.
         self.audit(mine);
         let at = taken_at(&event, moment, self.now().moment());
         match self.apply_anew(mine, at, event) {
@@ -344,6 +345,7 @@ impl<L: Origin> Taker<L> for Book<L> {
         ensures some { IsWantedBySome L.origin mine.old.amount prefix result }
         ensures share { (mine.new.amount ≡ mine.old.amount) × (mine.new.parts ≡ mine.old.parts) }
     {
+        // For the prover alone, by what the call ensures.
         self.audit(mine);
         self.now().wants(prefix)
     }

@@ -11,7 +11,8 @@ use std::sync::Wait;
 use std::sync::ledger::Blank;
 
 /// What the workers of one router start with, for this number of ports: the shared words with a
-/// seat for each port, an asker for each, and a ledger with a part for each.
+/// seat for each port, an asker for each, and a ledger with a part for each. The ledger (`blank`)
+/// is there for the contracts: nothing that the router does depends on it.
 #[derive(Drop)]
 pub struct Setup {
     pub(crate) blank: Blank,
