@@ -9,7 +9,7 @@ use Rattle.lsa.specs.Outcome.{Reads}
 use Rattle.lsa.specs.Reading.{lsa_in, lsa_of}
 use Rattle.adjacency.specs.lsdb.Headers.{Lsa}
 use Rattle.event_rules.specs.received.Cases.{Case}
-use Rattle.event_rules.specs.received.Updates.{after_case, case_at, goes_on, install}
+use Rattle.event_rules.specs.received.Updates.{after_case, case_at, goes_on}
 use Rattle.event_rules.specs.EventState.{EventState, on_area}
 use Rattle.event_rules.specs.Originations.{receive_self_originated}
 use Rattle.event_rules.specs.Packets.{after_lsa, after_lsas, after_unread, case_in}
@@ -50,9 +50,9 @@ newer_goes_on Case.SentJustNow is = refl
 newer_goes_on Case.Older is = refl
 
 module _ (moment number : ℕ) (lsa : Lsa) (p : EventState) where
-  -- an LSA that is newer is installed, and originated again or flushed if it is self-originated
+  -- an LSA that was installed is originated again or flushed if it is self-originated
   after_newer : (c : Case) → is_newer c ≡ true
-      → receive_self_originated moment lsa (on_area (install moment number lsa) p)
+      → receive_self_originated moment lsa (on_area (after_case c moment number lsa) p)
       ≡ after_lsa c moment number lsa p
   after_newer Case.Unreadable is = absurd (false≢true is)
   after_newer Case.NothingToFlush is = absurd (false≢true is)
@@ -80,7 +80,7 @@ module _ (moment number : ℕ) (lsa : Lsa) (p : EventState) where
 
 module _ (moment number : ℕ) (lsa : Lsa) (c : Case) where
   pub newer_received : {old middle new : KeptRouter} → is_newer c ≡ true
-      → Makes (on_area (install moment number lsa)) old middle
+      → Makes (on_area (after_case c moment number lsa)) old middle
       → Makes (receive_self_originated moment lsa) middle new
       → Makes (after_lsa c moment number lsa) old new
   newer_received is a b =

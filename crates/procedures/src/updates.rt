@@ -3,32 +3,16 @@ ghost use Rattle.std.specs.Prelude.{◌≡◌, ◌≤◌, IfOk, length};
 ghost use Rattle.lsa.specs.Reading.{lsa_in};
 ghost use Rattle.event_rules.specs.received.Updates.{goes_on};
 ghost use Rattle.event_rules.specs.Packets.{after_lsas, after_unread};
-ghost use Rattle.originations.specs.flooding.Cases.{case_of, is_newer};
+ghost use Rattle.originations.specs.flooding.Cases.{case_of};
 ghost use Rattle.procedures.specs.Making.{Does};
 ghost use Rattle.procedures.specs.Received.{goes_on_at};
 
 use crate::origination::receive_self_originated;
 use lsa::{Lsa, LsaError, read};
 use originations::Case;
-use router_state::Router;
+use router_state::{Router, is_newer};
 use std::alloc::{AllocError, Global};
 use words::{Second, Sequence};
-
-fn is_newer(case: Case) -> bool
-    ensures { result ≡ is_newer (case_of case) }
-{
-    match case {
-        Case::NothingToFlush => false,
-        Case::TooSoon => false,
-        Case::Newer => true,
-        Case::BadRequest => false,
-        Case::ImpliedAcknowledgment => false,
-        Case::Duplicate => false,
-        Case::SequenceWraps => false,
-        Case::SentJustNow => false,
-        Case::Older => false,
-    }
-}
 
 // After a bad request (BadLSReq) the rest of the Link State Update is dropped.
 fn goes_on(case: Case) -> bool
@@ -81,13 +65,12 @@ fn receive_lsa(
     };
     let header = lsa.header();
     let case = router.area().case_at(moment, number, &lsa);
+    router.receive_lsa(alloc, case, moment, number, lsa)?;
     let newer = is_newer(case);
     if newer {
-        router.receive_newer(alloc, moment, number, lsa)?;
         receive_self_originated(router, alloc, moment, &header)?;
         return Ok(true);
     }
-    router.receive_other(alloc, case, moment, number, &lsa)?;
     Ok(goes_on(case))
 }
 

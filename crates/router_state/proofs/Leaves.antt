@@ -5,6 +5,7 @@ use Rattle.std.proofs.Common.{ap, ◌∙◌}
 use Rattle.std.specs.Prelude.{Option, None, Some}
 use Rattle.std.specs.List.{fold}
 use Rattle.std.specs.FinMap as finite
+use mathlib.Core.Bool.{false≢true}
 use Rattle.words.specs.Constants.{max_age}
 use Rattle.words.specs.declared.key.Key.{Key}
 use Rattle.flooding.specs.lsdb.Headers.{Lsa, lsa_aged, lsa_key}
@@ -19,7 +20,7 @@ use Rattle.flooding.specs.received.Flooding.{flood_to}
 use Rattle.flooding.specs.received.Links.{Area, acknowledge_later, any_exchange_or_loading}
 use Rattle.flooding.specs.received.Links.{change_link}
 use Rattle.flooding.specs.received.Outcomes.{Outcome, on_database, on_links, only_at, stepped_links}
-use Rattle.flooding.specs.received.Updates.{after_case, copy_of, send_copy}
+use Rattle.flooding.specs.received.Updates.{after_case, copy_of, install, send_copy}
 use Rattle.event_rules.specs.Commands.{after_link_down, taken_down}
 use Rattle.event_rules.specs.Endings.{link_loading_done, remove_aged, request_all, stays}
 use Rattle.event_rules.specs.Endings.{with_age, with_ages}
@@ -28,6 +29,7 @@ use Rattle.event_rules.specs.Originations.{flush, flush_copy, install_and_flood}
 use Rattle.event_rules.specs.Ticks.{again, run_out, send_acknowledgments, send_all_again}
 use Rattle.event_rules.specs.Ticks.{send_hellos}
 use Rattle.event_rules.specs.Ticks.{with_hello_sent, without_acknowledgments}
+use Rattle.flooding.specs.Cases.{is_newer}
 use Rattle.flooding.specs.Links.{aged_copy, start}
 use Rattle.router_state.specs.Aging.{outcomes_in_turn}
 use Rattle.router_state.specs.Making.{interfaces_of}
@@ -132,6 +134,20 @@ module _ (moment number : ℕ) (lsa : Lsa) where
   keeps_case Case.SequenceWraps a = refl
   keeps_case Case.SentJustNow a = refl
   keeps_case Case.Older a = keeps_copy (copy_of lsa a) a
+
+  -- an LSA of the case `Newer` is installed
+  pub newer_installs : (c : Case) → is_newer c ≡ true → (o : Outcome)
+      → install moment number lsa o ≡ after_case c moment number lsa o
+  newer_installs Case.Unreadable is o = absurd (false≢true is)
+  newer_installs Case.NothingToFlush is o = absurd (false≢true is)
+  newer_installs Case.TooSoon is o = absurd (false≢true is)
+  newer_installs Case.Newer is o = refl
+  newer_installs Case.BadRequest is o = absurd (false≢true is)
+  newer_installs Case.ImpliedAcknowledgment is o = absurd (false≢true is)
+  newer_installs Case.Duplicate is o = absurd (false≢true is)
+  newer_installs Case.SequenceWraps is o = absurd (false≢true is)
+  newer_installs Case.SentJustNow is o = absurd (false≢true is)
+  newer_installs Case.Older is o = absurd (false≢true is)
 
 -- ---- aging
 

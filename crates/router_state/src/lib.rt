@@ -21,4 +21,5 @@ mod sent_hellos;
 mod times;
 
 pub use received_hellos::is_foreign;
+pub use receiving::is_newer;
 pub use router::Router;

@@ -40,7 +40,7 @@ pub returns-in_err-receive_self_originated-clause-does
 returns-in_err-receive_self_originated-clause-does c =
     refused _
     ((c.in_err-receive_self_originated.ensures c.in-Some.lsa (sym c.header-header.ensures)).settled
-    ∙ c.in_ok-receive_newer.ensures.settled)
+    ∙ c.in_ok-receive_lsa.ensures.settled)
 
 pub returns-then-newer-clause-does : goal.returns-then-newer-clause-does
 returns-then-newer-clause-does c =
@@ -57,7 +57,7 @@ returns-then-newer-clause-does c =
     (c.case_at-case.ensures
     ∙ ap (λ (a : RouterArea). case_at m n lsa a.present) c.area.ensures.parts)
     (newer_received m n lsa case (sym c.is_newer-newer.ensures ∙ c.if-newer.true)
-    c.in_ok-receive_newer.ensures.makes
+    c.in_ok-receive_lsa.ensures.makes
     (c.in_ok-receive_self_originated.ensures lsa (sym c.header-header.ensures)).makes)))
 
 pub returns-clause-goes_on : goal.returns-clause-goes_on
@@ -79,10 +79,10 @@ returns-clause-does c =
     let case = case_of c.case_at-case.result in
     done _
     (subst
-    (λ (o : Option Lsa). Makes (after_unread m n o) c.args.router.now c.receive_other.new.self)
+    (λ (o : Option Lsa). Makes (after_unread m n o) c.args.router.now c.receive_lsa.new.self)
     (sym c.in-Some.is ∙ c.in_ok-unread.ensures)
     (text_read m n lsa case
     (c.case_at-case.ensures
     ∙ ap (λ (a : RouterArea). case_at m n lsa a.present) c.area.ensures.parts)
     (other_received m n lsa case (sym c.is_newer-newer.ensures ∙ c.if-newer.false)
-    c.in_ok-receive_other.ensures.makes)))
+    c.in_ok-receive_lsa.ensures.makes)))
