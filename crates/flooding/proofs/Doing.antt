@@ -1,5 +1,6 @@
 -- What calls do to a link, to several links, and to links and database: from one form to another.
-use Rattle.std.proofs.Common.{◌≡◌, Result, Ok, Err, OnOk, IfOk, refl, ap, ◌∙◌}
+use Rattle.std.proofs.Common.{◌≡◌, Result, Ok, Err, OnOk, IfOk, IsErr, refl, sym, ap, ◌∙◌}
+use mathlib.Core.Bool.{true≢false}
 use Rattle.keyed_map.proofs.Helds.{on_ok}
 use Rattle.received.specs.Links.{Area}
 use Rattle.received.specs.Outcomes.{Outcome}
@@ -12,6 +13,11 @@ use Rattle.flooding.proofs.Sends.{drafted_none}
 pub always : {A E P : Type 0} (r : Result A E) → P → OnOk r P
 always (Ok a) p = p
 always (Err e) p = tt
+
+-- nothing is said of a call that errs
+pub on_err : {A E : Type 0} (r : Result A E) (P : Type 0) → IsErr r → OnOk r P
+on_err (Ok a) P is = absurd (true≢false (sym is))
+on_err (Err e) P is = tt
 
 pub if_ok : {A E : Type 0} {P Q : A → Type 0} (r : Result A E) → ((x : A) → P x → Q x) → IfOk r P
     → IfOk r Q

@@ -6,6 +6,7 @@ use Rattle.adjacency.specs.Floods.{flood_step, is_any}
 use Rattle.received.specs.Outcomes.{stepped_links, stepping_sends}
 use Rattle.flooding.specs.Drafted.{drafted_from}
 use Rattle.flooding.specs.Links.{draft_of, present, settled_link, with_neighbor}
+use Rattle.flooding.proofs.Doing.{on_err}
 use Rattle.flooding.proofs.Finish.{finished_counts, finished_drafts, finished_items, finishes_next}
 use Rattle.flooding.proofs.Flooded.{after_draft, after_step, begins, counts, sent_is, step, step_is}
 use Rattle.flooding.proofs.Kept.{shows_kept}
@@ -20,8 +21,8 @@ loop-i-init c = record {
 
 pub returns-in_err-one-clause-does : goal.returns-in_err-one-clause-does
 returns-in_err-one-clause-does c = record {
-  links = tt;
-  drafts = tt;
+  links = on_err c.from_residual.result _ c.from_residual.ensures.0;
+  drafts = on_err c.from_residual.result _ c.from_residual.ensures.0;
   settled =
       shows_kept settled_link c.loop-i.links c.loop-i.i c.index-links-i.result c.flood.new.self
       c.index-links-i.is c.in_err-one.ensures.does.settled

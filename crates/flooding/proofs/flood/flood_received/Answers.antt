@@ -28,7 +28,7 @@ returns c =
       installed = Some m;
       sent = None;
     }))) c.header-header.ensures
-    ∙ at_once m lsa (Some m) c.requires in
+    ∙ at_once m lsa (Some m) c.requires.age in
     record {
       does = subst (λ (l : Lsa). LinksDo (stepped_links (flood_to m sender l))
           (stepping_sends (flood_to m sender l)) c.args.links.now c.flood_links.new.links

@@ -3,6 +3,7 @@ use Rattle.flooding.specs.Drafted.{drafts_with}
 use Rattle.flooding.specs.Links.{draft_of, present, settled_link}
 use Rattle.flooding.specs.Steps.{sends_of}
 use Rattle.flooding.proofs.Changes.{after, after_draft, begins, counts}
+use Rattle.flooding.proofs.Doing.{on_err}
 use Rattle.flooding.proofs.Finish.{finished_drafts, finished_items, finishes_next}
 use Rattle.flooding.proofs.Kept.{shows_kept}
 use Rattle.flooding.proofs.steps.step_links.Goals as goal
@@ -51,8 +52,8 @@ returns g c =
 
 pub returns-in_err-take : goal.returns-in_err-take
 returns-in_err-take g c = record {
-  links = tt;
-  drafts = tt;
+  links = on_err c.from_residual.result _ c.from_residual.ensures.0;
+  drafts = on_err c.from_residual.result _ c.from_residual.ensures.0;
   settled =
       shows_kept settled_link c.loop-i.links c.loop-i.i c.index-links-i.result c.take.new.link
       c.index-links-i.is c.in_err-take.ensures.settled ∙ c.loop-i.invariant.settled;

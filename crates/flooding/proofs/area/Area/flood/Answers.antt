@@ -7,7 +7,7 @@ use Rattle.keyed_map.proofs.Helds.{on_ok}
 use Rattle.flooding.specs.Drafted.{drafts_with}
 use Rattle.flooding.specs.Kept.{KeptLink, RouterArea}
 use Rattle.flooding.specs.Links.{area_of, draft_of, flooded_copy, flooded_key, present, start}
-use Rattle.flooding.proofs.Doing.{area_rests}
+use Rattle.flooding.proofs.Doing.{area_rests, on_err}
 use Rattle.flooding.proofs.Flooded.{marks_once}
 use Rattle.flooding.proofs.Lent.{given_back, settled_back}
 use Rattle.flooding.proofs.Marking.{area_is}
@@ -22,8 +22,8 @@ returns-in_default c =
 
 pub returns-in_err-sent : goal.returns-in_err-sent
 returns-in_err-sent c = record {
-  area = tt;
-  drafts = tt;
+  area = on_err c.from_residual.result _ c.from_residual.ensures.0;
+  drafts = on_err c.from_residual.result _ c.from_residual.ensures.0;
   settled = area_is (settled_back c.self.inside.links.items c.deref_mut.result.now
       c.flood_links.new.links c.self.inside.links.len c.deref_mut.ensures.value
       c.deref_mut.ensures.len c.in_err-sent.ensures.does.settled) refl

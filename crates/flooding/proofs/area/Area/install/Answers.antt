@@ -12,6 +12,7 @@ use Rattle.received.specs.Updates.{install}
 use Rattle.flooding.specs.Drafted.{drafts_with}
 use Rattle.flooding.specs.Kept.{KeptLink, RouterArea}
 use Rattle.flooding.specs.Links.{area_of, draft_of, present, start}
+use Rattle.flooding.proofs.Doing.{on_err}
 use Rattle.flooding.proofs.Flooded.{marks_once}
 use Rattle.flooding.proofs.Lent.{given_back, settled_back}
 use Rattle.flooding.proofs.Marking.{area_is}
@@ -34,8 +35,8 @@ acknowledge_later-requires-clause-last c =
 
 pub returns-in_err-sent : goal.returns-in_err-sent
 returns-in_err-sent c = record {
-  area = tt;
-  drafts = tt;
+  area = on_err c.from_residual.result _ c.from_residual.ensures.0;
+  drafts = on_err c.from_residual.result _ c.from_residual.ensures.0;
   settled = area_is (settled_back c.self.inside.links.items c.deref_mut.result.now
       c.flood_received.new.links c.self.inside.links.len c.deref_mut.ensures.value
       c.deref_mut.ensures.len c.in_err-sent.ensures.does.settled) refl
@@ -45,13 +46,14 @@ returns-in_err-sent c = record {
 
 pub returns-in_err-acknowledge_later : goal.returns-in_err-acknowledge_later
 returns-in_err-acknowledge_later c =
+    let away = c.from_residual-in_err-acknowledge_later in
     let items = c.self.inside.links.items in
     let n = c.self.inside.links.len in
     let made = c.flood_received.new.links in
     let between = take n (made ++ drop (length made) items) in
     record {
-      area = tt;
-      drafts = tt;
+      area = on_err away.result _ away.ensures.0;
+      drafts = on_err away.result _ away.ensures.0;
       settled = area_is (settled_back between c.deref_mut-2.result.now c.acknowledge_later.new.links
           n c.deref_mut-2.ensures.value c.deref_mut-2.ensures.len
           c.in_err-acknowledge_later.ensures.settled
@@ -63,13 +65,14 @@ returns-in_err-acknowledge_later c =
 
 pub returns-in_err-install : goal.returns-in_err-install
 returns-in_err-install c =
+    let away = c.from_residual-in_err-install in
     let items = c.self.inside.links.items in
     let n = c.self.inside.links.len in
     let made = c.flood_received.new.links in
     let between = take n (made ++ drop (length made) items) in
     record {
-      area = tt;
-      drafts = tt;
+      area = on_err away.result _ away.ensures.0;
+      drafts = on_err away.result _ away.ensures.0;
       settled = area_is (settled_back between c.deref_mut-2.result.now c.acknowledge_later.new.links
           n c.deref_mut-2.ensures.value c.deref_mut-2.ensures.len
           c.in_ok-acknowledge_later.ensures.settled

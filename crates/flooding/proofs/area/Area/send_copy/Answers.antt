@@ -8,7 +8,7 @@ use Rattle.received.specs.Updates.{send_copy}
 use Rattle.flooding.specs.Drafted.{drafts_with}
 use Rattle.flooding.specs.Kept.{KeptLink, RouterArea}
 use Rattle.flooding.specs.Links.{area_of, draft_of, present, start}
-use Rattle.flooding.proofs.Doing.{area_rests}
+use Rattle.flooding.proofs.Doing.{area_rests, on_err}
 use Rattle.flooding.proofs.Lent.{given_back, settled_back}
 use Rattle.flooding.proofs.Marking.{area_is}
 use Rattle.flooding.proofs.area.Area.send_copy.Goals as goal
@@ -25,8 +25,8 @@ returns-in_default c =
 
 pub returns-in_err-send_update : goal.returns-in_err-send_update
 returns-in_err-send_update c = record {
-  area = tt;
-  drafts = tt;
+  area = on_err c.from_residual.result _ c.from_residual.ensures.0;
+  drafts = on_err c.from_residual.result _ c.from_residual.ensures.0;
   settled = area_is (settled_back c.self.inside.links.items c.deref_mut.result.now
       c.send_update.new.links c.self.inside.links.len c.deref_mut.ensures.value
       c.deref_mut.ensures.len c.in_err-send_update.ensures.settled) refl

@@ -1,4 +1,4 @@
-use Rattle.std.proofs.Common.{◌≡◌, ◌-◌, ◌<◌, ◌+◌, length, drop, get_or, map, refl, ap, ◌∙◌}
+use Rattle.std.proofs.Common.{◌≡◌, ◌-◌, ◌<◌, ◌+◌, length, drop, map, refl, ap, ◌∙◌}
 use Rattle.std.proofs.Common.{arith, sym}
 use Rattle.std.proofs.lemmas.List.{get_or-set_same, length-map}
 use Rattle.std.specs.Prelude.{Option, Some}
@@ -10,6 +10,7 @@ use Rattle.flooding.specs.Drafted.{drafts_with}
 use Rattle.flooding.specs.Kept.{KeptLink, RouterArea}
 use Rattle.flooding.specs.Links.{draft_of, present, settled_link, start}
 use Rattle.flooding.specs.Steps.{key_of_update, mark_each, one_link, sent_by}
+use Rattle.flooding.proofs.Doing.{on_err}
 use Rattle.flooding.proofs.Kept.{shows_kept}
 use Rattle.flooding.proofs.Marking.{area_is, marks}
 use Rattle.flooding.proofs.Only.{drafts_sent, links_changed}
@@ -57,8 +58,8 @@ index-requires-2 g c =
 
 pub returns-in_err-take : goal.returns-in_err-take
 returns-in_err-take g c = record {
-  area = tt;
-  drafts = tt;
+  area = on_err c.from_residual.result _ c.from_residual.ensures.0;
+  drafts = on_err c.from_residual.result _ c.from_residual.ensures.0;
   settled = area_is (shows_kept settled_link c.self.inside.links.items (c.args.number - 1)
       c.index_mut.result.now c.take.new.link c.index_mut.ensures.value
       (c.in_err-take.ensures.settled ∙ ap settled_link c.index_mut.ensures.value)) refl

@@ -5,6 +5,7 @@ use Rattle.flooding.specs.Drafted.{drafts_with}
 use Rattle.flooding.specs.Kept.{KeptLink, RouterArea}
 use Rattle.flooding.specs.Links.{area_of, draft_of, present, settled_link, start}
 use Rattle.flooding.specs.Steps.{all_links, keys_behind, mark_each, update_count, update_count_on}
+use Rattle.flooding.proofs.Doing.{on_err}
 use Rattle.flooding.proofs.Lent.{given_back, settled_back}
 use Rattle.flooding.proofs.Marked.{counts_on, marks_are, sent_at}
 use Rattle.flooding.proofs.Marking.{area_is}
@@ -28,8 +29,10 @@ mark_all-requires g c =
 
 pub returns-in_err-step_links : goal.returns-in_err-step_links
 returns-in_err-step_links g c = record {
-  area = tt;
-  drafts = tt;
+  area = on_err c.from_residual-in_err-step_links.result _
+      c.from_residual-in_err-step_links.ensures.0;
+  drafts = on_err c.from_residual-in_err-step_links.result _
+      c.from_residual-in_err-step_links.ensures.0;
   settled = area_is (settled_back c.self.inside.links.items c.deref_mut.result.now
       c.step_links.new.links c.self.inside.links.len c.deref_mut.ensures.value
       c.deref_mut.ensures.len c.in_err-step_links.ensures.settled) refl

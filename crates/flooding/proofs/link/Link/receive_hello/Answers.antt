@@ -6,7 +6,7 @@ use Rattle.adjacency.specs.Adjacencies.{after_hello}
 use Rattle.adjacency.specs.Contents.{Step}
 use Rattle.adjacency.specs.Drafts.{drafting}
 use Rattle.adjacency.specs.Neighbors.{Neighbor}
-use Rattle.adjacency.specs.Views.{begins, begun}
+use Rattle.adjacency.specs.Views.{begins, begun, settled_among}
 use Rattle.adjacency.proofs.Floods.{drafting-none}
 use Rattle.adjacency.proofs.Neighbors.{none_begins, some_begins, some_rests}
 use Rattle.flooding.specs.Kept.{KeptLink}
@@ -66,7 +66,9 @@ returns-then-begins c =
     i))
     ∙ ap (λ (s : Step). drafting delay s.sends old.drafted) starts)
     c.begin-then-begins.ensures.draft)
-    (c.begin-then-begins.ensures.settled ∙ ap (λ v. v.place.settled) c.self-inside.view_is
+    (c.begin-then-begins.ensures.settled
+    ∙ ap (settled_among c.self-inside.inside.0.1.0.before) (sym c.in-Some.is)
+    ∙ ap (λ v. v.place.settled) c.self-inside.view_is
     ∙ ap (λ (k : KeptLink). k.settled.neighbor) c.self.view_is)
 
 pub returns : goal.returns

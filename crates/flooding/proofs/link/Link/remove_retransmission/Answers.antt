@@ -1,9 +1,9 @@
-use Rattle.std.proofs.Common.{rules, arith, ap}
+use Rattle.std.proofs.Common.{rules, arith, ap, ◌∙◌}
 use Rattle.std.proofs.lemmas.Grind.{common_steps}
 use Rattle.keyed_map.proofs.Helds.{on_ok}
 use Rattle.adjacency.proofs.Floods.{drafting-none}
 use Rattle.flooding.specs.Kept.{KeptLink}
-use Rattle.flooding.proofs.Shown.{stays_drafted}
+use Rattle.flooding.proofs.Shown.{shown, stays_drafted}
 use Rattle.flooding.proofs.link.Link.remove_retransmission.Goals as goal
 
 pub returns-in-None : goal.returns-in-None
@@ -13,7 +13,7 @@ returns-in-None c =
     let sent = drafting-none l.present.interface.delay l.drafted in
     record {
       link = first_of (search rules, grind (arith, common_steps));
-      draft = cc;
+      draft = ap (λ v. v.draft) c.self-inside.view_is ∙ same ∙ sent;
       settled = first_of (search rules, grind (arith, common_steps));
     }
 
@@ -21,7 +21,7 @@ pub returns-in-Some : goal.returns-in-Some
 returns-in-Some c = record {
   link = first_of (search rules, grind (arith, common_steps));
   draft = on_ok c.remove_retransmission.result
-      (λ _. stays_drafted _ c.args.self.now c.self.view_is)
+      (λ _. stays_drafted _ c.args.self.now (ap shown c.self-inside.view_is ∙ c.self.view_is))
       c.remove_retransmission.ensures.ok;
   settled = first_of (search rules, grind (arith, common_steps));
 }

@@ -15,7 +15,7 @@ returns-in_default c =
     l.present.interface.delay l.drafted in
     record {
       link = first_of (search rules, grind (arith, common_steps));
-      draft = cc;
+      draft = ap (λ v. v.draft) c.link-inside.view_is ∙ same ∙ sent;
       settled = first_of (search rules, grind (arith, common_steps));
     }
 
@@ -26,7 +26,8 @@ returns c =
     record {
       link = first_of (search rules, grind (arith, common_steps));
       draft = on_ok c.receive_acknowledgment.result
-          (λ _. ap (λ (k : KeptLink). k.drafted) c.link.view_is
+          (λ _. ap (λ v. v.draft) c.link-inside.view_is
+          ∙ ap (λ (k : KeptLink). k.drafted) c.link.view_is
           ∙ silent (after_acknowledgment a.moment a.headers.now) l.present.neighbor
           l.present.interface.delay l.drafted)
           c.receive_acknowledgment.ensures.ok;

@@ -18,7 +18,7 @@ returns-in_default c =
     l.present.interface.delay l.drafted none in
     record {
       link = first_of (search rules, grind (arith, common_steps));
-      draft = cc;
+      draft = ap (λ v. v.draft) c.link-inside.view_is ∙ same ∙ sent;
       settled = first_of (search rules, grind (arith, common_steps));
     }
 
@@ -32,7 +32,8 @@ returns c =
       draft = on_ok c.request.result
           (λ is. is l.present.interface.delay
           ∙ (λ i. drafting l.present.interface.delay (sent_on F (sym some i))
-          (c.link.view_is i).drafted))
+          ((ap (λ v. v.draft) c.link-inside.view_is
+          ∙ ap (λ (k : KeptLink). k.drafted) c.link.view_is) i)))
           c.request.ensures.draft;
       settled = first_of (search rules, grind (arith, common_steps));
     }

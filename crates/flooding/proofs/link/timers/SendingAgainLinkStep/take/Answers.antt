@@ -1,4 +1,4 @@
-use Rattle.std.proofs.Common.{◌≡◌, rules, arith, ap}
+use Rattle.std.proofs.Common.{◌≡◌, rules, arith, ap, ◌∙◌}
 use Rattle.std.proofs.lemmas.Grind.{common_steps}
 use Rattle.std.specs.Prelude.{None}
 use Rattle.adjacency.specs.Retransmissions.{send_again}
@@ -15,6 +15,6 @@ returns-in_default c =
     c.args.database.now.present) l.present.neighbor l.present.interface.delay l.drafted none in
     record {
       link = first_of (search rules, grind (arith, common_steps));
-      draft = cc;
+      draft = ap (λ v. v.draft) c.link-inside.view_is ∙ same ∙ sent;
       settled = first_of (search rules, grind (arith, common_steps));
     }
