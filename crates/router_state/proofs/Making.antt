@@ -1,6 +1,6 @@
 -- The parts of an event in turn, and one part at one router.
 use Rattle.std.proofs.Common.{◌≡◌, Bool, true, false, cond, List, [], ◌∷◌, ◌++◌, length, Result}
-use Rattle.std.proofs.Common.{Err, refl, sym, ap, subst, ◌∙◌}
+use Rattle.std.proofs.Common.{IsErr, refl, sym, ap, subst, ◌∙◌}
 use Rattle.std.proofs.lemmas.List.{length-map}
 use Rattle.std.specs.List.{fold}
 use Rattle.keyed_map.proofs.Helds.{on_ok}
@@ -11,7 +11,7 @@ use Rattle.event_rules.specs.EventState.{EventState, on_area, on_router}
 use Rattle.event_rules.specs.Routers.{Router}
 use Rattle.flooding.specs.Drafted.{drafts_with}
 use Rattle.flooding.specs.Links.{start}
-use Rattle.flooding.proofs.Doing.{always}
+use Rattle.flooding.proofs.Doing.{always, on_err}
 use Rattle.flooding.proofs.Sends.{drafted_none}
 use Rattle.router_state.specs.Aging.{outcomes_in_turn}
 use Rattle.router_state.specs.Kept.{KeptRouter}
@@ -93,9 +93,9 @@ pub done : {X E : Type 0} {f : EventState → EventState} {old new : KeptRouter}
     → Makes f old new → Does f old new r
 done r a = record { settled = a.settled; makes = always r a }
 
-pub refused : {X E : Type 0} {f : EventState → EventState} {old new : KeptRouter} (e : E)
-    → new.settled ≡ old.settled → Does {X = X} f old new (Err e)
-refused e stays = record { settled = stays; makes = tt }
+pub refused : {X E : Type 0} {f : EventState → EventState} {old new : KeptRouter} (r : Result X E)
+    → IsErr r → new.settled ≡ old.settled → Does f old new r
+refused r is stays = record { settled = stays; makes = on_err r is }
 
 -- the call comes after a part
 pub then_does : {X E : Type 0} {f g : EventState → EventState} {old middle new : KeptRouter}

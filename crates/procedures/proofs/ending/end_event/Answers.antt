@@ -6,12 +6,14 @@ use Rattle.procedures.proofs.ending.end_event.Goals as goal
 
 pub returns-in_err-fill : goal.returns-in_err-fill
 returns-in_err-fill c =
-    refused _ (c.in_err-fill.ensures c.args.router.now.settled.area.links
-    (sym c.requires.interfaces) (sym c.requires.before)).settled
+    refused c.from_residual.result c.from_residual.ensures.0
+    (c.in_err-fill.ensures c.args.router.now.settled.area.links (sym c.requires.interfaces)
+    (sym c.requires.before)).settled
 
 pub returns-in_err-refill : goal.returns-in_err-refill
 returns-in_err-refill c =
-    refused _ (c.in_err-refill.ensures.settled
+    refused c.from_residual-in_err-refill.result c.from_residual-in_err-refill.ensures.0
+    (c.in_err-refill.ensures.settled
     ∙ (c.in_ok-fill.ensures c.args.router.now.settled.area.links (sym c.requires.interfaces)
     (sym c.requires.before)).settled)
 

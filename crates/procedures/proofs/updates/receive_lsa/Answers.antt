@@ -38,7 +38,8 @@ returns-then-newer-clause-goes_on c =
 pub returns-in_err-receive_self_originated-clause-does
     : goal.returns-in_err-receive_self_originated-clause-does
 returns-in_err-receive_self_originated-clause-does c =
-    refused _
+    let away = c.from_residual-in_err-receive_self_originated in
+    refused away.result away.ensures.0
     ((c.in_err-receive_self_originated.ensures c.in-Some.lsa (sym c.header-header.ensures)).settled
     ∙ c.in_ok-receive_lsa.ensures.settled)
 

@@ -9,7 +9,8 @@ loop-i-init c = record { goes = λ new makes. makes; links = refl; settled = ref
 
 pub returns-in_err-goes : goal.returns-in_err-goes
 returns-in_err-goes c =
-    refused _ (c.in_err-goes.ensures.does.settled ∙ c.loop-i.invariant.settled)
+    refused c.from_residual.result c.from_residual.ensures.0
+    (c.in_err-goes.ensures.does.settled ∙ c.loop-i.invariant.settled)
 
 pub returns-then-not-goes : goal.returns-then-not-goes
 returns-then-not-goes c =

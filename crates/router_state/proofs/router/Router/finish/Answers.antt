@@ -19,7 +19,7 @@ pub returns-in_err-step_links : goal.returns-in_err-step_links
 returns-in_err-step_links c =
     let m = c.args.moment in
     let a : Area = c.self.inside.area.present in
-    refused _
+    refused c.from_residual.result c.from_residual.ensures.0
     (area_does (request_all m) (keeps_requests m) (appends_requests m) _ c.args.self.now
     c.self.inside.area c.step_links.new.self _ c.self.view_is refl c.in_err-step_links.ensures
     (all_are m (λ (d : Database) (l : Link). request_next m) a)).settled
@@ -28,7 +28,7 @@ pub returns-in_err-remove_aged : goal.returns-in_err-remove_aged
 returns-in_err-remove_aged c =
     let m = c.args.moment in
     let a : Area = c.self.inside.area.present in
-    refused _
+    refused c.from_residual-in_err-remove_aged.result c.from_residual-in_err-remove_aged.ensures.0
     (area_then (remove_aged m) (keeps_removal m) (appends_removal m) _ c.args.self.now
     c.step_links.new.self c.remove_aged.new.area _ c.self.view_is
     (area_does (request_all m) (keeps_requests m) (appends_requests m) _ c.args.self.now

@@ -14,7 +14,7 @@ pub returns-in_err-originate : goal.returns-in_err-originate
 returns-in_err-originate c =
     let m = c.args.moment in
     let lsa = c.args.lsa in
-    refused _
+    refused c.from_residual.result c.from_residual.ensures.0
     (area_does (install_and_flood m lsa) (keeps_install m lsa) (appends_install m lsa) _
     c.args.self.now c.self.inside.area c.originate.new.self _ c.self.view_is refl
     c.in_err-originate.ensures refl).settled
@@ -26,7 +26,7 @@ returns-in_err-remove c =
     let flooded = area_does (install_and_flood m lsa) (keeps_install m lsa) (appends_install m lsa)
     _ c.args.self.now c.self.inside.area c.originate.new.self _ c.self.view_is refl
     c.in_ok-originate.ensures refl in
-    refused _
+    refused c.from_residual-in_err-remove.result c.from_residual-in_err-remove.ensures.0
     ((λ i. record c.args.self.now.settled {
       id = c.self.inside.id;
       area = c.originate.new.self.settled;

@@ -14,7 +14,7 @@ pub returns-in_err-step_links : goal.returns-in_err-step_links
 returns-in_err-step_links c =
     let m = c.args.moment in
     let a : Area = c.self.inside.area.present in
-    refused _
+    refused c.from_residual.result c.from_residual.ensures.0
     (area_does (send_all_again m) (keeps_again m) (appends_again m) _ c.args.self.now
     c.self.inside.area c.step_links.new.self _ c.self.view_is refl c.in_err-step_links.ensures
     (all_are m (λ (d : Database) (l : Link). send_again m l.interface.retransmit_interval d)
@@ -24,7 +24,7 @@ pub returns-in_err-step_links-2 : goal.returns-in_err-step_links-2
 returns-in_err-step_links-2 c =
     let m = c.args.moment in
     let a : Area = c.self.inside.area.present in
-    refused _
+    refused c.from_residual-in_err-step_links-2.result c.from_residual-in_err-step_links-2.ensures.0
     (area_then (send_acknowledgments m) (keeps_acknowledgments m) (appends_acknowledgments m) _
     c.args.self.now c.step_links.new.self c.step_links-2.new.self _ c.self.view_is
     (area_does (send_all_again m) (keeps_again m) (appends_again m) _ c.args.self.now

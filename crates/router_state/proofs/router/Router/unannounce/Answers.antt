@@ -20,7 +20,7 @@ invariant_of-self-2 c =
 
 pub returns-in_err-remove : goal.returns-in_err-remove
 returns-in_err-remove c =
-    refused _
+    refused c.from_residual.result c.from_residual.ensures.0
     ((λ i. record c.args.self.now.settled {
       id = c.self.inside.id;
       area = c.self.inside.area.settled;
