@@ -6,6 +6,7 @@ use Rattle.flooding.specs.Links.{come_of_age}
 use Rattle.flooding.proofs.Acknowledged.{from}
 use Rattle.router_state.proofs.Onwards.{from_end, from_next}
 use Rattle.flooding.proofs.Sends.{drafted_none}
+use Rattle.flooding.proofs.Doing.{on_err}
 use Rattle.router_state.specs.Aging.{each_come_of_age}
 use Rattle.router_state.proofs.OfAge.{drafted_after}
 use Rattle.router_state.proofs.aging.each_come_of_age.Goals as goal
@@ -44,8 +45,8 @@ loop-i-preserved c =
 
 pub returns-in_err-come_of_age : goal.returns-in_err-come_of_age
 returns-in_err-come_of_age c = record {
-  area = tt;
-  drafts = tt;
+  area = on_err c.from_residual.result c.from_residual.ensures.0;
+  drafts = on_err c.from_residual.result c.from_residual.ensures.0;
   settled = c.in_err-come_of_age.ensures.settled ∙ c.loop-i.invariant.settled;
   router = c.in_err-come_of_age.ensures.router ∙ c.loop-i.invariant.router;
 }

@@ -3,6 +3,7 @@ use Rattle.flooding.proofs.Acknowledged.{from}
 use Rattle.flooding.proofs.Sends.{drafted_none}
 use Rattle.router_state.proofs.Onwards.{from_end, from_next}
 use Rattle.flooding.specs.Links.{without_acknowledged}
+use Rattle.flooding.proofs.Doing.{on_err}
 use Rattle.router_state.specs.Aging.{without_each}
 use Rattle.router_state.proofs.Stepped.{areas}
 use Rattle.router_state.proofs.aging.remove_each.Goals as goal
@@ -32,8 +33,8 @@ loop-i-preserved c =
 
 pub returns-in_err-remove_acknowledged : goal.returns-in_err-remove_acknowledged
 returns-in_err-remove_acknowledged c = record {
-  area = tt;
-  drafts = tt;
+  area = on_err c.from_residual.result c.from_residual.ensures.0;
+  drafts = on_err c.from_residual.result c.from_residual.ensures.0;
   settled = c.in_err-remove_acknowledged.ensures.settled ∙ c.loop-i.invariant.settled;
   router = c.in_err-remove_acknowledged.ensures.router ∙ c.loop-i.invariant.router;
 }
