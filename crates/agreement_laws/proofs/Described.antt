@@ -1,5 +1,5 @@
 -- What one neighbor described the other holds, or it came there and was lost.
-use Rattle.std.proofs.Common.{◌≡◌, ◌⊎◌, inl, inr, List, refl, subst}
+use Rattle.std.proofs.Common.{◌⊎◌, inl, inr, List, subst}
 use Rattle.std.specs.List.{Contains}
 use Rattle.lsdb.specs.Headers.{Header}
 use Rattle.flood_laws.proofs.Lists.{of_empty}
@@ -10,10 +10,7 @@ use Rattle.agreement_laws.specs.Answers.{IsAccepted, IsOf, IsOpening}
 use Rattle.agreement_laws.specs.Described.{WhatWasDescribedIsHeld}
 use Rattle.agreement_laws.specs.Held.{WasLost, WhatWasAcceptedIsHeld}
 use Rattle.agreement_laws.specs.Together.{TheExchangeEndsTogether}
-
-back : (side : Side) → other_side (other_side side) ≡ side
-back Side.Left = refl
-back Side.Right = refl
+use Rattle.agreement_laws.proofs.Together.{back}
 
 pub described_is_held : TheExchangeEndsTogether → WhatWasAcceptedIsHeld → WhatWasDescribedIsHeld
 described_is_held together held ends side now earlier h mine its full current its_current once name

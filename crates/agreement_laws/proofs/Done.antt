@@ -28,12 +28,11 @@ use Rattle.adjacency.specs.Adjacencies.{enter_exstart, mismatch_step, requests_n
 use Rattle.adjacency.specs.Contents.{Step, no_sends}
 use Rattle.adjacency.specs.Descriptions.{Verdict, accept, act, after_description, announced_more}
 use Rattle.adjacency.specs.Descriptions.{as_received, changes_options, exchange_done}
-use Rattle.adjacency.specs.Descriptions.{send_description}
-use Rattle.adjacency.specs.Descriptions.{exchange_over, expected_sequence, in_state, is_duplicate}
-use Rattle.adjacency.specs.Descriptions.{is_initial_description, is_kept, is_over_for, judge}
-use Rattle.adjacency.specs.Descriptions.{knows_types, master_goes_on, negotiated_neighbor}
-use Rattle.adjacency.specs.Descriptions.{same_flag, slave_replies, with_requests}
-use Rattle.adjacency.specs.Descriptions.{without_old_description}
+use Rattle.adjacency.specs.Descriptions.{send_description, exchange_over, expected_sequence}
+use Rattle.adjacency.specs.Descriptions.{in_state, is_duplicate, is_initial_description, is_kept}
+use Rattle.adjacency.specs.Descriptions.{is_over_for, judge, knows_types, master_goes_on}
+use Rattle.adjacency.specs.Descriptions.{negotiated_neighbor, same_flag, slave_replies}
+use Rattle.adjacency.specs.Descriptions.{with_requests, without_old_description}
 use Rattle.adjacency.specs.Floods.{flooding, without_met_request}
 use Rattle.adjacency.specs.Neighbors.{Neighbor, is_exchange_or_later}
 use Rattle.adjacency.specs.Requests.{request_next}
@@ -65,6 +64,7 @@ use Rattle.agreement_laws.specs.HeldWasTold.{NothingIsLeftToDescribe, is_exchang
 use Rattle.agreement_laws.proofs.Verdicts.{as_slave_or_master, first_two, mismatch_or_accepted}
 use Rattle.agreement_laws.proofs.Steps as steps
 use Rattle.agreement_laws.proofs.AtInterface as interface
+use Rattle.flood_laws.proofs.Lists.{none_asked}
 
 -- ---- all entries fit
 
@@ -297,10 +297,6 @@ ages_kept before moment (e ∷ es) o h =
     (flood_from_nobody moment (lsa_now moment e.1) o) o
     (λ is. flood_kept moment None (lsa_now moment e.1) o h) (λ is. h))
 
-keys_any : (keys : List Key) → AllByRecursion (λ key. Unit {0}) keys
-keys_any [] = tt
-keys_any (key ∷ keys) = (tt, keys_any keys)
-
 hello_heard : (own moment number from : ℕ) (hello : Hello) (link : Option Link) (o : Outcome)
     → Holds IsDone (neighbor_on link) → OnOutcome o
     → OnOutcome (receive_hello_on own moment number from hello link o)
@@ -341,7 +337,7 @@ parts_keep = record {
       (mismatched moment) o h;
   acknowledgment = λ moment number headers o h. one_keeps IsDone moment number
       (λ n. no_sends (after_acknowledgment moment headers n)) (acknowledged moment headers) o h;
-  due = λ moment r own. keys_any (due_keys moment r);
+  due = λ moment r own. none_asked (due_keys moment r);
   inactive = λ moment o h. each_link_keeps IsDone (run_out moment)
       (λ link at. interface.inactive (Holds IsDone) tt moment link.interface.dead_interval
       (old_description moment link.interface.dead_interval) link.neighbor at) o.area.links h;

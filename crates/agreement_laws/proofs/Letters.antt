@@ -26,44 +26,26 @@ use Rattle.event_rules.specs.declared.model.Out.{Out}
 use Rattle.event_rules.specs.LsaInstances.{LsaInstance, instance_of_header, instance_of_lsa}
 use Rattle.event_rules.specs.LsaInstances.{instances_in_update}
 use Rattle.event_rules.specs.Packing.{acknowledgments, at_interface, bodies, descriptions}
-use Rattle.event_rules.specs.Packing.{first_key}
-use Rattle.event_rules.specs.Packing.{header_size, hellos, in_key_order, lsa_size, out_of, outs_at}
-use Rattle.event_rules.specs.Packing.{outs_of, packed_groups, packet_of, requests, sent_lsa}
-use Rattle.event_rules.specs.Packing.{update_of}
-use Rattle.event_rules.specs.Packing.{IsSentText, updates}
+use Rattle.event_rules.specs.Packing.{first_key, header_size, hellos, in_key_order, lsa_size}
+use Rattle.event_rules.specs.Packing.{out_of, outs_at, outs_of, packed_groups, packet_of, requests}
+use Rattle.event_rules.specs.Packing.{sent_lsa, update_of, IsSentText, updates}
 use Rattle.event_rules.proofs.Rooms.{both, mapped_all, order_all, packed_all}
 use Rattle.flood_laws.specs.Keeping.{AreTexts, AreTextsAt, IsInstance}
-use Rattle.flood_laws.proofs.Known.{of_member}
+use Rattle.flood_laws.proofs.Known.{of_member, paired_all}
 use Rattle.flood_laws.proofs.Lists.{later_is, of_cons, of_empty}
 use Rattle.flood_laws.proofs.Taken.{named_first}
+use Rattle.flood_laws.proofs.Read.{read_unless}
+use Rattle.flood_laws.proofs.Packed.{chosen_of}
+use Rattle.flood_laws.proofs.Keeping.{name_read}
 use Rattle.agreement_laws.specs.NeighborHistories.{text_at}
 use Rattle.agreement_laws.specs.NeighborsAgree.{instances_told}
-use Rattle.agreement_laws.proofs.ReadNames.{name_read}
 
 -- ---- lists
-
--- what is chosen from each content
-chosen_of : {Y : Type 0} (f : Content → Option Y) (R : Content → Type 0) (P : Y → Type 0)
-    → ((c : Content) → R c → AllByRecursion P (cons_option (f c) [])) → (cs : List Content)
-    → AllByRecursion R cs → AllByRecursion P (filter_map f cs)
-chosen_of {Y = Y} f R P each [] p = tt
-chosen_of {Y = Y} f R P each (c ∷ cs) p =
-    in_front (f c) (each c p.0) (filter_map f cs) (chosen_of f R P each cs p.1)
-  where
-    in_front : (o : Option Y) → AllByRecursion P (cons_option o []) → (ys : List Y)
-        → AllByRecursion P ys → AllByRecursion P (cons_option o ys)
-    in_front None q ys r = r
-    in_front (Some y) q ys r = (q.0, r)
 
 given_all : {X : Type 0} (A : Type 0) (P : X → Type 0) (xs : List X) → (A → AllByRecursion P xs)
     → AllByRecursion (λ (x : X). A → P x) xs
 given_all A P [] f = tt
 given_all A P (x ∷ xs) f = ((λ a. (f a).0), given_all A P xs (λ a. (f a).1))
-
-paired : {X : Type 0} (P R : X → Type 0) (xs : List X) → AllByRecursion P xs → AllByRecursion R xs
-    → AllByRecursion (λ (x : X). P x × R x) xs
-paired P R [] p r = tt
-paired P R (x ∷ xs) p r = ((p.0, r.0), paired P R xs p.1 r.1)
 
 -- ---- the contents of a packet
 
@@ -189,7 +171,7 @@ module _ (R : Content → Type 0) where
         (mapped_all (out_of own n) (λ b. (n ≡ number → BearsSent link.interface.delay b)
         × IsSentText own b) OfOut
         (λ b k same. (link.interface.delay, b, k.0 same, refl, k.1)) bs
-        (paired (λ b. n ≡ number → BearsSent link.interface.delay b) (IsSentText own) bs
+        (paired_all (λ b. n ≡ number → BearsSent link.interface.delay b) (IsSentText own) bs
         (given_all (n ≡ number) (BearsSent link.interface.delay) bs
         (λ same. bodies_bear link.interface.delay (filter_map (at_interface n) sends)
         (at_number n same sends so))) texts.0))
@@ -223,10 +205,6 @@ module _ (R : Content → Type 0) (ranged : (lsa : Lsa) → R (Content.Updates l
     OfAcknowledgment : (headers : List Header) (header : Header) → b ≡ body.Acknowledgment headers
         → Contains headers header → R (Content.Acknowledges header) → instance_of_header header
         ≡ name → IsOfSent b name
-
-  abbrev read_unless : List ℕ → Option LsaFault → Option Lsa
-  read_unless bytes None = Some (lsa_of bytes)
-  read_unless bytes (Some f) = None
 
   in_update : (b : PacketBody) (delay : ℕ) (lsas : List (List ℕ)) (name : LsaInstance)
       → AllByRecursion (IsTextOfSent R delay) lsas → Contains (instances_in_update lsas) name

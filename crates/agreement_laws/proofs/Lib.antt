@@ -21,7 +21,6 @@ mod Sayings
 mod Said
 mod SaidWalk
 mod Names
-mod ReadNames
 mod Letters
 mod Remembering
 mod Since

@@ -1,6 +1,6 @@
 -- An exchange of Descriptions ends only together.
-use Rattle.std.proofs.Common.{◌≡◌, ℕ, Bool, true, false, not, ◌⊎◌, inl, inr, List, refl}
-use Rattle.std.proofs.Common.{sym, ap, subst, ◌∙◌, arith}
+use Rattle.std.proofs.Common.{◌≡◌, ℕ, Bool, true, false, not, ◌⊎◌, inl, inr, List, refl, sym, ap}
+use Rattle.std.proofs.Common.{subst, ◌∙◌, arith}
 use Rattle.std.specs.Prelude.{nat_lt}
 use Rattle.std.proofs.lemmas.Bool.{ltb-true}
 use Rattle.packet.specs.declared.model.Description.{Description}
@@ -13,7 +13,7 @@ use Rattle.agreement_laws.specs.Together.{IsDone, NoneIsMistaken, NumbersServeOn
 use Rattle.agreement_laws.specs.Together.{TheExchangeEndsTogether, WasAccepted}
 use Rattle.agreement_laws.proofs.Done.{exchange_then}
 
-back : (side : Side) → other_side (other_side side) ≡ side
+pub back : (side : Side) → other_side (other_side side) ≡ side
 back Side.Left = refl
 back Side.Right = refl
 

@@ -9,7 +9,7 @@ use Rattle.std.proofs.lemmas.Bool.{eqb-true, ltb-false}
 use Rattle.words.specs.declared.key.Key.{Key}
 use Rattle.lsa.specs.Origination.{sealed_lsa}
 use Rattle.lsa.specs.Reading.{body_fills, checksum_is_right, fault_of, first_of, is_known_type}
-use Rattle.lsa.specs.Reading.{lsa_in, lsa_of}
+use Rattle.lsa.specs.Reading.{lsa_in}
 use Rattle.lsa.specs.declared.body.LsaBody.{LsaBody}
 use Rattle.lsa.specs.declared.fault.LsaFault.{LsaFault}
 use Rattle.lsa.specs.declared.fault.LsaFault.TheVariants as wrong
@@ -51,6 +51,7 @@ use Rattle.flood_laws.proofs.Lists.{of_cons, of_empty}
 use Rattle.flood_laws.proofs.Retransmitted.{IsItsOwn, OwnKeys, There, all_there, own_at, read}
 use Rattle.flood_laws.proofs.Retransmitted as retransmitted
 use Rattle.flood_laws.proofs.Worlds.{mapped}
+use Rattle.flood_laws.proofs.Read.{read_unless}
 use Rattle.agreement_laws.specs.Exchanged.{Converses, Tells, conversation_with, headers_told}
 use Rattle.agreement_laws.proofs.Ages.{aged_at_least}
 use Rattle.agreement_laws.proofs.Describing.{held, instance_at}
@@ -60,10 +61,6 @@ use Rattle.agreement_laws.proofs.Parts.{SaidBy, held_marked}
 use Rattle.agreement_laws.proofs.Settling.{Has, Saying, Settling, settling_more}
 
 -- ---- ages of LSAs that are parsed, and of those that are originated
-
-abbrev read_unless : List ℕ → Option LsaFault → Option Lsa
-read_unless bytes None = Some (lsa_of bytes)
-read_unless bytes (Some f) = None
 
 not_too_old : (a b c d e f g : Bool) (s : LsaFault) (t : LsaFault) (u : LsaFault) (v : LsaFault)
     (w : LsaFault) (x : LsaFault) (y : LsaFault)

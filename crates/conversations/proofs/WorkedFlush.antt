@@ -1,10 +1,11 @@
 -- A router-LSA that is received with MaxSequenceNumber.
-use Rattle.std.proofs.Common.{◌≡◌, ℕ, ◌<◌, ◌==◌, pos, Bool, true, false, cond, not, ◌&&◌, ◌||◌}
-use Rattle.std.proofs.Common.{List, [], ◌∷◌, Option, None, Some, refl, sym, ap, ◌∙◌, subst, is_some}
-use Rattle.std.proofs.Common.{drop, arith}
+use Rattle.std.proofs.Common.{◌≡◌, ℕ, ◌<◌, ◌==◌, pos, true, false, cond, not, ◌&&◌, ◌||◌, List, []}
+use Rattle.std.proofs.Common.{◌∷◌, Option, None, Some, refl, sym, ap, ◌∙◌, subst, is_some, drop}
+use Rattle.std.proofs.Common.{arith}
 use Rattle.std.specs.FinMap as finite
 use Rattle.std.specs.Cmp.{int_cmp_total, nat_cmp_total, tied_itself}
 use Rattle.std.specs.Ordering.{int_cmp, is_eq, ordering_then}
+use Rattle.std.proofs.lemmas.Bool.{or_right}
 use Rattle.words.specs.declared.key.Key.{Key}
 use Rattle.lsdb.specs.Copies.{Database, DatabaseCopy, age_out, install_flooded, installed_just_now}
 use Rattle.lsdb.specs.Copies.{newer_than_copy}
@@ -153,13 +154,9 @@ is_flushed r link n moment lsa mine =
           still.1
           ∙ ap (λ b. cond b (Some (record c {
             sent = still.0;
-          })) None) (owed_or (not (is_max_age (age_at 3600 moment moment)))
+          })) None) (or_right (not (is_max_age (age_at 3600 moment moment)))
           (any_has_retransmission key o.area.links) owed_by),
     )
-  where
-    owed_or : (a b : Bool) → b ≡ true → (a || b) ≡ true
-    owed_or true b e = refl
-    owed_or false b e = e
 
 flushes_it : (r new : Router) (link : Link) (n : Neighbor) (moment : ℕ) (bytes : List ℕ) (lsa : Lsa)
     (own : DatabaseCopy) (outs : List Out) → ComesBack r n moment lsa own

@@ -1,7 +1,8 @@
 -- An LSA in the router's own name that it doesn't originate.
-use Rattle.std.proofs.Common.{◌≡◌, ℕ, ◌<◌, ◌==◌, Bool, true, false, cond, not, ◌||◌, Option, None}
-use Rattle.std.proofs.Common.{Some, refl, sym, ap, ◌∙◌, subst, is_some}
+use Rattle.std.proofs.Common.{◌≡◌, ℕ, ◌<◌, ◌==◌, true, false, cond, not, ◌||◌, Option, None, Some}
+use Rattle.std.proofs.Common.{refl, sym, ap, ◌∙◌, subst, is_some}
 use Rattle.std.specs.FinMap as finite
+use Rattle.std.proofs.lemmas.Bool.{or_right}
 use Rattle.words.specs.declared.key.Key.{Key}
 use Rattle.lsdb.specs.Copies.{Database, DatabaseCopy, age_out, install_flooded}
 use Rattle.lsdb.specs.Headers.{Header, Lsa, header_aged, lsa_aged, lsa_key}
@@ -16,8 +17,7 @@ use Rattle.received.specs.Outcomes.{Outcome, on_database}
 use Rattle.event_rules.specs.Endings.{end_event, stays_as}
 use Rattle.event_rules.specs.EventState.{EventState, flood_from_nobody, on_area}
 use Rattle.event_rules.specs.Originations.{announced_body, flush_copy, is_wanted}
-use Rattle.event_rules.specs.Originations.{originate_or_flush}
-use Rattle.event_rules.specs.Originations.{router_body, router_key, wanted_body}
+use Rattle.event_rules.specs.Originations.{originate_or_flush, router_body, router_key, wanted_body}
 use Rattle.event_rules.specs.Packets.{after_lsa}
 use Rattle.event_rules.specs.Packing.{outs_of}
 use Rattle.event_rules.specs.Routers.{Router}
@@ -99,14 +99,10 @@ is_flushed r link n moment lsa =
           still.1
           ∙ ap (λ b. cond b (Some (record c {
             sent = still.0;
-          })) None) (owed_or (not (is_max_age (age_at 3600 moment moment)))
+          })) None) (or_right (not (is_max_age (age_at 3600 moment moment)))
           (any_has_retransmission key o.area.links) owed_by);
       on_list = listed;
     }
-  where
-    owed_or : (a b : Bool) → b ≡ true → (a || b) ≡ true
-    owed_or true b e = refl
-    owed_or false b e = e
 
 pub unannounced : WhatIsNotAnnouncedIsFlushed
 unannounced r new link n moment bytes lsa outs here text event =

@@ -6,7 +6,7 @@ use Rattle.std.proofs.Common.{Option, None, Some, refl, sym, subst}
 use Rattle.std.specs.Prelude.{◌==◌, nat_le}
 use Rattle.std.specs.List.{AllByRecursion, Contains, cons_option, filter_map, list_all}
 use Rattle.std.specs.FinMap as finite
-use Rattle.std.proofs.lemmas.Bool.{eqb-true}
+use Rattle.std.proofs.lemmas.Bool.{eqb-true, and_parts}
 use Rattle.words.specs.Prefixes.{Network}
 use Rattle.words.specs.declared.key.Key.{Key}
 use Rattle.words.specs.declared.route.External.{External}
@@ -31,8 +31,7 @@ use Rattle.received.specs.Outcomes.{Outcome, sends_at, on_database, on_links, on
 use Rattle.received.specs.Updates.{after_case, case_at, goes_on}
 use Rattle.event_rules.specs.Commands.{after_redistribute, after_withdraw, announce, announce_as}
 use Rattle.event_rules.specs.Commands.{answered_external, end_want, is_announced_as, is_for}
-use Rattle.event_rules.specs.Commands.{ls_infinity}
-use Rattle.event_rules.specs.Commands.{taken_down, unannounce}
+use Rattle.event_rules.specs.Commands.{ls_infinity, taken_down, unannounce}
 use Rattle.event_rules.specs.Endings.{originate_router_lsa, put_off_router_lsa, start_event}
 use Rattle.event_rules.specs.Endings.{link_loading_done, loading_done, end_event, is_current}
 use Rattle.event_rules.specs.Endings.{links_differ, request_all, stays}
@@ -40,19 +39,15 @@ use Rattle.event_rules.specs.Events.{OwnPart}
 use Rattle.event_rules.specs.Originations.{due_keys, external_key, flush, flush_copy}
 use Rattle.event_rules.specs.Originations.{forget_originations, has_max_sequence, has_room}
 use Rattle.event_rules.specs.Originations.{install_and_flood, is_wanted, may_originate}
-use Rattle.event_rules.specs.Originations.{new_instance}
-use Rattle.event_rules.specs.Originations.{originate, originate_anyway, originate_body}
-use Rattle.event_rules.specs.Originations.{originate_due}
-use Rattle.event_rules.specs.Originations.{originate_or_flush, originate_or_put_off}
-use Rattle.event_rules.specs.Originations.{put_off, receive_self_originated, router_key}
-use Rattle.event_rules.specs.Originations.{wanted_body}
+use Rattle.event_rules.specs.Originations.{new_instance, originate, originate_anyway}
+use Rattle.event_rules.specs.Originations.{originate_body, originate_due, originate_or_flush}
+use Rattle.event_rules.specs.Originations.{originate_or_put_off, put_off, receive_self_originated}
+use Rattle.event_rules.specs.Originations.{router_key, wanted_body}
 use Rattle.event_rules.specs.Packets.{after_lsa, after_lsas, after_packet, receive_acknowledgment}
-use Rattle.event_rules.specs.Packets.{receive_hello}
-use Rattle.event_rules.specs.Packets.{after_self_originated, after_unread, case_in}
-use Rattle.event_rules.specs.Packets.{receive_description}
-use Rattle.event_rules.specs.Packets.{any_exchange_or_later, from_neighbor, is_from, is_heard}
-use Rattle.event_rules.specs.Packets.{is_hello}
-use Rattle.event_rules.specs.Packets.{is_there, receive_request, requested_lsas}
+use Rattle.event_rules.specs.Packets.{receive_hello, after_self_originated, after_unread, case_in}
+use Rattle.event_rules.specs.Packets.{receive_description, any_exchange_or_later, from_neighbor}
+use Rattle.event_rules.specs.Packets.{is_from, is_heard, is_hello, is_there, receive_request}
+use Rattle.event_rules.specs.Packets.{requested_lsas}
 use Rattle.event_rules.specs.EventState.{EventState, flood_from_nobody, on_area, on_router}
 use Rattle.event_rules.specs.Routers.{Occurrence, Router}
 use Rattle.event_rules.specs.Ticks.{send_acknowledgments, after_tick, send_hellos, run_out}
@@ -62,10 +57,6 @@ use Rattle.event_rules.proofs.Walk.{OfBytes, OfEvent, OfOutcome, outcome}
 use Rattle.flood_laws.specs.NewInstances.{lsas_brought}
 use Rattle.flood_laws.proofs.Lists.{later_is}
 use Rattle.flood_laws.proofs.Taken.{named_first}
-
-both_true : (a b : Bool) → (a && b) ≡ true → (a ≡ true) × (b ≡ true)
-both_true true b e = (refl, e)
-both_true false b e = absurd cc
 
 -- a packet that isn't discarded: unless it is a Hello, it is from the interface's neighbor
 pub record IsHeard (start : EventState) (event : Occurrence) (number : ℕ) (packet : Packet) : Type 0
@@ -200,7 +191,7 @@ module _ (i : Invariant) (kept : IsKeptByParts i) (X Y : Lately) (old : Router) 
       (λ is. chosen InProgress (may_now && may_originate moment key p.router)
       (originate moment key says p) (on_router (put_off key) p)
       (λ may.
-      let both = both_true may_now (may_originate moment key p.router) may in
+      let both = and_parts may_now (may_originate moment key p.router) may in
       record {
         so = record {
           area = kept.originates moment key says p own is wants (grows both.0) h.so;

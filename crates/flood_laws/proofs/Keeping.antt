@@ -43,8 +43,7 @@ use Rattle.event_rules.specs.LsaInstances.{LsaInstance, instance_of_header, inst
 use Rattle.event_rules.specs.LsaInstances.{instances_advertised, instances_in_update}
 use Rattle.event_rules.specs.LsaInstances.{instances_received}
 use Rattle.event_rules.specs.Originations.{external_key, has_max_sequence, new_instance}
-use Rattle.event_rules.specs.Originations.{next_sequence}
-use Rattle.event_rules.specs.Originations.{router_key}
+use Rattle.event_rules.specs.Originations.{next_sequence, router_key}
 use Rattle.event_rules.specs.Packing.{IsSentText, at_interface, bodies, out_of, outs_at}
 use Rattle.event_rules.specs.Routers.{Occurrence, Router, fresh_link, unannounced_router}
 use Rattle.flood_laws.specs.Worlds.{IsKnown, IsLawfulOut, instances_stored}
@@ -101,7 +100,7 @@ cut_is h is = record {
   length = omega arith;
 }
 
-name_read : (l : Lsa) → IsInstance (instance_of_lsa l)
+pub name_read : (l : Lsa) → IsInstance (instance_of_lsa l)
     → instance_of_header (header_at (text l) 0) ≡ instance_of_lsa l
 name_read l is =
     let same : header_text (cut l.header) ++ body_text l.body ≡ text l =

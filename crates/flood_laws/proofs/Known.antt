@@ -37,8 +37,9 @@ use Rattle.event_rules.specs.EventState.{EventState}
 use Rattle.event_rules.specs.Routers.{Occurrence, Router, fresh_link, unannounced_router}
 use Rattle.flood_laws.specs.Worlds.{IsKnown, instances_stored, instances_on_link, instances_on_list}
 use Rattle.flood_laws.proofs.Told.{IsOwn, event_told, first_told, told}
+use Rattle.flood_laws.proofs.Lists.{later_is}
 use Rattle.event_rules.proofs.Walk.{IfRead, OfBrought, OfBytes, OfEvent}
-use Rattle.flood_laws.proofs.Worlds.{one_more}
+use Rattle.event_rules.proofs.Rooms.{both}
 
 -- ---- lists
 
@@ -58,7 +59,7 @@ pub of_members : {X : Type 0} (P : X → Type 0) (xs : List X) → ((x : X) → 
 of_members P [] each = tt
 of_members P (x ∷ xs) each =
     let first : 0 < suc (length xs) = omega arith in
-    (each x (0, first, refl), of_members P xs (λ y c. each y (one_more x xs y c)))
+    (each x (0, first, refl), of_members P xs (λ y c. each y (later_is x xs y c)))
 
 pub left_all : {X : Type 0} (P : X → Type 0) (xs ys : List X) → AllByRecursion P (xs ++ ys)
     → AllByRecursion P xs
@@ -69,11 +70,6 @@ pub right_all : {X : Type 0} (P : X → Type 0) (xs ys : List X) → AllByRecurs
     → AllByRecursion P ys
 right_all P [] ys h = h
 right_all P (x ∷ xs) ys h = right_all P xs ys h.1
-
-both_all : {X : Type 0} (P : X → Type 0) (xs ys : List X) → AllByRecursion P xs
-    → AllByRecursion P ys → AllByRecursion P (xs ++ ys)
-both_all P [] ys p q = q
-both_all P (x ∷ xs) ys p q = (p.0, both_all P xs ys p.1 q)
 
 pub each_all : {X : Type 0} (P Q : X → Type 0) → ((x : X) → P x → Q x) → (xs : List X)
     → AllByRecursion P xs → AllByRecursion Q xs
@@ -135,7 +131,7 @@ module _ (K : LsaInstance → Type 0) (P : Key → Type 0)
 
   link_named : (link : Link) → OfLink named_by link → AllByRecursion K (instances_on_link link)
   link_named link h =
-      both_all K (instances_on_list link.neighbor)
+      both K (instances_on_list link.neighbor)
       (map instance_of_header (finite.values link.acknowledgments))
       (owed_named link.neighbor h.neighbor)
       (values_named instance_of_header (finite.entries link.acknowledgments)
@@ -155,7 +151,7 @@ module _ (K : LsaInstance → Type 0) (P : Key → Type 0)
   links_named : (links : List Link) → OfLinks named_by links
       → AllByRecursion K (flat_map instances_on_link links)
   links_named [] h = tt
-  links_named (link ∷ links) h = both_all K (instances_on_link link)
+  links_named (link ∷ links) h = both K (instances_on_link link)
       (flat_map instances_on_link links) (link_named link h.0) (links_named links h.1)
 
   named_links : (links : List Link) → AllByRecursion K (flat_map instances_on_link links)
@@ -177,14 +173,14 @@ module _ (K : LsaInstance → Type 0) (P : Key → Type 0)
   sends_named : (sends : List Send) → AllByRecursion (OfSend named_by) sends
       → AllByRecursion K (instances_in_sends sends)
   sends_named [] h = tt
-  sends_named (s ∷ sends) h = both_all K (instances_in_send s) (instances_in_sends sends)
+  sends_named (s ∷ sends) h = both K (instances_in_send s) (instances_in_sends sends)
       (content_named s.content h.0) (sends_named sends h.1)
 
   pub held_named : (r : Router) (sends : List Send) → OfArea named_by r.area sends
       → AllByRecursion K (instances_stored r ++ instances_in_sends sends)
   held_named r sends h =
-      both_all K (instances_stored r) (instances_in_sends sends)
-      (both_all K (map (λ c. instance_of_lsa c.lsa) (finite.values r.area.database))
+      both K (instances_stored r) (instances_in_sends sends)
+      (both K (map (λ c. instance_of_lsa c.lsa) (finite.values r.area.database))
       (flat_map instances_on_link r.area.links)
       (values_named (λ (c : DatabaseCopy). instance_of_lsa c.lsa) (finite.entries r.area.database)
       (entries_in (OfCopy named_by) r.area.database h.copies))
@@ -266,7 +262,7 @@ module _ (old : Router) (event : Occurrence) (N : LsaInstance → Type 0) where
   known_more more x name (IsKnown.Held c) = IsKnown.Held c
   known_more more x name (IsKnown.Brought number bytes packet is text c) =
       IsKnown.Brought number bytes packet is text c
-  known_more more x name (IsKnown.Originated c) = IsKnown.Originated (one_more x more name c)
+  known_more more x name (IsKnown.Originated c) = IsKnown.Originated (later_is x more name c)
 
   pub all_known : (names : List LsaInstance) (h : AllByRecursion (IsExplained old event N) names)
       → AllByRecursion (IsKnown old event (new_ones names h)) names

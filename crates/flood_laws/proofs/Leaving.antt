@@ -10,7 +10,7 @@ use Rattle.std.specs.FinMap as finite
 use Rattle.std.specs.List.{AllByRecursion, Contains, enumerate_from, filter_map, fold}
 use Rattle.std.specs.Cmp.{tied_itself}
 use Rattle.std.specs.Ordering.{int_cmp, is_eq, is_gt, nat_cmp, ordering_then}
-use Rattle.std.proofs.lemmas.Bool.{eq-eqb, eqb-true}
+use Rattle.std.proofs.lemmas.Bool.{eq-eqb, eqb-true, and_parts}
 use Rattle.words.specs.declared.key.Key.{Key}
 use Rattle.lsa.specs.Reading.{lsa_in}
 use Rattle.lsdb.specs.Copies.{DatabaseCopy, age_now, age_out, copy_now, has_just_aged_out}
@@ -63,9 +63,8 @@ use Rattle.event_rules.specs.Packets.{receive_description, receive_hello, receiv
 use Rattle.event_rules.specs.Packets.{is_hello, requested_lsas, with_neighbor}
 use Rattle.event_rules.specs.Routers.{Occurrence, Router}
 use Rattle.event_rules.specs.Ticks.{acknowledgments_on, again, hello_sent_on, run_out}
-use Rattle.event_rules.specs.Ticks.{send_acknowledgments}
-use Rattle.event_rules.specs.Ticks.{send_hellos, sends_of, settled_exchange, with_hello_sent}
-use Rattle.event_rules.specs.Ticks.{without_acknowledgments}
+use Rattle.event_rules.specs.Ticks.{send_acknowledgments, send_hellos, sends_of, settled_exchange}
+use Rattle.event_rules.specs.Ticks.{with_hello_sent, without_acknowledgments}
 use Rattle.flood_laws.specs.NewInstances.{lsas_brought}
 use Rattle.flood_laws.specs.TakenOff.{BringsNewer, IsAsked, IsTold, comes_to_max_age}
 use Rattle.flood_laws.specs.TakenOff.{is_gone_or_aged, is_gone_or_stored, owes}
@@ -1077,10 +1076,6 @@ module _ (old : Router) (moment : ℕ) (event : Occurrence) (number : ℕ) (befo
       one link None at = at
       one link (Some m) at = flooding_stands (is_sender None number) lsa m at
 
-  both_so : (a b : Bool) → (a && b) ≡ true → (a ≡ true) × (b ≡ true)
-  both_so true b e = (refl, e)
-  both_so false b e = absurd cc
-
   like_aged : (c : DatabaseCopy) → is_aged_out moment copy ≡ true → IsLike c
       → is_aged_out moment c ≡ true
   like_aged c aged like = by_age like.age
@@ -1108,7 +1103,7 @@ module _ (old : Router) (moment : ℕ) (event : Occurrence) (number : ℕ) (befo
           subst (λ (k : Key). finite.get old.area.database k ≡ Some e.1)
           (sym (tied_key key e.0 same)) at in
           let it : copy ≡ e.1 = some_same (sym there ∙ here) in
-          let aged = both_so (is_aged_out moment copy) (not (is_aged_out old.moment copy))
+          let aged = and_parts (is_aged_out moment copy) (not (is_aged_out old.moment copy))
           (subst (λ (c : DatabaseCopy). has_just_aged_out old.moment moment c ≡ true) (sym it)
           just) in
           subst (λ (c : DatabaseCopy). Became (flood_from_nobody moment (lsa_now moment c) o).area

@@ -5,10 +5,7 @@ use Rattle.std.proofs.Common.{nat_lt, List, [], ◌∷◌, map, Option, None, So
 use Rattle.std.proofs.Common.{ap, subst, ◌∙◌, arith}
 use Rattle.std.specs.FinMap as finite
 use Rattle.std.specs.List.{AllByRecursion, fold}
-use Rattle.std.specs.Ordering.{is_eq}
-use Rattle.std.specs.declared.cmp.Ordering.{Ordering}
-use Rattle.std.specs.declared.cmp.Ordering.TheVariants.{Less, Equal, Greater}
-use Rattle.std.proofs.lemmas.Bool.{le-ltb, ltb-false, ltb-true}
+use Rattle.std.proofs.lemmas.Bool.{le-ltb, ltb-false, ltb-true, and_parts, or_parts, or_from}
 use Rattle.words.specs.Numbers.{RouterNumber}
 use Rattle.words.specs.declared.key.Key.{Key}
 use Rattle.keyed_map.specs.Slots.{count_after_change}
@@ -25,6 +22,7 @@ use Rattle.lsdb.specs.Copies.{install_originated, lsa_now}
 use Rattle.lsdb.specs.Headers.{Lsa, lsa_aged, lsa_key}
 use Rattle.lsdb.specs.Keys.{ByKey, key_cmp, same_key}
 use Rattle.lsdb.proofs.Keys.{keys_exact, keys_total}
+pub use Rattle.lsdb.proofs.Keys.{tied as tied_key}
 use Rattle.lsdb.proofs.Owned.{count_empty, count_keys, count_most, count_put}
 use Rattle.adjacency.specs.Adjacencies as adjacencies
 use Rattle.adjacency.specs.Contents.{Content, Step, no_sends}
@@ -38,6 +36,7 @@ use Rattle.received.specs.Links.{Link, change_link, link_at}
 use Rattle.received.specs.Outcomes.{Outcome, Send, Stepping, each_neighbor, marked_database}
 use Rattle.received.specs.Outcomes.{sends_at, on_database, on_links, one_neighbor, only_at, sending}
 use Rattle.received.specs.Outcomes.{stepping_sends}
+use Rattle.received.proofs.Marks.{changed_by}
 use Rattle.event_rules.specs.declared.model.Out.{Out}
 use Rattle.event_rules.specs.Endings.{end_event, stays, with_age}
 use Rattle.event_rules.specs.declared.model.Config.{Config}
@@ -51,23 +50,15 @@ use Rattle.event_rules.specs.Packets.{accept_hello, receive_hello_on, requested_
 use Rattle.event_rules.specs.Refusals.{exceeds}
 use Rattle.event_rules.specs.Routers.{Occurrence, Router, unannounced_router}
 use Rattle.event_rules.specs.Ticks.{acknowledgments_on, again, hello_sent_on, sends_of}
-use Rattle.event_rules.specs.Ticks.{with_hello_sent}
-use Rattle.event_rules.specs.Ticks.{without_acknowledgments}
+use Rattle.event_rules.specs.Ticks.{with_hello_sent, without_acknowledgments}
 use Rattle.event_rules.proofs.Walk.{Brings, IfRead, Invariant, IsKeptByParts, MayGrow, OfBrought}
 use Rattle.event_rules.proofs.Walk.{OfBytes, OfEvent, event_kept, originate_or_wait_kept, outcome}
 use Rattle.flood_laws.specs.LimitLaws.{AnnouncesExternals, OthersStayWithinLimits, may_exceed}
+use Rattle.flood_laws.proofs.Lists.{none_asked}
 
 -- ---- keys and options
 
-pub tied_key : (q k : Key) → same_key q k ≡ true → q ≡ k
-tied_key q k is = keys_exact q k (equal (key_cmp q k) is)
-  where
-    equal : (r : Ordering) → is_eq r ≡ true → r ≡ Equal
-    equal Less e = absurd cc
-    equal Equal e = refl
-    equal Greater e = absurd cc
-
-abbrev body_or : LsaBody → Option LsaBody → LsaBody
+abbrev pub body_or : LsaBody → Option LsaBody → LsaBody
 body_or other None = other
 body_or other (Some says) = says
 
@@ -166,11 +157,6 @@ module _ (id : RouterNumber) where
       either true n = refl
       either false n = refl
 
-  abbrev changed_by : Key → (DatabaseCopy → DatabaseCopy) → Database → Option DatabaseCopy
-      → Database
-  changed_by key change db None = db
-  changed_by key change db (Some c) = finite.insert db key (change c)
-
   changed_within : (key : Key) (change : DatabaseCopy → DatabaseCopy) (db : Database) → IsWithin db
       → IsWithin (changed_by key change db (finite.get db key))
   changed_within key change db h = by_copy (finite.get db key) refl
@@ -197,10 +183,6 @@ module _ (id : RouterNumber) where
       all_marked moment more (marked_database moment db s.content)
       (marked_within moment s.content db h)
 
-  both_of : (a b : Bool) → (a && b) ≡ true → (a ≡ true) × (b ≡ true)
-  both_of true b e = (refl, e)
-  both_of false b e = absurd cc
-
   -- an LSA for which there is room
   installed : (db : Database) (key : Key) (c : DatabaseCopy)
       → (finite.contains_key db key ||
@@ -220,7 +202,7 @@ module _ (id : RouterNumber) where
       all_by true e = h.all
       all_by false e =
           let fewer : finite.len db < 16384 =
-          ltb-true (finite.len db) 16384 (both_of (nat_lt (finite.len db) 16384) _ e).0 in
+          ltb-true (finite.len db) 16384 (and_parts (nat_lt (finite.len db) 16384) _ e).0 in
           omega (arith, fewer)
 
       own_by : (b o : Bool) → (b || (nat_lt (finite.len db) 16384 &&
@@ -230,7 +212,7 @@ module _ (id : RouterNumber) where
       own_by true true e = h.externals
       own_by false true e =
           let fewer : own_externals id db < 4096 =
-          ltb-true (own_externals id db) 4096 (both_of (nat_lt (finite.len db) 16384) _ e).1 in
+          ltb-true (own_externals id db) 4096 (and_parts (nat_lt (finite.len db) 16384) _ e).1 in
           let few : own db < 4096 = subst (λ n. n < 4096) (count_keys (is_own_external id) db) fewer
           in
           omega (arith, few)
@@ -303,10 +285,6 @@ module _ (id : RouterNumber) where
       (λ is. sent_within moment (sends_at number s.sends)
       (on_links (change_link number (with_neighbor s.neighbor)) o) h) (λ is. h)
 
-  keys_any : (keys : List Key) → AllByRecursion (λ key. Unit {0}) keys
-  keys_any [] = tt
-  keys_any (key ∷ keys) = (tt, keys_any keys)
-
   room_of : (key : Key) (r : Router) → MayGrow within key r → has_room key r ≡ true
   room_of key r (MayGrow.HasRoom is) = is
   room_of key r (MayGrow.Anyway anyway) = absurd anyway
@@ -357,7 +335,7 @@ module _ (id : RouterNumber) where
     mismatch = λ moment number o h. one_within moment number (adjacencies.mismatch_step moment) o h;
     acknowledgment = λ moment number headers o h. one_within moment number
         (λ n. no_sends (after_acknowledgment moment headers n)) o h;
-    due = λ moment r same. keys_any (due_keys moment r);
+    due = λ moment r same. none_asked (due_keys moment r);
     inactive = λ moment o h. h;
     again = λ moment o h. each_within moment (again moment o) o h;
     acknowledges = λ moment o h. sent_within moment (sends_of acknowledgments_on o.area.links)
@@ -385,15 +363,11 @@ brings id old event may = record {
 
 is_within : (r : Router) → exceeds r ≡ false → IsWithin r.id r.area.database
 is_within r e =
-    let both = neither (nat_lt 16384 (finite.len r.area.database)) _ e in record {
+    let both = or_parts (nat_lt 16384 (finite.len r.area.database)) _ e in record {
       all = ltb-false 16384 (finite.len r.area.database) both.0;
       externals = subst (λ n. n ≤ 4096) (count_keys (is_own_external r.id) r.area.database)
           (ltb-false 4096 (own_externals r.id r.area.database) both.1);
     }
-  where
-    neither : (a b : Bool) → (a || b) ≡ false → (a ≡ false) × (b ≡ false)
-    neither true b e = absurd cc
-    neither false b e = (refl, e)
 
 is_not_past : (id : RouterNumber) (r : Router) → r.id ≡ id → IsWithin id r.area.database
     → exceeds r ≡ false
@@ -402,14 +376,10 @@ is_not_past id r same h =
     subst (λ (i : RouterNumber). own_externals i r.area.database ≤ 4096) (sym same)
     (subst (λ n. n ≤ 4096) (sym (count_keys (is_own_external id) r.area.database)) h.externals)
     in
-    neither_so (nat_lt 16384 (finite.len r.area.database))
+    or_from (nat_lt 16384 (finite.len r.area.database))
     (nat_lt 4096 (own_externals r.id r.area.database))
     (le-ltb 16384 (finite.len r.area.database) h.all)
     (le-ltb 4096 (own_externals r.id r.area.database) few)
-  where
-    neither_so : (a b : Bool) → a ≡ false → b ≡ false → (a || b) ≡ false
-    neither_so true b e f = absurd cc
-    neither_so false b e f = f
 
 kept : (old : Router) (moment : ℕ) (event : Occurrence) (outs : List Out) (new : Router)
     → AnnouncesExternals old → may_exceed event ≡ false → Happens old moment event outs new
@@ -454,10 +424,6 @@ external = record {
   without_room = Unit {0};
 }
 
-all_keys : (keys : List Key) → AllByRecursion (λ key. Unit {0}) keys
-all_keys [] = tt
-all_keys (key ∷ keys) = (tt, all_keys keys)
-
 all_texts : (lsas : List (List ℕ)) → AllByRecursion (OfBytes external.of_lsa) lsas
 all_texts [] = tt
 all_texts (bytes ∷ rest) = (if_read (lsa_in bytes), all_texts rest)
@@ -486,7 +452,7 @@ parts_external = record {
   requested = λ moment number keys o h. tt;
   mismatch = λ moment number o h. tt;
   acknowledgment = λ moment number headers o h. tt;
-  due = λ moment r h. all_keys (due_keys moment r);
+  due = λ moment r h. none_asked (due_keys moment r);
   inactive = λ moment o h. tt;
   again = λ moment o h. tt;
   acknowledges = λ moment o h. tt;

@@ -39,6 +39,7 @@ use Rattle.received.specs.Updates.{after_case, copy_of, install, send_copy}
 use Rattle.received.proofs.Told.{OfArea, OfLink, OfSend, OfWaiting, case_told, change_told}
 use Rattle.received.proofs.Told.{each_told, flood_told, numbered_told, on_database_told}
 use Rattle.received.proofs.Told.{one_neighbor_told, one_told, sending_told}
+use Rattle.received.proofs.Marks.{changed_by}
 use Rattle.event_rules.specs.declared.model.Out.{Out}
 use Rattle.event_rules.specs.Commands.{taken_down}
 use Rattle.event_rules.specs.Endings.{end_event, link_loading_done, start_event, stays, with_age}
@@ -73,10 +74,6 @@ use Rattle.flood_laws.proofs.Told.{sends_told}
 use Rattle.flood_laws.proofs.Worlds.{mapped}
 
 -- ---- the sequence number of a new instance
-
-abbrev changed_by : Key → (DatabaseCopy → DatabaseCopy) → Database → Option DatabaseCopy → Database
-changed_by key change db None = db
-changed_by key change db (Some c) = finite.insert db key (change c)
 
 number_changed : (key : Key) (change : DatabaseCopy → DatabaseCopy)
     → ((c : DatabaseCopy) → (change c).lsa.header.sequence ≡ c.lsa.header.sequence)

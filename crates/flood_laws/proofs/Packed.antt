@@ -12,13 +12,13 @@ use Rattle.received.specs.Outcomes.{Send}
 use Rattle.flood_laws.specs.Known.{Bears, IsOutOf, IsTextOf, instances_in_content}
 use Rattle.event_rules.specs.LsaInstances.{LsaInstance, instance_of_lsa, instance_of_header}
 use Rattle.event_rules.specs.Packing.{acknowledgments, at_interface, bodies, descriptions}
-use Rattle.event_rules.specs.Packing.{first_key}
-use Rattle.event_rules.specs.Packing.{header_size, hellos, in_key_order, lsa_size, out_of, outs_at}
-use Rattle.event_rules.specs.Packing.{packed_groups, requests, sent_lsa, update_of, updates}
+use Rattle.event_rules.specs.Packing.{first_key, header_size, hellos, in_key_order, lsa_size}
+use Rattle.event_rules.specs.Packing.{out_of, outs_at, packed_groups, requests, sent_lsa, update_of}
+use Rattle.event_rules.specs.Packing.{updates}
 use Rattle.event_rules.proofs.Rooms.{both, mapped_all, order_all, packed_all}
 
 -- what is chosen from each content
-chosen_of : {Y : Type 0} (f : Content → Option Y) (R : Content → Type 0) (P : Y → Type 0)
+pub chosen_of : {Y : Type 0} (f : Content → Option Y) (R : Content → Type 0) (P : Y → Type 0)
     → ((c : Content) → R c → AllByRecursion P (cons_option (f c) [])) → (cs : List Content)
     → AllByRecursion R cs → AllByRecursion P (filter_map f cs)
 chosen_of {Y = Y} f R P each [] p = tt

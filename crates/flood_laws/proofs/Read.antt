@@ -12,7 +12,7 @@ use Rattle.flood_laws.specs.Known.{UpdatesTellWhatTheyBear}
 use Rattle.event_rules.specs.LsaInstances.{LsaInstance, instance_of_lsa, instance_of_header}
 use Rattle.event_rules.specs.LsaInstances.{instances_in_update}
 use Rattle.flood_laws.proofs.Known.{of_member}
-use Rattle.flood_laws.proofs.Worlds.{one_more}
+use Rattle.flood_laws.proofs.Lists.{later_is}
 
 abbrev NamedAs : Lsa → Option Lsa → Type 0
 NamedAs l None = Unit {0}
@@ -42,7 +42,7 @@ all_told (l ∷ ls) h = with_first (lsa_in (text l)) (read_name l h.0)
         → AllByRecursion (Contains (map instance_of_lsa (l ∷ ls))) names
     further [] c = tt
     further (name ∷ names) c = (
-      one_more (instance_of_lsa l) (map instance_of_lsa ls) name c.0,
+      later_is (instance_of_lsa l) (map instance_of_lsa ls) name c.0,
       further names c.1,
     )
 

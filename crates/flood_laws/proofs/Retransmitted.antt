@@ -7,7 +7,7 @@ use Rattle.std.specs.FinMap as finite
 use Rattle.std.specs.Ordering.{eq_by_cmp, is_eq}
 use Rattle.std.specs.Cmp.{tied_itself}
 use Rattle.std.specs.declared.cmp.Ordering.{Ordering}
-use Rattle.std.proofs.lemmas.Bool.{eqb-true}
+use Rattle.std.proofs.lemmas.Bool.{eqb-true, or_right}
 use Rattle.words.specs.declared.key.Key.{Key}
 use Rattle.lsa.specs.Reading.{lsa_in}
 use Rattle.lsdb.specs.Copies.{Database, DatabaseCopy, age_out, has_just_aged_out, install_flooded}
@@ -65,6 +65,7 @@ use Rattle.flood_laws.specs.Retransmissions.{AreOfTheDatabase, HasItsRetransmiss
 use Rattle.flood_laws.specs.Retransmissions.{RetransmissionsAreOfTheDatabase}
 use Rattle.flood_laws.proofs.Always.{each_so}
 use Rattle.flood_laws.proofs.Invariants.{exchange_settled, filled_on_kept, still_heard_kept}
+use Rattle.flood_laws.proofs.Lists.{none_asked}
 
 pub if_so : {X : Type 0} (P R : Key → X → Type 0) (key : Key) (o : Option X)
     → ((x : X) → P key x → R key x) → IfThere P key o → IfThere R key o
@@ -183,7 +184,7 @@ own_marked moment (Content.Updates lsa) db own = own_changed (lsa_key lsa) (λ c
 }) (λ c. refl) db own
 own_marked moment (Content.Acknowledges header) db own = own
 
-abbrev marks : ℕ → List Send → Database → Database
+abbrev pub marks : ℕ → List Send → Database → Database
 marks moment more db = fold (λ (d : Database) (s : Send). marked_database moment d s.content) db
     more
 
@@ -538,10 +539,6 @@ hello_heard own moment number from hello (Some link) o here h =
 
 -- ---- removal
 
-or_true : (b c : Bool) → c ≡ true → (b || c) ≡ true
-or_true true c e = refl
-or_true false c e = e
-
 module _ (moment : ℕ) (a : Area) where
   abbrev left : Database
   left = finite.retain_keys a.database (stays moment a)
@@ -551,7 +548,7 @@ module _ (moment : ℕ) (a : Area) where
   stays_there q x is of_copy =
       let kept : stays moment a q ≡ true =
       ap (stays_as moment (any_has_retransmission q a.links)) of_copy.1
-      ∙ or_true (not (is_aged_out moment of_copy.0)) (any_has_retransmission q a.links) is in (
+      ∙ or_right (not (is_aged_out moment of_copy.0)) (any_has_retransmission q a.links) is in (
         of_copy.0,
         finite.get-retain_keys a.database (stays moment a) q
             (λ y e. ap (stays moment a) (sym (keys_exact q y e)))
@@ -574,7 +571,7 @@ module _ (moment : ℕ) (a : Area) where
   each_left [] among h = tt
   each_left (x ∷ xs) among h = (
     one x.neighbor (λ q is. among q (ap (λ b. b || any_has_retransmission q xs) is)) h.0,
-    each_left xs (λ q is. among q (or_true (has_retransmission q x.neighbor)
+    each_left xs (λ q is. among q (or_right (has_retransmission q x.neighbor)
         (any_has_retransmission q xs) is)) h.1,
   )
     where
@@ -600,10 +597,6 @@ its_own = record {
   of_key = λ key. Unit {0};
   without_room = Unit {0};
 }
-
-keys_any : (keys : List Key) → AllByRecursion (λ key. Unit {0}) keys
-keys_any [] = tt
-keys_any (key ∷ keys) = (tt, keys_any keys)
 
 pub parts_keep : IsKeptByParts its_own
 parts_keep = record {
@@ -632,7 +625,7 @@ parts_keep = record {
   acknowledgment = λ moment number headers o h.
       one_kept moment number (λ n. no_sends (after_acknowledgment moment headers n)) o
       (acknowledgment_kept (OfIt o.area.database) (its_kept o.area.database) moment headers) h;
-  due = λ moment r own. keys_any (due_keys moment r);
+  due = λ moment r own. none_asked (due_keys moment r);
   inactive = λ moment o h.
       links_kept (map (run_out moment)) o
       (each_link_keeps (Of (OfIt o.area.database)) (run_out moment)

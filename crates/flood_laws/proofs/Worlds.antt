@@ -19,16 +19,12 @@ use Rattle.flood_laws.specs.Worlds.{IsLawfulOut, Joins, Knowledge, Lives, Restar
 use Rattle.flood_laws.specs.Worlds.{WorldStep, all_known, begun_with, known_as, knows}
 use Rattle.flood_laws.specs.Worlds.{instances_stored, sent_from, MayHappen}
 use Rattle.flood_laws.specs.TakenOff.{IsTold}
+use Rattle.flood_laws.proofs.Lists.{later_is}
 
 -- ---- lists
 
 nowhere : {X : Type 0} (x : X) {A : Type 0} → Contains [] x → A
 nowhere x c = absurd (omega (arith, c.1))
-
-pub one_more : {X : Type 0} (y : X) (ys : List X) (x : X) → Contains ys x → Contains (y ∷ ys) x
-one_more y ys x c =
-    let lt : suc c.0 < suc (length ys) = omega (arith, c.1) in
-    (suc c.0, lt, c.2)
 
 mapped_at : {X Y : Type 0} (f : X → Y) (xs : List X) (x : X) (k : ℕ) → k < length xs
     → slice_index_or xs k x ≡ x → Contains (map f xs) (f x)
@@ -36,7 +32,7 @@ mapped_at f [] x k lt e = absurd (omega (arith, lt))
 mapped_at f (y ∷ ys) x zero lt e = let first : 0 < suc (length (map f ys)) = omega arith in
     (0, first, ap f e)
 mapped_at f (y ∷ ys) x (suc k) lt e = let further : k < length ys = omega (arith, lt) in
-    one_more (f y) (map f ys) (f x) (mapped_at f ys x k further e)
+    later_is (f y) (map f ys) (f x) (mapped_at f ys x k further e)
 
 pub mapped : {X Y : Type 0} (f : X → Y) (xs : List X) (x : X) → Contains xs x
     → Contains (map f xs) (f x)
@@ -50,7 +46,7 @@ unmapped_at f (x ∷ xs) y zero lt e = let first : 0 < suc (length xs) = omega a
 unmapped_at f (x ∷ xs) y (suc k) lt e =
     let further : k < length (map f xs) = omega (arith, lt) in
     let found = unmapped_at f xs y k further e in
-    (found.0, one_more x xs found.0 found.1, found.2)
+    (found.0, later_is x xs found.0 found.1, found.2)
 
 pub unmapped : {X Y : Type 0} (f : X → Y) (xs : List X) (y : Y) → Contains (map f xs) y
     → (x : X) × Contains xs x × (f x ≡ y)

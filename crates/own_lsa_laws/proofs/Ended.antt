@@ -7,6 +7,7 @@ use Rattle.std.specs.Prelude.{nat_le}
 use Rattle.std.specs.List.{filter, list_all, list_any}
 use Rattle.std.specs.FinMap as finite
 use Rattle.std.specs.FinSet as set
+use Rattle.std.proofs.lemmas.Bool.{or_left, or_right}
 use Rattle.words.specs.Constants.{ls_infinity}
 use Rattle.words.specs.Prefixes.{Network}
 use Rattle.words.specs.declared.key.Key.{Key}
@@ -36,48 +37,40 @@ use Rattle.event_rules.specs.Commands.{after_redistribute, after_withdraw, annou
 use Rattle.event_rules.specs.Commands.{answered_external, end_want, is_announced_as, is_for}
 use Rattle.event_rules.specs.Commands.{unannounce}
 use Rattle.event_rules.specs.Endings.{copy_has_body, end_event, originate_router_lsa}
-use Rattle.event_rules.specs.Endings.{put_off_router_lsa}
-use Rattle.event_rules.specs.Endings.{is_at, is_current, link_loading_done, links_differ}
-use Rattle.event_rules.specs.Endings.{loading_done}
-use Rattle.event_rules.specs.Endings.{remove_aged, request_all, stays}
+use Rattle.event_rules.specs.Endings.{put_off_router_lsa, is_at, is_current, link_loading_done}
+use Rattle.event_rules.specs.Endings.{links_differ, loading_done, remove_aged, request_all, stays}
 use Rattle.event_rules.specs.EventState.{EventState, flood_from_nobody, on_area, on_router}
 use Rattle.event_rules.specs.Hellos.{accepts, names}
 use Rattle.event_rules.specs.Originations.{announced_body, due_keys, external_body, external_key}
-use Rattle.event_rules.specs.Originations.{flush}
-use Rattle.event_rules.specs.Originations.{flush_copy, forget_originations, has_max_sequence}
-use Rattle.event_rules.specs.Originations.{has_room}
-use Rattle.event_rules.specs.Originations.{is_due, may_originate, originate, originate_anyway}
-use Rattle.event_rules.specs.Originations.{originate_body, originate_due, originate_or_put_off}
-use Rattle.event_rules.specs.Originations.{router_body}
-use Rattle.event_rules.specs.Originations.{put_off, router_key, wanted_body, wanted_keys}
+use Rattle.event_rules.specs.Originations.{flush, flush_copy, forget_originations, has_max_sequence}
+use Rattle.event_rules.specs.Originations.{has_room, is_due, may_originate, originate}
+use Rattle.event_rules.specs.Originations.{originate_anyway, originate_body, originate_due}
+use Rattle.event_rules.specs.Originations.{originate_or_put_off, router_body, put_off, router_key}
+use Rattle.event_rules.specs.Originations.{wanted_body, wanted_keys}
 use Rattle.event_rules.specs.Packets.{accept_hello, after_packet, from_neighbor, is_heard}
-use Rattle.event_rules.specs.Packets.{receive_hello_on}
-use Rattle.event_rules.specs.Packets.{any_exchange_or_later, is_there, receive_request}
-use Rattle.event_rules.specs.Packets.{requested_lsas}
+use Rattle.event_rules.specs.Packets.{receive_hello_on, any_exchange_or_later, is_there}
+use Rattle.event_rules.specs.Packets.{receive_request, requested_lsas}
 use Rattle.event_rules.specs.Routers.{Router}
 use Rattle.event_rules.specs.Ticks.{acknowledgments_on, after_tick, again, send_acknowledgments}
 use Rattle.event_rules.specs.Ticks.{hello_sent_on, run_out, send_all_again, sends_of}
-use Rattle.event_rules.specs.Ticks.{with_hello_sent}
-use Rattle.event_rules.specs.Ticks.{without_acknowledgments}
+use Rattle.event_rules.specs.Ticks.{with_hello_sent, without_acknowledgments}
+use Rattle.event_rules.proofs.Walk.{outcome}
 use Rattle.flood_laws.proofs.Limits.{one_less, one_more, tied_key}
+use Rattle.flood_laws.proofs.Retransmitted.{marks}
 use Rattle.own_lsa_laws.proofs.Agreeing.{never_differs, once, text_of_same, undiffering}
 use Rattle.own_lsa_laws.proofs.Faces.{StaysFaced, again_so, asks_so, body_faces, each_faces, faces}
 use Rattle.own_lsa_laws.proofs.Faces.{mapped_faces, same_faces}
 use Rattle.own_lsa_laws.proofs.Parts.{FitsAt, InProgress, Tells, at_other, at_same, excused_fit}
 use Rattle.own_lsa_laws.proofs.Parts.{excusing, flush_kept, full, lsas_kept, not_and_so}
-use Rattle.own_lsa_laws.proofs.Parts.{nothing_changes, or_first, or_wait_kept, originated_now}
-use Rattle.own_lsa_laws.proofs.Parts.{others_fit, roomy, sent_kept, some_kept, still_tells}
-use Rattle.own_lsa_laws.proofs.Parts.{wait_kept, waits_there}
+use Rattle.own_lsa_laws.proofs.Parts.{nothing_changes, or_wait_kept, originated_now, others_fit}
+use Rattle.own_lsa_laws.proofs.Parts.{roomy, sent_kept, some_kept, still_tells, wait_kept}
+use Rattle.own_lsa_laws.proofs.Parts.{waits_there}
 use Rattle.own_lsa_laws.proofs.Standing.{Fits, IsWanted, Standing, Terms, aged_at, all_so, at_copy}
-use Rattle.own_lsa_laws.proofs.Standing.{closed_at, flushed_age, marked, marks, recast, same_itself}
-use Rattle.own_lsa_laws.proofs.Standing.{wants}
+use Rattle.own_lsa_laws.proofs.Standing.{closed_at, flushed_age, marked, recast, same_itself, wants}
 
 -- the state after a change of links and database
 abbrev pub with_outcome : EventState → Outcome → EventState
 with_outcome p o = record { router = record p.router { area = o.area }; sends = o.sends }
-
-abbrev pub outcome : EventState → Outcome
-outcome p = record { area = p.router.area; sends = p.sends }
 
 module _ (moment : ℕ) (t : Terms) where
   abbrev So : EventState → Type 0
@@ -238,13 +231,9 @@ is_among q keys = list_any (same_key q) keys
 abbrev pub among : List Key → Terms → Terms
 among keys t = record t { may_wait = λ q. is_among q keys ≡ true }
 
-or_second : (a b : Bool) → b ≡ true → (a || b) ≡ true
-or_second true b e = refl
-or_second false b e = e
-
 listed : (r : Router) (q : Key) → IsWanted r.id r.announced q → is_among q (wanted_keys r) ≡ true
-listed r q (inl is) = or_first (same_key q (router_key r.id)) _ is
-listed r q (inr is) = or_second (same_key q (router_key r.id)) _
+listed r q (inl is) = or_left (same_key q (router_key r.id)) _ is
+listed r q (inr is) = or_right (same_key q (router_key r.id)) _
     (sym (finite.contains_key-keys r.announced q) ∙ ap is_some is.1.1)
 
 still_listed : (test : Key → Bool) (q : Key) → test q ≡ true → (keys : List Key) → is_among q keys
@@ -260,18 +249,18 @@ still_listed test q passes (key ∷ keys) among_them =
         let passed : test key ≡ true = subst (λ (k : Key). test k ≡ true) (tied_key q key same)
         passes in
         ap (λ (b : Bool). is_among q (cond b (key ∷ filter test keys) (filter test keys))) passed
-        ∙ or_first (same_key q key) (is_among q (filter test keys)) same
+        ∙ or_left (same_key q key) (is_among q (filter test keys)) same
     by_key false same others h =
         chosen (λ (ks : List Key). is_among q ks ≡ true) (test key) (key ∷ filter test keys)
         (filter test keys)
-        (λ is. or_second (same_key q key) (is_among q (filter test keys)) (others h))
+        (λ is. or_right (same_key q key) (is_among q (filter test keys)) (others h))
         (λ is. others h)
 
 -- a wanted LSA that waits is due
 pub waits_are_due : (moment : ℕ) (r : Router) (q : Key) → IsWanted r.id r.announced q
     → set.contains r.waiting q ≡ true → is_among q (due_keys moment r) ≡ true
 waits_are_due moment r q wanted waits =
-    still_listed (is_due moment r) q (or_first (set.contains r.waiting q) _ waits) (wanted_keys r)
+    still_listed (is_due moment r) q (or_left (set.contains r.waiting q) _ waits) (wanted_keys r)
     (listed r q wanted)
 
 -- no copy of this key may wait any longer

@@ -6,6 +6,7 @@ use Rattle.std.specs.Prelude.{◌==◌}
 use Rattle.std.specs.List.{fold}
 use Rattle.std.specs.FinMap as finite
 use Rattle.std.specs.FinSet as set
+use Rattle.std.proofs.lemmas.Bool.{or_left}
 use Rattle.words.specs.declared.key.Key.{Key}
 use Rattle.words.specs.declared.route.External.{External}
 use Rattle.lsa.specs.Origination.{sealed_lsa}
@@ -32,15 +33,15 @@ use Rattle.event_rules.specs.Originations.{flush, flush_copy, has_max_sequence, 
 use Rattle.event_rules.specs.Originations.{interval_is_over, is_wanted, may_originate, new_instance}
 use Rattle.event_rules.specs.Originations.{originate, originate_body, originate_or_flush}
 use Rattle.event_rules.specs.Originations.{originate_or_put_off, receive_self_originated}
-use Rattle.event_rules.specs.Originations.{router_body}
-use Rattle.event_rules.specs.Originations.{put_off, router_key, wanted_body}
+use Rattle.event_rules.specs.Originations.{router_body, put_off, router_key, wanted_body}
 use Rattle.event_rules.specs.Packets.{after_lsa, after_lsas, after_self_originated, after_unread}
 use Rattle.event_rules.specs.Packets.{case_in}
 use Rattle.event_rules.specs.Routers.{Router}
 use Rattle.flood_laws.proofs.Limits.{AreExternal, new_key, wanted_type}
+use Rattle.flood_laws.proofs.Retransmitted.{marks}
 use Rattle.own_lsa_laws.proofs.Faces.{StaysFaced, body_faces, case_faces, flush_faces, same_faces}
 use Rattle.own_lsa_laws.proofs.Standing.{Fits, Standing, Terms, Wants, aged_at, all_so, closed_at}
-use Rattle.own_lsa_laws.proofs.Standing.{flushed_age, is_wanted_of, marked, marks, put_at, recast}
+use Rattle.own_lsa_laws.proofs.Standing.{flushed_age, is_wanted_of, marked, put_at, recast}
 use Rattle.own_lsa_laws.proofs.Standing.{same_itself, wanted_as}
 
 -- ---- a point of an event
@@ -216,13 +217,9 @@ pub not_and_so : (a b : Bool) → a ≡ false → (not a && b) ≡ b
 not_and_so true b e = absurd cc
 not_and_so false b e = refl
 
-pub or_first : (a b : Bool) → a ≡ true → (a || b) ≡ true
-or_first true b e = refl
-or_first false b e = absurd cc
-
 pub waits_there : (w : KeySet) (key : Key) → set.contains (set.insert w key) key ≡ true
 waits_there w key = set.contains-insert keys_total w key key
-    ∙ or_first (same_key key key) (set.contains w key) (same_itself key)
+    ∙ or_left (same_key key key) (set.contains w key) (same_itself key)
 
 pub wait_kept : (moment : ℕ) (t : Terms) (key : Key) (p : EventState)
     → ((c : DatabaseCopy) → finite.get p.router.area.database key ≡ Some c
@@ -393,7 +390,7 @@ body_kept moment t may_now key (Some says) p is none tells room h =
 -- there is room to replace a copy
 pub roomy : (key : Key) (r : Router) (c : DatabaseCopy) → finite.get r.area.database key ≡ Some c
     → has_room key r ≡ true
-roomy key r c there = or_first (finite.contains_key r.area.database key) _ (ap is_some there)
+roomy key r c there = or_left (finite.contains_key r.area.database key) _ (ap is_some there)
 
 pub or_wait_kept : (moment : ℕ) (t : Terms) (key : Key) (p : EventState)
     → (wanted_body p.router key ≡ None → InProgress moment (full t) p)

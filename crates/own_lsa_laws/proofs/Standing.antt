@@ -4,7 +4,6 @@
 use Rattle.std.proofs.Common.{◌≡◌, ℕ, ◌+◌, ◌-◌, ◌<◌, ◌≤◌, min, Bool, true, false, cond, ◌⊎◌, inl}
 use Rattle.std.proofs.Common.{inr, List, [], ◌∷◌, Option, None, Some, refl, sym, ap, subst, ◌∙◌}
 use Rattle.std.proofs.Common.{arith, eq-eqb, eqb-true}
-use Rattle.std.specs.List.{fold}
 use Rattle.std.specs.Cmp.{tied_itself}
 use Rattle.std.specs.FinMap as finite
 use Rattle.std.specs.FinSet as set
@@ -22,10 +21,12 @@ use Rattle.adjacency.specs.Contents.{Content}
 use Rattle.adjacency.proofs.Kept.{chosen}
 use Rattle.adjacency.proofs.Maps.{AllIn, IfThere, inserted_in}
 use Rattle.received.specs.Outcomes.{Send, marked_database}
+use Rattle.received.proofs.Marks.{changed_by}
 use Rattle.event_rules.specs.Originations.{announced_body, external_body, router_body, router_key}
 use Rattle.event_rules.specs.Originations.{wanted_body}
 use Rattle.event_rules.specs.Routers.{Router}
-use Rattle.flood_laws.proofs.Limits.{tied_key}
+use Rattle.flood_laws.proofs.Limits.{tied_key, body_or}
+use Rattle.flood_laws.proofs.Retransmitted.{marks}
 
 pub same_itself : (key : Key) → same_key key key ≡ true
 same_itself key = ap is_eq (tied_itself keys_total key)
@@ -60,10 +61,6 @@ pub data Wants (r : Router) (key : Key) (says : LsaBody) : Type 0 where
       → Wants r key says
   Destination : same_key key (router_key r.id) ≡ false → (e : External) → finite.get r.announced key
       ≡ Some e → external_body e ≡ says → Wants r key says
-
-abbrev body_or : LsaBody → Option LsaBody → LsaBody
-body_or other None = other
-body_or other (Some says) = says
 
 pub wanted_as : (r : Router) (key : Key) (says : LsaBody) → wanted_body r key ≡ Some says
     → Wants r key says
@@ -201,14 +198,6 @@ put_at P R db key c others here all q =
     (λ other. if_there P R q (finite.get db q) (λ d there h. others q d other h) (all q)))
 
 -- ---- what is sent marks copies, and changes nothing else
-
-abbrev pub marks : ℕ → List Send → Database → Database
-marks moment more db = fold (λ (d : Database) (s : Send). marked_database moment d s.content) db
-    more
-
-abbrev changed_by : Key → (DatabaseCopy → DatabaseCopy) → Database → Option DatabaseCopy → Database
-changed_by key change db None = db
-changed_by key change db (Some c) = finite.insert db key (change c)
 
 abbrev IsUnmarked : (Key → DatabaseCopy → Type 0) → Type 0
 IsUnmarked P = (key : Key) (c : DatabaseCopy) (sent : Option ℕ) → P key c → P key (record c {

@@ -12,10 +12,9 @@ use Rattle.lsdb.proofs.Keys.{keys_total}
 use Rattle.event_rules.specs.Endings.{same_body}
 use Rattle.event_rules.specs.EventState.{EventState, on_area}
 use Rattle.event_rules.specs.Originations.{announced_body, flush, flush_copy, router_body}
-use Rattle.event_rules.specs.Originations.{router_key}
-use Rattle.event_rules.specs.Originations.{wanted_body}
+use Rattle.event_rules.specs.Originations.{router_key, wanted_body}
 use Rattle.event_rules.specs.Routers.{Router}
-use Rattle.flood_laws.proofs.Limits.{tied_key}
+use Rattle.flood_laws.proofs.Limits.{tied_key, body_or}
 use Rattle.own_lsa_laws.specs.OwnCopies.{IsHeldBack, IsOwnCopy, IsToBeReplaced, SaysWhatIsWanted}
 use Rattle.own_lsa_laws.specs.OwnCopies.{SpeaksForItself, SpeaksForItselfAfterTick}
 use Rattle.own_lsa_laws.specs.Worked.{WorkedOwnCopies, holding, other_links, unwanted, unwanted_key}
@@ -133,10 +132,6 @@ flushed = subst (λ (o : Option DatabaseCopy). SpeaksForItself (flushed_by o))
 
 abbrev links_key : Key
 links_key = router_key 7
-
-abbrev body_or : LsaBody → Option LsaBody → LsaBody
-body_or other None = other
-body_or other (Some says) = says
 
 says_otherwise : (r : Router) → wanted_body r links_key ≡ Some (router_body [])
     → SaysWhatIsWanted r links_key (copied 20 other_links) → ⊥

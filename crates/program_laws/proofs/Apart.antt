@@ -2,17 +2,15 @@
 use Rattle.std.proofs.Common.{◌≡◌, ℕ, ◌+◌, Bool, true, false, cond, List, [], ◌∷◌, ◌++◌, map}
 use Rattle.std.proofs.Common.{Option, None, Some, refl, sym, ◌∙◌, ap, subst}
 use Rattle.std.specs.List.{enumerate_from, flat_map, fold}
-use Rattle.std.specs.Ordering.{is_eq}
-use Rattle.std.specs.declared.cmp.Ordering.{Ordering}
-use Rattle.std.specs.declared.cmp.Ordering.TheVariants.{Equal, Greater, Less}
 use Rattle.std.specs.FinMap as finite
 use Rattle.words.specs.Numbers.{Moment}
 use Rattle.words.specs.declared.key.Key.{Key}
 use Rattle.lsdb.specs.Copies.{Database, DatabaseCopy, change_copy}
 use Rattle.lsdb.specs.Headers.{Lsa, lsa_key}
 use Rattle.lsdb.specs.Instances.{ListEntry}
-use Rattle.lsdb.specs.Keys.{ByKey, key_cmp, same_key}
+use Rattle.lsdb.specs.Keys.{ByKey, same_key}
 use Rattle.lsdb.proofs.Keys.{keys_exact, keys_total}
+pub use Rattle.lsdb.proofs.Keys.{tied as tied_key}
 use Rattle.adjacency.specs.Contents.{Content, Step, no_sends}
 use Rattle.adjacency.specs.Contents.Content.{Updates}
 use Rattle.adjacency.specs.Floods.{flooding, meets, passes, request_of}
@@ -22,20 +20,8 @@ use Rattle.adjacency.specs.Retransmissions.{add_retransmission, remove_retransmi
 use Rattle.received.specs.Links.{Link}
 use Rattle.received.specs.Outcomes.{Send, Stepping, marked_database, sends_at, sent_on, step_on}
 use Rattle.received.specs.Outcomes.{stepped_links, stepping_sends}
+use Rattle.received.proofs.Marks.{changed_by}
 use Rattle.program_laws.specs.Destinations.{link_without, neighbor_on_without, neighbor_without}
-
-pub tied_key : (q k : Key) → same_key q k ≡ true → q ≡ k
-tied_key q k is = keys_exact q k (equal (key_cmp q k) is)
-  where
-    equal : (r : Ordering) → is_eq r ≡ true → r ≡ Equal
-    equal Less e = absurd cc
-    equal Equal e = refl
-    equal Greater e = absurd cc
-
--- a change of a copy, by whether there is one
-abbrev changed_at : Key → (DatabaseCopy → DatabaseCopy) → Database → Option DatabaseCopy → Database
-changed_at k change d None = d
-changed_at k change d (Some c) = finite.insert d k (change c)
 
 module _ (key : Key) where
   -- ---- maps
@@ -263,25 +249,25 @@ module _ (key : Key) where
 
   changed_agree : (k : Key) (change : DatabaseCopy → DatabaseCopy) (d e : Database) → Agree d e
       → (x y : Option DatabaseCopy) → ((same_key k key ≡ false) → x ≡ y)
-      → Agree (changed_at k change d x) (changed_at k change e y)
+      → Agree (changed_by k change d x) (changed_by k change e y)
   changed_agree k change d e agree x y same = by_key (same_key k key) refl
     where
-      own : (d : Database) (x : Option DatabaseCopy) → k ≡ key → Agree (changed_at k change d x) d
+      own : (d : Database) (x : Option DatabaseCopy) → k ≡ key → Agree (changed_by k change d x) d
       own d None is q other = refl
       own d (Some c) is q other = finite.get-insert keys_total d k (change c) q
           ∙ ap (λ b. cond b (Some (change c)) (finite.get d q)) (ap (same_key q) is ∙ other)
 
-      alike : (x : Option DatabaseCopy) → Agree (changed_at k change d x) (changed_at k change e x)
+      alike : (x : Option DatabaseCopy) → Agree (changed_by k change d x) (changed_by k change e x)
       alike None = agree
       alike (Some c) = agree_inserted d e agree k (change c)
 
       by_key : (b : Bool) → same_key k key ≡ b
-          → Agree (changed_at k change d x) (changed_at k change e y)
+          → Agree (changed_by k change d x) (changed_by k change e y)
       by_key true is =
           let at : k ≡ key = tied_key k key is in
           λ q other. own d x at q other ∙ agree q other ∙ sym (own e y at q other)
-      by_key false apart = subst (λ (z : Option DatabaseCopy). Agree (changed_at k change d x)
-          (changed_at k change e z)) (same apart) (alike x)
+      by_key false apart = subst (λ (z : Option DatabaseCopy). Agree (changed_by k change d x)
+          (changed_by k change e z)) (same apart) (alike x)
 
   pub copies_agree : (k : Key) (change : DatabaseCopy → DatabaseCopy) (d e : Database) → Agree d e
       → Agree (change_copy k change d) (change_copy k change e)
@@ -292,7 +278,7 @@ module _ (key : Key) where
       → Agree (change_copy k change d) d
   own_copy_agrees k is change d = by_copy (finite.get d k)
     where
-      by_copy : (x : Option DatabaseCopy) → Agree (changed_at k change d x) d
+      by_copy : (x : Option DatabaseCopy) → Agree (changed_by k change d x) d
       by_copy None q other = refl
       by_copy (Some c) q other = finite.get-insert keys_total d k (change c) q
           ∙ ap (λ b. cond b (Some (change c)) (finite.get d q)) (ap (same_key q) is ∙ other)

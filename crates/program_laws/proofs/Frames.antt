@@ -2,9 +2,9 @@
 -- still possible.
 use Rattle.std.proofs.Common.{◌≡◌, ◌≢◌, ℕ, zero, suc, ◌+◌, ◌^◌, ◌%◌, ◌<◌, ◌≤◌, ℤ, List, [], ◌∷◌}
 use Rattle.std.proofs.Common.{length, drop, refl, sym, ap, ◌∙◌, Option, Some, None, arith, true}
-use Rattle.std.proofs.Common.{false, Bool, ◌||◌, ◌⊎◌, inl, inr, length-drop, ◌-◌}
+use Rattle.std.proofs.Common.{false, Bool, ◌⊎◌, inl, inr, length-drop, ◌-◌}
 use Rattle.std.specs.Prelude.{slice_set, nat_le, ◌==◌, if◌then◌else◌}
-use Rattle.std.proofs.lemmas.Bool.{eq-eqb}
+use Rattle.std.proofs.lemmas.Bool.{eq-eqb, or_parts}
 use borrow.Author.Tests.{leb-true}
 use Rattle.std.proofs.lemmas.Bool.Decides.{eqb_tells}
 use Rattle.std.proofs.lemmas.List.{get_or-set_other, get_or-set_same, drop-set-add}
@@ -44,10 +44,6 @@ later counter left s = record {
   registers = slice_set s.registers counter (Number left);
   stack = s.stack;
 }
-
-pub neither : (a b : Bool) → (a || b) ≡ false → (a ≡ false) × (b ≡ false)
-neither true b e = cc
-neither false b e = (refl, e)
 
 pub set_swap : (xs : List Content) (i j : ℕ) (a b : Content) → i ≢ j
     → slice_set (slice_set xs i a) j b ≡ slice_set (slice_set xs j b) i a
@@ -264,7 +260,7 @@ module _ (counter left : ℕ) (least : 6 ≤ counter) (heads : List ℕ) (hook :
       → place_of heads s.slot (jump_target s.slot i) ≡ None
       → Does i mine (later counter left s) label t → Result i
   follows (instructions.Arithmetic width operation target source) unnamed straight h =
-      let no = neither (target == counter) (is_operand counter source) unnamed in
+      let no = or_parts (target == counter) (is_operand counter source) unnamed in
       let ne = differ target counter no.0 in
       let same = ap (λ c. result_of width operation c (operand (later counter left s) source))
       (held_other counter left s target ne)
@@ -277,7 +273,7 @@ module _ (counter left : ℕ) (least : 6 ≤ counter) (heads : List ℕ) (hook :
       (ap (λ c. on_number (negated_number width) c) (held_other counter left s target ne)) h in
       of_filled _ target _ f f.1
   follows (instructions.SignExtend extension target source) unnamed straight h =
-      let no = neither (target == counter) (source == counter) unnamed in
+      let no = or_parts (target == counter) (source == counter) unnamed in
       let f = fills_follow target _ _ (differ target counter no.0)
       (ap (λ c. on_number (sign_extended extension) c)
       (held_other counter left s source (differ source counter no.1))) h in
@@ -300,7 +296,7 @@ module _ (counter left : ℕ) (least : 6 ≤ counter) (heads : List ℕ) (hook :
     goes_on = jumped distance h.after;
   }
   follows (instructions.Branch width test a right distance) unnamed straight h =
-      let no = neither (a == counter) (is_operand counter right) unnamed in
+      let no = or_parts (a == counter) (is_operand counter right) unnamed in
       let same = ap (λ c. test_result width test c (operand (later counter left s) right))
       (held_other counter left s a (differ a counter no.0))
       ∙ ap (λ c. test_result width test (held s a) c) (operand_other counter left s right no.1) in
@@ -326,7 +322,7 @@ module _ (counter left : ℕ) (least : 6 ≤ counter) (heads : List ℕ) (hook :
   follows instructions.Exit unnamed straight h = elim h [ ]
   follows (instructions.Load size target base offset) unnamed straight
       (p, at, content, loads, writable, after) =
-      let no = neither (target == counter) (base == counter) unnamed in
+      let no = or_parts (target == counter) (base == counter) unnamed in
       record {
         next = with_register s target content;
         does = (
@@ -346,7 +342,7 @@ module _ (counter left : ℕ) (least : 6 ≤ counter) (heads : List ℕ) (hook :
       }
   follows (instructions.Store size base offset source) unnamed straight
       (p, at, stack, stores, after) =
-      let no = neither (base == counter) (is_operand counter source) unnamed in
+      let no = or_parts (base == counter) (is_operand counter source) unnamed in
       let stored = rw (operand_other counter left s source no.1) at stores in
       record {
         next = record s { slot = s.slot + 1; stack = stack };

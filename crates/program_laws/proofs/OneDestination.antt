@@ -6,6 +6,7 @@ use Rattle.std.specs.Prelude.{nat_le}
 use Rattle.std.specs.List.{enumerate_from, flat_map, fold}
 use Rattle.std.specs.FinMap as finite
 use Rattle.std.specs.FinSet as set
+use Rattle.std.proofs.lemmas.Bool.{or_parts}
 use Rattle.words.specs.Constants.{ls_infinity, max_age}
 use Rattle.words.specs.Numbers.{Moment, RouterNumber}
 use Rattle.words.specs.declared.key.Key.{Key}
@@ -27,16 +28,17 @@ use Rattle.received.specs.Flooding.{flood_to}
 use Rattle.received.specs.Links.{Link}
 use Rattle.received.specs.Outcomes.{Outcome, Send, marked_database, sends_at, on_database, sent_on}
 use Rattle.received.specs.Outcomes.{step_on, stepping_sends}
+use Rattle.received.proofs.Marks.{changed_by}
 use Rattle.event_rules.specs.Commands.{after_redistribute, announce, announce_as, answered_external}
 use Rattle.event_rules.specs.Commands.{end_want, is_announced_as, unannounce}
 use Rattle.event_rules.specs.Endings.{end_event, start_event, with_age}
 use Rattle.event_rules.specs.Events.{Happens}
 use Rattle.event_rules.specs.EventState.{EventState, flood_from_nobody, on_area, on_router}
 use Rattle.event_rules.specs.Originations.{announced_body, as_originated, external_body}
-use Rattle.event_rules.specs.Originations.{external_key}
-use Rattle.event_rules.specs.Originations.{flush, flush_copy, has_max_sequence, install_and_flood}
-use Rattle.event_rules.specs.Originations.{may_originate, new_instance, originate, originate_anyway}
-use Rattle.event_rules.specs.Originations.{originate_body, put_off, router_key}
+use Rattle.event_rules.specs.Originations.{external_key, flush, flush_copy, has_max_sequence}
+use Rattle.event_rules.specs.Originations.{install_and_flood, may_originate, new_instance}
+use Rattle.event_rules.specs.Originations.{originate, originate_anyway, originate_body, put_off}
+use Rattle.event_rules.specs.Originations.{router_key}
 use Rattle.event_rules.specs.Routers.{Occurrence, Router}
 use Rattle.event_rules.specs.declared.model.Out.{Out}
 use Rattle.program_laws.specs.Destinations.{AnswersReachOneDestination, IsUnderItsKey, is_requested}
@@ -44,10 +46,6 @@ use Rattle.program_laws.specs.Destinations.{link_without, neighbor_on_without, r
 use Rattle.program_laws.specs.Destinations.{sends_without, updates}
 use Rattle.program_laws.proofs.Apart as apart
 use Rattle.program_laws.proofs.Destinations as rest
-
-or_false : (a b : Bool) → (a || b) ≡ false → (a ≡ false) × (b ≡ false)
-or_false true b e = absurd cc
-or_false false b e = (refl, e)
 
 no_value : {X : Type 0} (o : Option X) → is_some o ≡ false → o ≡ None
 no_value None e = refl
@@ -75,7 +73,7 @@ module _ (key : Key) (is_external : key.ls_type ≡ 5) where
       (enumerate_from number links)) ≡ map (link_without key) links
   own_links moment lsa is number [] none = refl
   own_links moment lsa is number (link ∷ links) none =
-      let both = or_false (was_requested key link.neighbor) (is_requested key links) none in
+      let both = or_parts (was_requested key link.neighbor) (is_requested key links) none in
       let one = ap (λ (o : Option Neighbor). record link {
         neighbor = o;
       }) (on link.neighbor both.0) in
@@ -355,7 +353,7 @@ module _ (key : Key) (is_external : key.ls_type ≡ 5) where
       (enumerate_from number links))
   still_not_requested moment lsa number [] none = refl
   still_not_requested moment lsa number (link ∷ links) none =
-      let both = or_false (was_requested key link.neighbor) (is_requested key links) none in
+      let both = or_parts (was_requested key link.neighbor) (is_requested key links) none in
       let one = on link.neighbor both.0 in
       let others = still_not_requested moment lsa (number + 1) links both.1 in
       λ i. one i || others i
@@ -367,16 +365,11 @@ module _ (key : Key) (is_external : key.ls_type ≡ 5) where
           (passes moment lsa (request_of n lsa)) (meets moment lsa (request_of n lsa)) moment lsa n
           (no_value (finite.get n.requests key) e)
 
-  abbrev changed_at : Key → (DatabaseCopy → DatabaseCopy) → Database → Option DatabaseCopy
-      → Database
-  changed_at k change d None = d
-  changed_at k change d (Some c) = finite.insert d k (change c)
-
   abbrev as_sent : Moment → DatabaseCopy → DatabaseCopy
   as_sent moment c = record c { sent = Some moment }
 
   under_by : (moment : Moment) (k : Key) (d : Database) (x : Option DatabaseCopy) → finite.get d k
-      ≡ x → IsUnderItsKey key d → IsUnderItsKey key (changed_at k (as_sent moment) d x)
+      ≡ x → IsUnderItsKey key d → IsUnderItsKey key (changed_by k (as_sent moment) d x)
   under_by moment k d None there under = under
   under_by moment k d (Some c) there under =
       λ c' is. by_key c' (same_key key k) refl
@@ -393,7 +386,7 @@ module _ (key : Key) (is_external : key.ls_type ≡ 5) where
 
   there_by : (moment : Moment) (k other : Key) (d : Database) (x : Option DatabaseCopy)
       → finite.contains_key d other ≡ true
-      → finite.contains_key (changed_at k (as_sent moment) d x) other ≡ true
+      → finite.contains_key (changed_by k (as_sent moment) d x) other ≡ true
   there_by moment k other d None there = there
   there_by moment k other d (Some c) there =
       ap is_some (finite.get-insert keys_total d k (as_sent moment c) other)

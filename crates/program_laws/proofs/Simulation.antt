@@ -4,7 +4,7 @@ use Rattle.std.proofs.Common.{[], ◌∷◌, ◌++◌, length, refl, sym, ap, su
 use Rattle.std.proofs.Common.{arith, true, false, Bool, ◌⊎◌, inl, inr, append_assoc}
 use Rattle.std.specs.Prelude.{slice_get, slice_set, position, nat_le, ◌==◌, if◌then◌else◌}
 use Rattle.std.proofs.lemmas.Option.{slice_get_within, slice_get_past}
-use Rattle.std.proofs.lemmas.Bool.{le-leb}
+use Rattle.std.proofs.lemmas.Bool.{le-leb, or_parts}
 use borrow.Author.Tests.{leb-true}
 use Rattle.isa.specs.declared.instruction.Instruction.{Instruction}
 use Rattle.isa.specs.declared.instruction.Instruction.TheVariants as instructions
@@ -35,8 +35,7 @@ use Rattle.std.specs.Prelude.{FitsSigned}
 use Rattle.std.specs.Int.{w32}
 use Rattle.program_laws.proofs.Codes.{fits_at, detour_is, Whole, all, later_is, distance_leads}
 use Rattle.program_laws.proofs.Codes.{place_within}
-use Rattle.program_laws.proofs.Frames.{later, follows, held_other, operand_other, differ, neither}
-use Rattle.program_laws.proofs.Frames.{ahead}
+use Rattle.program_laws.proofs.Frames.{later, follows, held_other, operand_other, differ, ahead}
 use Rattle.program_laws.proofs.Turning.{step_by, exit_only, counting, counted_turn, filling_of}
 
 -- ---- accesses
@@ -191,7 +190,7 @@ module _ (counter left : ℕ) (heads : List ℕ) (hook : Hook) (input : Given)
     goes = inl (jumped old back h.after);
   }
   turned (instructions.Branch width test a right old) unnamed back h =
-      let no = neither (a == counter) (is_operand counter right) unnamed in
+      let no = or_parts (a == counter) (is_operand counter right) unnamed in
       let same = ap (λ c. test_result width test c (operand (later counter left s) right))
       (held_other counter left s a (differ a counter no.0))
       ∙ ap (λ c. test_result width test (held s a) c) (operand_other counter left s right no.1) in

@@ -4,6 +4,7 @@
 use Rattle.std.proofs.Common.{◌≡◌, ℕ, zero, suc, Bool, true, false, List, [], ◌∷◌, ◌++◌, map}
 use Rattle.std.proofs.Common.{Option, None, Some, refl, sym, ◌∙◌, ap, subst}
 use Rattle.std.specs.Prelude.{set, slice_get}
+use Rattle.std.proofs.lemmas.Option.{same_Some}
 use Rattle.words.specs.Numbers.{InterfaceNumber, Moment}
 use Rattle.packet.proofs.Whole.{one_packet}
 use Rattle.packet.specs.declared.model.Packet.{Packet}
@@ -154,9 +155,6 @@ abbrev value_or : {X : Type 0} → X → Option X → X
 value_or x None = x
 value_or x (Some y) = y
 
-somes : {X : Type 0} (x y : X) → Some x ≡ Some y → x ≡ y
-somes x y e = ap (value_or x) e
-
 at_mapped : {X Y : Type 0} (f : X → Y) (xs : List X) (i : ℕ) → slice_get (map f xs) i
     ≡ on_option f (slice_get xs i)
 at_mapped f [] i = refl
@@ -194,7 +192,7 @@ acted w v act other next after same acts it that =
     let places : act.place ≡ other.place = ap (λ (a : Act). a.place) acts in
     let causes : cause_without_words act.cause ≡ cause_without_words other.cause = ap
     (λ (a : Act). a.cause) acts in
-    let actors : without_answers it.old ≡ without_answers that.old = somes
+    let actors : without_answers it.old ≡ without_answers that.old = same_Some
     (without_answers it.old) (without_answers that.old) (
     sym (ap (on_option without_answers) it.here) ∙ sym
     (at_mapped without_answers w.routers act.place)
@@ -202,7 +200,7 @@ acted w v act other next after same acts it that =
     (slice_get (map without_answers v.routers)) places
     ∙ at_mapped without_answers v.routers other.place ∙ ap (on_option without_answers) that.here
     ) in
-    let events : without_words it.event ≡ without_words that.event = somes
+    let events : without_words it.event ≡ without_words that.event = same_Some
     (without_words it.event) (without_words that.event) (
     sym (ap (on_option without_words) it.is) ∙ caused w.sent act.cause
     ∙ ap (λ (ds : List Datagram). event_of ds (cause_without_words act.cause)) all ∙ ap
