@@ -12,28 +12,26 @@ use Rattle.adjacency.specs.Adjacencies.{next_dd_sequence_start, initial_descript
 use Rattle.adjacency.specs.Adjacencies.{requests_nothing, enter_exstart}
 use Rattle.adjacency.specs.Contents.{Step, no_sends}
 use Rattle.adjacency.specs.Contents as contents
-use Rattle.adjacency.specs.Descriptions.{Verdict, act, judge, repeat}
+use Rattle.adjacency.specs.Descriptions.{Verdict, act, judge, repeat, after_description}
 use Rattle.adjacency.specs.Neighbors.{Neighbor, fresh}
 use Rattle.adjacency.specs.Requests.{next_request}
 use Rattle.adjacency.specs.declared.state.NeighborState.TheVariants.{ExStart, Full, Loading}
 use Rattle.received.specs.Links.{Link, neighbor_at}
 use Rattle.received.specs.Outcomes.{one_neighbor}
 use Rattle.event_rules.specs.declared.model.Out.{Out}
-use Rattle.event_rules.specs.Endings.{start_event, originate_router_lsa, put_off_router_lsa}
-use Rattle.event_rules.specs.Endings.{loading_done}
-use Rattle.event_rules.specs.Endings.{end_event, remove_aged}
+use Rattle.event_rules.specs.Endings.{start_event, loading_done, end_event, remove_aged}
 use Rattle.event_rules.specs.Events.{Happens}
 use Rattle.event_rules.specs.Packets.{accept_hello, after_packet, receive_description}
 use Rattle.event_rules.specs.Packets.{receive_hello}
 use Rattle.event_rules.specs.Packing.{outs_of}
 use Rattle.event_rules.specs.EventState.{EventState, on_area, on_router}
 use Rattle.event_rules.specs.Routers.{Occurrence, Router, shown_at}
-use Rattle.conversations.specs.WorkedAdjacency.{AnAdjacencyBegins, IsDescription, IsNamingHello}
-use Rattle.conversations.specs.WorkedAdjacency.{NothingAges, describes, lonely}
+use Rattle.conversations.specs.WorkedAdjacency.{AnAdjacencyBegins, IsJudged, IsNamingHello}
+use Rattle.conversations.specs.WorkedAdjacency.{describes, lonely}
 use Rattle.conversations.specs.WorkedOwn.{beside, loading}
-use Rattle.conversations.proofs.WorkedEnds.{begins, describes_not, describes_not_later, differ_not}
-use Rattle.conversations.proofs.WorkedEnds.{ended, ends_by, last}
+use Rattle.conversations.proofs.WorkedEnds.{begins, ended, ends_by, finishes, last}
 use Rattle.conversations.proofs.WorkedUpdates.{itself, start}
+use Rattle.conversations.specs.WorkedUpdates.{NothingAges}
 
 -- ---- a Hello that lists this router
 
@@ -80,18 +78,17 @@ opens_it r new link moment from bytes h outs nothing hello event =
 -- ---- a Database Description in Loading
 
 -- the neighbor's step
-abbrev stepping : Router → Link → Neighbor → ℕ → Step → EventState
-stepping r link n moment s = on_area (λ o. one_neighbor moment 1 (λ m. s) o)
-    (start (beside r link (loading n)))
+abbrev pub taken : Router → Link → Neighbor → ℕ → Step → EventState
+taken r link n moment s = on_area (λ o. one_neighbor moment 1 (λ m. s) o) (start (beside r link n))
 
-judged : (r new : Router) (link : Link) (n : Neighbor) (moment : ℕ) (bytes : List ℕ)
+pub judged : (r new : Router) (link : Link) (n : Neighbor) (moment : ℕ) (bytes : List ℕ)
     (d : Description) (v : Verdict) (outs : List Out) → NothingAges r moment
-    → IsDescription r n bytes d v →
-    (event : Happens (beside r link (loading n)) moment (Occurrence.Packet 1 bytes) outs
-    new) → event.after ≡ stepping r link n moment
-    (act v moment r.area.database d (loading n))
-judged r new link n moment bytes d v outs nothing said event =
-    let old : Router = beside r link (loading n) in
+    → IsJudged r n bytes d v → after_description r.id moment r.area.database d n
+    ≡ cond (nat_lt 8192 d.mtu) (no_sends n) (judge r.id moment r.area.database d n)
+    → (event : Happens (beside r link n) moment (Occurrence.Packet 1 bytes) outs new)
+    → event.after ≡ taken r link n moment (act v moment r.area.database d n)
+judged r new link n moment bytes d v outs nothing said same event =
+    let old : Router = beside r link n in
     let packet : Packet = record { router = n.router; body = body.Description d } in
     event.own.2
     ∙ ap (λ q. after_packet moment 1 q (start_event moment old))
@@ -99,13 +96,14 @@ judged r new link n moment bytes d v outs nothing said event =
     ∙ ap (after_packet moment 1 packet) (begins moment old nothing)
     ∙ (λ i. cond (said.is_other i && (false || itself n.router i))
     (on_area (receive_description r.id moment 1 d) (start old)) (start old))
-    ∙ (λ i. stepping r link n moment (cond (said.fits i) (no_sends (loading n))
-    (judge r.id moment r.area.database d (loading n))))
-    ∙ (λ i. stepping r link n moment (act (said.is_judged i) moment r.area.database d (loading n)))
+    ∙ ap (taken r link n moment) same
+    ∙ (λ i. taken r link n moment (cond (said.fits i) (no_sends n)
+    (judge r.id moment r.area.database d n)))
+    ∙ (λ i. taken r link n moment (act (said.is_judged i) moment r.area.database d n))
 
 begins_it_again : (r new : Router) (link : Link) (n : Neighbor) (moment : ℕ) (bytes : List ℕ)
     (d : Description) (outs : List Out) → NothingAges r moment
-    → IsDescription r n bytes d Verdict.Mismatch
+    → IsJudged r (loading n) bytes d Verdict.Mismatch
     → Happens (beside r link (loading n)) moment (Occurrence.Packet 1 bytes) outs new
     → (neighbor_at 1 new.area.links ≡ Some (enter_exstart moment (loading n)).neighbor)
     × (outs ≡ outs_of r.id (beside r link (loading n)).area.links
@@ -113,10 +111,10 @@ begins_it_again : (r new : Router) (link : Link) (n : Neighbor) (moment : ℕ) (
     (next_dd_sequence_start moment n.dd_sequence_start))))
 begins_it_again r new link n moment bytes d outs nothing said event =
     let old : Router = beside r link (loading n) in
-    let p : EventState = stepping r link n moment (enter_exstart moment (loading n)) in
+    let p : EventState = taken r link (loading n) moment (enter_exstart moment (loading n)) in
     let end : end_event old moment event.after ≡ ended moment p =
-    ap (end_event old moment) (judged r new link n moment bytes d Verdict.Mismatch outs nothing said
-    event) ∙ ends_by old moment p refl refl in (
+    ap (end_event old moment) (judged r new link (loading n) moment bytes d Verdict.Mismatch outs
+    nothing said refl event) ∙ ends_by old moment p refl refl in (
       ap (λ (s : Router). neighbor_at 1 s.area.links)
           (event.router ∙ ap (λ (q : EventState). q.router) end),
       event.sent ∙ ap (λ (q : EventState). outs_of r.id old.area.links q.sends) end,
@@ -130,7 +128,7 @@ at_moment moment p = on_router (λ (s : Router). record s { moment = moment }) p
 
 repeats_it : (r new : Router) (link : Link) (n : Neighbor) (moment : ℕ) (bytes : List ℕ)
     (d last_one : Description) (outs : List Out) → NothingAges r moment
-    → IsDescription r n bytes d Verdict.Repeated → n.described ≡ Some last_one
+    → IsJudged r (loading n) bytes d Verdict.Repeated → n.described ≡ Some last_one
     → requests_nothing n ≡ false → (set.len n.outstanding == 0) ≡ false
     → Happens (beside r link (loading n)) moment (Occurrence.Packet 1 bytes) outs new
     → (shown_at new 1 ≡ Some (n.router, Loading))
@@ -141,11 +139,10 @@ repeats_it r new link n moment bytes d last_one outs nothing said kept busy aske
     let m : Neighbor = record (loading n) { described = Some last_one; described_at = moment } in
     let put : Neighbor → EventState = answered r link moment last_one in
     let p : EventState = put m in
-    let later : EventState → EventState =
-    λ q. last moment (put_off_router_lsa q.router.area.links (loading_done q)) in
     let own : event.after ≡ p =
-    judged r new link n moment bytes d Verdict.Repeated outs nothing said event
-    ∙ (λ i. stepping r link n moment (repeat moment (record (loading n) { described = kept i }))) in
+    judged r new link (loading n) moment bytes d Verdict.Repeated outs nothing said refl event
+    ∙ (λ i. taken r link (loading n) moment
+    (repeat moment (record (loading n) { described = kept i }))) in
     let full : loading_done p ≡ p = ap (λ b. put (cond b (record m { state = Full }) m)) busy in
     let request : Step = record {
       neighbor = record m {
@@ -160,12 +157,7 @@ repeats_it r new link n moment bytes d last_one outs nothing said kept busy aske
     o)) p) in
     let end : end_event old moment event.after ≡ at_moment moment p =
     ap (end_event old moment) own
-    ∙ ap (λ q. later (originate_router_lsa old.area.links moment q)) full
-    ∙ ap later (describes_not old.area.links moment p
-    (differ_not old.area.links p.router.area.links refl))
-    ∙ ap (λ q. last moment (put_off_router_lsa p.router.area.links q)) full
-    ∙ ap (last moment) (describes_not_later p)
-    ∙ no_request in (
+    ∙ finishes old moment p (at_moment moment p) full refl no_request in (
       ap (λ s. shown_at s 1) (event.router ∙ ap (λ (q : EventState). q.router) end),
       event.sent ∙ ap (λ (q : EventState). outs_of r.id old.area.links q.sends) end,
     )

@@ -5,6 +5,8 @@ use Rattle.std.proofs.Common.{arith, slice_get}
 use Rattle.std.specs.List.{Contains, enumerate_from, flat_map}
 use Rattle.std.specs.FinMap as finite
 use Rattle.std.proofs.lemmas.List.Elements.{Contains-append_left, Contains-append_right}
+use Rattle.std.proofs.Math.Bool.{or-true}
+use Rattle.std.proofs.lemmas.Option.{none-some}
 use Rattle.lsdb.specs.Copies.{install_flooded}
 use Rattle.lsdb.specs.Headers.{Header, Lsa, lsa_aged, lsa_key}
 use Rattle.lsdb.specs.Order.{is_max_age}
@@ -56,32 +58,25 @@ newer moment number lsa a none busy =
 
 -- ---- one of the links
 
-nothing_there : {A : Type 0} {x : Link} → ◌≡◌ {A = Option Link} None (Some x) → A
-nothing_there e = absurd cc
-
-or_true : (b : Bool) → (b || true) ≡ true
-or_true true = refl
-or_true false = refl
-
 busy_at : (i : ℕ) (xs : List Link) (x : Link) → slice_get xs i ≡ Some x
     → neighbor_is_exchange_or_loading x.neighbor ≡ true → any_exchange_or_loading xs ≡ true
-busy_at i [] x e is = nothing_there e
+busy_at i [] x e is = absurd (none-some x e)
 busy_at zero (y ∷ xs) x e is =
     let same : y ≡ x = cc in
     (λ j. neighbor_is_exchange_or_loading (same j).neighbor || any_exchange_or_loading xs)
     ∙ (λ j. is j || any_exchange_or_loading xs)
 busy_at (suc i) (y ∷ xs) x e is = ap (λ b. neighbor_is_exchange_or_loading y.neighbor || b)
-    (busy_at i xs x e is) ∙ or_true (neighbor_is_exchange_or_loading y.neighbor)
+    (busy_at i xs x e is) ∙ or-true (neighbor_is_exchange_or_loading y.neighbor)
 
 busy_on : (number : ℕ) (xs : List Link) (x : Link) → link_at number xs ≡ Some x
     → neighbor_is_exchange_or_loading x.neighbor ≡ true → any_exchange_or_loading xs ≡ true
-busy_on zero xs x e is = nothing_there e
+busy_on zero xs x e is = absurd (none-some x e)
 busy_on (suc i) xs x e is = busy_at i xs x e is
 
 module _ (g : (ℕ × Link) → List Send) where
   sent_at : (k i : ℕ) (xs : List Link) (x : Link) (s : Send) → slice_get xs i ≡ Some x
       → Contains (g (k + i, x)) s → Contains (flat_map g (enumerate_from k xs)) s
-  sent_at k i [] x s e c = nothing_there e
+  sent_at k i [] x s e c = absurd (none-some x e)
   sent_at k zero (y ∷ xs) x s e c =
       let same : x ≡ y = cc in
       let place : k + 0 ≡ k = omega arith in
@@ -95,7 +90,7 @@ module _ (g : (ℕ × Link) → List Send) where
 
   sent_on_link : (number : ℕ) (xs : List Link) (x : Link) (s : Send) → link_at number xs ≡ Some x
       → Contains (g (number, x)) s → Contains (flat_map g (enumerate_from 1 xs)) s
-  sent_on_link zero xs x s e c = nothing_there e
+  sent_on_link zero xs x s e c = absurd (none-some x e)
   sent_on_link (suc i) xs x s e c =
       let place : suc i ≡ 1 + i = omega arith in
       sent_at 1 i xs x s e (subst (λ j. Contains (g (j, x)) s) place c)

@@ -161,13 +161,11 @@ last_rest moment p e =
     })
     (ap (remove_aged moment) asked ∙ left)
 
--- an event that doesn't change the body of the router-LSA, with no neighbor in Exchange or Loading
--- after it
-pub ends_by : (old : Router) (moment : ℕ) (p : EventState) → router_body old.area.links
-    ≡ router_body p.router.area.links → any_exchange_or_loading p.router.area.links ≡ false
-    → end_event old moment p ≡ ended moment p
-ends_by old moment p same still =
-    let full : loading_done p ≡ p = none_filled p still in
+-- an event that doesn't change the body of the router-LSA, and after which no neighbor becomes Full
+pub finishes : (old : Router) (moment : ℕ) (p x : EventState) → loading_done p ≡ p
+    → router_body old.area.links ≡ router_body p.router.area.links → last moment p ≡ x
+    → end_event old moment p ≡ x
+finishes old moment p x full same end =
     let later : EventState → EventState =
     λ q. last moment (put_off_router_lsa q.router.area.links (loading_done q)) in
     ap (λ q. later (originate_router_lsa old.area.links moment q)) full
@@ -175,7 +173,14 @@ ends_by old moment p same still =
     (differ_not old.area.links p.router.area.links same))
     ∙ ap (λ q. last moment (put_off_router_lsa p.router.area.links q)) full
     ∙ ap (last moment) (describes_not_later p)
-    ∙ last_rest moment p still
+    ∙ end
+
+-- the same with no neighbor in Exchange or Loading after it
+pub ends_by : (old : Router) (moment : ℕ) (p : EventState) → router_body old.area.links
+    ≡ router_body p.router.area.links → any_exchange_or_loading p.router.area.links ≡ false
+    → end_event old moment p ≡ ended moment p
+ends_by old moment p same still = finishes old moment p (ended moment p) (none_filled p still) same
+    (last_rest moment p still)
 
 -- an event that doesn't change the neighbors and their states
 pub ends : (old : Router) (moment : ℕ) (p : EventState) → map seen p.router.area.links

@@ -3,88 +3,37 @@ use Rattle.std.proofs.Common.{◌≡◌, ℕ, ◌==◌, Bool, true, false, cond,
 use Rattle.std.proofs.Common.{length, map, take, Some, refl, ap, ◌∙◌, nat_lt}
 use Rattle.std.specs.FinMap as finite
 use Rattle.std.specs.FinSet as set
+use Rattle.std.proofs.Math.Bool.{or-true}
 use Rattle.words.specs.declared.key.Key.{Key}
 use Rattle.lsa.specs.Reading.{is_known_type}
 use Rattle.lsdb.specs.Headers.{Header, key_of}
 use Rattle.lsdb.specs.Instances.{ListEntry}
 use Rattle.lsdb.specs.Keys.{ByKey, key_cmp}
 use Rattle.lsdb.proofs.Keys.{keys_total}
-use Rattle.packet.specs.declared.model.PacketBody.TheVariants as body
 use Rattle.packet.specs.declared.model.Description.{Description}
-use Rattle.packet.specs.declared.model.Packet.{Packet}
-use Rattle.packet.proofs.Whole.{one_packet}
 use Rattle.adjacency.specs.Adjacencies.{mismatch_step, initial_description, requests_nothing}
 use Rattle.adjacency.specs.Contents.{Content, Step, no_sends}
 use Rattle.adjacency.specs.Contents as contents
-use Rattle.adjacency.specs.Descriptions.{Verdict, act, after_description, exchange_done}
-use Rattle.adjacency.specs.Descriptions.{send_description}
-use Rattle.adjacency.specs.Descriptions.{is_wanted, judge, as_received, negotiated_neighbor}
-use Rattle.adjacency.specs.Descriptions.{young_copies}
+use Rattle.adjacency.specs.Descriptions.{Verdict, exchange_done, send_description, is_wanted}
+use Rattle.adjacency.specs.Descriptions.{as_received, negotiated_neighbor, young_copies}
 use Rattle.adjacency.specs.Neighbors.{Neighbor}
 use Rattle.adjacency.specs.Requests.{next_request}
 use Rattle.adjacency.specs.declared.state.NeighborState.TheVariants.{Exchange, Full, Loading}
 use Rattle.received.specs.Links.{Link}
 use Rattle.received.specs.Outcomes.{one_neighbor}
 use Rattle.event_rules.specs.declared.model.Out.{Out}
-use Rattle.event_rules.specs.Endings.{start_event, originate_router_lsa, put_off_router_lsa}
-use Rattle.event_rules.specs.Endings.{loading_done}
-use Rattle.event_rules.specs.Endings.{end_event, remove_aged}
+use Rattle.event_rules.specs.Endings.{loading_done, end_event, remove_aged}
 use Rattle.event_rules.specs.Events.{Happens}
-use Rattle.event_rules.specs.Originations.{router_body}
-use Rattle.event_rules.specs.Packets.{after_packet, receive_description}
 use Rattle.event_rules.specs.Packing.{outs_of}
 use Rattle.event_rules.specs.EventState.{EventState, on_area}
 use Rattle.event_rules.specs.Routers.{Occurrence, Router, shown_at}
-use Rattle.conversations.specs.WorkedAdjacency.{NothingAges, describes}
-use Rattle.conversations.specs.WorkedExchange.{AnExchangeAsSlave, IsJudged, last_with, in_ex_start}
-use Rattle.conversations.specs.WorkedExchange.{reply, slave}
+use Rattle.conversations.specs.WorkedAdjacency.{IsJudged, describes}
+use Rattle.conversations.specs.WorkedExchange.{AnExchangeAsSlave, last_with, in_ex_start, reply}
+use Rattle.conversations.specs.WorkedExchange.{slave}
 use Rattle.conversations.specs.WorkedOwn.{beside}
-use Rattle.conversations.proofs.WorkedAdjacency.{answered, at_moment}
-use Rattle.conversations.proofs.WorkedEnds.{begins, describes_not, describes_not_later, differ_not}
-use Rattle.conversations.proofs.WorkedEnds.{last}
-use Rattle.conversations.proofs.WorkedUpdates.{itself, start}
-
--- the neighbor's step
-abbrev taken : Router → Link → Neighbor → ℕ → Step → EventState
-taken r link n moment s = on_area (λ o. one_neighbor moment 1 (λ m. s) o) (start (beside r link n))
-
-judged : (r new : Router) (link : Link) (n : Neighbor) (moment : ℕ) (bytes : List ℕ)
-    (d : Description) (v : Verdict) (outs : List Out) → NothingAges r moment
-    → IsJudged r n bytes d v → after_description r.id moment r.area.database d n
-    ≡ cond (nat_lt 8192 d.mtu) (no_sends n) (judge r.id moment r.area.database d n)
-    → (event : Happens (beside r link n) moment (Occurrence.Packet 1 bytes) outs new)
-    → event.after ≡ taken r link n moment (act v moment r.area.database d n)
-judged r new link n moment bytes d v outs nothing said same event =
-    let old : Router = beside r link n in
-    let packet : Packet = record { router = n.router; body = body.Description d } in
-    event.own.2
-    ∙ ap (λ q. after_packet moment 1 q (start_event moment old))
-    (one_packet bytes event.own.0 packet event.own.1 said.is_text)
-    ∙ ap (after_packet moment 1 packet) (begins moment old nothing)
-    ∙ (λ i. cond (said.is_other i && (false || itself n.router i))
-    (on_area (receive_description r.id moment 1 d) (start old)) (start old))
-    ∙ ap (taken r link n moment) same
-    ∙ (λ i. taken r link n moment (cond (said.fits i) (no_sends n)
-    (judge r.id moment r.area.database d n)))
-    ∙ (λ i. taken r link n moment (act (said.is_judged i) moment r.area.database d n))
-
--- the router-LSA stays the same, and no neighbor becomes Full
-finishes : (old : Router) (moment : ℕ) (p x : EventState) → loading_done p ≡ p
-    → router_body old.area.links ≡ router_body p.router.area.links → last moment p ≡ x
-    → end_event old moment p ≡ x
-finishes old moment p x full same end =
-    let later : EventState → EventState =
-    λ q. last moment (put_off_router_lsa q.router.area.links (loading_done q)) in
-    ap (λ q. later (originate_router_lsa old.area.links moment q)) full
-    ∙ ap later (describes_not old.area.links moment p
-    (differ_not old.area.links p.router.area.links same))
-    ∙ ap (λ q. last moment (put_off_router_lsa p.router.area.links q)) full
-    ∙ ap (last moment) (describes_not_later p)
-    ∙ end
-
-or_true : (b : Bool) → (b || true) ≡ true
-or_true true = refl
-or_true false = refl
+use Rattle.conversations.proofs.WorkedAdjacency.{answered, at_moment, judged, taken}
+use Rattle.conversations.proofs.WorkedEnds.{finishes, last}
+use Rattle.conversations.specs.WorkedUpdates.{NothingAges}
 
 abbrev asking : ℕ → Neighbor → Step
 asking moment m = record {
@@ -123,7 +72,7 @@ negotiates_it r new link n moment sequence bytes outs nothing said none event =
     judged r new link (in_ex_start n) moment bytes (initial_description sequence)
     Verdict.NegotiatedAsSlave outs nothing said refl event
     ∙ (λ i. taken r link (in_ex_start n) moment
-    (cond (or_true (nat_lt 408 (finite.len (young_copies moment r.area.database))) i) replied
+    (cond (or-true (nat_lt 408 (finite.len (young_copies moment r.area.database))) i) replied
     (record replied { neighbor = exchange_done moment m }))) in
     let quietly : last moment p ≡ at_moment moment p =
     λ i. ending moment p (cond (true && not (none i) && set.len n.outstanding == 0)

@@ -39,12 +39,9 @@ use Rattle.conversations.specs.WorkedUpdates.{IsUpdateWith}
 use Rattle.conversations.proofs.WorkedEnds.{begins, ended, ends, got}
 use Rattle.conversations.proofs.WorkedOwn.{put, wanted}
 use Rattle.conversations.proofs.WorkedUpdates.{changed_by, inserted, is_young, itself, marked_once}
-use Rattle.conversations.proofs.WorkedUpdates.{own_part, same_age, start, taken_off}
+use Rattle.conversations.proofs.WorkedUpdates.{own_part, same_age, start, taken_off, brought}
 
 -- ---- it is newer
-
-abbrev brought : Lsa → ℕ → DatabaseCopy
-brought lsa moment = record { lsa = lsa; stored = moment; installed = Some moment; sent = None }
 
 newer_case : (moment : ℕ) (lsa : Lsa) (a : Area) (own : DatabaseCopy)
     → finite.get a.database (lsa_key lsa) ≡ Some own → newer_than_copy moment lsa.header (Some own)
@@ -82,7 +79,7 @@ settles : (r : Router) (link : Link) (n : Neighbor) (moment : ℕ) (lsa : Lsa) �
 settles r link n moment lsa mine last young =
     let p : EventState = put r link moment lsa (remove_retransmission (lsa_key lsa) (full n)) in
     let key : Key = router_key r.id in
-    let c : DatabaseCopy = brought lsa moment in
+    let c : DatabaseCopy = brought lsa moment None in
     let own : (lsa.header.advertising_router == r.id) ≡ true =
     ap (λ (k : Key). k.advertising_router == r.id) mine ∙ itself r.id in
     let there : finite.get p.router.area.database key ≡ Some c =
@@ -140,11 +137,11 @@ is_flushed r link n moment lsa mine =
     let p : EventState = flushed r link n moment lsa in
     let o : Outcome = record { area = p.router.area; sends = p.sends } in
     let db : Database = install_flooded moment lsa r.area.database in
-    let there : finite.get db key ≡ Some (brought lsa moment) = ap (finite.get db) (sym mine)
-    ∙ inserted r.area.database (lsa_key lsa) (brought lsa moment) in
-    let c : DatabaseCopy = record (brought lsa moment) { lsa = lsa_aged 3600 lsa } in
+    let there : finite.get db key ≡ Some (brought lsa moment None) = ap (finite.get db) (sym mine)
+    ∙ inserted r.area.database (lsa_key lsa) (brought lsa moment None) in
+    let c : DatabaseCopy = record (brought lsa moment None) { lsa = lsa_aged 3600 lsa } in
     let still = marked_once moment (lsa_key lsa) key c (age_out moment key db)
-    (aged db key (brought lsa moment) moment there) in
+    (aged db key (brought lsa moment None) moment there) in
     let listed = on_list r link n moment lsa mine in
     let owed_by : any_has_retransmission key o.area.links ≡ true =
     ap (λ (e : Option ListEntry). is_some e || false) listed.2 in (

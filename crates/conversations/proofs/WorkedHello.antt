@@ -95,7 +95,8 @@ module _ (number : ℕ) (n : Neighbor) (not_full : is_full n.state ≡ false)
       let same : Some x ≡ Some link = sym e ∙ found in
       ap neighbor_on same ∙ none
 
-abbrev opener : ℕ → ℕ → Neighbor
+-- the neighbor after its Hello
+abbrev pub opener : ℕ → ℕ → Neighbor
 opener moment from = (enter_exstart moment (fresh from None moment)).neighbor
 
 pub is_heard_of : ANeighborIsHeard

@@ -5,6 +5,7 @@ use Rattle.std.proofs.Common.{◌∷◌, ◌++◌, map, Option, None, Some, refl
 use Rattle.std.proofs.Common.{true≢false, arith}
 use Rattle.std.specs.List.{enumerate_from, flat_map, fold, list_any}
 use Rattle.std.proofs.lemmas.List.{append-nil}
+use Rattle.std.proofs.lemmas.Option.{none-some}
 use Rattle.lsa.specs.declared.body.LsaBody.TheVariants as body
 use Rattle.lsa.specs.declared.body.RouterLink.{RouterLink}
 use Rattle.lsa.specs.declared.body.LinkKind.TheVariants.{PointToPoint}
@@ -196,12 +197,9 @@ module _ (f : Neighbor → Step) (does_nothing : (n : Neighbor) → is_exchange_
 
 -- ---- one link
 
-none_some : {A : Type 0} {a : A} → ◌≡◌ {A = Option A} None (Some a) → ⊥
-none_some e = cc
-
 at_from : (g : (ℕ × Link) → Link) (k : ℕ) (xs : List Link) (i : ℕ) (x : Link) → slice_get xs i
     ≡ Some x → slice_get (map g (enumerate_from k xs)) i ≡ Some (g (k + i, x))
-at_from g k [] i x e = absurd (none_some e)
+at_from g k [] i x e = absurd (none-some x e)
 at_from g k (y ∷ xs) zero x e =
     let place : k ≡ k + 0 = omega arith in
     ap (λ (o : Option Link). map_some o) e ∙ ap (λ n. Some (g (n, x))) place
@@ -216,7 +214,7 @@ at_from g k (y ∷ xs) (suc i) x e =
 pub link_changed : (g : (ℕ × Link) → Link) (number : ℕ) (xs : List Link) (x : Link)
     → link_at number xs ≡ Some x → link_at number (map g (enumerate_from 1 xs))
     ≡ Some (g (number, x))
-link_changed g zero xs x e = absurd (none_some e)
+link_changed g zero xs x e = absurd (none-some x e)
 link_changed g (suc n) xs x e =
     let place : 1 + n ≡ suc n = omega arith in
     at_from g 1 xs n x e ∙ ap (λ m. Some (g (m, x))) place

@@ -6,6 +6,7 @@ use Rattle.std.specs.FinMap as finite
 use Rattle.std.specs.FinSet as set
 use Rattle.std.specs.Cmp.{tied_itself}
 use Rattle.std.specs.Ordering.{eq_by_cmp, is_eq}
+use Rattle.std.proofs.lemmas.Option.{none-some}
 use Rattle.words.specs.declared.key.Key.{Key}
 use Rattle.lsa.specs.Origination.{sealed_lsa}
 use Rattle.lsa.specs.declared.body.LsaBody.{LsaBody}
@@ -39,7 +40,7 @@ use Rattle.conversations.specs.WorkedOwn.{ALastRequestIsMet, MeetsTheLastRequest
 use Rattle.conversations.specs.WorkedOwn.{next_router_lsa, sends_update}
 use Rattle.conversations.specs.WorkedUpdates.{IsUpdateWith, WaitsAt}
 use Rattle.conversations.proofs.WorkedEnds.{describes_not_later, ended, last, last_rest}
-use Rattle.conversations.proofs.WorkedUpdates.{inserted, new_case, own_part, start, tied}
+use Rattle.conversations.proofs.WorkedUpdates.{inserted, new_case, own_part, start, tied, brought}
 
 -- ---- the request
 
@@ -87,12 +88,6 @@ becomes_full r link n moment lsa one is_met =
 
 -- ---- the router-LSA
 
-none_some : {A : Type 0} {a : A} → ◌≡◌ {A = Option A} None (Some a) → ⊥
-none_some e = cc
-
-abbrev brought : Lsa → ℕ → DatabaseCopy
-brought lsa moment = record { lsa = lsa; stored = moment; installed = Some moment; sent = None }
-
 -- the router's own copy has another key
 own_stays : (db : Database) (lsa : Lsa) (key : Key) (own : DatabaseCopy) (moment : ℕ)
     → finite.get db (lsa_key lsa) ≡ None → finite.get db key ≡ Some own
@@ -100,12 +95,12 @@ own_stays : (db : Database) (lsa : Lsa) (key : Key) (own : DatabaseCopy) (moment
 own_stays db lsa key own moment absent there = by_same (eq_by_cmp key_cmp key (lsa_key lsa)) refl
   where
     by_same : (b : Bool) → eq_by_cmp key_cmp key (lsa_key lsa) ≡ b
-        → finite.get (finite.insert db (lsa_key lsa) (brought lsa moment)) key ≡ Some own
-    by_same true is = absurd (none_some
+        → finite.get (finite.insert db (lsa_key lsa) (brought lsa moment None)) key ≡ Some own
+    by_same true is = absurd (none-some own
         (sym absent ∙ finite.get_tied keys_total db key (lsa_key lsa)
         (tied (key_cmp key (lsa_key lsa)) is) ∙ there))
-    by_same false is = finite.get-insert keys_total db (lsa_key lsa) (brought lsa moment) key
-        ∙ ap (λ b. cond b (Some (brought lsa moment)) (finite.get db key)) is ∙ there
+    by_same false is = finite.get-insert keys_total db (lsa_key lsa) (brought lsa moment None) key
+        ∙ ap (λ b. cond b (Some (brought lsa moment None)) (finite.get db key)) is ∙ there
 
 pub wanted : (r : Router) → wanted_body r (router_key r.id) ≡ Some (router_body r.area.links)
 wanted r = ap (λ o. cond (is_eq o) (Some (router_body r.area.links))

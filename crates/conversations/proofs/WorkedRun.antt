@@ -1,27 +1,25 @@
 -- A Hello starts an adjacency, and the exchange follows in the next event.
-use Rattle.std.proofs.Common.{◌≡◌, ℕ, ◌==◌, true, cond, None, Some, refl, sym, ap, subst, ◌∙◌}
+use Rattle.std.proofs.Common.{◌≡◌, ℕ, ◌==◌, true, cond, Some, refl, sym, ap, subst, ◌∙◌}
 use Rattle.std.specs.FinMap as finite
 use Rattle.lsdb.specs.Instances.{ListEntry}
 use Rattle.lsdb.specs.Keys.{key_cmp}
-use Rattle.adjacency.specs.Adjacencies.{initial_description, enter_exstart}
+use Rattle.adjacency.specs.Adjacencies.{initial_description}
 use Rattle.adjacency.specs.Descriptions.{Verdict, young_copies}
-use Rattle.adjacency.specs.Neighbors.{Neighbor, fresh}
+use Rattle.adjacency.specs.Neighbors.{Neighbor}
 use Rattle.adjacency.specs.declared.state.NeighborState.TheVariants.{Exchange}
 use Rattle.received.specs.Links.{Link}
 use Rattle.event_rules.specs.Events.{Happens}
 use Rattle.event_rules.specs.Packing.{outs_of}
 use Rattle.event_rules.specs.EventState.{EventState}
 use Rattle.event_rules.specs.Routers.{Occurrence, Router, shown_at}
-use Rattle.conversations.specs.WorkedAdjacency.{NothingAges, describes}
-use Rattle.conversations.specs.WorkedExchange.{IsJudged, in_ex_start, reply}
+use Rattle.conversations.specs.WorkedAdjacency.{IsJudged, describes}
+use Rattle.conversations.specs.WorkedExchange.{in_ex_start, reply}
 use Rattle.conversations.specs.WorkedRun.{AnAdjacencyIsNegotiated}
 use Rattle.conversations.proofs.WorkedAdjacency.{last_heard, hello_ends, opens_it}
 use Rattle.conversations.proofs.WorkedEnds.{ended}
 use Rattle.conversations.proofs.WorkedExchange.{negotiates_it}
-
--- the neighbor after the Hello
-abbrev opener : ℕ → ℕ → Neighbor
-opener moment from = (enter_exstart moment (fresh from None moment)).neighbor
+use Rattle.conversations.specs.WorkedUpdates.{NothingAges}
+use Rattle.conversations.proofs.WorkedHello.{opener}
 
 -- the router after the Hello, except for its neighbor
 abbrev greeted_by : Router → Link → ℕ → ℕ → Router

@@ -156,6 +156,10 @@ abbrev rest_of_tick : ℕ → EventState → EventState
 rest_of_tick moment p = on_area (λ o. send_hellos moment
     (send_acknowledgments moment (send_all_again moment o))) p
 
+forgets : (n : Neighbor) (b : Bool) → (cond b (record n { described = None }) n).router ≡ n.router
+forgets n true = refl
+forgets n false = refl
+
 tick_sends : (r new : Router) (link : Link) (n : Neighbor) (moment : ℕ) (copy : Option DatabaseCopy)
     (outs : List Out) → IsDueAtTick r link n moment copy
     → Happens (beside r link (full n)) moment Occurrence.Tick outs new
@@ -179,7 +183,7 @@ tick_sends r new link n moment copy outs due event =
     let resent : List Send = stepping_sends (again moment o) o.area.links in
     let hellos : List Send = sends_of (hello_sent_on moment) y.area.links in
     let same_router : m.router ≡ n.router =
-    by_case (is_over_for moment link.interface.dead_interval n.exchanged) in
+    forgets n (is_over_for moment link.interface.dead_interval n.exchanged) in
     let one_due : due_keys moment q.router ≡ key ∷ [] =
     alone_due q.router moment due.nothing_announced due.is_due_now in
     let begun_so : event.after ≡ after =
@@ -219,10 +223,6 @@ tick_sends r new link n moment copy outs due event =
           }
           ∷ (resent ++ (waiting_acknowledgments link ++ hellos)))) as_told,
     )
-  where
-    by_case : (b : Bool) → (cond b (record n { described = None }) n).router ≡ n.router
-    by_case true = refl
-    by_case false = refl
 
 none_due : (r : Router) (moment : ℕ) → finite.keys r.announced ≡ []
     → is_due moment r (router_key r.id) ≡ false → due_keys moment r ≡ []
@@ -245,7 +245,7 @@ tick_acknowledges r new link n moment outs idle event =
     let resent : List Send = stepping_sends (again moment o) o.area.links in
     let hellos : List Send = sends_of (hello_sent_on moment) y.area.links in
     let same_router : m.router ≡ n.router =
-    by_case (is_over_for moment link.interface.dead_interval n.exchanged) in
+    forgets n (is_over_for moment link.interface.dead_interval n.exchanged) in
     let begun_so : event.after ≡ after =
     event.own
     ∙ ap (after_tick moment) (begins moment old idle.nothing_ages)
@@ -269,10 +269,6 @@ tick_acknowledges r new link n moment outs idle event =
       event.sent ∙ ap (λ (z : EventState). outs_of r.id old.area.links z.sends) end
           ∙ ap (outs_of r.id old.area.links) in_order,
     )
-  where
-    by_case : (b : Bool) → (cond b (record n { described = None }) n).router ≡ n.router
-    by_case true = refl
-    by_case false = refl
 
 pub tick_originates : ATickOriginates
 unfolding sealed_lsa

@@ -29,10 +29,7 @@ use Rattle.conversations.proofs.WorkedEnds.{ended, ends, got}
 use Rattle.conversations.proofs.WorkedFlush.{aged}
 use Rattle.conversations.proofs.WorkedOwn.{put}
 use Rattle.conversations.proofs.WorkedUpdates.{inserted, is_young, itself, marked_once, new_case}
-use Rattle.conversations.proofs.WorkedUpdates.{own_part, same_age, start}
-
-abbrev brought : Lsa → ℕ → DatabaseCopy
-brought lsa moment = record { lsa = lsa; stored = moment; installed = Some moment; sent = None }
+use Rattle.conversations.proofs.WorkedUpdates.{own_part, same_age, start, brought}
 
 abbrev flushed : Router → Link → Neighbor → ℕ → Lsa → EventState
 flushed r link n moment lsa =
@@ -48,7 +45,7 @@ settles : (r : Router) (link : Link) (n : Neighbor) (moment : ℕ) (lsa : Lsa)
 settles r link n moment lsa mine other unknown young =
     let p : EventState = put r link moment lsa (remove_retransmission (lsa_key lsa) (full n)) in
     let key : Key = lsa_key lsa in
-    let c : DatabaseCopy = brought lsa moment in
+    let c : DatabaseCopy = brought lsa moment None in
     let own : (lsa.header.advertising_router == r.id) ≡ true = ap (λ (a : ℕ). a == r.id) mine
     ∙ itself r.id in
     let there : finite.get p.router.area.database key ≡ Some c = inserted r.area.database key c in
@@ -84,11 +81,11 @@ is_flushed r link n moment lsa =
     let p : EventState = flushed r link n moment lsa in
     let o : Outcome = record { area = p.router.area; sends = p.sends } in
     let db : Database = install_flooded moment lsa r.area.database in
-    let there : finite.get db key ≡ Some (brought lsa moment) =
-    inserted r.area.database key (brought lsa moment) in
-    let c : DatabaseCopy = record (brought lsa moment) { lsa = lsa_aged 3600 lsa } in
+    let there : finite.get db key ≡ Some (brought lsa moment None) =
+    inserted r.area.database key (brought lsa moment None) in
+    let c : DatabaseCopy = record (brought lsa moment None) { lsa = lsa_aged 3600 lsa } in
     let still = marked_once moment key key c (age_out moment key db)
-    (aged db key (brought lsa moment) moment there) in
+    (aged db key (brought lsa moment None) moment there) in
     let listed = on_list r link n moment lsa in
     let owed_by : any_has_retransmission key o.area.links ≡ true =
     ap (λ (e : Option ListEntry). is_some e || false) listed.2 in

@@ -4,8 +4,6 @@ use Rattle.std.specs.Prelude.{◌≡◌, ℕ, ◌%◌, ◌^◌, ◌==◌, true, 
 use Rattle.std.specs.Prelude.{Some}
 use Rattle.std.specs.FinMap as finite
 use Rattle.std.specs.FinSet as set
-use Rattle.std.specs.List.{list_any}
-use Rattle.lsdb.specs.Copies.{has_just_aged_out}
 use Rattle.packet.specs.declared.model.PacketBody.TheVariants as body
 use Rattle.packet.specs.declared.model.Description.{Description}
 use Rattle.packet.specs.declared.model.Hello.{Hello}
@@ -24,6 +22,7 @@ use Rattle.event_rules.specs.Hellos.{accepts, is_foreign, names}
 use Rattle.event_rules.specs.Packing.{outs_of}
 use Rattle.event_rules.specs.Routers.{Occurrence, Router, shown_at}
 use Rattle.conversations.specs.WorkedOwn.{beside, loading}
+use Rattle.conversations.specs.WorkedUpdates.{NothingAges}
 
 -- the router with only this interface, whose neighbor is Down
 abbrev pub lonely : Router → Link → Router
@@ -31,10 +30,6 @@ lonely r link = record r { area = record r.area { links = record link { neighbor
 
 abbrev pub describes : Description → List Send
 describes d = record { number = 1; content = Content.Describes d } ∷ []
-
-abbrev pub NothingAges : Router → ℕ → Type 0
-NothingAges r moment =
-    list_any (λ e. has_just_aged_out r.moment moment e.1) (finite.entries r.area.database) ≡ false
 
 -- an accepted Hello from this router that lists this one
 pub record IsNamingHello (r : Router) (link : Link) (bytes : List ℕ) (from : ℕ)
@@ -44,13 +39,13 @@ pub record IsNamingHello (r : Router) (link : Link) (bytes : List ℕ) (from : �
   pub is_accepted : accepts r.id from h (record link { neighbor = None }) ≡ true
   pub is_naming : names r.id h ≡ true
 
--- a Database Description from the neighbor in Loading, with this verdict
-pub record IsDescription (r : Router) (n : Neighbor) (bytes : List ℕ) (d : Description)
-    (v : Verdict) : Type 0 where
+-- a Database Description from this neighbor, with this verdict
+pub record IsJudged (r : Router) (n : Neighbor) (bytes : List ℕ) (d : Description) (v : Verdict) :
+    Type 0 where
   pub is_text : PacketText bytes (record { router = n.router; body = body.Description d })
   pub is_other : is_foreign r.id n.router ≡ true
   pub fits : nat_lt 8192 d.mtu ≡ false
-  pub is_judged : verdict r.id (loading n) d ≡ v
+  pub is_judged : verdict r.id n d ≡ v
 
 pub record AnAdjacencyBegins : Type 0 where
   -- a Hello from a new neighbor that lists this router: ExStart, and only the initial Database
@@ -66,7 +61,8 @@ pub record AnAdjacencyBegins : Type 0 where
   -- Description: only the reply is sent again
   pub repeats : (r new : Router) (link : Link) (n : Neighbor) (moment : ℕ) (bytes : List ℕ)
       (d last : Description) (outs : List Out)
-      → NothingAges r moment → IsDescription r n bytes d Verdict.Repeated → n.described ≡ Some last
+      → NothingAges r moment → IsJudged r (loading n) bytes d Verdict.Repeated
+      → n.described ≡ Some last
       → requests_nothing n ≡ false → (set.len n.outstanding == 0) ≡ false
       → Happens (beside r link (loading n)) moment (Occurrence.Packet 1 bytes) outs new
       → (shown_at new 1 ≡ Some (n.router, Loading))
@@ -75,7 +71,7 @@ pub record AnAdjacencyBegins : Type 0 where
   -- Description with the next number is sent
   pub begins_again : (r new : Router) (link : Link) (n : Neighbor) (moment : ℕ) (bytes : List ℕ)
       (d : Description) (outs : List Out)
-      → NothingAges r moment → IsDescription r n bytes d Verdict.Mismatch
+      → NothingAges r moment → IsJudged r (loading n) bytes d Verdict.Mismatch
       → Happens (beside r link (loading n)) moment (Occurrence.Packet 1 bytes) outs new
       → (neighbor_at 1 new.area.links ≡ Some (enter_exstart moment (loading n)).neighbor)
       × (outs ≡ outs_of r.id (beside r link (loading n)).area.links

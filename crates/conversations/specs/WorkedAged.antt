@@ -2,8 +2,7 @@
 -- 2328, section 13).
 use Rattle.std.specs.Prelude.{◌≡◌, ℕ, ◌==◌, false, List, None, Some}
 use Rattle.std.specs.FinMap as finite
-use Rattle.std.specs.List.{Contains, list_any}
-use Rattle.lsdb.specs.Copies.{has_just_aged_out}
+use Rattle.std.specs.List.{Contains}
 use Rattle.lsdb.specs.Headers.{Lsa, lsa_key}
 use Rattle.adjacency.specs.Contents.{Content}
 use Rattle.adjacency.specs.Neighbors.{Neighbor}
@@ -15,7 +14,7 @@ use Rattle.event_rules.specs.Events.{Happens}
 use Rattle.event_rules.specs.Packing.{outs_of}
 use Rattle.event_rules.specs.Routers.{Occurrence, Router}
 use Rattle.conversations.specs.WorkedUpdates.{HasBrought, HasFullNeighbor, IsAtRest, IsUpdateWith}
-use Rattle.conversations.specs.WorkedUpdates.{WaitsAt, acknowledges_at_once}
+use Rattle.conversations.specs.WorkedUpdates.{WaitsAt, acknowledges_at_once, NothingAges}
 
 -- the interface with this number has this link, whose neighbor is in Loading and doesn't have this
 -- key on its request list
@@ -50,8 +49,7 @@ pub record AnAgedLsaComes : Type 0 where
   -- acknowledgment
   pub one_loading : (old new : Router) (moment number other : ℕ) (bytes : List ℕ) (lsa : Lsa)
       (link : Link) (n : Neighbor) (another : Link) (m : Neighbor) (outs : List Out)
-      → list_any (λ e. has_just_aged_out old.moment moment e.1) (finite.entries old.area.database)
-      ≡ false
+      → NothingAges old moment
       → HasFullNeighbor old number link n → IsUpdateWith bytes n.router lsa
       → IsLoadingWithout old other another m lsa → (number == other) ≡ false
       → finite.get old.area.database (lsa_key lsa) ≡ None

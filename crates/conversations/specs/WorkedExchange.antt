@@ -8,22 +8,20 @@ use Rattle.lsa.specs.Reading.{is_known_type}
 use Rattle.lsdb.specs.Headers.{Header, key_of}
 use Rattle.lsdb.specs.Instances.{ListEntry, aged_header}
 use Rattle.lsdb.specs.Keys.{ByKey}
-use Rattle.packet.specs.declared.model.PacketBody.TheVariants as body
 use Rattle.packet.specs.declared.model.Description.{Description}
-use Rattle.packet.specs.Text.{PacketText}
 use Rattle.adjacency.specs.Adjacencies.{initial_description, requests_nothing}
 use Rattle.adjacency.specs.Contents.{Content}
-use Rattle.adjacency.specs.Descriptions.{Verdict, is_wanted, verdict, young_copies}
+use Rattle.adjacency.specs.Descriptions.{Verdict, is_wanted, young_copies}
 use Rattle.adjacency.specs.declared.state.NeighborState.TheVariants.{Exchange, ExStart, Loading}
 use Rattle.adjacency.specs.Neighbors.{Neighbor}
 use Rattle.received.specs.Links.{Link}
 use Rattle.event_rules.specs.declared.model.Out.{Out}
 use Rattle.event_rules.specs.Events.{Happens}
-use Rattle.event_rules.specs.Hellos.{is_foreign}
 use Rattle.event_rules.specs.Packing.{outs_of}
 use Rattle.event_rules.specs.Routers.{Occurrence, Router, shown_at}
-use Rattle.conversations.specs.WorkedAdjacency.{NothingAges, describes}
+use Rattle.conversations.specs.WorkedAdjacency.{IsJudged, describes}
 use Rattle.conversations.specs.WorkedOwn.{beside}
+use Rattle.conversations.specs.WorkedUpdates.{NothingAges}
 
 abbrev pub in_ex_start : Neighbor → Neighbor
 in_ex_start n = record n { state = ExStart }
@@ -47,14 +45,6 @@ reply moment sequence summary = record {
 -- the master's last Database Description, with one header
 abbrev pub last_with : Header → Description → Description
 last_with h d = record d { more = false; headers = h ∷ [] }
-
--- a Database Description from this neighbor, with this verdict
-pub record IsJudged (r : Router) (n : Neighbor) (bytes : List ℕ) (d : Description) (v : Verdict) :
-    Type 0 where
-  pub is_text : PacketText bytes (record { router = n.router; body = body.Description d })
-  pub is_other : is_foreign r.id n.router ≡ true
-  pub fits : nat_lt 8192 d.mtu ≡ false
-  pub is_judged : verdict r.id n d ≡ v
 
 pub record AnExchangeAsSlave : Type 0 where
   -- in ExStart, an initial Database Description from the larger Router ID: Exchange, and one

@@ -2,10 +2,8 @@
 -- (RFC 2328, sections 12.1.6, 13.4 and 14.1).
 use Rattle.std.specs.Prelude.{◌≡◌, ◌<◌, ℕ, pos, true, false, List, [], ◌∷◌, Option, None, Some}
 use Rattle.std.specs.FinMap as finite
-use Rattle.std.specs.List.{list_any}
 use Rattle.words.specs.declared.key.Key.{Key}
-use Rattle.lsdb.specs.Copies.{DatabaseCopy, has_just_aged_out, installed_just_now, is_aged_out}
-use Rattle.lsdb.specs.Copies.{newer_than_copy}
+use Rattle.lsdb.specs.Copies.{DatabaseCopy, installed_just_now, is_aged_out, newer_than_copy}
 use Rattle.lsdb.specs.Headers.{Header, Lsa, header_aged, key_of, lsa_aged, lsa_key}
 use Rattle.lsdb.specs.Instances.{ListEntry, same_as_listed}
 use Rattle.packet.specs.declared.model.PacketBody.TheVariants as body
@@ -20,7 +18,7 @@ use Rattle.event_rules.specs.Originations.{router_key}
 use Rattle.event_rules.specs.Packing.{outs_of}
 use Rattle.event_rules.specs.Routers.{Occurrence, Router}
 use Rattle.conversations.specs.WorkedOwn.{beside, sends_update}
-use Rattle.conversations.specs.WorkedUpdates.{IsUpdateWith}
+use Rattle.conversations.specs.WorkedUpdates.{IsUpdateWith, NothingAges}
 
 abbrev pub full : Neighbor → Neighbor
 full n = record n { state = Full }
@@ -29,8 +27,7 @@ full n = record n { state = Full }
 -- didn't install in the same second
 pub record ComesBack (r : Router) (n : Neighbor) (moment : ℕ) (lsa : Lsa)
     (own : DatabaseCopy) : Type 0 where
-  pub nothing_ages : list_any (λ e. has_just_aged_out r.moment moment e.1)
-      (finite.entries r.area.database) ≡ false
+  pub nothing_ages : NothingAges r moment
   pub is_other : is_foreign r.id n.router ≡ true
   pub own_there : finite.get r.area.database (router_key r.id) ≡ Some own
   pub not_just_now : installed_just_now moment (Some own) ≡ false
@@ -58,8 +55,7 @@ HasOnList r key entry =
 -- this header's instance is on the neighbor's retransmission list, and the copy has MaxAge
 pub record AcknowledgesTheLast (r : Router) (n : Neighbor) (moment : ℕ) (bytes : List ℕ)
     (h : Header) (entry : ListEntry) (c : DatabaseCopy) : Type 0 where
-  pub nothing_ages : list_any (λ e. has_just_aged_out r.moment moment e.1)
-      (finite.entries r.area.database) ≡ false
+  pub nothing_ages : NothingAges r moment
   pub is_other : is_foreign r.id n.router ≡ true
   pub is_text : PacketText bytes (record { router = n.router; body = body.Acknowledgment (h ∷ []) })
   pub on_list : finite.get n.retransmissions (key_of h) ≡ Some entry

@@ -4,8 +4,7 @@ use Rattle.std.specs.Prelude.{◌≡◌, ◌<◌, ℕ, ◌+◌, ◌+ℤ◌, pos,
 use Rattle.std.specs.Prelude.{Some}
 use Rattle.std.specs.FinMap as finite
 use Rattle.std.specs.FinSet as set
-use Rattle.std.specs.List.{list_any}
-use Rattle.lsdb.specs.Copies.{DatabaseCopy, has_just_aged_out}
+use Rattle.lsdb.specs.Copies.{DatabaseCopy}
 use Rattle.lsdb.specs.Headers.{Lsa, lsa_key}
 use Rattle.adjacency.specs.Contents.{Content}
 use Rattle.adjacency.specs.declared.state.NeighborState.TheVariants.{Full, Loading}
@@ -18,11 +17,10 @@ use Rattle.event_rules.specs.declared.model.Out.{Out}
 use Rattle.event_rules.specs.Events.{Happens}
 use Rattle.event_rules.specs.Hellos.{is_foreign}
 use Rattle.event_rules.specs.Originations.{has_max_sequence, interval_is_over, new_instance}
-use Rattle.event_rules.specs.Originations.{router_body}
-use Rattle.event_rules.specs.Originations.{router_key}
+use Rattle.event_rules.specs.Originations.{router_body, router_key}
 use Rattle.event_rules.specs.Packing.{outs_of}
 use Rattle.event_rules.specs.Routers.{Occurrence, Router, shown_at}
-use Rattle.conversations.specs.WorkedUpdates.{IsUpdateWith, WaitsAt}
+use Rattle.conversations.specs.WorkedUpdates.{IsUpdateWith, WaitsAt, NothingAges}
 
 -- the router with only this interface and this neighbor
 abbrev pub beside : Router → Link → Neighbor → Router
@@ -37,8 +35,7 @@ loading n = record n { state = Loading }
 -- MaxSequenceNumber and MaxAge
 pub record MeetsTheLastRequest (r : Router) (n : Neighbor) (moment : ℕ) (lsa : Lsa)
     (own : DatabaseCopy) : Type 0 where
-  pub nothing_ages : list_any (λ e. has_just_aged_out r.moment moment e.1)
-      (finite.entries r.area.database) ≡ false
+  pub nothing_ages : NothingAges r moment
   pub is_other : is_foreign r.id n.router ≡ true
   pub is_last : finite.len n.requests ≡ 1
   pub is_met : meets moment lsa (requested_entry n (lsa_key lsa)) ≡ true

@@ -12,8 +12,9 @@ use Rattle.event_rules.specs.declared.model.Out.{Out}
 use Rattle.event_rules.specs.Events.{Run, Step}
 use Rattle.event_rules.specs.Packing.{outs_of}
 use Rattle.event_rules.specs.Routers.{Occurrence, Router, shown_at}
-use Rattle.conversations.specs.WorkedAdjacency.{IsNamingHello, NothingAges, describes, lonely}
+use Rattle.conversations.specs.WorkedAdjacency.{IsNamingHello, describes, lonely}
 use Rattle.conversations.specs.WorkedExchange.{reply}
+use Rattle.conversations.specs.WorkedUpdates.{NothingAges}
 
 -- these bytes are received at the first interface, and this is sent
 abbrev pub receives : ℕ → List ℕ → List Out → Step

@@ -2,8 +2,7 @@
 -- acknowledgments are sent (RFC 2328, sections 12.4 and 13.5).
 use Rattle.std.specs.Prelude.{◌≡◌, ℕ, true, false, List, [], ◌∷◌, ◌++◌, map, Option, None, Some}
 use Rattle.std.specs.FinMap as finite
-use Rattle.std.specs.List.{list_any}
-use Rattle.lsdb.specs.Copies.{DatabaseCopy, has_just_aged_out}
+use Rattle.lsdb.specs.Copies.{DatabaseCopy}
 use Rattle.lsdb.specs.Headers.{Lsa}
 use Rattle.adjacency.specs.Adjacencies.{has_passed}
 use Rattle.adjacency.specs.Contents.{Content}
@@ -19,6 +18,7 @@ use Rattle.event_rules.specs.Packing.{outs_of}
 use Rattle.event_rules.specs.Routers.{Occurrence, Router}
 use Rattle.conversations.specs.WorkedFlush.{full}
 use Rattle.conversations.specs.WorkedOwn.{beside}
+use Rattle.conversations.specs.WorkedUpdates.{NothingAges}
 
 -- the router-LSA waits, or was removed from the database, or has an age of LSRefreshTime, and may
 -- be originated: MinLSInterval has passed and there is room; it doesn't have MaxSequenceNumber;
@@ -26,8 +26,7 @@ use Rattle.conversations.specs.WorkedOwn.{beside}
 -- expired
 pub record IsDueAtTick (r : Router) (link : Link) (n : Neighbor) (moment : ℕ)
     (copy : Option DatabaseCopy) : Type 0 where
-  pub nothing_ages : list_any (λ e. has_just_aged_out r.moment moment e.1)
-      (finite.entries r.area.database) ≡ false
+  pub nothing_ages : NothingAges r moment
   pub is_heard : has_passed n.last_heard link.interface.dead_interval moment ≡ false
   pub nothing_announced : finite.keys r.announced ≡ []
   pub is_due_now : is_due moment r (router_key r.id) ≡ true
@@ -47,8 +46,7 @@ waiting_acknowledgments link =
 -- no self-originated LSA is due, nothing is announced, no copy reaches MaxAge, and the neighbor's
 -- inactivity timer hasn't expired
 pub record IsNothingDue (r : Router) (link : Link) (n : Neighbor) (moment : ℕ) : Type 0 where
-  pub nothing_ages : list_any (λ e. has_just_aged_out r.moment moment e.1)
-      (finite.entries r.area.database) ≡ false
+  pub nothing_ages : NothingAges r moment
   pub is_heard : has_passed n.last_heard link.interface.dead_interval moment ≡ false
   pub nothing_announced : finite.keys r.announced ≡ []
   pub not_due : is_due moment r (router_key r.id) ≡ false

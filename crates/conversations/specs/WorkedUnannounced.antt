@@ -2,8 +2,6 @@
 -- originate (RFC 2328, sections 13.4 and 14.1).
 use Rattle.std.specs.Prelude.{◌≡◌, ◌<◌, ℕ, true, false, List, None, Option, Some}
 use Rattle.std.specs.FinMap as finite
-use Rattle.std.specs.List.{list_any}
-use Rattle.lsdb.specs.Copies.{has_just_aged_out}
 use Rattle.lsdb.specs.Headers.{Lsa, header_aged, lsa_aged, lsa_key}
 use Rattle.lsdb.specs.Keys.{same_key}
 use Rattle.adjacency.specs.Neighbors.{Neighbor}
@@ -16,13 +14,12 @@ use Rattle.event_rules.specs.Packing.{outs_of}
 use Rattle.event_rules.specs.Routers.{Occurrence, Router}
 use Rattle.conversations.specs.WorkedFlush.{HasOnList, full}
 use Rattle.conversations.specs.WorkedOwn.{beside, sends_update}
-use Rattle.conversations.specs.WorkedUpdates.{IsUpdateWith, WaitsAt}
+use Rattle.conversations.specs.WorkedUpdates.{IsUpdateWith, WaitsAt, NothingAges}
 
 -- the LSA is this router's, but neither its router-LSA nor that of an announced destination, such
 -- as a summary-LSA; the database has no copy of it
 pub record IsUnannounced (r : Router) (n : Neighbor) (moment : ℕ) (lsa : Lsa) : Type 0 where
-  pub nothing_ages : list_any (λ e. has_just_aged_out r.moment moment e.1)
-      (finite.entries r.area.database) ≡ false
+  pub nothing_ages : NothingAges r moment
   pub is_other : is_foreign r.id n.router ≡ true
   pub is_own : lsa.header.advertising_router ≡ r.id
   pub no_router_lsa : same_key (lsa_key lsa) (router_key r.id) ≡ false

@@ -20,11 +20,15 @@ use Rattle.event_rules.specs.Hellos.{is_foreign}
 use Rattle.event_rules.specs.Packing.{outs_of}
 use Rattle.event_rules.specs.Routers.{Occurrence, Router}
 
+-- no copy reaches MaxAge at this moment
+abbrev pub NothingAges : Router → ℕ → Type 0
+NothingAges r moment =
+    list_any (λ e. has_just_aged_out r.moment moment e.1) (finite.entries r.area.database) ≡ false
+
 -- no neighbor is in Exchange or Loading, and no copy reaches MaxAge at this moment
 pub record IsAtRest (r : Router) (moment : ℕ) : Type 0 where
   pub nobody : any_exchange_or_loading r.area.links ≡ false
-  pub nothing_ages : list_any (λ e. has_just_aged_out r.moment moment e.1)
-      (finite.entries r.area.database) ≡ false
+  pub nothing_ages : NothingAges r moment
 
 -- the interface with this number has this link, and its neighbor is Full
 pub record HasFullNeighbor (r : Router) (number : ℕ) (link : Link) (n : Neighbor) : Type 0 where
