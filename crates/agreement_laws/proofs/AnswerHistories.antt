@@ -35,6 +35,7 @@ use Rattle.agreement_laws.proofs.AnswerSteps.{Answered, IsRight, Right, Sound}
 use Rattle.agreement_laws.proofs.AnswerWalk.{at_end}
 use Rattle.agreement_laws.proofs.Conversing.{its_conversation, its_state}
 use Rattle.agreement_laws.proofs.Done.{exchange_then}
+use Rattle.agreement_laws.proofs.Remembering.{step_taken}
 
 -- ---- what is right stays right
 
@@ -229,10 +230,6 @@ alone number Accepts Sends c r is =
     by_neighbor (Some n) e = absurd cc
 
 -- ---- turns
-
-abbrev pub step_taken : {number : ℕ} {heard : List (List ℕ)} {p q : Party}
-    → TakesEvent number heard p q → Step
-step_taken t = record { moment = t.moment; event = t.event; outs = t.outs }
 
 abbrev pub Turns : (ends : Ends) → Side → Pair → Pair → Option Step → List Send → Type 0
 Turns ends side before now event sends =

@@ -35,12 +35,10 @@ use Rattle.flood_laws.specs.NewInstances.{lsas_brought}
 use Rattle.flood_laws.proofs.Acknowledged.{in_order}
 use Rattle.flood_laws.proofs.EventWalk.{IsHeard, IsKeptToo}
 use Rattle.flood_laws.proofs.Limits.{new_key, wanted_type}
+pub use Rattle.flood_laws.proofs.Leaving.{flushed_copy}
 use Rattle.agreement_laws.proofs.Cases.{is_newer_case}
 
 -- ---- copies that are stored at the moment
-
-abbrev pub flushed_copy : ℕ → DatabaseCopy → DatabaseCopy
-flushed_copy moment c = record c { lsa = lsa_aged 3600 c.lsa; stored = moment }
 
 abbrev pub originated_copy : ℕ → Lsa → DatabaseCopy
 originated_copy moment lsa = record { lsa = lsa; stored = moment; installed = None; sent = None }

@@ -5,18 +5,15 @@ use Rattle.std.proofs.Common.{◌&&◌, ◌||◌, List, [], ◌∷◌, length, m
 use Rattle.std.proofs.Common.{refl, sym, ap, subst, ◌∙◌, arith}
 use Rattle.std.specs.Prelude.{◌==◌, nat_lt}
 use Rattle.std.specs.FinMap as finite
-use Rattle.std.specs.List.{AllByRecursion, fold}
+use Rattle.std.specs.List.{fold}
 use Rattle.std.proofs.lemmas.Bool.{ltb-false}
 use Rattle.words.specs.Constants.{most_headers_described}
 use Rattle.words.specs.declared.key.Key.{Key}
-use Rattle.lsa.specs.Reading.{lsa_in}
 use Rattle.lsdb.specs.Copies.{Database, DatabaseCopy, age_out, has_just_aged_out, install_flooded}
 use Rattle.lsdb.specs.Copies.{install_originated, lsa_now}
 use Rattle.lsdb.specs.Headers.{Header, Lsa, lsa_aged, lsa_key}
 use Rattle.lsdb.specs.Instances.{ListEntry}
 use Rattle.lsdb.specs.Keys.{ByKey, key_cmp}
-use Rattle.packet.specs.declared.model.PacketBody.{PacketBody}
-use Rattle.packet.specs.declared.model.PacketBody.TheVariants as body
 use Rattle.packet.specs.declared.model.Description.{Description}
 use Rattle.packet.specs.declared.model.Hello.{Hello}
 use Rattle.adjacency.specs.declared.interface.Interface.{Interface}
@@ -57,14 +54,14 @@ use Rattle.event_rules.specs.Originations.{due_keys, new_instance, router_key}
 use Rattle.event_rules.specs.Packets.{accept_hello, receive_hello_on, with_neighbor}
 use Rattle.event_rules.specs.Routers.{Occurrence, Router, fresh_link, unannounced_router}
 use Rattle.event_rules.specs.Ticks.{again, run_out, with_hello_sent, without_acknowledgments}
-use Rattle.event_rules.proofs.Walk.{Brings, IfRead, Invariant, IsKeptByParts, OfBrought, OfBytes}
-use Rattle.event_rules.proofs.Walk.{originate_or_wait_kept}
+use Rattle.event_rules.proofs.Walk.{Brings, Invariant, IsKeptByParts, originate_or_wait_kept}
 use Rattle.event_rules.proofs.Walk as walk
 use Rattle.agreement_laws.specs.HeldWasTold.{NothingIsLeftToDescribe, is_exchange_done}
 use Rattle.agreement_laws.proofs.Verdicts.{as_slave_or_master, first_two, mismatch_or_accepted}
 use Rattle.agreement_laws.proofs.Steps as steps
 use Rattle.agreement_laws.proofs.AtInterface as interface
 use Rattle.flood_laws.proofs.Lists.{none_asked}
+use Rattle.flood_laws.proofs.Unasked.{brought_any}
 
 -- ---- all entries fit
 
@@ -360,21 +357,6 @@ parts_keep = record {
       (λ number link n at. steps.asked IsDone moment n at) o h;
   removes = λ moment o h. h;
 }
-
-texts_any : (lsas : List (List ℕ)) → AllByRecursion (OfBytes on_neighbors.of_lsa) lsas
-texts_any [] = tt
-texts_any (bytes ∷ rest) = (read_any (lsa_in bytes), texts_any rest)
-  where
-    read_any : (o : Option Lsa) → IfRead on_neighbors.of_lsa o
-    read_any None = tt
-    read_any (Some lsa) = tt
-
-brought_any : (b : PacketBody) → OfBrought on_neighbors.of_lsa b
-brought_any (body.Hello h) = tt
-brought_any (body.Description d) = tt
-brought_any (body.Request keys) = tt
-brought_any (body.Update lsas) = texts_any lsas
-brought_any (body.Acknowledgment headers) = tt
 
 brings : (old : Router) (event : Occurrence) → Brings on_neighbors old event
 brings old event = record {

@@ -7,12 +7,11 @@ use Rattle.std.specs.Prelude.{◌==◌}
 use Rattle.std.specs.List.{AllByRecursion, Contains, cons_option, enumerate_from, filter_map}
 use Rattle.std.specs.List.{flat_map}
 use Rattle.std.proofs.lemmas.Bool.{eqb-true}
-use Rattle.words.specs.declared.key.Key.{Key}
 use Rattle.lsa.specs.Headers.{header_at}
 use Rattle.lsa.specs.Reading.{fault_of, lsa_in, lsa_of}
 use Rattle.lsa.specs.Text.{text}
 use Rattle.lsa.specs.declared.fault.LsaFault.{LsaFault}
-use Rattle.lsdb.specs.Headers.{Header, Lsa, key_of, lsa_key}
+use Rattle.lsdb.specs.Headers.{Header, Lsa}
 use Rattle.packet.specs.declared.model.PacketBody.{PacketBody}
 use Rattle.packet.specs.declared.model.PacketBody.TheVariants as body
 use Rattle.packet.specs.declared.model.Description.{Description}
@@ -25,17 +24,15 @@ use Rattle.received.specs.Outcomes.{Send}
 use Rattle.event_rules.specs.declared.model.Out.{Out}
 use Rattle.event_rules.specs.LsaInstances.{LsaInstance, instance_of_header, instance_of_lsa}
 use Rattle.event_rules.specs.LsaInstances.{instances_in_update}
-use Rattle.event_rules.specs.Packing.{acknowledgments, at_interface, bodies, descriptions}
-use Rattle.event_rules.specs.Packing.{first_key, header_size, hellos, in_key_order, lsa_size}
-use Rattle.event_rules.specs.Packing.{out_of, outs_at, outs_of, packed_groups, packet_of, requests}
-use Rattle.event_rules.specs.Packing.{sent_lsa, update_of, IsSentText, updates}
-use Rattle.event_rules.proofs.Rooms.{both, mapped_all, order_all, packed_all}
+use Rattle.event_rules.specs.Packing.{at_interface, bodies, out_of, outs_at, outs_of, packet_of}
+use Rattle.event_rules.specs.Packing.{sent_lsa, IsSentText}
+use Rattle.event_rules.proofs.Rooms.{both, mapped_all}
 use Rattle.flood_laws.specs.Keeping.{AreTexts, AreTextsAt, IsInstance}
 use Rattle.flood_laws.proofs.Known.{of_member, paired_all}
 use Rattle.flood_laws.proofs.Lists.{later_is, of_cons, of_empty}
 use Rattle.flood_laws.proofs.Taken.{named_first}
 use Rattle.flood_laws.proofs.Read.{read_unless}
-use Rattle.flood_laws.proofs.Packed.{chosen_of}
+use Rattle.flood_laws.proofs.Packed.{bodies_pack}
 use Rattle.flood_laws.proofs.Keeping.{name_read}
 use Rattle.agreement_laws.specs.NeighborHistories.{text_at}
 use Rattle.agreement_laws.specs.NeighborsAgree.{instances_told}
@@ -63,75 +60,16 @@ module _ (R : Content → Type 0) where
   BearsSent delay (body.Acknowledgment headers) =
       AllByRecursion (λ h. R (Content.Acknowledges h)) headers
 
-  abbrev OfLsa : Lsa → Type 0
-  OfLsa l = R (Content.Updates l)
-
-  abbrev OfHeader : Header → Type 0
-  OfHeader h = R (Content.Acknowledges h)
-
-  module _ (delay : ℕ) where
-    hello_bears : (c : Content) → R c → AllByRecursion (BearsSent delay) (cons_option (hellos c) [])
-    hello_bears (Content.SendsHello h) so = (tt, tt)
-    hello_bears (Content.Describes d) so = tt
-    hello_bears (Content.Requests keys) so = tt
-    hello_bears (Content.Updates lsa) so = tt
-    hello_bears (Content.Acknowledges h) so = tt
-
-    description_bears : (c : Content) → R c
-        → AllByRecursion (BearsSent delay) (cons_option (descriptions c) [])
-    description_bears (Content.SendsHello h) so = tt
-    description_bears (Content.Describes d) so = (so, tt)
-    description_bears (Content.Requests keys) so = tt
-    description_bears (Content.Updates lsa) so = tt
-    description_bears (Content.Acknowledges h) so = tt
-
-    requests_bear : (xs : List (List Key)) → AllByRecursion (BearsSent delay) (map body.Request xs)
-    requests_bear [] = tt
-    requests_bear (x ∷ xs) = (tt, requests_bear xs)
-
-    of_update : (c : Content) → R c → AllByRecursion OfLsa (cons_option (updates c) [])
-    of_update (Content.SendsHello h) so = tt
-    of_update (Content.Describes d) so = tt
-    of_update (Content.Requests keys) so = tt
-    of_update (Content.Updates lsa) so = (so, tt)
-    of_update (Content.Acknowledges h) so = tt
-
-    of_acknowledgment : (c : Content) → R c
-        → AllByRecursion OfHeader (cons_option (acknowledgments c) [])
-    of_acknowledgment (Content.SendsHello h) so = tt
-    of_acknowledgment (Content.Describes d) so = tt
-    of_acknowledgment (Content.Requests keys) so = tt
-    of_acknowledgment (Content.Updates lsa) so = tt
-    of_acknowledgment (Content.Acknowledges h) so = (so, tt)
-
-    texts_bear : (lsas : List Lsa) → AllByRecursion OfLsa lsas
-        → BearsSent delay (update_of delay lsas)
-    texts_bear lsas so = mapped_all (λ (l : Lsa). text (sent_lsa delay l)) OfLsa
-        (IsTextOfSent delay) (λ l k. (l, refl, k)) lsas so
-
-    bodies_bear : (cs : List Content) → AllByRecursion R cs
-        → AllByRecursion (BearsSent delay) (bodies delay cs)
-    bodies_bear cs so =
-        let lsas : List Lsa = in_key_order lsa_key (filter_map updates cs) in
-        let headers : List Header = in_key_order key_of (filter_map acknowledgments cs) in
-        both (BearsSent delay) _ (map body.Acknowledgment (packed_groups header_size 24 headers))
-        (both (BearsSent delay) _ (map (update_of delay) (packed_groups lsa_size 28 lsas))
-        (both (BearsSent delay) _ (map body.Request
-        (in_key_order first_key (filter_map requests cs)))
-        (both (BearsSent delay) (filter_map hellos cs) (filter_map descriptions cs)
-        (chosen_of hellos R (BearsSent delay) hello_bears cs so)
-        (chosen_of descriptions R (BearsSent delay) description_bears cs so))
-        (requests_bear (in_key_order first_key (filter_map requests cs))))
-        (mapped_all (update_of delay) (λ p. AllByRecursion OfLsa p) (BearsSent delay) texts_bear
-        (packed_groups lsa_size 28 lsas)
-        (packed_all lsa_size 28 OfLsa lsas
-        (order_all lsa_key OfLsa (filter_map updates cs)
-        (chosen_of updates R OfLsa of_update cs so)))))
-        (mapped_all body.Acknowledgment (λ p. AllByRecursion OfHeader p) (BearsSent delay)
-        (λ p each. each) (packed_groups header_size 24 headers)
-        (packed_all header_size 24 OfHeader headers
-        (order_all key_of OfHeader (filter_map acknowledgments cs)
-        (chosen_of acknowledgments R OfHeader of_acknowledgment cs so))))
+  bodies_bear : (delay : ℕ) (cs : List Content) → AllByRecursion R cs
+      → AllByRecursion (BearsSent delay) (bodies delay cs)
+  bodies_bear delay = bodies_pack R (BearsSent delay) delay (record {
+    hello = λ h so. tt;
+    description = λ d so. so;
+    request = λ keys. tt;
+    update = λ lsas so. mapped_all (λ (l : Lsa). text (sent_lsa delay l))
+        (λ l. R (Content.Updates l)) (IsTextOfSent delay) (λ l k. (l, refl, k)) lsas so;
+    acknowledgment = λ headers so. so;
+  })
 
   -- ---- what is sent at the interface
 

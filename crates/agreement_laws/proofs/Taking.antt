@@ -40,12 +40,13 @@ use Rattle.agreement_laws.specs.Answers.{IsAccepted, sends_of}
 use Rattle.agreement_laws.specs.Held.{AreAsNew, HasAccepted, WasLost, WasThere}
 use Rattle.agreement_laws.specs.Held.{WhatWasAcceptedIsHeld}
 use Rattle.agreement_laws.specs.SaidIsHeld.{young}
-use Rattle.agreement_laws.proofs.AnswerHistories.{Turns, foreigners, kept, step_taken, turn_of}
+use Rattle.agreement_laws.proofs.AnswerHistories.{Turns, foreigners, kept, turn_of}
 use Rattle.agreement_laws.proofs.Latest.{LastOf, last_of, there_or_not}
 use Rattle.agreement_laws.proofs.Runs.{begins_alone}
 use Rattle.agreement_laws.proofs.Lists.{some_same}
 use Rattle.agreement_laws.proofs.Names.{at_any_age}
 use Rattle.agreement_laws.proofs.Ranks.{at_least_on}
+use Rattle.agreement_laws.proofs.Remembering.{step_taken}
 
 -- what was accepted counts while the conversation stands
 accepted_stands : (ends : Ends) (side : Side) (with_it : Conversation) (d : Description)

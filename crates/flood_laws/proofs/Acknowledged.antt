@@ -5,20 +5,16 @@ use Rattle.std.specs.FinMap as finite
 use Rattle.std.specs.List.{AllByRecursion, filter}
 use Rattle.words.specs.declared.key.Key.{Key}
 use Rattle.words.specs.declared.route.External.{External}
-use Rattle.lsa.specs.Reading.{lsa_in}
 use Rattle.lsdb.specs.Copies.{DatabaseCopy}
-use Rattle.lsdb.specs.Headers.{Lsa, lsa_key}
+use Rattle.lsdb.specs.Headers.{lsa_key}
 use Rattle.lsdb.specs.Instances.{ListEntry}
-use Rattle.packet.specs.declared.model.PacketBody.{PacketBody}
-use Rattle.packet.specs.declared.model.PacketBody.TheVariants as body
 use Rattle.adjacency.specs.Neighbors.{Neighbor}
 use Rattle.adjacency.proofs.Kept.{chosen}
 use Rattle.adjacency.proofs.Maps.{AllIn, IfThere, OfEntry, entries_in, inserted_in, removed_in}
 use Rattle.received.specs.Holds.{Holds}
 use Rattle.received.specs.Links.{neighbor_at}
 use Rattle.received.proofs.Holding.{one_holds}
-use Rattle.event_rules.proofs.Walk.{Brings, Invariant, IfRead, IsKeptByParts, MayGrow, OfBrought}
-use Rattle.event_rules.proofs.Walk.{OfBytes, OfEvent}
+use Rattle.event_rules.proofs.Walk.{Brings, Invariant, IsKeptByParts, MayGrow, OfEvent}
 use Rattle.event_rules.specs.declared.model.Config.{Config}
 use Rattle.event_rules.specs.declared.model.Out.{Out}
 use Rattle.event_rules.specs.Endings.{end_event, start_event}
@@ -39,6 +35,7 @@ use Rattle.flood_laws.proofs.Limits.{AreExternal, one_less, one_more, others_sta
 use Rattle.flood_laws.proofs.Owing.{Owing}
 use Rattle.flood_laws.proofs.Retransmitted.{IsItsOwn, parts_keep, read}
 use Rattle.flood_laws.proofs.Retransmitted.{retransmissions_are_of_the_database}
+use Rattle.flood_laws.proofs.Unasked.{brought_any}
 
 -- ---- the invariant at each point of an event: copies have their own keys, and external
 -- destinations are announced under own keys
@@ -111,24 +108,9 @@ module _ (own : ℕ) where
     removes = parts_keep.removes;
   }
 
-  texts_any : (lsas : List (List ℕ)) → AllByRecursion (OfBytes (in_order own).of_lsa) lsas
-  texts_any [] = tt
-  texts_any (bytes ∷ rest) = (read_any (lsa_in bytes), texts_any rest)
-    where
-      read_any : (o : Option Lsa) → IfRead (in_order own).of_lsa o
-      read_any None = tt
-      read_any (Some lsa) = tt
-
-  brought_any : (b : PacketBody) → OfBrought (in_order own).of_lsa b
-  brought_any (body.Hello h) = tt
-  brought_any (body.Description d) = tt
-  brought_any (body.Request keys) = tt
-  brought_any (body.Update lsas) = texts_any lsas
-  brought_any (body.Acknowledgment headers) = tt
-
 pub order_brings : (old : Router) (event : Occurrence) → Brings (in_order old.id) old event
 order_brings old event = record {
-  packet = λ number bytes packet is text. brought_any old.id packet.body;
+  packet = λ number bytes packet is text. brought_any packet.body;
   key = λ tagged tag priced price is. (refl, tt);
 }
 

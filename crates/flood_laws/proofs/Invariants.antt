@@ -4,13 +4,10 @@ use Rattle.std.proofs.Common.{ℕ, List, [], ◌∷◌, map, Option, None, Some,
 use Rattle.std.specs.List.{AllByRecursion, fold}
 use Rattle.std.specs.FinMap as finite
 use Rattle.words.specs.declared.key.Key.{Key}
-use Rattle.lsa.specs.Reading.{lsa_in}
 use Rattle.lsdb.specs.Copies.{DatabaseCopy, age_out, has_just_aged_out, install_originated, lsa_now}
 use Rattle.lsdb.specs.Headers.{Lsa, lsa_aged}
 use Rattle.lsdb.specs.Instances.{ListEntry}
 use Rattle.lsdb.specs.Keys.{ByKey}
-use Rattle.packet.specs.declared.model.PacketBody.{PacketBody}
-use Rattle.packet.specs.declared.model.PacketBody.TheVariants as body
 use Rattle.packet.specs.declared.model.Hello.{Hello}
 use Rattle.adjacency.specs.Adjacencies as adjacencies
 use Rattle.adjacency.specs.Contents.{Step, no_sends}
@@ -39,9 +36,9 @@ use Rattle.event_rules.specs.Packets.{accept_hello, receive_hello_on, with_neigh
 use Rattle.event_rules.specs.Routers.{Occurrence, Router, fresh_link, unannounced_router}
 use Rattle.event_rules.specs.Ticks.{again, with_hello_sent, run_out, settled_exchange}
 use Rattle.event_rules.specs.Ticks.{without_acknowledgments}
-use Rattle.event_rules.proofs.Walk.{Brings, Invariant, IsKeptByParts, OfBrought, OfBytes}
-use Rattle.event_rules.proofs.Walk.{originate_or_wait_kept}
+use Rattle.event_rules.proofs.Walk.{Brings, Invariant, IsKeptByParts, originate_or_wait_kept}
 use Rattle.event_rules.proofs.Walk as walk
+use Rattle.flood_laws.proofs.Unasked.{brought_any}
 
 -- ---- one link
 
@@ -157,21 +154,6 @@ module _ (Q : Fact) (kept : IsKept Q) where
         (λ number link n at. request_kept Q kept moment n at) o h;
     removes = λ moment o h. h;
   }
-
-  texts_any : (lsas : List (List ℕ)) → AllByRecursion (OfBytes on_neighbors.of_lsa) lsas
-  texts_any [] = tt
-  texts_any (bytes ∷ rest) = (read_any (lsa_in bytes), texts_any rest)
-    where
-      read_any : (o : Option Lsa) → walk.IfRead on_neighbors.of_lsa o
-      read_any None = tt
-      read_any (Some lsa) = tt
-
-  brought_any : (b : PacketBody) → OfBrought on_neighbors.of_lsa b
-  brought_any (body.Hello h) = tt
-  brought_any (body.Description d) = tt
-  brought_any (body.Request keys) = tt
-  brought_any (body.Update lsas) = texts_any lsas
-  brought_any (body.Acknowledgment headers) = tt
 
   brings : (old : Router) (event : Occurrence) → Brings on_neighbors old event
   brings old event = record {

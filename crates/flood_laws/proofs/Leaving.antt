@@ -190,6 +190,10 @@ newer_case moment c sender synchronizing lsa is =
 
 -- ---- keys and copies
 
+-- a copy that is flushed at this moment
+abbrev pub flushed_copy : ℕ → DatabaseCopy → DatabaseCopy
+flushed_copy moment c = record c { lsa = lsa_aged 3600 c.lsa; stored = moment }
+
 pub itself : (k : Key) → same_key k k ≡ true
 itself k = ap (λ (o : Ordering). is_eq o) (tied_itself keys_total k)
 
@@ -426,9 +430,6 @@ module _ (old : Router) (moment : ℕ) (event : Occurrence) (number : ℕ) (befo
   times_became a t u so (IsOwed c at like h) = IsOwed c at like h
   times_became a t u so (HasAged c at like aged young asked) = HasAged c at like aged young asked
 
-  abbrev flushed_copy : DatabaseCopy → DatabaseCopy
-  flushed_copy c = record c { lsa = lsa_aged 3600 c.lsa; stored = moment }
-
   named_key : (c : DatabaseCopy) → instance_of_lsa c.lsa ≡ name → lsa_key c.lsa ≡ key
   named_key c e = ap (λ (m : LsaInstance). m.key) e
 
@@ -461,14 +462,14 @@ module _ (old : Router) (moment : ℕ) (event : Occurrence) (number : ℕ) (befo
   module _ (c : DatabaseCopy) (o : Outcome) (t : ByKey ℕ)
       (at : finite.get o.area.database key ≡ Some c) (young : is_aged_out moment c ≡ false) where
     abbrev aged_out : Outcome
-    aged_out = on_database (λ db. finite.insert db key (flushed_copy c)) o
+    aged_out = on_database (λ db. finite.insert db key (flushed_copy moment c)) o
 
-    put_there : finite.get aged_out.area.database key ≡ Some (flushed_copy c)
-    put_there = put_same o.area.database key key (flushed_copy c) (itself key)
+    put_there : finite.get aged_out.area.database key ≡ Some (flushed_copy moment c)
+    put_there = put_same o.area.database key key (flushed_copy moment c) (itself key)
 
     only_that : (d : DatabaseCopy) → finite.get aged_out.area.database key ≡ Some d → IsLike d
         → is_aged_out moment d ≡ true
-    only_that d is like = let same : flushed_copy c ≡ d = some_same (sym put_there ∙ is) in
+    only_that d is like = let same : flushed_copy moment c ≡ d = some_same (sym put_there ∙ is) in
         subst (λ (x : DatabaseCopy). is_aged_out moment x ≡ true) same (aged_at_once moment)
 
     flush_owed : HoldsThere o.area → IsLike c
@@ -479,7 +480,7 @@ module _ (old : Router) (moment : ℕ) (event : Occurrence) (number : ℕ) (befo
         (itself key)) (with_key c like.name_is)
         (λ e. never_aged (is_aged_out moment copy) (is_aged_out old.moment copy)
         (young_before c like young) e) only_that
-        (IsOwed (flushed_copy c) put_there (record {
+        (IsOwed (flushed_copy moment c) put_there (record {
           name_is = like.name_is;
           installed = like.installed;
           age = inr (aged_at_once moment);
@@ -488,10 +489,10 @@ module _ (old : Router) (moment : ℕ) (event : Occurrence) (number : ℕ) (befo
     flush_stored : IsStored (flood_from_nobody moment (lsa_aged 3600 c.lsa) aged_out).area
     flush_stored =
         let s : IsStill (flood_from_nobody moment (lsa_aged 3600 c.lsa) aged_out).area.database key
-        (flushed_copy c) =
+        (flushed_copy moment c) =
         mark_all moment (stepping_sends (flood_to moment None (lsa_aged 3600 c.lsa))
-        aged_out.area.links) key (flushed_copy c) aged_out.area.database put_there in
-        (record (flushed_copy c) { sent = s.0 }, s.1, eq-eqb moment moment refl)
+        aged_out.area.links) key (flushed_copy moment c) aged_out.area.database put_there in
+        (record (flushed_copy moment c) { sent = s.0 }, s.1, eq-eqb moment moment refl)
 
     flush_same : Became o.area t → Became
         (flood_from_nobody moment (lsa_aged 3600 c.lsa) aged_out).area t
@@ -512,24 +513,24 @@ module _ (old : Router) (moment : ℕ) (event : Occurrence) (number : ℕ) (befo
   flush_became k c o t at young its h =
       subst (λ (x : Option DatabaseCopy). Became
       (flood_from_nobody moment (lsa_aged 3600 c.lsa)
-      (on_database (λ db. changed_by k flushed_copy o.area.database x) o)).area t) (sym at)
+      (on_database (λ db. changed_by k (flushed_copy moment) o.area.database x) o)).area t) (sym at)
       (by_key (same_key key k) refl)
     where
       by_key : (b : Bool) → same_key key k ≡ b
           → Became (flood_from_nobody moment (lsa_aged 3600 c.lsa)
-          (on_database (λ db. finite.insert db k (flushed_copy c)) o)).area t
+          (on_database (λ db. finite.insert db k (flushed_copy moment c)) o)).area t
       by_key true same =
           let e : key ≡ k = tied_key key k same in
           subst (λ (q : Key). Became (flood_from_nobody moment (lsa_aged 3600 c.lsa)
-          (on_database (λ db. finite.insert db q (flushed_copy c)) o)).area t) e
+          (on_database (λ db. finite.insert db q (flushed_copy moment c)) o)).area t) e
           (flush_same c o t (subst (λ (q : Key). finite.get o.area.database q ≡ Some c) (sym e) at)
           young h)
       by_key false other =
           let its_key : lsa_key c.lsa ≡ k = own_at o.area.database k c its.keys at in
           flood_other_became None (lsa_aged 3600 c.lsa)
-          (on_database (λ db. finite.insert db k (flushed_copy c)) o) t
+          (on_database (λ db. finite.insert db k (flushed_copy moment c)) o) t
           (subst (λ (q : Key). same_key key q ≡ false) (sym its_key) other)
-          (put_became k (flushed_copy c) o t other h)
+          (put_became k (flushed_copy moment c) o t other h)
 
   too_early : (t : ByKey ℕ) → finite.get t key ≡ Some moment
       → interval_is_over moment (finite.get t key) ≡ true → ⊥

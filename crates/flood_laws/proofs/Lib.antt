@@ -1,4 +1,5 @@
 pub mod Lists
+pub mod Unasked
 pub mod Taken
 pub mod Told
 pub mod Packed

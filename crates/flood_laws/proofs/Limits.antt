@@ -4,18 +4,15 @@ use Rattle.std.proofs.Common.{◌≡◌, ◌≤◌, ◌<◌, ℕ, ◌+◌, Bool,
 use Rattle.std.proofs.Common.{nat_lt, List, [], ◌∷◌, map, Option, None, Some, is_some, refl, sym}
 use Rattle.std.proofs.Common.{ap, subst, ◌∙◌, arith}
 use Rattle.std.specs.FinMap as finite
-use Rattle.std.specs.List.{AllByRecursion, fold}
+use Rattle.std.specs.List.{fold}
 use Rattle.std.proofs.lemmas.Bool.{le-ltb, ltb-false, ltb-true, and_parts, or_parts, or_from}
 use Rattle.words.specs.Numbers.{RouterNumber}
 use Rattle.words.specs.declared.key.Key.{Key}
 use Rattle.keyed_map.specs.Slots.{count_after_change}
 use Rattle.words.specs.declared.route.External.{External}
 use Rattle.lsa.specs.Origination.{sealed_lsa}
-use Rattle.lsa.specs.Reading.{lsa_in}
 use Rattle.lsa.specs.Text.{type_of}
 use Rattle.lsa.specs.declared.body.LsaBody.{LsaBody}
-use Rattle.packet.specs.declared.model.PacketBody.{PacketBody}
-use Rattle.packet.specs.declared.model.PacketBody.TheVariants as body
 use Rattle.packet.specs.declared.model.Hello.{Hello}
 use Rattle.lsdb.specs.Copies.{Database, DatabaseCopy, age_out, has_just_aged_out}
 use Rattle.lsdb.specs.Copies.{install_originated, lsa_now}
@@ -51,10 +48,11 @@ use Rattle.event_rules.specs.Refusals.{exceeds}
 use Rattle.event_rules.specs.Routers.{Occurrence, Router, unannounced_router}
 use Rattle.event_rules.specs.Ticks.{acknowledgments_on, again, hello_sent_on, sends_of}
 use Rattle.event_rules.specs.Ticks.{with_hello_sent, without_acknowledgments}
-use Rattle.event_rules.proofs.Walk.{Brings, IfRead, Invariant, IsKeptByParts, MayGrow, OfBrought}
-use Rattle.event_rules.proofs.Walk.{OfBytes, OfEvent, event_kept, originate_or_wait_kept, outcome}
+use Rattle.event_rules.proofs.Walk.{Brings, Invariant, IsKeptByParts, MayGrow, OfEvent, event_kept}
+use Rattle.event_rules.proofs.Walk.{originate_or_wait_kept, outcome}
 use Rattle.flood_laws.specs.LimitLaws.{AnnouncesExternals, OthersStayWithinLimits, may_exceed}
 use Rattle.flood_laws.proofs.Lists.{none_asked}
+use Rattle.flood_laws.proofs.Unasked.{brought_any}
 
 -- ---- keys and options
 
@@ -424,21 +422,6 @@ external = record {
   without_room = Unit {0};
 }
 
-all_texts : (lsas : List (List ℕ)) → AllByRecursion (OfBytes external.of_lsa) lsas
-all_texts [] = tt
-all_texts (bytes ∷ rest) = (if_read (lsa_in bytes), all_texts rest)
-  where
-    if_read : (o : Option Lsa) → IfRead external.of_lsa o
-    if_read None = tt
-    if_read (Some lsa) = tt
-
-any_body : (b : PacketBody) → OfBrought external.of_lsa b
-any_body (body.Hello h) = tt
-any_body (body.Description d) = tt
-any_body (body.Request keys) = tt
-any_body (body.Update lsas) = all_texts lsas
-any_body (body.Acknowledgment headers) = tt
-
 parts_external : IsKeptByParts external
 parts_external = record {
   ages = λ before moment o h. tt;
@@ -471,7 +454,7 @@ after_event old moment event outs new happens h =
     subst AnnouncesExternals (sym happens.router)
     (event_kept external parts_external old moment event happens.after
     (record {
-      packet = λ number bytes packet is text. any_body packet.body;
+      packet = λ number bytes packet is text. brought_any packet.body;
       key = λ tagged tag priced price is. (tt, tt);
     }) happens.own
     (record { area = tt; announced = h })).announced

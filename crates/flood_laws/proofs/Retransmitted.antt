@@ -9,7 +9,6 @@ use Rattle.std.specs.Cmp.{tied_itself}
 use Rattle.std.specs.declared.cmp.Ordering.{Ordering}
 use Rattle.std.proofs.lemmas.Bool.{eqb-true, or_right}
 use Rattle.words.specs.declared.key.Key.{Key}
-use Rattle.lsa.specs.Reading.{lsa_in}
 use Rattle.lsdb.specs.Copies.{Database, DatabaseCopy, age_out, has_just_aged_out, install_flooded}
 use Rattle.lsdb.specs.Copies.{is_aged_out, list_entry_of, lsa_now}
 use Rattle.lsdb.specs.Headers.{Lsa, header_aged, lsa_aged, lsa_key}
@@ -17,8 +16,6 @@ use Rattle.lsdb.specs.Instances.{ListEntry}
 use Rattle.lsdb.specs.Keys.{ByKey, key_cmp}
 use Rattle.lsdb.specs.Order.{age_at}
 use Rattle.lsdb.proofs.Keys.{keys_exact, keys_total}
-use Rattle.packet.specs.declared.model.PacketBody.{PacketBody}
-use Rattle.packet.specs.declared.model.PacketBody.TheVariants as body
 use Rattle.packet.specs.declared.model.Hello.{Hello}
 use Rattle.adjacency.specs.Adjacencies as adjacencies
 use Rattle.adjacency.specs.Contents.{Content, Step, Updates, no_sends}
@@ -58,14 +55,14 @@ use Rattle.event_rules.specs.Packets.{accept_hello, receive_hello_on, requested_
 use Rattle.event_rules.specs.Routers.{Occurrence, Router, fresh_link, unannounced_router}
 use Rattle.event_rules.specs.Ticks.{acknowledgments_on, again, hello_sent_on, run_out, sends_of}
 use Rattle.event_rules.specs.Ticks.{with_hello_sent, without_acknowledgments}
-use Rattle.event_rules.proofs.Walk.{Brings, Invariant, IsKeptByParts, OfBrought, OfBytes}
-use Rattle.event_rules.proofs.Walk.{originate_or_wait_kept}
+use Rattle.event_rules.proofs.Walk.{Brings, Invariant, IsKeptByParts, originate_or_wait_kept}
 use Rattle.event_rules.proofs.Walk as walk
 use Rattle.flood_laws.specs.Retransmissions.{AreOfTheDatabase, HasItsRetransmissions, IsOfCopy}
 use Rattle.flood_laws.specs.Retransmissions.{RetransmissionsAreOfTheDatabase}
 use Rattle.flood_laws.proofs.Always.{each_so}
 use Rattle.flood_laws.proofs.Invariants.{exchange_settled, filled_on_kept, still_heard_kept}
 use Rattle.flood_laws.proofs.Lists.{none_asked}
+use Rattle.flood_laws.proofs.Unasked.{brought_any}
 
 pub if_so : {X : Type 0} (P R : Key → X → Type 0) (key : Key) (o : Option X)
     → ((x : X) → P key x → R key x) → IfThere P key o → IfThere R key o
@@ -669,21 +666,6 @@ parts_keep = record {
       at) h;
   removes = λ moment o h. removed moment o.area h;
 }
-
-texts_any : (lsas : List (List ℕ)) → AllByRecursion (OfBytes its_own.of_lsa) lsas
-texts_any [] = tt
-texts_any (bytes ∷ rest) = (read_any (lsa_in bytes), texts_any rest)
-  where
-    read_any : (o : Option Lsa) → walk.IfRead its_own.of_lsa o
-    read_any None = tt
-    read_any (Some lsa) = tt
-
-brought_any : (b : PacketBody) → OfBrought its_own.of_lsa b
-brought_any (body.Hello h) = tt
-brought_any (body.Description d) = tt
-brought_any (body.Request keys) = tt
-brought_any (body.Update lsas) = texts_any lsas
-brought_any (body.Acknowledgment headers) = tt
 
 brings : (old : Router) (event : Occurrence) → Brings its_own old event
 brings old event = record {

@@ -13,7 +13,7 @@ use Rattle.words.specs.declared.route.External.{External}
 use Rattle.lsa.specs.Text.{body_text}
 use Rattle.lsa.specs.declared.body.LsaBody.{LsaBody}
 use Rattle.lsdb.specs.Copies.{Database, DatabaseCopy}
-use Rattle.lsdb.specs.Headers.{Lsa, lsa_aged, lsa_key}
+use Rattle.lsdb.specs.Headers.{Lsa, lsa_key}
 use Rattle.lsdb.specs.Keys.{ByKey, KeySet, same_key}
 use Rattle.lsdb.specs.Order.{age_at, is_max_age}
 use Rattle.lsdb.proofs.Keys.{keys_total}
@@ -27,6 +27,7 @@ use Rattle.event_rules.specs.Originations.{wanted_body}
 use Rattle.event_rules.specs.Routers.{Router}
 use Rattle.flood_laws.proofs.Limits.{tied_key, body_or}
 use Rattle.flood_laws.proofs.Retransmitted.{marks}
+use Rattle.flood_laws.proofs.Leaving.{flushed_copy}
 
 pub same_itself : (key : Key) → same_key key key ≡ true
 same_itself key = ap is_eq (tied_itself keys_total key)
@@ -236,9 +237,6 @@ marked P same moment (s ∷ more) db all =
 
 -- ---- premature aging
 
-abbrev aged : ℕ → DatabaseCopy → DatabaseCopy
-aged moment c = record c { lsa = lsa_aged 3600 c.lsa; stored = moment }
-
 pub flushed_age : (moment : ℕ) → is_max_age (age_at 3600 moment moment) ≡ true
 flushed_age moment = eq-eqb (min 3600 (3600 + (moment - moment))) 3600 (omega arith)
 
@@ -253,8 +251,8 @@ stays_aged age stored before now is later =
 pub aged_at : (P R : Key → DatabaseCopy → Type 0) (moment : ℕ) (db : Database) (key : Key)
     (c : DatabaseCopy) (o : Option DatabaseCopy) → finite.get db key ≡ o → o ≡ Some c
     → ((q : Key) (d : DatabaseCopy) → same_key q key ≡ false → P q d → R q d)
-    → ((d : DatabaseCopy) → R key (aged moment d)) → AllIn P db
-    → AllIn R (changed_by key (aged moment) db o)
+    → ((d : DatabaseCopy) → R key (flushed_copy moment d)) → AllIn P db
+    → AllIn R (changed_by key (flushed_copy moment) db o)
 aged_at P R moment db key c None there is others here all = absurd cc
 aged_at P R moment db key c (Some d) there is others here all =
-    put_at P R db key (aged moment d) others (here d) all
+    put_at P R db key (flushed_copy moment d) others (here d) all
