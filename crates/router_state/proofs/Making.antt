@@ -95,7 +95,7 @@ done r a = record { settled = a.settled; makes = always r a }
 
 pub refused : {X E : Type 0} {f : EventState → EventState} {old new : KeptRouter} (r : Result X E)
     → IsErr r → new.settled ≡ old.settled → Does f old new r
-refused r is stays = record { settled = stays; makes = on_err r is }
+refused r is stays = record { settled = stays; makes = on_err r _ is }
 
 -- the call comes after a part
 pub then_does : {X E : Type 0} {f g : EventState → EventState} {old middle new : KeptRouter}

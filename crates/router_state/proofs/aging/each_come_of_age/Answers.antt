@@ -45,8 +45,8 @@ loop-i-preserved c =
 
 pub returns-in_err-come_of_age : goal.returns-in_err-come_of_age
 returns-in_err-come_of_age c = record {
-  area = on_err c.from_residual.result c.from_residual.ensures.0;
-  drafts = on_err c.from_residual.result c.from_residual.ensures.0;
+  area = on_err c.from_residual.result _ c.from_residual.ensures.0;
+  drafts = on_err c.from_residual.result _ c.from_residual.ensures.0;
   settled = c.in_err-come_of_age.ensures.settled ∙ c.loop-i.invariant.settled;
   router = c.in_err-come_of_age.ensures.router ∙ c.loop-i.invariant.router;
 }

@@ -33,8 +33,8 @@ loop-i-preserved c =
 
 pub returns-in_err-remove_acknowledged : goal.returns-in_err-remove_acknowledged
 returns-in_err-remove_acknowledged c = record {
-  area = on_err c.from_residual.result c.from_residual.ensures.0;
-  drafts = on_err c.from_residual.result c.from_residual.ensures.0;
+  area = on_err c.from_residual.result _ c.from_residual.ensures.0;
+  drafts = on_err c.from_residual.result _ c.from_residual.ensures.0;
   settled = c.in_err-remove_acknowledged.ensures.settled ∙ c.loop-i.invariant.settled;
   router = c.in_err-remove_acknowledged.ensures.router ∙ c.loop-i.invariant.router;
 }

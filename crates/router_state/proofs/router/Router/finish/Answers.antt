@@ -1,4 +1,4 @@
-use Rattle.std.proofs.Common.{refl}
+use Rattle.std.proofs.Common.{refl, ◌∙◌}
 use Rattle.flooding.specs.lsdb.Copies.{Database}
 use Rattle.flooding.specs.adjacency.Requests.{request_next}
 use Rattle.flooding.specs.adjacency.Views.{keys_of}
@@ -7,7 +7,7 @@ use Rattle.event_rules.specs.Endings.{remove_aged, request_all}
 use Rattle.event_rules.specs.EventState.{on_area, on_router}
 use Rattle.router_state.specs.Kept.{KeptRouter}
 use Rattle.router_state.specs.Parts.{at_moment}
-use Rattle.router_state.proofs.Answered.{area_does, area_then}
+use Rattle.router_state.proofs.Answered.{area_does, area_stays, area_then}
 use Rattle.router_state.proofs.Edited.{edit_makes}
 use Rattle.router_state.proofs.Leaves.{appends_removal, appends_requests, keeps_removal}
 use Rattle.router_state.proofs.Leaves.{keeps_requests}
@@ -17,24 +17,15 @@ use Rattle.router_state.proofs.router.Router.finish.Goals as goal
 
 pub returns-in_err-step_links : goal.returns-in_err-step_links
 returns-in_err-step_links c =
-    let m = c.args.moment in
-    let a : Area = c.self.inside.area.present in
     refused c.from_residual.result c.from_residual.ensures.0
-    (area_does (request_all m) (keeps_requests m) (appends_requests m) _ c.args.self.now
-    c.self.inside.area c.step_links.new.self _ c.self.view_is refl c.in_err-step_links.ensures
-    (all_are m (λ (d : Database) (l : Link). request_next m) a)).settled
+    (area_stays _ c.args.self.now c.self.inside.area c.step_links.new.self c.self.view_is refl
+    c.in_err-step_links.ensures.settled)
 
 pub returns-in_err-remove_aged : goal.returns-in_err-remove_aged
 returns-in_err-remove_aged c =
-    let m = c.args.moment in
-    let a : Area = c.self.inside.area.present in
     refused c.from_residual-in_err-remove_aged.result c.from_residual-in_err-remove_aged.ensures.0
-    (area_then (remove_aged m) (keeps_removal m) (appends_removal m) _ c.args.self.now
-    c.step_links.new.self c.remove_aged.new.area _ c.self.view_is
-    (area_does (request_all m) (keeps_requests m) (appends_requests m) _ c.args.self.now
-    c.self.inside.area c.step_links.new.self _ c.self.view_is refl c.in_ok-step_links.ensures
-    (all_are m (λ (d : Database) (l : Link). request_next m) a)).makes
-    c.in_err-remove_aged.ensures refl).settled
+    (area_stays _ c.args.self.now c.self.inside.area c.remove_aged.new.area c.self.view_is refl
+    (c.in_err-remove_aged.ensures.settled ∙ c.in_ok-step_links.ensures.settled))
 
 pub returns : goal.returns
 returns c =

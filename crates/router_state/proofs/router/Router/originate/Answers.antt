@@ -2,9 +2,10 @@ use Rattle.std.proofs.Common.{refl, ap, ◌∙◌}
 use Rattle.flooding.specs.adjacency.Views.{keys_of}
 use Rattle.event_rules.specs.EventState.{on_area, on_router}
 use Rattle.event_rules.specs.Originations.{as_originated, install_and_flood}
+use Rattle.event_rules.specs.Routers.{Router}
 use Rattle.router_state.specs.Kept.{KeptRouter}
 use Rattle.router_state.proofs.Announced.{keys_remove}
-use Rattle.router_state.proofs.Answered.{area_does}
+use Rattle.router_state.proofs.Answered.{area_does, area_stays}
 use Rattle.router_state.proofs.Edited.{notes}
 use Rattle.router_state.proofs.Leaves.{appends_install, keeps_install}
 use Rattle.router_state.proofs.Making.{refused, then_does}
@@ -12,30 +13,26 @@ use Rattle.router_state.proofs.router.Router.originate.Goals as goal
 
 pub returns-in_err-originate : goal.returns-in_err-originate
 returns-in_err-originate c =
-    let m = c.args.moment in
-    let lsa = c.args.lsa in
     refused c.from_residual.result c.from_residual.ensures.0
-    (area_does (install_and_flood m lsa) (keeps_install m lsa) (appends_install m lsa) _
-    c.args.self.now c.self.inside.area c.originate.new.self _ c.self.view_is refl
-    c.in_err-originate.ensures refl).settled
+    (area_stays _ c.args.self.now c.self.inside.area c.originate.new.self c.self.view_is refl
+    c.in_err-originate.ensures.settled)
 
 pub returns-in_err-remove : goal.returns-in_err-remove
 returns-in_err-remove c =
-    let m = c.args.moment in
-    let lsa = c.args.lsa in
-    let flooded = area_does (install_and_flood m lsa) (keeps_install m lsa) (appends_install m lsa)
-    _ c.args.self.now c.self.inside.area c.originate.new.self _ c.self.view_is refl
-    c.in_ok-originate.ensures refl in
-    refused c.from_residual-in_err-remove.result c.from_residual-in_err-remove.ensures.0
-    ((λ i. record c.args.self.now.settled {
-      id = c.self.inside.id;
+    let inside = c.self.inside in
+    let flooded : Router = record {
+      id = inside.id;
       area = c.originate.new.self.settled;
-      announced = c.self.inside.announced.settled;
-      waiting = keys_of (c.in_err-remove.ensures.settled i);
-      originated = c.self.inside.originated.settled;
-      answers = c.self.inside.answers.settled;
-      moment = c.self.inside.moment.settled;
-    }) ∙ flooded.settled)
+      announced = inside.announced.settled;
+      waiting = keys_of inside.waiting.settled;
+      originated = inside.originated.settled;
+      answers = inside.answers.settled;
+      moment = inside.moment.settled;
+    } in
+    refused c.from_residual-in_err-remove.result c.from_residual-in_err-remove.ensures.0
+    ((λ i. record flooded { waiting = keys_of (c.in_err-remove.ensures.settled i) })
+    ∙ area_stays _ c.args.self.now inside.area c.originate.new.self c.self.view_is refl
+    c.in_ok-originate.ensures.settled)
 
 pub returns : goal.returns
 returns c =

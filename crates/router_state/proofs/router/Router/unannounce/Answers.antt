@@ -1,6 +1,7 @@
 use Rattle.std.proofs.Common.{sym, ap, subst, ◌∙◌}
 use Rattle.keyed_map.proofs.Helds.{on_ok}
 use Rattle.flooding.specs.adjacency.Views.{keys_of}
+use Rattle.event_rules.specs.Routers.{Router}
 use Rattle.router_state.specs.Kept.{KeptRouter}
 use Rattle.router_state.specs.Owned.{AreOwn}
 use Rattle.router_state.proofs.Announced.{keys_remove, remove_own}
@@ -20,16 +21,19 @@ invariant_of-self-2 c =
 
 pub returns-in_err-remove : goal.returns-in_err-remove
 returns-in_err-remove c =
+    let inside = c.self.inside in
+    let shown : Router = record {
+      id = inside.id;
+      area = inside.area.settled;
+      announced = inside.announced.settled;
+      waiting = keys_of inside.waiting.settled;
+      originated = inside.originated.settled;
+      answers = inside.answers.settled;
+      moment = inside.moment.settled;
+    } in
     refused c.from_residual.result c.from_residual.ensures.0
-    ((λ i. record c.args.self.now.settled {
-      id = c.self.inside.id;
-      area = c.self.inside.area.settled;
-      announced = c.in_err-remove.ensures.settled i;
-      waiting = keys_of c.self.inside.waiting.settled;
-      originated = c.self.inside.originated.settled;
-      answers = c.self.inside.answers.settled;
-      moment = c.self.inside.moment.settled;
-    }) ∙ ap (λ (r : KeptRouter). r.settled) c.self.view_is)
+    ((λ i. record shown { announced = c.in_err-remove.ensures.settled i })
+    ∙ ap (λ (r : KeptRouter). r.settled) c.self.view_is)
 
 pub returns : goal.returns
 returns c =
