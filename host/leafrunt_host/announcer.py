@@ -10,10 +10,11 @@ import time
 from leafrunt_host.announcements import TRIED_AGAIN, Announcements
 from leafrunt_host.destinations import Owner
 from leafrunt_host.journal import where_it_failed
-from leafrunt_host.keeper import SECONDS_TO_STOP, Waker
+from leafrunt_host.keeper import SECONDS_TO_STOP
 from leafrunt_host.redistributor import Redistributor
 from leafrunt_host.router import RouterGone
 from leafrunt_host.rtnetlink import CannotAsk
+from leafrunt_host.waker import Waker
 
 log = logging.getLogger("leafrunt.announcements")
 TOGETHER = 0.1

@@ -6,7 +6,6 @@ A link that goes is told at once, and nothing is held for longer than a moment.
 """
 from __future__ import annotations
 
-import os
 import time
 from collections.abc import Callable
 from contextlib import suppress
@@ -14,6 +13,7 @@ from dataclasses import dataclass, field
 
 from leafrunt_host.lsas import LinkType, LsType, links_of
 from leafrunt_host.packets import HEADER, Malformed, PacketType, lsas_of
+from leafrunt_host.waker import Waker
 from leafrunt_host.withheld import AGE, FLUSHED, INSTANCE
 
 LONGEST = 2.0
@@ -61,7 +61,7 @@ class Holding:
     ) -> None:
         """`wake` has the kernel's table looked at soon."""
         self._wake, self._clock = wake, clock
-        self._event = os.eventfd(0, os.EFD_CLOEXEC | os.EFD_NONBLOCK)
+        self._waker = Waker()
         self._is_kept = False
         self._looked = float("-inf")
         self._passed, self._last = _Said(), _Said()
@@ -70,20 +70,20 @@ class Holding:
         """When the first of them came, and the first of the last instance."""
 
     def fileno(self) -> int:
-        return self._event
+        return self._waker.fileno()
 
     # -- of the kernel's table
 
     def keeps(self, is_kept: bool) -> None:
         """Whether the kernel's table is kept: else nothing has to be waited for."""
         self._is_kept = is_kept
-        os.eventfd_write(self._event, 1)
+        self._waker.wake()
 
     def looked(self, began: float) -> None:
         """The kernel has all routes that there were at that moment."""
         self._looked = began
         if self._held:
-            os.eventfd_write(self._event, 1)
+            self._waker.wake()
 
     # -- of the bridge
 
@@ -121,8 +121,7 @@ class Holding:
 
     def clear(self) -> None:
         """The wait is over."""
-        with suppress(BlockingIOError):
-            os.eventfd_read(self._event)
+        self._waker.clear()
 
     def released(self) -> list[Held]:
         """All that is held: it goes on now."""

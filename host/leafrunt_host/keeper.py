@@ -3,7 +3,6 @@ says: in a thread of its own, which is woken when something happens."""
 from __future__ import annotations
 
 import logging
-import os
 import select
 import threading
 import time
@@ -23,6 +22,7 @@ from leafrunt_host.refusals import Refusals
 from leafrunt_host.router import Router, RouterGone
 from leafrunt_host.status import Kept, Known, neighbors_of, originated
 from leafrunt_host.statuses import Stopped
+from leafrunt_host.waker import Waker
 from leafrunt_host.work_queue import WorkQueue
 
 log = logging.getLogger("leafrunt.box")
@@ -55,27 +55,12 @@ SECONDS_TO_STOP = 3.0
 """How long the end waits for a look that is under way."""
 
 
-class Waker:
-    """Ends the keeper's wait, from any thread."""
+class NeighborWaker(Waker):
+    """Ends the keeper's wait, from any thread, and as neighbors come and go."""
 
     def __init__(self) -> None:
-        self._event = os.eventfd(0, os.EFD_CLOEXEC | os.EFD_NONBLOCK)
+        super().__init__()
         self._hellos: dict[IPv4Address, bytes] = {}
-
-    def fileno(self) -> int:
-        return self._event
-
-    def wake(self) -> None:
-        try:
-            os.eventfd_write(self._event, 1)
-        except BlockingIOError:
-            pass  # it is awake
-
-    def clear(self) -> None:
-        try:
-            os.eventfd_read(self._event)
-        except BlockingIOError:
-            pass  # nobody has called
 
     def watch(self, side: Side, packet: Packet) -> None:
         """A Hello that names others than the one before tells of a neighbor that comes or goes."""

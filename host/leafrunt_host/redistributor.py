@@ -30,7 +30,7 @@ from leafrunt_host.rtnetlink import (
     Link,
     NextHop,
     Route,
-    netlink,
+    notice_socket,
     noticed_table,
     route_of,
     swapped,
@@ -81,14 +81,11 @@ class Changes:
     """Whether something changed in the kernel that may count."""
 
     def __init__(self, program: bytes, one: socket.socket | None = None) -> None:
-        try:
-            self._socket = one or netlink(OF_ALL)
-            if one is None:
-                attach(self._socket, program)
-                resize(self._socket, ROOM)
-        except OSError as error:
-            words = f"no socket for the kernel's notices: {error.strerror}"
-            raise CannotAsk(words) from error
+        def those_that_count(new: socket.socket) -> None:
+            attach(new, program)
+            resize(new, ROOM)
+
+        self._socket = one or notice_socket(OF_ALL, those_that_count)
         self._socket.setblocking(False)
 
     def fileno(self) -> int:

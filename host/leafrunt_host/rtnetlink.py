@@ -11,7 +11,7 @@ import socket
 import struct
 import sys
 from array import array
-from collections.abc import Iterable, Iterator
+from collections.abc import Callable, Iterable, Iterator
 from dataclasses import dataclass
 from enum import Flag, auto
 from ipaddress import IPv4Interface, IPv4Network
@@ -580,6 +580,17 @@ def attach_filter(one: socket.socket, program: list[tuple[int, int, int, int]]) 
     one.setsockopt(socket.SOL_SOCKET, SO_ATTACH_FILTER, struct.pack("HP", len(program), address))
 
 
+def notice_socket(groups: int, prepare: Callable[[socket.socket], None]) -> socket.socket:
+    """A socket for the kernel's notices of these groups, prepared so; `CannotAsk` without one."""
+    try:
+        one = netlink(groups)
+        prepare(one)
+    except OSError as error:
+        words = f"no socket for the kernel's notices: {error.strerror}"
+        raise CannotAsk(words) from error
+    return one
+
+
 OF_KIND = {
     NEW_LINK: News.LINKS,
     DELETE_LINK: News.LINKS,
@@ -605,14 +616,13 @@ class Notices:
         table: int = MAIN,
         metric: int = 0,
     ) -> None:
-        try:
-            self._socket = one or netlink(groups)
-            self._port = port or -1
-            if one is None and groups != OF_LINKS:
-                attach_filter(self._socket, filter_of_others(port, protocol, table, metric))
-        except OSError as error:
-            words = f"no socket for the kernel's notices: {error.strerror}"
-            raise CannotAsk(words) from error
+        self._port = port or -1
+
+        def others(new: socket.socket) -> None:
+            if groups != OF_LINKS:
+                attach_filter(new, filter_of_others(port, protocol, table, metric))
+
+        self._socket = one or notice_socket(groups, others)
         self._socket.setblocking(False)
 
     def fileno(self) -> int:

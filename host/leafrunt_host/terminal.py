@@ -15,6 +15,7 @@ from typing import NamedTuple
 
 from leafrunt_host.journal import one_line
 from leafrunt_host.statuses import Status, Stopped
+from leafrunt_host.waker import Waker
 
 ENTER, LEAVE = "\x1b[?1049h\x1b[?25l\x1b[?7l", "\x1b[?7h\x1b[?25h\x1b[?1049l"
 """Another screen, no cursor, no wrapped lines; and back."""
@@ -78,16 +79,13 @@ class Screen:
 
     def __init__(self, keys: int, output: int) -> None:
         self._keys, self._output = keys, output
-        self._event = os.eventfd(0, os.EFD_CLOEXEC | os.EFD_NONBLOCK)
+        self._waker = Waker()
         self._waiting = select.poll()
-        self._waiting.register(self._event, select.POLLIN)
+        self._waiting.register(self._waker, select.POLLIN)
         self._waiting.register(keys, select.POLLIN)
 
     def wake(self) -> None:
-        try:
-            os.eventfd_write(self._event, 1)
-        except BlockingIOError:
-            pass  # it is awake
+        self._waker.wake()
 
     def _write(self, text: str) -> None:
         data = text.encode("utf-8", "replace")
@@ -103,8 +101,8 @@ class Screen:
         """What was typed; an empty text if something else ended the wait, None if the terminal is
         gone."""
         ready = dict(self._waiting.poll(seconds * 1000))
-        if self._event in ready:
-            os.eventfd_read(self._event)
+        if self._waker.fileno() in ready:
+            self._waker.clear()
         if self._keys not in ready:
             return ""
         try:
@@ -113,7 +111,7 @@ class Screen:
             return None
 
     def close(self) -> None:
-        os.close(self._event)
+        self._waker.close()
 
     @contextmanager
     def in_use(self) -> Iterator[None]:

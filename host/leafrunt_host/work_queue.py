@@ -1,7 +1,6 @@
 """Work that any thread gives to one that waits at descriptors."""
 from __future__ import annotations
 
-import os
 import threading
 from collections.abc import Callable
 from concurrent.futures import Future, InvalidStateError
@@ -10,6 +9,7 @@ from contextlib import suppress
 from typing import Any, TypeVar
 
 from leafrunt_host.statuses import Stopped
+from leafrunt_host.waker import Waker
 
 T = TypeVar("T")
 SECONDS = 30.0
@@ -20,13 +20,13 @@ class WorkQueue:
     """The thread that the work is for waits at `fileno` until it can be read, and calls `run`."""
 
     def __init__(self) -> None:
-        self._event = os.eventfd(0, os.EFD_CLOEXEC | os.EFD_NONBLOCK)
+        self._waker = Waker()
         self._lock = threading.Lock()
         self._waiting: list[tuple[Callable[[], Any], Future[Any]]] = []
         self._is_over = False
 
     def fileno(self) -> int:
-        return self._event
+        return self._waker.fileno()
 
     def do(self, work: Callable[[], T], seconds: float = SECONDS) -> T:
         """Has it done by that thread, and what came of it, its error included. `Stopped` if that
@@ -36,7 +36,7 @@ class WorkQueue:
             if self._is_over:
                 raise Stopped("the box is ending")
             self._waiting.append((work, future))
-            os.eventfd_write(self._event, 1)
+            self._waker.wake()
         try:
             return future.result(seconds)
         except NotInTime:
@@ -45,8 +45,7 @@ class WorkQueue:
 
     def run(self) -> None:
         """Does what waits, in its order."""
-        with suppress(BlockingIOError):
-            os.eventfd_read(self._event)
+        self._waker.clear()
         with self._lock:
             work, self._waiting = self._waiting, []
         for each, future in work:

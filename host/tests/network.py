@@ -449,6 +449,14 @@ class Lsa:
 LSA_TITLES = {"router": 1, "network": 2, "summary": 3, "asbr-summary": 4, "external": 5}
 
 
+def states_in(table: str) -> dict[str, str]:
+    """Of BIRD's or FRR's table of neighbors: their states by Router ID."""
+    lines = (line.split() for line in table.splitlines())
+    return {
+        words[0]: words[2].split("/")[0] for words in lines if len(words) > 4 and "/" in words[2]
+    }
+
+
 class Bird:
     """BIRD in a namespace."""
 
@@ -522,12 +530,7 @@ class Bird:
 
     def neighbors(self) -> dict[str, str]:
         """The states of its neighbors by Router ID."""
-        lines = (line.split() for line in self.says("show", "ospf", "neighbors").splitlines())
-        return {
-            words[0]: words[2].split("/")[0]
-            for words in lines
-            if len(words) > 4 and "/" in words[2]
-        }
+        return states_in(self.says("show", "ospf", "neighbors"))
 
     def database(self) -> set[Lsa]:
         """The LSAs of `show ospf lsadb`, those of age 3600 apart."""
@@ -605,12 +608,7 @@ class Frr:
 
     def neighbors(self) -> dict[str, str]:
         """The states of its neighbors by Router ID."""
-        lines = (line.split() for line in self.says("show ip ospf neighbor").splitlines())
-        return {
-            words[0]: words[2].split("/")[0]
-            for words in lines
-            if len(words) > 4 and "/" in words[2]
-        }
+        return states_in(self.says("show ip ospf neighbor"))
 
     def database(self) -> set[Lsa]:
         """The LSAs of `show ip ospf database`, those of age 3600 apart."""
@@ -861,6 +859,14 @@ class Try:
     looks: Looks
     routerd: Path
     network: Network
+
+    def anew(self, part: Callable[[], None]) -> None:
+        """A part of a part in a network of its own."""
+        self.network = Network()
+        try:
+            part()
+        finally:
+            self.network.close()
 
 
 def prefixes(first: int, count: int) -> list[str]:

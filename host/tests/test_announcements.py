@@ -19,6 +19,7 @@ from leafrunt_host.announcer import Announcer
 from leafrunt_host.destinations import MOST_EXTERNALS, Announcement, Owner
 from leafrunt_host.router import RouterGone
 from tests.fake_router import FakeRouter
+from tests.waits import Waits
 
 A, B, C = (IPv4Network(each) for each in ("192.0.2.0/24", "198.51.100.0/24", "203.0.113.0/24"))
 
@@ -278,18 +279,12 @@ class Anew(Cases):
         self.assertEqual((set(self.metrics()), self.published[A].answer), ({str(C)}, "withheld"))
 
 
-class Threads(Cases):
+class Threads(Cases, Waits):
     def announcer(self) -> Announcer:
         it = Announcer(self.announcements)
         self.addCleanup(it.stop)
         it.start()
         return it
-
-    def wait(self, is_so: object) -> None:
-        until = time.monotonic() + 60
-        while not is_so():  # type: ignore[operator]
-            self.assertLess(time.monotonic(), until)
-            time.sleep(0.01)
 
     def test_it_is_woken(self) -> None:
         self.announcer()

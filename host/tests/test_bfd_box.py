@@ -15,7 +15,7 @@ from leafrunt_host.bfd_session import Settings
 from leafrunt_host.bridge import Bridge
 from leafrunt_host.forwarding import KernelTable
 from leafrunt_host.interfaces import KernelState
-from leafrunt_host.keeper import Keeper, Waker
+from leafrunt_host.keeper import Keeper, NeighborWaker
 from leafrunt_host.packets import Hello, read
 from leafrunt_host.status import status_lines, status_of
 from tests import captured
@@ -231,7 +231,7 @@ class Kept(unittest.TestCase):
             for number in (1, 2)
         }
         table = KernelTable(self.kernel, FakeNotices(self.kernel))
-        self.keeper = Keeper(self.known, self.router, table, Waker())  # type: ignore
+        self.keeper = Keeper(self.known, self.router, table, NeighborWaker())  # type: ignore
 
     def look(self, moment: float) -> list[str]:
         self.keeper._look(time.monotonic() + moment)

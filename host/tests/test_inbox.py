@@ -15,6 +15,7 @@ from leafrunt_host.inbox import (
 )
 from leafrunt_host.packets import ROUTER_MTU, Packet, PacketType, lsas_of, merged, read
 from tests import captured
+from tests.test_packets import lsa
 
 UDP = """\
    sl  local_address rem_address   st tx_queue rx_queue tr tm->when retrnsmt   uid  timeout inode
@@ -29,10 +30,6 @@ UPDATE = read(bytes.fromhex(captured.PLAIN["FRR Update"]))
 def update(*lsas: bytes, router_id: str = "2.2.2.2") -> bytes:
     body = len(lsas).to_bytes(4, "big") + b"".join(lsas)
     return Packet(UPDATE.type, IPv4Address(router_id), UPDATE.area, body).encode()
-
-
-def lsa(number: int, length: int) -> bytes:
-    return bytes(14) + number.to_bytes(4, "big") + length.to_bytes(2, "big") + bytes(length - 20)
 
 
 def taken(inbox: Inbox) -> list[bytes]:

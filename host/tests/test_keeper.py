@@ -22,13 +22,14 @@ from leafrunt_host.keeper import (
     SECONDS_SHORT,
     SELDOM,
     Keeper,
+    NeighborWaker,
     Pace,
-    Waker,
 )
 from leafrunt_host.packets import Packet, PacketType
 from leafrunt_host.status import neighbors_of
 from tests.fake_kernel import FakeKernel, FakeNotices
 from tests.test_desk import TWO, interface, known
+from tests.waits import Waits
 
 THREE, NOBODY = IPv4Address("3.3.3.3"), IPv4Address(0)
 
@@ -75,13 +76,13 @@ class Paces(unittest.TestCase):
 
 
 class Wakes(unittest.TestCase):
-    def is_awake(self, waker: Waker) -> bool:
+    def is_awake(self, waker: NeighborWaker) -> bool:
         awake = bool(select.select([waker], [], [], 0)[0])
         waker.clear()
         return awake
 
     def test_who_wakes(self) -> None:
-        waker = Waker()
+        waker = NeighborWaker()
         self.assertFalse(self.is_awake(waker))
         waker.wake()
         waker.wake()
@@ -101,7 +102,7 @@ class Wakes(unittest.TestCase):
             self.assertEqual(self.is_awake(waker), wakes)
 
     def test_any_number_of_router_ids(self) -> None:
-        waker = Waker()
+        waker = NeighborWaker()
         for number in range(1000):
             waker.watch(Side.WIRE, Packet(PacketType.HELLO, IPv4Address(number), NOBODY, bytes(20)))
         self.assertLessEqual(len(waker._hellos), 64)
@@ -144,7 +145,7 @@ class StandInRouter:
         return b"".join(each + b"\n" for each in self.table)
 
 
-class Keeps(unittest.TestCase):
+class Keeps(Waits):
     def setUp(self) -> None:
         self.router, self.kernel = StandInRouter(), FakeKernel("eth1", "eth2")
         self.links = {
@@ -154,7 +155,7 @@ class Keeps(unittest.TestCase):
         self.known = known()
         self.known.links = self.links  # type: ignore[assignment]
         table = KernelTable(self.kernel, FakeNotices(self.kernel))
-        self.waker = Waker()
+        self.waker = NeighborWaker()
         self.keeper = Keeper(self.known, self.router, table, self.waker)  # type: ignore
 
     def test_next_hops_of_links_that_are_down(self) -> None:
@@ -303,12 +304,6 @@ class Keeps(unittest.TestCase):
                 self.keeper._looked(now)
         self.assertEqual((ended, self.known.kept.error), ([], None))
 
-    def wait(self, is_so: Any) -> None:
-        until = time.monotonic() + 60
-        while not is_so():
-            self.assertLess(time.monotonic(), until)
-            time.sleep(0.01)
-
 
 class Hops(unittest.TestCase):
     def test_links_that_are_down(self) -> None:
@@ -328,7 +323,7 @@ class Hops(unittest.TestCase):
             configuration=SimpleNamespace(announcements=()),
             sessions=None,
         )
-        keeper = Keeper(known, None, None, Waker())
+        keeper = Keeper(known, None, None, NeighborWaker())
         self.assertEqual(keeper._hops(), {1: Hop(IPv4Address("2.2.2.2"), "eth1")})
 
 

@@ -37,6 +37,7 @@ from leafrunt_host.rtnetlink import (
 from leafrunt_host.tables import Table
 from tests.fake_router import FakeRouter
 from tests.test_rtnetlink import ADDRESSES, LINK_DOWN, NEXT_HOPS, ROUTE_DELETED, runs
+from tests.waits import Waits
 
 ALL = """
 [redistribute.default]
@@ -339,7 +340,7 @@ class Notices(unittest.TestCase):
 NETWORK = IPv4Network("198.51.100.0/24")
 
 
-class Following(Cases):
+class Following(Cases, Waits):
     def setUp(self) -> None:
         super().setUp()
         self.router, self.published, self.said = FakeRouter(), dict[IPv4Network, Announced](), ("",)
@@ -349,12 +350,6 @@ class Following(Cases):
 
     def publish(self, announced: dict[IPv4Network, Announced], said: tuple[str, ...]) -> None:
         self.published, self.said = announced, said
-
-    def wait(self, is_so: object) -> None:
-        until = time.monotonic() + 60
-        while not is_so():  # type: ignore[operator]
-            self.assertLess(time.monotonic(), until)
-            time.sleep(0.01)
 
     def announced(self) -> set[str]:
         return {str(each) for each in self.router.announced}

@@ -7,7 +7,7 @@ from unittest import mock
 
 from leafrunt_host.clock import Step
 from leafrunt_host.forwarding import KernelTable
-from leafrunt_host.keeper import SECONDS_SHORT, Keeper, Waker
+from leafrunt_host.keeper import SECONDS_SHORT, Keeper, NeighborWaker
 from leafrunt_host.kernel import Json
 from leafrunt_host.metrics import families_of
 from leafrunt_host.status import status_lines, status_of
@@ -35,7 +35,7 @@ class Refuses(unittest.TestCase):
         self.known.links = links  # type: ignore[assignment]
         self.keeper = Keeper(
             *(self.known, self.router, KernelTable(kernel, FakeNotices(kernel))),  # type: ignore
-            *(Waker(), lambda: self.ended.append(1)),
+            *(NeighborWaker(), lambda: self.ended.append(1)),
         )
         self.answers("withdrawn")
         self.looks(1)

@@ -5,7 +5,6 @@ from __future__ import annotations
 import re
 import sys
 import time
-from collections.abc import Callable
 from dataclasses import replace
 from datetime import datetime, timedelta
 from pathlib import Path
@@ -22,7 +21,6 @@ from tests.network import (
     End,
     Frr,
     Looks,
-    Network,
     Secret,
     Side,
     Try,
@@ -136,16 +134,7 @@ def descriptions(given: Try) -> None:
             for has_keys in (False, True):
                 with_keys = "with digests" if has_keys else "without digests"
                 what = f"{count} LSAs at each of three, MTU {mtu}, `routerd` {role}, {with_keys}"
-                anew(given, lambda: described(given, what, router_id, mtu, has_keys, count))
-
-
-def anew(given: Try, part: Callable[[], None]) -> None:
-    """A part of a part in a network of its own."""
-    given.network = Network()
-    try:
-        part()
-    finally:
-        given.network.close()
+                given.anew(lambda: described(given, what, router_id, mtu, has_keys, count))
 
 
 def described(given: Try, what: str, router_id: str, mtu: int, has_keys: bool, count: int) -> None:
@@ -176,7 +165,7 @@ def losing(given: Try) -> None:
     """3,000 LSAs at each of the three over links that lose a fifth of all packets; RouterDeadInterval
     20, since of four Hellos in a row all are lost too often."""
     for mtu, router_id, role in ((1500, "1.1.1.1", "slave"), (9000, "9.9.9.9", "master")):
-        anew(given, lambda: lossy(given, mtu, router_id, role))
+        given.anew(lambda: lossy(given, mtu, router_id, role))
 
 
 def lossy(given: Try, mtu: int, router_id: str, role: str) -> None:

@@ -17,12 +17,8 @@ from pathlib import Path
 from leafrunt_host.withheld import Database, fault
 from tests.network import (
     COMES_UP,
-    Bird,
     Box,
     CannotTry,
-    End,
-    Network,
-    Side,
     Try,
     Waiting,
     is_full,
@@ -33,6 +29,7 @@ from tests.network import (
 )
 from tests.pty_terminal import Terminal
 from tests.test_topology import lsa
+from tests.two_links import TwoLinks
 
 COUNT, TIMES = 10_000, 3
 MOST_TIMES = 9
@@ -106,28 +103,12 @@ class Slowness:
         return statistics.median(spent for at, spent in self._spent if first <= at <= last) / best
 
 
-class Two:
-    """The router that is tried, 1.1.1.1, has two links to 2.2.2.2, a BIRD that announces the
-    destinations: the first is the better one."""
+class Two(TwoLinks):
+    """2.2.2.2 announces the destinations."""
 
     def __init__(self, given: Try, is_box: bool) -> None:
-        self.network = network = Network()
         who = "box" if is_box else "bird"
-        self.own, self.far = network.namespace(who), network.namespace(f"{who}-far")
-        for number in (1, 2):
-            network.link(
-                End(self.own, f"eth{number}", f"10.0.{number}.1/24"),
-                End(self.far, f"eth{number}", f"10.0.{number}.2/24"),
-            )
-        sides = [Side("eth1"), Side("eth2", cost=20)]
-        self.bird = Bird(network, self.far, "2.2.2.2", sides)
-        self.tried: Box | Bird
-        if is_box:
-            self.tried = Box(network, given.routerd, self.own, "tried", "1.1.1.1", sides)
-        else:
-            self.tried = Bird(network, self.own, "1.1.1.1", sides)
-            self.tried.folder = network.work / "tried"
-            self.tried.folder.mkdir()
+        super().__init__(given, is_box, who, f"{who}-far")
         self.destinations = prefixes(50, COUNT)
 
     def routes(self) -> int:
@@ -179,11 +160,6 @@ class Two:
         lost, *away = (float(each) for each in probe.communicate()[0].split())
         kept = waiting.seconds()
         return statistics.median(away) - lost - kept if lost and all(away) else math.inf
-
-    def close(self) -> None:
-        self.tried.stop()
-        self.bird.stop()
-        self.network.close()
 
 
 def load(given: Try) -> None:

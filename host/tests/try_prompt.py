@@ -9,19 +9,8 @@ import time
 from datetime import datetime
 from pathlib import Path
 
-from tests.network import (
-    COMES_UP,
-    Bird,
-    Box,
-    End,
-    Network,
-    Side,
-    Try,
-    is_full,
-    output,
-    run,
-    within,
-)
+from tests.network import COMES_UP, Network, Try, is_full, output, run, within
+from tests.two_links import TwoLinks
 
 EXTERNAL, OTHER = "203.0.113.0/24", "198.51.100.0/24"
 TIMES = 5
@@ -68,25 +57,12 @@ class Noticed:
             self._network.stop(each)
 
 
-class Prompt:
-    """The router that is tried, 1.1.1.1, has two links to 2.2.2.2, a BIRD; the first is better."""
+class Prompt(TwoLinks):
+    """2.2.2.2 announces one destination, and then another."""
 
     def __init__(self, given: Try, is_box: bool) -> None:
-        self.network = network = Network()
-        self.own, self.far = network.namespace("own"), network.namespace("far")
-        for at in (1, 2):
-            one = End(self.own, f"eth{at}", f"10.0.{at}.1/24")
-            network.link(one, End(self.far, f"eth{at}", f"10.0.{at}.2/24"))
-        sides = [Side("eth1"), Side("eth2", cost=20)]
-        self.bird = Bird(network, self.far, "2.2.2.2", sides)
+        super().__init__(given, is_box, "own", "far")
         self.bird.externals = [EXTERNAL]
-        self.tried: Box | Bird
-        if is_box:
-            self.tried = Box(network, given.routerd, self.own, "tried", "1.1.1.1", sides)
-        else:
-            self.tried = Bird(network, self.own, "1.1.1.1", sides)
-            self.tried.folder = network.work / "tried"
-            self.tried.folder.mkdir()
 
     def by(self, number: int) -> bool:
         """Whether packets go by this link."""
@@ -127,11 +103,6 @@ class Prompt:
         self.bird.configure()
         time.sleep(BETWEEN)
         return there[-1] - updates[0] if there and updates else float("inf")
-
-    def close(self) -> None:
-        self.tried.stop()
-        self.bird.stop()
-        self.network.close()
 
 
 def prompt(given: Try) -> None:

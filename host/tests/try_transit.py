@@ -11,6 +11,7 @@ import time
 from collections.abc import Callable, Iterable
 from dataclasses import replace
 from pathlib import Path
+from typing import Any
 
 from tests.deleted import Deleted
 from tests.network import (
@@ -309,19 +310,22 @@ def at_left(it: Transit) -> str:
     return output("ip", "-n", it.spaces["left"], "-4", "route", "show")
 
 
+def at_both_ends(it: Transit, **new: Any) -> None:
+    """Gives the two links these settings, here and then at the neighbors."""
+    own = [replace(each, **new) for each in it.sides[:2]]
+    changed(it, [*own, *it.sides[2:]], (EXTERNAL,))
+    for name in ("left", "right"):
+        bird = it.birds[name]
+        bird.sides = [replace(each, **new) if each.keys else each for each in bird.sides]
+        bird.configure()
+
+
 def keys_change(it: Transit, given: Try) -> None:
     """The three steps of a rollover, at each router of the links."""
 
     def changes() -> None:
         for keys in ((SHA, NEXT), (NEXT, SHA), (NEXT,)):
-            own = [replace(each, keys=keys) for each in it.sides[:2]]
-            changed(it, [*own, *it.sides[2:]], (EXTERNAL,))
-            for name in ("left", "right"):
-                bird = it.birds[name]
-                bird.sides = [
-                    replace(each, keys=keys) if each.keys else each for each in bird.sides
-                ]
-                bird.configure()
+            at_both_ends(it, keys=keys)
             time.sleep(5)
 
     nothing_lost(it, given, "both keys are replaced in three steps", changes)
@@ -493,14 +497,7 @@ def intervals_change(it: Transit, given: Try) -> None:
     """HelloInterval 2 to 3 and RouterDeadInterval 8 to 12, here and then at the neighbors."""
 
     def changes() -> None:
-        own = [replace(each, hello=3, dead=12) for each in it.sides[:2]]
-        changed(it, [*own, *it.sides[2:]], (EXTERNAL,))
-        for name in ("left", "right"):
-            bird = it.birds[name]
-            bird.sides = [
-                replace(each, hello=3, dead=12) if each.keys else each for each in bird.sides
-            ]
-            bird.configure()
+        at_both_ends(it, hello=3, dead=12)
         time.sleep(13)
 
     nothing_lost(it, given, "HelloInterval and RouterDeadInterval are changed at both ends", changes)

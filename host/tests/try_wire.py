@@ -7,7 +7,6 @@ import statistics
 import subprocess
 import sys
 import time
-from collections.abc import Callable
 from pathlib import Path
 
 from tests.network import (
@@ -19,7 +18,6 @@ from tests.network import (
     Box,
     CannotTry,
     End,
-    Network,
     Secret,
     Side,
     Try,
@@ -97,20 +95,11 @@ class Pair:
         return self.network.start(source, words, log, stdout=subprocess.PIPE)
 
 
-def anew(given: Try, part: Callable[[], None]) -> None:
-    """A part of a part in a network of its own."""
-    given.network = Network()
-    try:
-        part()
-    finally:
-        given.network.close()
-
-
 def far(given: Try) -> None:
     """Packets that aren't the neighbor's, from two hops away and from the neighbor's machine, sent
     to the router itself: at a box, and at BIRD."""
     for is_box in (True, False):
-        anew(given, lambda: attacked_from_afar(given, is_box))
+        given.anew(lambda: attacked_from_afar(given, is_box))
 
 
 def attacked_from_afar(given: Try, is_box: bool) -> None:
@@ -174,8 +163,8 @@ def flood(given: Try) -> None:
     """Floods from the link for 16 seconds, RouterDeadInterval 8: Hellos of made-up Router IDs, and
     packets of the neighbor's own with wrong digests; at a box, and beside it at BIRD."""
     for is_box in (True, False):
-        anew(given, lambda: flooded(given, is_box, "hellos", (), 30_000))
-        anew(given, lambda: flooded(given, is_box, "digests", (SHA,), 40_000))
+        given.anew(lambda: flooded(given, is_box, "hellos", (), 30_000))
+        given.anew(lambda: flooded(given, is_box, "digests", (SHA,), 40_000))
 
 
 def flooded(
@@ -250,15 +239,15 @@ def routerd_of(router: Box | Bird) -> int | None:
 def comeback(given: Try) -> None:
     """An interface that is made again with its index, that was in another namespace, that was
     renamed; a link that is lost twice within a HelloInterval."""
-    anew(given, lambda: come_back(given))
-    anew(given, lambda: lost_again(given))
+    given.anew(lambda: come_back(given))
+    given.anew(lambda: lost_again(given))
 
 
 def names(given: Try) -> None:
     """Interfaces of names that the kernel allows and few have: `check` and the kernel's table take
     each."""
     for name in ("wan!0", "e,1", "lan~1", "#"):
-        anew(given, lambda: named(given, name))
+        given.anew(lambda: named(given, name))
 
 
 def named(given: Try, name: str) -> None:

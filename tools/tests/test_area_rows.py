@@ -1,10 +1,10 @@
 """tools/area-rows: the rows that trials/ has, others by another seed, and which candidates it calculates."""
-import importlib.machinery
-import importlib.util
 import pathlib
 import subprocess
 import sys
 import unittest
+
+from loading import tool
 
 TOP = pathlib.Path(__file__).resolve().parents[2]
 TOOL = TOP / "tools/area-rows"
@@ -13,13 +13,6 @@ sys.dont_write_bytecode = True
 
 def written(*words):
     return subprocess.run([TOOL, *words], capture_output=True, text=True, check=False)
-
-
-def loaded():
-    loader = importlib.machinery.SourceFileLoader("area_rows", str(TOOL))
-    module = importlib.util.module_from_spec(importlib.util.spec_from_loader("area_rows", loader))
-    loader.exec_module(module)
-    return module
 
 
 class AreaRows(unittest.TestCase):
@@ -36,7 +29,7 @@ class AreaRows(unittest.TestCase):
         self.assertEqual((written("--areas", "20").returncode, written("--areas", "0").returncode), (0, 1))
 
     def test_a_square_joins_both_next_hops(self):
-        it = loaded()
+        it = tool("area-rows")
         links = {1: ((2, 0x0a000001), (3, 0x0a000002)), 2: ((1, 9), (4, 9)), 3: ((1, 9), (4, 9)), 4: ((2, 9), (3, 9))}
         lsas = [it.Lsa(1, 1, router, router, 0, [it.Link(1, to, data, 5) for to, data in ends], 0, [], 0, False, 0, 0)
                 for router, ends in links.items()]

@@ -1,10 +1,9 @@
 """tools/check-crate: in which function an edit's line and the prover's are."""
-import importlib.machinery
-import importlib.util
-import pathlib
 import unittest
 
-TOOL = pathlib.Path(__file__).resolve().parent.parent / "check-crate"
+from loading import tool
+
+check_crate = tool("check-crate")
 SOURCE = """use isa::Width;
 
 /// One.
@@ -22,22 +21,15 @@ pub(crate) fn two() -> u64 {
 """.split("\n")
 
 
-def check_crate():
-    loader = importlib.machinery.SourceFileLoader("check_crate", str(TOOL))
-    module = importlib.util.module_from_spec(importlib.util.spec_from_loader("check_crate", loader))
-    loader.exec_module(module)
-    return module
-
-
 class TestFunctionAt(unittest.TestCase):
     def test_attributes_and_comments_before_a_function_are_its_own(self) -> None:
-        self.assertEqual(check_crate().function_at(SOURCE, 8), ("one", 2, 9))
+        self.assertEqual(check_crate.function_at(SOURCE, 8), ("one", 2, 9))
 
     def test_a_function_without_attributes_begins_at_its_line(self) -> None:
-        self.assertEqual(check_crate().function_at(SOURCE, 12), ("two", 11, 13))
+        self.assertEqual(check_crate.function_at(SOURCE, 12), ("two", 11, 13))
 
     def test_a_line_outside_of_functions_stands_alone(self) -> None:
-        self.assertEqual(check_crate().function_at(SOURCE, 0), ("", 0, 0))
+        self.assertEqual(check_crate.function_at(SOURCE, 0), ("", 0, 0))
 
 
 if __name__ == "__main__":

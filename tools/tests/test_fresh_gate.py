@@ -1,32 +1,19 @@
 """Tests of tools/fresh-gate: what a check used is counted once."""
-import importlib.machinery
-import importlib.util
-import pathlib
-import sys
 import unittest
 import unittest.mock
 
-sys.dont_write_bytecode = True
-TOOL = pathlib.Path(__file__).resolve().parent.parent / "fresh-gate"
-
-
-def loaded():
-    """Returns the tool as a module."""
-    loader = importlib.machinery.SourceFileLoader("fresh_gate", str(TOOL))
-    module = importlib.util.module_from_spec(importlib.util.spec_from_loader(loader.name, loader))
-    loader.exec_module(module)
-    return module
+from loading import tool
 
 
 class CountsOnce(unittest.TestCase):
     def seconds(self, parents: dict[int, int], looks: list[dict[int, tuple[str, str, float]]]) -> dict:
         """Returns what is counted of checks that are seen in these looks, each with its crate, kind and seconds."""
-        tool = loaded()
-        times = tool.Times()
+        fresh_gate = tool("fresh-gate")
+        times = fresh_gate.Times()
         for seen in looks:
             with (
-                unittest.mock.patch.object(tool, "below", return_value=sorted(seen)),
-                unittest.mock.patch.object(tool, "stat_of", side_effect=lambda it: ["S", str(parents[it])]),
+                unittest.mock.patch.object(fresh_gate, "below", return_value=sorted(seen)),
+                unittest.mock.patch.object(fresh_gate, "stat_of", side_effect=lambda it: ["S", str(parents[it])]),
                 unittest.mock.patch.object(times, "check_of", side_effect=seen.get),
             ):
                 times.look(1)

@@ -1,6 +1,4 @@
 """tools/hooktool-build: what it hands to clang and to hooktool, and its statuses."""
-import importlib.machinery
-import importlib.util
 import os
 import pathlib
 import shutil
@@ -9,10 +7,10 @@ import subprocess
 import tempfile
 import unittest
 
+from loading import tool
+
 TOOL = pathlib.Path(__file__).resolve().parents[1] / "hooktool-build"
-loader = importlib.machinery.SourceFileLoader("hooktool_build", str(TOOL))
-tool = importlib.util.module_from_spec(importlib.util.spec_from_loader("hooktool_build", loader))
-loader.exec_module(tool)
+hooktool_build = tool("hooktool-build")
 import assembly  # noqa: E402
 import compiling  # noqa: E402
 import tables  # noqa: E402
@@ -103,7 +101,7 @@ class Lines(unittest.TestCase):
         with tempfile.NamedTemporaryFile("w", suffix=".c") as source:
             source.write("one\n  two;\nthree\n")
             source.flush()
-            told = tool.with_lines(REFUSED, {("veto", "first", 5): (source.name, 2), ("price", "second", 3): (source.name, 3)}).splitlines()
+            told = hooktool_build.with_lines(REFUSED, {("veto", "first", 5): (source.name, 2), ("price", "second", 3): (source.name, 3)}).splitlines()
             name = os.path.relpath(source.name)
         self.assertEqual(told[4], f"  first, {name}:2: two;")
         self.assertEqual(told[5], "  in C: write KEEP(i) & 63 for a cell, & 255 for a counter: clang takes a mask away that it finds needless")
@@ -115,7 +113,7 @@ class Lines(unittest.TestCase):
             source.write("one\n  two;\n")
             source.flush()
             said = "section veto, function first: not accepted\nits turns are counted, so each slot is one later\nrefused slot 5 rule 7 Bounds\n"
-            told = tool.with_lines(said, {("veto", "first", 4): (source.name, 2)}).splitlines()
+            told = hooktool_build.with_lines(said, {("veto", "first", 4): (source.name, 2)}).splitlines()
             self.assertEqual(told[3], f"  first, {os.path.relpath(source.name)}:2: two;")
 
     def test_of_an_explanation_each_line_stands_above_its_slots(self):
@@ -123,12 +121,12 @@ class Lines(unittest.TestCase):
             source.write("one\n  two;\n")
             source.flush()
             lines = {("veto", "f", 0): (source.name, 1), ("veto", "f", 1): (source.name, 2), ("veto", "f", 2): (source.name, 2)}
-            told = tool.with_lines("section veto, function f:\nslot 0: r0 = 1\nslot 1: r0 = 2\nslot 2: exit\n", lines, True).splitlines()
+            told = hooktool_build.with_lines("section veto, function f:\nslot 0: r0 = 1\nslot 1: r0 = 2\nslot 2: exit\n", lines, True).splitlines()
             name = os.path.relpath(source.name)
         self.assertEqual(told, ["section veto, function f:", f"{name}:1: one", "slot 0: r0 = 1", f"{name}:2: two;", "slot 1: r0 = 2", "slot 2: exit"])
 
     def test_without_lines_what_is_said_stays(self):
-        self.assertEqual(tool.with_lines("a.o: veto, accepted bound 5\n", {}), "a.o: veto, accepted bound 5\n")
+        self.assertEqual(hooktool_build.with_lines("a.o: veto, accepted bound 5\n", {}), "a.o: veto, accepted bound 5\n")
 
     @unittest.skipUnless(shutil.which("clang") and shutil.which("llvm-objdump"), "clang or llvm-objdump is not here")
     def test_each_slot_has_its_line(self):
@@ -136,8 +134,8 @@ class Lines(unittest.TestCase):
             source, elf = f"{room}/a.c", f"{room}/a.elf"
             pathlib.Path(source).write_text('__attribute__((section("tag"))) int f(int *a)\n{\n\ta[1] = 3;\n\treturn a[0];\n}\n'
                                             '__attribute__((section("tag"))) int g(int *a)\n{\n\treturn a[2];\n}\n')
-            subprocess.run(["clang", *tool.OPTIONS, "-mcpu=v3", "-c", source, "-o", elf], check=True)
-            lines = tool.lines_of(elf)
+            subprocess.run(["clang", *hooktool_build.OPTIONS, "-mcpu=v3", "-c", source, "-o", elf], check=True)
+            lines = hooktool_build.lines_of(elf)
         numbers = {function: {line for (section, name, _), (_, line) in lines.items() if (section, name) == ("tag", function)} for function in "fg"}
         self.assertTrue(numbers["f"] >= {3, 4} and numbers["f"] <= {2, 3, 4}, numbers)
         self.assertEqual(numbers["g"], {8})

@@ -1,23 +1,16 @@
 """tools/package: what it takes from the repository is there, and its texts are as Debian wants them."""
-import importlib.machinery
-import importlib.util
 import pathlib
 import subprocess
 import sys
 import unittest
 
+from loading import tool
+
 TOP = pathlib.Path(__file__).resolve().parent.parent.parent
 sys.dont_write_bytecode = True
 
 
-def load(name: str):
-    loader = importlib.machinery.SourceFileLoader(name, str(TOP / "tools" / name))
-    module = importlib.util.module_from_spec(importlib.util.spec_from_loader(name, loader))
-    loader.exec_module(module)
-    return module
-
-
-package = load("package")
+package = tool("package")
 CLAP = "Runs.\n\nUsage: routerd <COMMAND>\n\nCommands:\n  raw     Runs bare code\n  route   Runs\n  help    Print\n\nOptions:\n  -h, --help  Print help\n"
 
 

@@ -1,6 +1,4 @@
 """tools/quick-gate: what is kept of a crate is taken for files that say the same, and for no others."""
-import importlib.machinery
-import importlib.util
 import os
 import pathlib
 import shutil
@@ -8,15 +6,9 @@ import subprocess
 import tempfile
 import unittest
 
+from loading import tool
+
 TOP = pathlib.Path(__file__).resolve().parent.parent.parent
-
-
-def quick_gate():
-    """Returns the tool as a module."""
-    loader = importlib.machinery.SourceFileLoader("quick_gate", str(TOP / "tools/quick-gate"))
-    module = importlib.util.module_from_spec(importlib.util.spec_from_loader("quick_gate", loader))
-    loader.exec_module(module)
-    return module
 
 
 class TestKey(unittest.TestCase):
@@ -37,9 +29,9 @@ class TestKey(unittest.TestCase):
         os.chdir(self.room)
 
     def keys(self) -> dict[str, str]:
-        tool = quick_gate()
-        kit = tool.loaded(os.path.dirname(os.path.dirname(os.path.realpath(shutil.which("rt")))))
-        kept = tool.Kept(kit, self.room / "store")
+        quick_gate = tool("quick-gate")
+        kit = quick_gate.loaded(os.path.dirname(os.path.dirname(os.path.realpath(shutil.which("rt")))))
+        kept = quick_gate.Kept(kit, self.room / "store")
         return {it.name: kept.key(it) for it in kept.crates()}
 
     def changed(self, file: str, old: str, new: str) -> set[str]:

@@ -1,7 +1,5 @@
 """tools/scale: its area, how it starts routerd, and daemons that load at once."""
 import argparse
-import importlib.machinery
-import importlib.util
 import pathlib
 import sys
 import tempfile
@@ -9,11 +7,10 @@ import threading
 import unittest
 from unittest import mock
 
-TOP = pathlib.Path(__file__).resolve().parent.parent.parent
+from loading import tool
+
 sys.dont_write_bytecode = True
-LOADER = importlib.machinery.SourceFileLoader("scale", str(TOP / "tools/scale"))
-scale = importlib.util.module_from_spec(importlib.util.spec_from_loader("scale", LOADER))
-LOADER.exec_module(scale)
+scale = tool("scale")
 TRANSIT = 2
 PRINTS = "#!/bin/sh\nread -r _\nenv\necho end\nread -r _\n"
 

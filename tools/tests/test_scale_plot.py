@@ -1,6 +1,4 @@
 """tools/scale-plot: it reads what tools/scale prints, and draws it."""
-import importlib.machinery
-import importlib.util
 import pathlib
 import shutil
 import subprocess
@@ -8,11 +6,11 @@ import sys
 import tempfile
 import unittest
 
+from loading import tool
+
 TOP = pathlib.Path(__file__).resolve().parent.parent.parent
 sys.dont_write_bytecode = True
-LOADER = importlib.machinery.SourceFileLoader("scale_plot", str(TOP / "tools/scale-plot"))
-plot = importlib.util.module_from_spec(importlib.util.spec_from_loader("scale_plot", LOADER))
-LOADER.exec_module(plot)
+plot = tool("scale-plot")
 RUN = """{lsas} LSAs
 load average 12.0
 routerd  Full, s 1.7 | load {load} | MB loaded 9.5 | external 0.67 | externals, 100/s 0.55 | MB at the end 14.5 | routes 11201

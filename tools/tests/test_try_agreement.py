@@ -13,7 +13,8 @@ sys.dont_write_bytecode = True
 sys.path.insert(0, str(TOP / "tools/agreement-parts"))
 from histories import Act, FIELDS, SHAPES, Setting, act_of, head_of, links_of, setting_in, setting_of  # noqa: E402
 from judging import Judge, Miscounted, Packet, agree  # noqa: E402
-from packets import ACKNOWLEDGMENT, DESCRIPTION, UPDATE, Said, compare, instance_of, said_by  # noqa: E402
+from ospf_bytes import packet, update  # noqa: E402
+from packets import ACKNOWLEDGMENT, DESCRIPTION, Said, compare, instance_of, said_by  # noqa: E402
 from routers import EX_START, FULL, LOADING, Shown  # noqa: E402
 
 LINK = ((0, 1), (1, 1))
@@ -23,14 +24,6 @@ ONE, OTHER = "0.0.0.1", "0.0.0.2"
 def lsa(sequence: int, age: int = 1, checksum: int = 7, number: int = 1, rest: bytes = b"") -> bytes:
     """The bytes of an AS-external-LSA of router 1, in so far as the tool reads them."""
     return struct.pack("!HBBIIiHH", age, 2, 5, 0x0a090000 + 256 * number, 1, sequence - 0x80000000, checksum, 20 + len(rest)) + rest
-
-
-def packet(kind: int, body: bytes) -> bytes:
-    return struct.pack("!BBH", 2, kind, 24 + len(body)) + bytes(20) + body
-
-
-def update(*lsas: bytes) -> bytes:
-    return packet(UPDATE, struct.pack("!I", len(lsas)) + b"".join(lsas))
 
 
 def description(flags: int, number: int, *headers: bytes) -> bytes:

@@ -1,9 +1,6 @@
 """tools/try-bodies: what a check of one function says of a wrong body, as the kit judges it."""
 import contextlib
-import importlib.machinery
-import importlib.util
 import io
-import os
 import pathlib
 import shutil
 import subprocess
@@ -11,6 +8,8 @@ import sys
 import tempfile
 import types
 import unittest
+
+from loading import tool
 
 TOOLS = pathlib.Path(__file__).resolve().parent.parent
 PROVED = "fn low::three: proved\nfn low::one: proved\nonly=2 proved=2\n"
@@ -29,13 +28,6 @@ CODE = "pub fn one() -> u32 {\n    1\n}\n"
 EDIT = "file: src/lib.rt\nold:     1\nnew:     2\n"
 
 
-def loaded(name: str, path: pathlib.Path):
-    loader = importlib.machinery.SourceFileLoader(name, str(path))
-    module = importlib.util.module_from_spec(importlib.util.spec_from_loader(name, loader))
-    loader.exec_module(module)
-    return module
-
-
 class Crate(types.SimpleNamespace):
     def below(self) -> list:
         return self.deps
@@ -47,7 +39,7 @@ class Tried(unittest.TestCase):
     def setUp(self) -> None:
         if not shutil.which("rt"):
             self.skipTest("no kit on the PATH")
-        self.tool = loaded("try_bodies", TOOLS / "try-bodies")
+        self.tool = tool("try-bodies")
         self.rt, _ = self.tool.loaded("check-crate").kit()
         room = tempfile.TemporaryDirectory()
         self.addCleanup(room.cleanup)
@@ -172,11 +164,11 @@ class Called(unittest.TestCase):
 
 class Edits(unittest.TestCase):
     def test_each_names_its_function_first(self) -> None:
-        tool = loaded("try_bodies", TOOLS / "try-bodies")
+        try_bodies = tool("try-bodies")
         edits = sorted(TOOLS.parent.glob("crates/*/wrong-bodies/*"))
         self.assertTrue(edits)
         for it in edits:
-            self.assertTrue(it.name.endswith(".edit") and tool.function_of(it), it)
+            self.assertTrue(it.name.endswith(".edit") and try_bodies.function_of(it), it)
 
 
 if __name__ == "__main__":

@@ -10,7 +10,8 @@ TOP = pathlib.Path(__file__).resolve().parents[2]
 TOOL = TOP / "tools/try-networks"
 sys.dont_write_bytecode = True
 sys.path.insert(0, str(TOP / "tools/agreement-parts"))
-from packets import ACKNOWLEDGMENT, DESCRIPTION, UPDATE  # noqa: E402
+from ospf_bytes import packet, update  # noqa: E402
+from packets import ACKNOWLEDGMENT, DESCRIPTION  # noqa: E402
 from rows import Row, Watched, Wrong, named_in  # noqa: E402
 
 # A router that prints, for each line that begins with a moment, a Hello at each interface, and has no neighbor.
@@ -30,14 +31,6 @@ for line in sys.stdin:
 def lsa(number: int = 1, router: int = 9, age: int = 1, rest: bytes = b"") -> bytes:
     """The bytes of an AS-external-LSA, in so far as the tool reads them."""
     return struct.pack("!HBBIIiHH", age, 2, 5, 0x14000000, router, number - 0x80000000, 7, 20 + len(rest)) + rest
-
-
-def packet(kind: int, body: bytes) -> bytes:
-    return struct.pack("!BBH", 2, kind, 24 + len(body)) + bytes(20) + body
-
-
-def update(*lsas: bytes) -> bytes:
-    return packet(UPDATE, struct.pack("!I", len(lsas)) + b"".join(lsas))
 
 
 def acknowledgment(*headers: bytes) -> bytes:
