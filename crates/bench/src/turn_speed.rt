@@ -148,7 +148,7 @@ fn print_at<L: Site, R: Wait + Clock + Print + AllocGlobal>(
 
 /// Prints how long a turn takes for a Hello, by one worker: without a program, and with one at
 /// `count` that adds to a counter.
-#[tactic(auto, using(crate::proofs::Fresh::all_ask))]
+#[tactic(auto, using(hooks::proofs::Fresh::all_ask))]
 pub fn print<R: Wait + Clock + Print + AllocGlobal>(rt: &R) -> PrintResult {
     let Ok(work) = packet(rt.alloc()) else {
         return Err(NoFigure::Memory);

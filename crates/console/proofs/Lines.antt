@@ -4,7 +4,7 @@ use Rattle.std.proofs.Common.{take, Bool, true, false, not, ◌||◌, eqb, refl,
 use Rattle.std.proofs.Common.{arith}
 use Rattle.std.specs.Prelude.{map, ◌==◌}
 use Rattle.std.specs.List.{list_any}
-use Rattle.std.proofs.lemmas.Bool.{ne_eqb, and_parts}
+use Rattle.std.proofs.lemmas.Bool.{ne_eqb, and_parts, not-true}
 use Rattle.event_rules.specs.Routers.{are_distinct}
 use Rattle.std.proofs.Common.{Some, get_or}
 use Rattle.std.specs.Prelude.{slice_get, Result, Err}
@@ -85,10 +85,6 @@ none_taken d c cs e = parts (is_at c d) (list_any (is_at c) cs) e refl
     parts true y e q = absurd (cc e)
     parts false y e q = (not_equal d.interface.address c.interface.address q, e)
 
-not_true : (b : Bool) → not b ≡ true → b ≡ false
-not_true true e = absurd (cc e)
-not_true false e = refl
-
 pub apart_more : (cs : List ConfiguredInterface) (c : ConfiguredInterface) → AreApart cs
     → list_any (λ other. other.interface.address == c.interface.address) cs ≡ false
     → AreApart (cs ++ c ∷ [])
@@ -97,7 +93,7 @@ apart_more (d ∷ cs) c h e =
     let two = and_parts (not (list_any (has d.interface.address) (map interface_of cs)))
     (are_distinct (map interface_of cs)) h in
     let free = none_taken d c cs e in
-    let front = any_more d.interface.address cs c (not_true _ two.0) free.0 in
+    let front = any_more d.interface.address cs c (not-true _ two.0) free.0 in
     rw front (apart_more cs c two.1 free.1)
 
 -- ---- a line that spells an interface

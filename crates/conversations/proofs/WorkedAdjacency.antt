@@ -1,6 +1,6 @@
 -- An adjacency is formed, a Database Description is repeated, and the adjacency starts over.
 use Rattle.std.proofs.Common.{◌≡◌, ℕ, ◌%◌, ◌^◌, ◌==◌, true, false, cond, not, ◌&&◌, ◌||◌, List, []}
-use Rattle.std.proofs.Common.{◌∷◌, None, Some, refl, ap, ◌∙◌}
+use Rattle.std.proofs.Common.{◌∷◌, None, Some, refl, ap, ◌∙◌, nat_lt}
 use Rattle.std.specs.FinSet as set
 use Rattle.packet.specs.declared.model.PacketBody.TheVariants as body
 use Rattle.packet.specs.declared.model.Description.{Description}

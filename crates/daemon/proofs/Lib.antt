@@ -1,4 +1,3 @@
-pub mod Fresh
 pub mod Alike
 pub mod AsMany
 pub mod Ended

@@ -236,7 +236,7 @@ fn run_all<
 /// `Hooks` if the programs have no places, also for more than 63 sockets; `Configuration` with line
 /// 1 if the router isn't within the profile; `Output` if the output can't be written, `Memory` if
 /// memory was refused or a thread couldn't be started.
-#[tactic(auto, using(crate::proofs::Fresh::all_ask, crate::proofs::AsMany::ran_from, crate::proofs::Ended::unprinted_why))]
+#[tactic(auto, using(hooks::proofs::Fresh::all_ask, crate::proofs::AsMany::ran_from, crate::proofs::Ended::unprinted_why))]
 pub fn operate<
     'x,
     R: Threads + Wait + Clock + Log + Files + AllocGlobal + Sync + Drop,

@@ -59,7 +59,7 @@ told_why s c path e (Err refused) answer same why says told =
     subst (IsAnswerToAttach s c path) (sym told) same
 
 -- no command is answered that it is none
-never_unknown : (s : Sources) (n : ℕ) (c : Change) (command : Command)
+pub never_unknown : (s : Sources) (n : ℕ) (c : Change) (command : Command)
     → IsAnswerTo s n c command told.Unknown → ⊥
 never_unknown s n c (commands.Attach path) is = is
 never_unknown s n c (commands.Detach hook) is = is

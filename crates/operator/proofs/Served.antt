@@ -16,6 +16,7 @@ use Rattle.operator.specs.Served.{AreServed, IsCommandServed, IsLineServed, IsSe
 use Rattle.operator.specs.Served.{IsTurnServed, IsUnlessFault, turn_after, turn_due, turn_of}
 use Rattle.operator.specs.declared.told.Told.{Told}
 use Rattle.operator.specs.declared.told.Told.TheVariants as told
+use Rattle.operator.proofs.Answered.{never_unknown}
 
 -- whether it failed or not, a link counts no fewer faults
 pub never_fewer : {Link X E : Type 0} (faults : Link → ℕ) (before after : Link)
@@ -105,18 +106,6 @@ module _ {Link Clock : Type 0} (faults : Link → ℕ) (senses : Senses Link Clo
   no_turn s n c commands.Counters before after is served = served
   no_turn s n c commands.Quit before after is served = absurd is
 
-  -- nor was any told to be unknown
-  none_unknown : (s : Sources) (n : ℕ) (c : Change) (command : Command)
-      → IsAnswerTo s n c command told.Unknown → ⊥
-  none_unknown s n c (commands.Attach path) is = is
-  none_unknown s n c (commands.Detach hook) is = is
-  none_unknown s n c (commands.Add external) is = is.1
-  none_unknown s n c (commands.Withdraw prefix) is = is.1
-  none_unknown s n c commands.Table is = is.1
-  none_unknown s n c commands.Neighbors is = is.1
-  none_unknown s n c commands.Counters is = is.1
-  none_unknown s n c commands.Quit is = is
-
   -- the turn of a command that a line asks for is the line's
   line_turn : (s : Sources) (n : ℕ) (c : Change) (line : List ℕ) (command : Command)
       (answer : Option Told) (before after : Standing Link Clock) → LineAsks line command
@@ -124,7 +113,7 @@ module _ {Link Clock : Type 0} (faults : Link → ℕ) (senses : Senses Link Clo
       → IsLineServed senses line answer before after
   line_turn s n c line command None before after asks is served = served
   line_turn s n c line command (Some told.Unknown) before after asks is served =
-      absurd (none_unknown s n c command is)
+      absurd (never_unknown s n c command is)
   line_turn s n c line command (Some told.Memory) before after asks is served =
       no_turn s n c command before after is served
   line_turn s n c line command (Some (told.Attached hook bound)) before after asks is served =

@@ -8,6 +8,7 @@ use Rattle.std.specs.Cmp.{tied_itself}
 use Rattle.std.specs.Cmp.Lexicographic.{nat_list_cmp_total, slice_cmp}
 use Rattle.std.specs.FinMap.{nat_cmp-IsAntisymmetric, slice_cmp-IsAntisymmetric}
 use Rattle.std.specs.Ordering.{is_eq, nat_cmp}
+use Rattle.std.proofs.lemmas.Bool.{not-false}
 use Rattle.lsa.specs.Text.{body_text, link_text}
 use Rattle.lsa.specs.declared.body.LsaBody.{LsaBody}
 use Rattle.lsa.specs.declared.body.LsaBody.TheVariants as body
@@ -43,11 +44,7 @@ same_of_text a b e = subst (λ (t : List ℕ). is_eq (slice_cmp nat_cmp (body_te
 pub undiffering : (xs ys : List Link) → links_differ xs ys ≡ false → body_text (router_body xs)
     ≡ body_text (router_body ys)
 undiffering xs ys e = text_of_same (router_body xs) (router_body ys)
-    (by_test (same_body (router_body xs) (router_body ys)) e)
-  where
-    by_test : (b : Bool) → not b ≡ false → b ≡ true
-    by_test true e = refl
-    by_test false e = absurd cc
+    (not-false (same_body (router_body xs) (router_body ys)) e)
 
 pub never_differs : (xs ys : List Link) → ys ≡ xs → links_differ xs ys ≡ false
 never_differs xs ys e = ap not (same_of_text (router_body xs) (router_body ys)

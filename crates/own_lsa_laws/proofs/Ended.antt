@@ -7,7 +7,7 @@ use Rattle.std.specs.Prelude.{nat_le}
 use Rattle.std.specs.List.{filter, list_all, list_any}
 use Rattle.std.specs.FinMap as finite
 use Rattle.std.specs.FinSet as set
-use Rattle.std.proofs.lemmas.Bool.{or_left, or_right}
+use Rattle.std.proofs.lemmas.Bool.{or_left, or_right, both_ways}
 use Rattle.words.specs.Constants.{ls_infinity}
 use Rattle.words.specs.Prefixes.{Network}
 use Rattle.words.specs.declared.key.Key.{Key}
@@ -603,13 +603,10 @@ module _ (moment : ℕ) (p : EventState)
       (age_out moment own p.router.area.database)
       (aged_at (λ q d. Unit {0}) (IfOwnAged moment p.router.id) moment p.router.area.database own c
       (finite.get p.router.area.database own) refl is
-      (λ q d other any same. absurd (unlike (same_key q own) other same))
+      (λ q d other any same. absurd (both_ways (same_key q own) other same))
       (λ d same. flushed_age moment) anything) in
       inr (λ d there. inl (at_copy (IfOwnAged moment p.router.id) _ own d there all
       (same_itself own))))
-    where
-      unlike : (b : Bool) → b ≡ false → b ≡ true → ⊥
-      unlike b isnt is = absurd cc
 
   some_settled : (may_now : Bool) (says : LsaBody)
       → Q (originate_body may_now moment own (Some says) p)
@@ -654,15 +651,12 @@ later_kept moment t said before now settled h =
     let e : text_of said ≡ text = undiffering said.router.area.links q.router.area.links same in
     agreed_all moment t text q (before ∙ e) (now ∙ e) there_so)
   where
-    unlike : (b : Bool) → b ≡ false → b ≡ true → ⊥
-    unlike b isnt is = absurd cc
-
     by_case : links_differ said.router.area.links (map link_loading_done said.router.area.links)
         ≡ true → IsFilledOrSettled moment said → (c : DatabaseCopy)
         → finite.get said.router.area.database (router_key said.router.id) ≡ Some c
         → IsSettledCopy moment said c
     by_case differ (inl same) c there =
-        absurd (unlike _ (never_differs said.router.area.links
+        absurd (both_ways _ (never_differs said.router.area.links
         (map link_loading_done said.router.area.links) same) differ)
     by_case differ (inr so) c there = so c there
 

@@ -6,7 +6,7 @@ use Rattle.std.specs.Prelude.{◌==◌}
 use Rattle.std.specs.List.{fold}
 use Rattle.std.specs.FinMap as finite
 use Rattle.std.specs.FinSet as set
-use Rattle.std.proofs.lemmas.Bool.{or_left}
+use Rattle.std.proofs.lemmas.Bool.{or_left, both_ways}
 use Rattle.words.specs.declared.key.Key.{Key}
 use Rattle.words.specs.declared.route.External.{External}
 use Rattle.lsa.specs.Origination.{sealed_lsa}
@@ -263,7 +263,7 @@ new_body key copy says = refl
 abbrev pub Tells : Terms → EventState → Type 0
 Tells t p = body_text (router_body p.router.area.links) ≡ t.now
 
-abbrev time_or : ℕ → Option ℕ → ℕ
+abbrev pub time_or : ℕ → Option ℕ → ℕ
 time_or other None = other
 time_or other (Some at) = at
 
@@ -437,14 +437,11 @@ not_own moment t lsa p other h =
     }
   where
     differs : (x y : ℕ) → (x == y) ≡ false → x ≡ y → ⊥
-    differs x y isnt is = absurd (unlike (x == y) isnt
+    differs x y isnt is = absurd (both_ways (x == y) isnt
         (subst (λ (z : ℕ). (x == z) ≡ true) is (itself x)))
       where
         itself : (x : ℕ) → (x == x) ≡ true
         itself x = eq-eqb x x refl
-
-        unlike : (b : Bool) → b ≡ false → b ≡ true → ⊥
-        unlike b isnt is = absurd cc
 
 received_kept : (moment : ℕ) (t : Terms) (lsa : Lsa) (p : EventState) → Tells t p
     → InProgress moment (excusing (lsa_key lsa) t) p

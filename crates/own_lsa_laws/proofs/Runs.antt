@@ -4,6 +4,7 @@ use Rattle.std.proofs.Common.{List, [], ◌∷◌, map, Option, None, Some, refl
 use Rattle.std.proofs.Common.{arith, true≢false}
 use Rattle.std.specs.FinMap as finite
 use Rattle.std.specs.FinSet as set
+use Rattle.std.proofs.lemmas.Bool.{both_ways}
 use Rattle.words.specs.declared.key.Key.{Key}
 use Rattle.words.specs.declared.route.External.{External}
 use Rattle.lsa.specs.Text.{body_text}
@@ -344,9 +345,6 @@ module _ (may_wait : Key → Type 0) (r : Router) (key : Key) (copy : DatabaseCo
   fits = at_copy (FitsAt r.moment (told (text_of (at_rest r)) may_wait) r) r.area.database key copy
       own.there so.copies
 
-  unlike : (b : Bool) → b ≡ false → b ≡ true → ⊥
-  unlike b isnt is = absurd cc
-
   says_router_lsa : same_key key (router_key r.id) ≡ true → body_text copy.lsa.body
       ≡ text_of (at_rest r) → SaysWhatIsWanted r key copy
   says_router_lsa same is = record {
@@ -365,7 +363,7 @@ module _ (may_wait : Key → Type 0) (r : Router) (key : Key) (copy : DatabaseCo
 
   by_case : Standing r.moment (told (text_of (at_rest r)) may_wait) r.id r.announced r.waiting
       r.originated key copy.lsa copy.stored → Told
-  by_case (Standing.Aged is) = absurd (unlike (is_aged_out r.moment copy) own.young is)
+  by_case (Standing.Aged is) = absurd (both_ways (is_aged_out r.moment copy) own.young is)
   by_case (Standing.Says e other there is) = inl (record {
     says = external_body e;
     wanted = wanted_external r key e other there;

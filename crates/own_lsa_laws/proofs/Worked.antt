@@ -3,6 +3,7 @@ use Rattle.std.proofs.Common.{◌≡◌, ℕ, ◌+◌, ◌<◌, Bool, true, fals
 use Rattle.std.proofs.Common.{None, Some, refl, sym, ap, subst, ◌∙◌, arith, true≢false}
 use Rattle.std.specs.FinMap as finite
 use Rattle.std.specs.FinSet as set
+use Rattle.std.proofs.lemmas.Bool.{both_ways}
 use Rattle.words.specs.declared.key.Key.{Key}
 use Rattle.lsa.specs.declared.body.LsaBody.{LsaBody}
 use Rattle.lsdb.specs.Copies.{Database, DatabaseCopy, is_aged_out}
@@ -19,7 +20,7 @@ use Rattle.own_lsa_laws.specs.OwnCopies.{IsHeldBack, IsOwnCopy, IsToBeReplaced, 
 use Rattle.own_lsa_laws.specs.OwnCopies.{SpeaksForItself, SpeaksForItselfAfterTick}
 use Rattle.own_lsa_laws.specs.Worked.{WorkedOwnCopies, holding, other_links, unwanted, unwanted_key}
 use Rattle.own_lsa_laws.specs.Worked.{waiting_at}
-use Rattle.own_lsa_laws.proofs.Parts.{at_same, originated_now, waits_there}
+use Rattle.own_lsa_laws.proofs.Parts.{at_same, originated_now, waits_there, time_or}
 use Rattle.own_lsa_laws.proofs.Standing.{same_itself}
 
 -- ---- a database with one copy
@@ -36,9 +37,6 @@ one_copy key c = finite.insert no_copies key c
 only : (key : Key) (c : DatabaseCopy) → finite.get (one_copy key c) key ≡ Some c
 only key c = finite.get-insert keys_total no_copies key c key
     ∙ at_same (same_key key key) (Some c) (finite.get no_copies key) (same_itself key)
-
-unlike : (b : Bool) → b ≡ false → b ≡ true → ⊥
-unlike b isnt is = absurd cc
 
 abbrev copy_or : DatabaseCopy → Option DatabaseCopy → DatabaseCopy
 copy_or other None = other
@@ -115,7 +113,7 @@ found_aged (Some c) is q d there =
     by_key false other found = is_only
         (λ k e. same_key k unwanted_key ≡ false → is_aged_out 20 e ≡ true) unwanted_key
         (copied 20 unwanted) (λ away. absurd
-        (unlike (same_key unwanted_key unwanted_key) away (same_itself unwanted_key))) q d
+        (both_ways (same_key unwanted_key unwanted_key) away (same_itself unwanted_key))) q d
         found other
 
 flushed : SpeaksForItself (flush 20 unwanted_key its).router
@@ -124,7 +122,7 @@ flushed = subst (λ (o : Option DatabaseCopy). SpeaksForItself (flushed_by o))
   where
     by_copy : SpeaksForItself (flushed_by (Some (copied 20 unwanted)))
     by_copy key copy own =
-        absurd (unlike (is_aged_out 20 copy) own.young
+        absurd (both_ways (is_aged_out 20 copy) own.young
         (found_aged (finite.get its.router.area.database unwanted_key)
         (only unwanted_key (copied 20 unwanted)) key copy own.there))
 
@@ -186,10 +184,6 @@ in_time key copy own =
     }))
     key copy own.there
 
-abbrev moment_or : ℕ → Option ℕ → ℕ
-moment_or other None = other
-moment_or other (Some at) = at
-
 too_late : SpeaksForItselfAfterTick (waiting_at 25) → ⊥
 too_late speaks = by_case (speaks links_key (copied 20 other_links) (there_at 25 refl))
   where
@@ -200,7 +194,7 @@ too_late speaks = by_case (speaks links_key (copied 20 other_links) (there_at 25
         ⊎ IsHeldBack (waiting_at 25) links_key (copied 20 other_links) → ⊥
     by_case (inl says) = says_otherwise (waiting_at 25) refl says
     by_case (inr held) = past held.originated
-        (ap (moment_or 20) (sym (originated_now 20 finite.empty links_key) ∙ held.last)) held.recent
+        (ap (time_or 20) (sym (originated_now 20 finite.empty links_key) ∙ held.last)) held.recent
 
 pub worked : WorkedOwnCopies
 worked = record {

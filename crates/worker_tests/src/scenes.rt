@@ -148,7 +148,7 @@ fn play_at<L: Site + Send + Sync, R: Threads + Wait + Clock + Sync, Q: Wait + Dr
 }
 
 // Plays the scene at this router, which is new.
-#[tactic(auto, using(crate::proofs::Fresh::all_ask))]
+#[tactic(auto, using(hooks::proofs::Fresh::all_ask))]
 fn play_with<R: Threads + Wait + Clock + Sync>(
     rt: &R,
     alloc: Global,

@@ -1,6 +1,6 @@
 use Rattle.std.proofs.Common.{refl}
 use Rattle.hooks.specs.Known.{history_of}
-use Rattle.bench.proofs.Fresh.{all_ask}
+use Rattle.hooks.proofs.Fresh.{all_ask}
 use Rattle.bench.proofs.turn_speed.print.Goals as goal
 
 pub print_at-requires-clause-setup : goal.print_at-requires-clause-setup

@@ -1,6 +1,6 @@
 use Rattle.std.proofs.Common.{refl}
 use Rattle.hooks.specs.Known.{history_of}
-use Rattle.daemon.proofs.Fresh.{all_ask}
+use Rattle.hooks.proofs.Fresh.{all_ask}
 use Rattle.daemon.proofs.running.operate.Goals as goal
 
 pub run_all-requires-clause-setup : goal.run_all-requires-clause-setup
