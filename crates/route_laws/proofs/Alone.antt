@@ -140,6 +140,34 @@ module _ (moment : ℕ) (es : Entries) (root : Root) (P : Offer → Type 0) wher
   Known router l = (length : ℕ) × (o : Offer)
       × StubOffer (said_at moment (database es)) root router l length o × P o
 
+  -- an offer that comes of a stub link whose offer is known
+  pub by_stub : (router : ℕ) (prefix : Network) (more : ℕ)
+      (a : Attaches (said_at moment (database es)) (ARouter router) prefix more)
+      → Known router a.0 → (way : Way)
+      → IsWay (Leads (said_at moment (database es)) root) (ARouter root.router) (ARouter router) way
+      → (hops : ℕ) → (ARouter router ≡ ARouter root.router → hops ≡ 1)
+      → ((ARouter router ≡ ARouter root.router → ⊥) → hops ≡ way.hops)
+      → P (intra prefix (way.distance + more) hops)
+  by_stub router prefix more a k way reached hops by_root by_others =
+      let l : RouterLink = a.0 in
+      let p : record {
+        address = network_address k.0 l.link_id;
+        length = k.0;
+      } ≡ prefix =
+      one_prefix l.link_id l.link_data k.0 prefix k.2.within k.2.mask a.3 in
+      let w : k.2.way ≡ way = one_way (Leads (said_at moment (database es)) root)
+      (ARouter root.router) (ARouter router) k.2.way way k.2.reached reached in
+      let m : l.metric ≡ more = sym a.4 in
+      let h : k.2.hops ≡ hops =
+      elim (cases_eq router root.router) [
+        | inl e ↦ k.2.by_root e ∙ sym (by_root (ap (λ n. ARouter n) e))
+        | inr other ↦ k.2.by_others other ∙ ap (λ (x : Way). x.hops) w
+            ∙ sym (by_others (λ e. let same : router ≡ root.router = cc in other same))
+      ] in
+      let same : k.1 ≡ intra prefix (way.distance + more) hops = sym k.2.is
+      ∙ (λ i. intra (p i) ((w i).distance + m i) (h i)) in
+      subst P same k.3
+
   by_node : list_all is_no_network (sayings es) ≡ true
       → ((router : ℕ) (l : RouterLink)
       → Contains (filter is_stub (links_of (sayings es))) (router, l) → Known router l)
@@ -160,26 +188,9 @@ module _ (moment : ℕ) (es : Entries) (root : Root) (P : Offer → Type 0) wher
       )
       (is_said moment es _ (body.Network a.0) a.1) in cc)
   by_node routers known (ARouter router) prefix more a way reached hops by_root by_others =
-      let l : RouterLink = a.0 in
-      let k = known router l (kept is_stub (links_of (sayings es)) (router, l)
-      (has_link moment es router l a.1) (ap kind_is_stub a.2)) in
-      let p : record {
-        address = network_address k.0 l.link_id;
-        length = k.0;
-      } ≡ prefix =
-      one_prefix l.link_id l.link_data k.0 prefix k.2.within k.2.mask a.3 in
-      let w : k.2.way ≡ way = one_way (Leads (said_at moment (database es)) root)
-      (ARouter root.router) (ARouter router) k.2.way way k.2.reached reached in
-      let m : l.metric ≡ more = sym a.4 in
-      let h : k.2.hops ≡ hops =
-      elim (cases_eq router root.router) [
-        | inl e ↦ k.2.by_root e ∙ sym (by_root (ap (λ n. ARouter n) e))
-        | inr other ↦ k.2.by_others other ∙ ap (λ (x : Way). x.hops) w
-            ∙ sym (by_others (λ e. let same : router ≡ root.router = cc in other same))
-      ] in
-      let same : k.1 ≡ intra prefix (way.distance + more) hops = sym k.2.is
-      ∙ (λ i. intra (p i) ((w i).distance + m i) (h i)) in
-      subst P same k.3
+      by_stub router prefix more a (known router a.0 (kept is_stub (links_of (sayings es))
+      (router, a.0) (has_link moment es router a.0 a.1) (ap kind_is_stub a.2))) way reached hops
+      by_root by_others
 
   pub each_within : list_all is_no_network (sayings es) ≡ true
       → ((router : ℕ) (l : RouterLink)

@@ -24,15 +24,14 @@ use Rattle.route_laws.proofs.Made.{back, from_root, no_hop, only_one, says}
 use Rattle.route_laws.specs.Topologies.{AreJoined, Forwarder, IsAnnouncedAt, IsUpToDate, says_of}
 use Rattle.route_laws.specs.WorkedTopologies.{DifferingDatabasesMayLoop, address, anew, anew_links}
 use Rattle.route_laws.specs.WorkedTopologies.{anew_routes, differing, forwarder, full, interface_at}
-use Rattle.route_laws.specs.WorkedTopologies.{left, left_id, left_links, middle_id, narrow, row}
-use Rattle.route_laws.specs.WorkedTopologies.{wide}
+use Rattle.route_laws.specs.WorkedTopologies.{left, left_id, left_links, middle_id, row, wide}
 use Rattle.route_laws.proofs.OneOffer.{AreStubsKnown, IsWayFrom, candidates_of, hops_at, hops_from}
 use Rattle.route_laws.proofs.OneOffer.{no_external, only_within, stub_by, stub_within, to, way}
 use Rattle.route_laws.proofs.OneOffer.{way_to}
 use Rattle.route_laws.proofs.ThreeRouters.{EachJoined, between_offer, by_router, first_joined}
 use Rattle.route_laws.proofs.ThreeRouters.{first_stub, left_is, lsa_of, narrow_longest, one_joined}
 use Rattle.route_laws.proofs.ThreeRouters.{second_stub, two_places, up_to_date, wide_offer}
-use Rattle.route_laws.proofs.ThreeRouters.{wide_stub}
+use Rattle.route_laws.proofs.ThreeRouters.{wide_stub, left_hands}
 use Rattle.route_laws.proofs.Ordered.{in_order}
 use Rattle.route_laws.proofs.Parts.{one_of}
 use Rattle.routes.specs.Candidates.Offers.{Within}
@@ -167,16 +166,7 @@ differing_databases = record {
   up_to_date = two_places (λ place f. IsUpToDate f) left it left_is is_up_to_date;
   joined = are_joined;
   comes_back = (
-    record {
-      forwarder = left;
-      stands = refl;
-      route = narrow 15 2;
-      longest = narrow_longest 10 2 5 1 15 2;
-      interface = 1;
-      away = omega arith;
-      is_hop = refl;
-      is_across = refl;
-    },
+    left_hands differing left refl (narrow_longest 10 2 5 1 15 2) refl,
     silent 0,
     (
       record {

@@ -28,6 +28,7 @@ use Rattle.route_laws.proofs.ThreeRouters.{IsRow, RowWays, all_agree, all_joined
 use Rattle.route_laws.proofs.ThreeRouters.{at_left, at_right, at_wide, by_router, candidates_are}
 use Rattle.route_laws.proofs.ThreeRouters.{is_current, left_candidates, lsa_of, narrow_longest}
 use Rattle.route_laws.proofs.ThreeRouters.{right_candidates, silent, three_places, up_to_date}
+use Rattle.route_laws.proofs.ThreeRouters.{left_hands}
 
 abbrev equal_says : Said
 equal_says = said_at 0 (database equal)
@@ -171,16 +172,7 @@ equal_addresses = record {
   agree = all_agree equal at_wide at_first at_first left_routes equal_routes right_routes;
   joined = all_joined equal at_wide at_first at_first left_routes equal_routes right_routes;
   comes_back = (
-    record {
-      forwarder = left;
-      stands = refl;
-      route = narrow 15 2;
-      longest = narrow_longest 10 2 5 1 15 2;
-      interface = 1;
-      away = omega arith;
-      is_hop = refl;
-      is_across = refl;
-    },
+    left_hands with_equal_addresses left refl (narrow_longest 10 2 5 1 15 2) refl,
     silent_equal 0,
     (
       record {

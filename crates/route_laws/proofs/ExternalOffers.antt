@@ -76,28 +76,33 @@ module _ (said : Said) (root : Root) where
         one_prefix id lsa.mask length g.prefix counts.within counts.mask g.is_prefix in
         (λ i. external_offer lsa.kind (p i) lsa originator (w i)) ∙ sym g.is
 
+    -- what it offers by a way
+    abbrev offered_by : (way : Way) → IsExternalWay said root originator lsa way
+        → OffersExternal said root (its_offer way)
+    offered_by way is_way = record {
+      id = id;
+      originator = originator;
+      lsa = lsa;
+      its = counts.its;
+      reachable = counts.reachable;
+      of_another = counts.of_another;
+      prefix = net_of length id;
+      is_prefix = (counts.within, counts.mask, refl);
+      way = way;
+      is_way = is_way;
+      is = refl;
+    }
+
     -- it offers just this, by the way to its originator
     module _ (none : lsa.forwarding ≡ 0) (way : Way)
         (reaches : IsBoundaryWay said root originator way) where
       unfoldable pub offered_directly : OffersExternal said root (its_offer way)
-      offered_directly = record {
-        id = id;
-        originator = originator;
-        lsa = lsa;
-        its = counts.its;
-        reachable = counts.reachable;
-        of_another = counts.of_another;
-        prefix = net_of length id;
-        is_prefix = (counts.within, counts.mask, refl);
-        way = way;
-        is_way = record {
-          boundary = way;
-          reaches = reaches;
-          direct = λ _. refl;
-          forwarded = λ some. absurd (some none);
-        };
-        is = refl;
-      }
+      offered_directly = offered_by way (record {
+        boundary = way;
+        reaches = reaches;
+        direct = λ _. refl;
+        forwarded = λ some. absurd (some none);
+      })
 
       pub only_directly : (o : Offer) → IsOfferOf said root id originator lsa o → its_offer way ≡ o
       only_directly o g = by_way way o g
@@ -109,24 +114,12 @@ module _ (said : Said) (root : Root) where
         (forwards : IsForwarded (OffersInside said root) lsa.forwarding way) where
       pub offered_by_address : (border : Way) → IsBoundaryWay said root originator border
           → OffersExternal said root (its_offer way)
-      offered_by_address border reaches = record {
-        id = id;
-        originator = originator;
-        lsa = lsa;
-        its = counts.its;
-        reachable = counts.reachable;
-        of_another = counts.of_another;
-        prefix = net_of length id;
-        is_prefix = (counts.within, counts.mask, refl);
-        way = way;
-        is_way = record {
-          boundary = border;
-          reaches = reaches;
-          direct = λ none. absurd (some none);
-          forwarded = λ _. forwards;
-        };
-        is = refl;
-      }
+      offered_by_address border reaches = offered_by way (record {
+        boundary = border;
+        reaches = reaches;
+        direct = λ none. absurd (some none);
+        forwarded = λ _. forwards;
+      })
 
       pub only_by_address : (o : Offer) → IsOfferOf said root id originator lsa o
           → its_offer way ≡ o

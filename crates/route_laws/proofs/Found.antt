@@ -65,39 +65,29 @@ module _ (said : Said) (root : Root) where
       × (o.prefix ≡ prefix)
   offered prefix cost i x w is =
       elim (is_root said root x.node) [
-        | inl e ↦ (
-          intra prefix (w.distance + x.more) 1,
-          Within (record {
-            node = x.node;
-            prefix = prefix;
-            more = x.more;
-            attached = x.attached;
-            way = w;
-            reached = is;
-            hops = 1;
-            by_root = λ _. refl;
-            by_others = λ other. absurd (other e);
-            is = refl;
-          }),
-          refl,
-        )
-        | inr other ↦ (
-          intra prefix (w.distance + x.more) w.hops,
-          Within (record {
-            node = x.node;
-            prefix = prefix;
-            more = x.more;
-            attached = x.attached;
-            way = w;
-            reached = is;
-            hops = w.hops;
-            by_root = λ e. absurd (other e);
-            by_others = λ _. refl;
-            is = refl;
-          }),
-          refl,
-        )
+        | inl e ↦ by_hops 1 (λ _. refl) (λ other. absurd (other e))
+        | inr other ↦ by_hops w.hops (λ e. absurd (other e)) (λ _. refl)
       ]
+    where
+      by_hops : (hops : ℕ) → (x.node ≡ ARouter root.router → hops ≡ 1)
+          → ((x.node ≡ ARouter root.router → ⊥) → hops ≡ w.hops) → (o : Offer)
+          × Offers said root o × (o.prefix ≡ prefix)
+      by_hops hops by_root by_others = (
+        intra prefix (w.distance + x.more) hops,
+        Within (record {
+          node = x.node;
+          prefix = prefix;
+          more = x.more;
+          attached = x.attached;
+          way = w;
+          reached = is;
+          hops = hops;
+          by_root = by_root;
+          by_others = by_others;
+          is = refl;
+        }),
+        refl,
+      )
 
   pub has_one : EveryOfferHasACandidate → (routes : List Route) → AreCandidates said root routes
       → (prefix : Network) (cost i : ℕ) → IsReached said root prefix cost i → (r : Route)

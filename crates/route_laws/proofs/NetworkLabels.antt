@@ -4,7 +4,6 @@ use Rattle.std.proofs.Common.{◌≡◌, ℕ, ◌+◌, ◌≤◌, ◌⊎◌, inl
 use Rattle.std.proofs.Common.{IsTrue, nat_eq, nat_lt, ltb-true, eqb-true, eq-eqb, List, [], ◌∷◌}
 use Rattle.std.proofs.Common.{◌++◌, map, filter, bit_or, arith, refl, sym, ◌∙◌, ap, subst}
 use Rattle.std.specs.List.{Contains, list_all}
-use Rattle.std.proofs.lemmas.Bool.{cases_eq}
 use Rattle.std.proofs.lemmas.List.Elements.{Contains-append_left, Contains-append_right}
 use Rattle.words.specs.Interfaces.{has_interface}
 use Rattle.words.specs.Prefixes.{Network, mask_of, network_address}
@@ -23,7 +22,7 @@ use Rattle.routes.specs.declared.offer.Offer.{Offer}
 use Rattle.routes.specs.Paths.{IsWalk, IsWay, Step, Way}
 use Rattle.route_laws.specs.Worked.{Entries, database}
 use Rattle.routes.specs.declared.root.Root.{Root}
-use Rattle.route_laws.proofs.Alone.{StubOffer, is_stub, kind_is_stub}
+use Rattle.route_laws.proofs.Alone.{Known, by_stub, is_stub, kind_is_stub}
 use Rattle.routes.proofs.Prefixes.{one_prefix}
 use Rattle.routes.proofs.Determined.{one_way}
 use Rattle.route_laws.proofs.Entries.{Sayings, all_pass, both_true, has_link, kept, links_of}
@@ -320,8 +319,7 @@ module _ (moment : ℕ) (es : Entries) (root : Root) (P : Offer → Type 0) wher
   IsStubKnown router l =
       ((way : Way) → IsWay (Leads (said_at moment (database es)) root) (ARouter root.router)
       (ARouter router) way → ⊥)
-      ⊎ ((length : ℕ) × (o : Offer) × StubOffer (said_at moment (database es)) root router l length
-      o × P o)
+      ⊎ Known moment es root P router l
 
   abbrev pub IsNetworkKnown : ℕ → ℕ → NetworkLsa → Type 0
   IsNetworkKnown id by lsa = (length : ℕ) × (o : Offer)
@@ -364,23 +362,7 @@ module _ (moment : ℕ) (es : Entries) (root : Root) (P : Offer → Type 0) wher
         (has_link moment es router l a.1) (ap kind_is_stub a.2))) [
           | inl never ↦ absurd (never way reached)
           | inr k ↦
-              let p : record {
-                address = network_address k.0 l.link_id;
-                length = k.0;
-              } ≡ prefix =
-              one_prefix l.link_id l.link_data k.0 prefix k.2.within k.2.mask a.3 in
-              let w : k.2.way ≡ way = one_way (Leads (said_at moment (database es)) root)
-              (ARouter root.router) (ARouter router) k.2.way way k.2.reached reached in
-              let m : l.metric ≡ more = sym a.4 in
-              let h : k.2.hops ≡ hops =
-              elim (cases_eq router root.router) [
-                | inl e ↦ k.2.by_root e ∙ sym (by_root (ap (λ n. ARouter n) e))
-                | inr other ↦ k.2.by_others other ∙ ap (λ (x : Way). x.hops) w
-                    ∙ sym (by_others (λ e. let same : router ≡ root.router = cc in other same))
-              ] in
-              let same : k.1 ≡ intra prefix (way.distance + more) hops = sym k.2.is
-              ∙ (λ i. intra (p i) ((w i).distance + m i) (h i)) in
-              subst P same k.3
+              by_stub moment es root P router prefix more a k way reached hops by_root by_others
         ]
 
     pub each_offer : (o : Offer) → OffersWithin (said_at moment (database es)) root o → P o

@@ -659,20 +659,29 @@ silent_row : (across : ℕ → ℕ → Option ℕ) (place : ℕ) → IsAnnounced
 silent_row across = silent (record { routers = left ∷ middle ∷ right ∷ []; across = across }) row
     refl (all_say row at_wide at_first at_second left_routes middle_routes right_routes) address
 
+-- from the left router by its only interface
+pub left_hands : (topology : Topology) (f : Forwarder) → slice_get topology.routers 0 ≡ Some f
+    → IsLongest f.table address (narrow 15 2) → topology.across 0 1 ≡ Some 1
+    → HandsTo topology address 0 1
+left_hands topology f stands longest across = record {
+  forwarder = f;
+  stands = stands;
+  route = narrow 15 2;
+  longest = longest;
+  interface = 1;
+  away = omega arith;
+  is_hop = refl;
+  is_across = across;
+}
+
 left_to_1 : (across : ℕ → ℕ → Option ℕ) → across 0 1 ≡ Some 1 → HandsTo (record {
   routers = left ∷ middle ∷ right ∷ [];
   across = across;
 }) address 0 1
-left_to_1 across e = record {
-  forwarder = left;
-  stands = refl;
-  route = narrow 15 2;
-  longest = narrow_longest 10 2 5 1 15 2;
-  interface = 1;
-  away = omega arith;
-  is_hop = refl;
-  is_across = e;
-}
+left_to_1 across e = left_hands (record {
+  routers = left ∷ middle ∷ right ∷ [];
+  across = across;
+}) left refl (narrow_longest 10 2 5 1 15 2) e
 
 middle_to : (across : ℕ → ℕ → Option ℕ) (second : ℕ) → across 1 2 ≡ Some second → HandsTo (record {
   routers = left ∷ middle ∷ right ∷ [];
