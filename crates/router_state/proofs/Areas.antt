@@ -1,11 +1,9 @@
 -- Changes of links and database that don't depend on what was sent, and keep the interfaces.
 use Rattle.std.proofs.Common.{◌≡◌, ℕ, ◌+◌, ◌==◌, Bool, true, false, cond, List, [], ◌∷◌, map}
-use Rattle.std.proofs.Common.{Option, None, Some, refl, sym, ap, ◌∙◌, append_assoc}
+use Rattle.std.proofs.Common.{refl, sym, ap, ◌∙◌, append_assoc}
 use Rattle.std.specs.List.{enumerate_from}
-use Rattle.flooding.specs.lsdb.Copies.{Database}
-use Rattle.flooding.specs.received.Links.{Area, Link, change_link}
-use Rattle.flooding.specs.received.Outcomes.{Outcome, Send, Stepping, each_neighbor, on_database}
-use Rattle.flooding.specs.received.Outcomes.{on_links, sending, step_on}
+use Rattle.flooding.specs.received.Links.{Link, change_link}
+use Rattle.flooding.specs.received.Outcomes.{Outcome, Stepping, each_neighbor, on_links, step_on}
 use Rattle.flooding.specs.Links.{start}
 use Rattle.flooding.proofs.Sends.{append_none}
 use Rattle.router_state.specs.Aging.{outcomes_in_turn}
@@ -17,25 +15,11 @@ use Rattle.router_state.proofs.Making.{Appends, KeepsInterfaces}
 pub appends_nothing : Appends (λ o. o)
 appends_nothing o = λ i. record { area = o.area; sends = sym (append_none o.sends) i }
 
-pub appends_database : (f : Database → Database) → Appends (on_database f)
-appends_database f o = λ i. record {
-  area = record o.area { database = f o.area.database };
-  sends = sym (append_none o.sends) i;
-}
-
 pub appends_links : (f : List Link → List Link) → Appends (on_links f)
 appends_links f o = λ i. record {
   area = record o.area { links = f o.area.links };
   sends = sym (append_none o.sends) i;
 }
-
-pub appends_neighbors : (moment : ℕ) (f : Stepping) → Appends (each_neighbor moment f)
-appends_neighbors moment f o = refl
-
--- what is sent may depend on links and database
-pub appends_sending : (moment : ℕ) (more : Area → List Send)
-    → Appends (λ o. sending moment (more o.area) o)
-appends_sending moment more o = refl
 
 pub appends_then : (F G : Outcome → Outcome) → Appends F → Appends G → Appends (λ o. G (F o))
 appends_then F G first second o =
@@ -45,40 +29,7 @@ appends_then F G first second o =
     ∙ (λ i. record { area = q.area; sends = append_assoc o.sends p.sends q.sends i })
     ∙ ap (outcomes_in_turn o) (sym (second p))
 
-pub appends_if : (F G : Outcome → Outcome) (test : Area → Bool) → Appends F → Appends G
-    → Appends (λ o. cond (test o.area) (F o) (G o))
-appends_if F G test first second o = by_answer (test o.area)
-  where
-    by_answer : (b : Bool) → cond b (F o) (G o)
-        ≡ outcomes_in_turn o (cond b (F (start o.area)) (G (start o.area)))
-    by_answer true = first o
-    by_answer false = second o
-
-pub appends_maybe : {X : Type 0} (F : X → Outcome → Outcome) (x : Option X)
-    (by : Option X → Outcome → Outcome) → ((o : Outcome) → by None o ≡ o)
-    → ((x : X) (o : Outcome) → by (Some x) o ≡ F x o) → ((x : X) → Appends (F x))
-    → Appends (by x)
-appends_maybe F None by none some appends o =
-    none o ∙ appends_nothing o ∙ ap (outcomes_in_turn o) (sym (none (start o.area)))
-appends_maybe F (Some x) by none some appends o =
-    some x o ∙ appends x o ∙ ap (outcomes_in_turn o) (sym (some x (start o.area)))
-
 -- ---- the interfaces stay the same
-
-pub keeps_then : (F G : Outcome → Outcome) → Appends G → KeepsInterfaces F → KeepsInterfaces G
-    → KeepsInterfaces (λ o. G (F o))
-keeps_then F G appends first second a =
-    let p : Outcome = F (start a) in
-    ap (λ (o : Outcome). interfaces_of o.area.links) (appends p) ∙ second p.area ∙ first a
-
-pub keeps_if : (F G : Outcome → Outcome) (test : Area → Bool) → KeepsInterfaces F
-    → KeepsInterfaces G → KeepsInterfaces (λ o. cond (test o.area) (F o) (G o))
-keeps_if F G test first second a = by_answer (test a)
-  where
-    by_answer : (b : Bool) → interfaces_of (cond b (F (start a)) (G (start a))).area.links
-        ≡ interfaces_of a.links
-    by_answer true = first a
-    by_answer false = second a
 
 stepped_interfaces : (f : Stepping) (n : ℕ) (ls : List Link)
     → interfaces_of (map (λ (e : ℕ × Link). record e.1

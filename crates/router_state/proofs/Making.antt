@@ -1,8 +1,7 @@
 -- The parts of an event in turn, and one part at one router.
-use Rattle.std.proofs.Common.{◌≡◌, Bool, true, false, cond, List, [], ◌∷◌, ◌++◌, length, Result}
+use Rattle.std.proofs.Common.{◌≡◌, Bool, true, false, cond, List, [], ◌++◌, length, Result}
 use Rattle.std.proofs.Common.{IsErr, refl, sym, ap, subst, ◌∙◌}
 use Rattle.std.proofs.lemmas.List.{length-map}
-use Rattle.std.specs.List.{fold}
 use Rattle.keyed_map.proofs.Helds.{on_ok}
 use Rattle.flooding.specs.adjacency.Drafts.{Drafted}
 use Rattle.flooding.specs.received.Links.{Area, Link}
@@ -69,22 +68,6 @@ pub as_many_links : {f : EventState → EventState} {old new : KeptRouter} → M
 as_many_links {f} {old} {new} a =
     sym (length-map new.present.area.links (λ (l : Link). l.interface))
     ∙ ap length a.interfaces ∙ length-map old.present.area.links (λ (l : Link). l.interface)
-
--- ---- a part for each of a list
-
-module _ {X : Type 0} (step : EventState → X → EventState) where
-  abbrev pub each : List X → EventState → EventState
-  each xs p = fold step p xs
-
-  fold_append : (xs ys : List X) (p : EventState)
-      → fold step p (xs ++ ys) ≡ fold step (fold step p xs) ys
-  fold_append [] ys p = refl
-  fold_append (x ∷ xs) ys p = fold_append xs ys (step p x)
-
-  pub makes_last : (xs : List X) (x : X) {old middle new : KeptRouter}
-      → Makes (each xs) old middle → Makes (λ p. step p x) middle new
-      → Makes (each (xs ++ x ∷ [])) old new
-  makes_last xs x a b = makes_same (λ p is. sym (fold_append xs (x ∷ []) p)) (makes_then a b)
 
 -- ---- calls that may be refused an allocation
 

@@ -1,27 +1,19 @@
 -- A Hello on one link.
-use Rattle.std.proofs.Common.{◌≡◌, ℕ, ◌≤◌, Bool, true, false, cond, List, [], length, refl, sym, ap}
-use Rattle.std.proofs.Common.{◌∙◌}
-use Rattle.std.specs.Prelude.{Option, None, Some}
+use Rattle.std.proofs.Common.{◌≡◌, ℕ, ◌≤◌, Bool, true, false, cond, List, [], length, sym, ap, ◌∙◌}
+use Rattle.std.specs.Prelude.{Option, Some}
 use Rattle.flooding.specs.lsdb.Copies.{Database}
 use Rattle.packet.specs.declared.model.Hello.{Hello}
 use Rattle.flooding.specs.adjacency.Contents.{Content, Step}
 use Rattle.flooding.specs.adjacency.Drafts.{Drafted, drafting}
-use Rattle.flooding.specs.adjacency.Neighbors.{Neighbor}
-use Rattle.flooding.specs.adjacency.Steps.{named_neighbor}
 use Rattle.flooding.proofs.adjacency.Floods.{drafting-none}
 use Rattle.flooding.specs.received.Links.{Area, Link}
-use Rattle.event_rules.specs.Hellos.{accepts, may_be}
+use Rattle.event_rules.specs.Hellos.{accepts}
 use Rattle.event_rules.specs.Packets.{accept_hello, receive_hello, receive_hello_on}
 use Rattle.flooding.specs.Links.{start, with_neighbor}
 use Rattle.flooding.specs.Steps.{one_link}
-use Rattle.router_state.specs.ReceivedHellos.{after_received_hello, hello_step, may_be_named}
+use Rattle.router_state.specs.ReceivedHellos.{after_received_hello, hello_step}
 use Rattle.router_state.specs.ReceivedHellos.{sent_at_received_hello}
 use Rattle.router_state.proofs.OneLink.{changes_one, leaves, link, link_is, one_link_is, stays}
-
-pub may_be_is : (o : Option Neighbor) (from : ℕ)
-    → may_be_named (named_neighbor o) from ≡ may_be o from
-may_be_is None from = refl
-may_be_is (Some n) from = refl
 
 module _ (own moment from : ℕ) (h : Hello) (l : Link) where
   abbrev pub after_by : Bool → Link

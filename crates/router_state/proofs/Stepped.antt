@@ -1,5 +1,5 @@
 -- A step of every neighbor, as the definitions of an event say.
-use Rattle.std.proofs.Common.{◌≡◌, ℕ, ◌+◌, List, [], ◌∷◌, ◌++◌, map, refl, ap, ◌∙◌}
+use Rattle.std.proofs.Common.{◌≡◌, ℕ, ◌+◌, List, [], ◌∷◌, ◌++◌, map, refl}
 use Rattle.std.specs.List.{enumerate_from, flat_map, fold}
 use Rattle.std.specs.Prelude.{Option, None, Some}
 use Rattle.flooding.specs.lsdb.Copies.{Database}

@@ -57,7 +57,8 @@ impl Router {
     ) -> Result<(), AllocError>
         requires first { 1 ≤ number }
         requires last { number ≤ length self.old.present.area.links }
-        ensures { Does (on_area (receive_description self.old.present.id moment number description.now))
+        ensures { Does
+            (on_area (receive_description self.old.present.id moment number description.now))
             self.old self.new result }
     {
         let receiving = ReceivingDescription {

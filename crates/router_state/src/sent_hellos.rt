@@ -79,8 +79,8 @@ fn hello_on(alloc: Global, link: &Link) -> Result<Hello, AllocError>
     })
 }
 
-/// A Hello at an interface at which none was sent for HelloInterval: it lists the neighbor, if there
-/// is one, and has the interface's mask and intervals.
+/// A Hello at an interface at which none was sent for HelloInterval: it lists the neighbor, if
+/// there is one, and has the interface's mask and intervals.
 #[derive(Drop)]
 pub struct SendingHello {
     pub moment: Second,
