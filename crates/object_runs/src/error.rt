@@ -6,7 +6,7 @@ use object::ObjectError;
 use thiserror::Error;
 
 /// Why bytes hold no program to run. Either variant may be a refused allocation.
-#[derive(Clone, Copy, PartialEq, Eq, Debug, Error)]
+#[derive(Clone, Copy, Debug, Error)]
 pub enum RunError {
     /// They are not an object file.
     #[error("no object file: {0}")]

@@ -6,7 +6,7 @@ use object::Object;
 use verifier::BUDGET;
 
 /// How many instructions a program may run.
-#[derive(Clone, Copy, PartialEq, Eq, Debug)]
+#[derive(Clone, Copy)]
 pub enum Limit {
     /// `(entry rank + 1) * slots`, but at most 1,000,000.
     Own,
