@@ -1,7 +1,7 @@
 -- The lines of a test, word by word.
 use Rattle.std.proofs.Common.{◌≡◌, ◌∙◌, ◌+◌, ◌<◌, ◌≤◌, ◌^◌, ℕ, List, [], ◌∷◌, ◌++◌, Option, Some}
-use Rattle.std.proofs.Common.{None, Ok, Err, ap, arith, get_or, inl, inr, length, refl, subst, sym}
-use Rattle.std.proofs.Common.{false, take, true}
+use Rattle.std.proofs.Common.{None, Ok, Err, ap, ap₂, arith, get_or, inl, inr, length, refl, subst}
+use Rattle.std.proofs.Common.{false, suc, sym, take, true}
 use Rattle.std.proofs.lemmas.Fmt.{decimal_injective}
 use Rattle.std.proofs.lemmas.List.{length-map, length-take-le, take_all, take_more}
 use Rattle.std.proofs.lemmas.Option.{slice_get-get_or, slice_get-map}
@@ -38,6 +38,42 @@ asked {E} a words m (Ok question) own none has is =
       subst (λ (rows : List Row). HasQuestion rows question) (own_has refl).0 is,
     )
 asked {E} a words m (Err e) own none has is = tt
+
+-- ---- lines of one word to four
+
+pub one_word : (words : List (Bor Text)) (d : Bor Text) (first : Text) → 1 ≤ length words
+    → length words < 2 → (get_or words 0 d).now ≡ first → views words ≡ first ∷ []
+one_word [] d first ge lt is = absurd (omega (arith, ge))
+one_word (a ∷ []) d first ge lt is = ap (λ (x : Text). x ∷ []) is
+one_word (a ∷ b ∷ rest) d first ge lt is = absurd (omega (arith, lt))
+
+pub two_words : (words : List (Bor Text)) (d : Bor Text) (first second : Text) → 2 ≤ length words
+    → length words < 3 → (get_or words 0 d).now ≡ first → (get_or words 1 d).now ≡ second
+    → views words ≡ first ∷ second ∷ []
+two_words [] d first second ge lt is also = absurd (omega (arith, ge))
+two_words (a ∷ []) d first second ge lt is also = absurd (omega (arith, ge))
+two_words (a ∷ b ∷ []) d first second ge lt is also =
+    ap₂ (λ (x : Text) (y : Text). x ∷ y ∷ []) is also
+two_words (a ∷ b ∷ c ∷ rest) d first second ge lt is also = absurd (omega (arith, lt))
+
+pub three_words : (words : List (Bor Text)) (d : Bor Text) → 3 ≤ length words → length words < 4
+    → (get_or words 0 d).now ∷ (get_or words 1 d).now ∷ (get_or words 2 d).now ∷ [] ≡ views words
+three_words [] d ge lt = absurd (omega (arith, ge))
+three_words (a ∷ []) d ge lt = absurd (omega (arith, ge))
+three_words (a ∷ b ∷ []) d ge lt = absurd (omega (arith, ge))
+three_words (a ∷ b ∷ c ∷ []) d ge lt = refl
+three_words (a ∷ b ∷ c ∷ e ∷ rest) d ge lt = absurd (omega (arith, lt))
+
+pub four_words : (words : List (Bor Text)) (d : Bor Text) (first third : Text) → 4 ≤ length words
+    → length words < 5 → (get_or words 0 d).now ≡ first → (get_or words 2 d).now ≡ third
+    → first ∷ (get_or words 1 d).now ∷ third ∷ (get_or words 3 d).now ∷ [] ≡ views words
+four_words [] d first third ge lt is also = absurd (omega (arith, ge))
+four_words (a ∷ []) d first third ge lt is also = absurd (omega (arith, ge))
+four_words (a ∷ b ∷ []) d first third ge lt is also = absurd (omega (arith, ge))
+four_words (a ∷ b ∷ c ∷ []) d first third ge lt is also = absurd (omega (arith, ge))
+four_words (a ∷ b ∷ c ∷ e ∷ []) d first third ge lt is also =
+    ap₂ (λ (x : Text) (y : Text). x ∷ b.now ∷ y ∷ e.now ∷ []) (sym is) (sym also)
+four_words (a ∷ b ∷ c ∷ e ∷ f ∷ rest) d first third ge lt is also = absurd (omega (arith, lt))
 
 -- ---- a number is the only one of its word
 
