@@ -512,23 +512,36 @@ pub(crate) fn command_of<'a>(alloc: Global, form: &Form) -> Result<Command<'a>, 
         .about(form.about)
         .after_help(form.more);
     for word in form.words {
-        command = command.arg(argument(alloc, word))?;
+        match command.arg(argument(alloc, word)) {
+            Ok(more) => command = more,
+            Err(error) => return Err(error),
+        }
     }
     Ok(command)
+}
+
+// The command line, without its commands.
+fn without_commands<'a>(alloc: Global) -> Command<'a>
+    ensures { app_of result ≡ without_commands }
+{
+    Command::new(alloc, "hooktool")
+        .about(ABOUT)
+        .after_help(WORKED)
+        .subcommand_required(true)
+        .arg_required_else_help(true)
 }
 
 // The command line with the commands of these forms, in their order.
 fn line_of<'a>(alloc: Global, forms: &[&Form]) -> Result<Command<'a>, AllocError>
     ensures { IfOk result (λ c. app_of c ≡ with_forms without_commands forms.now) }
 {
-    let mut line = Command::new(alloc, "hooktool")
-        .about(ABOUT)
-        .after_help(WORKED)
-        .subcommand_required(true)
-        .arg_required_else_help(true);
+    let mut line = without_commands(alloc);
     for form in forms {
         match command_of(alloc, form) {
-            Ok(command) => line = line.subcommand(command)?,
+            Ok(command) => match line.subcommand(command) {
+                Ok(more) => line = more,
+                Err(error) => return Err(error),
+            },
             Err(error) => return Err(error),
         }
     }

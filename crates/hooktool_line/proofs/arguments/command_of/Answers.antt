@@ -19,7 +19,7 @@ pub loop-word-preserved : goal.loop-word-preserved
 loop-word-preserved c =
     one_more c.args.form.now.name.now c.loop-word.command c.argument.result _
     c.args.form.now.words.now c.loop-word.word-index _ (omega (arith, c.loop-word-test.true))
-    c.argument.ensures.local c.argument.ensures.rule c.loop-word.invariant c.in_ok-command.ensures
+    c.argument.ensures.local c.argument.ensures.rule c.loop-word.invariant c.in-Ok.ensures
 
 pub returns : goal.returns
 returns c =
