@@ -1,6 +1,4 @@
 //! Why bytes hold no program to run.
-ghost use Rattle.std.specs.Prelude.{◌≡◌};
-
 use isa::DecodeError;
 use object::ObjectError;
 use thiserror::Error;
@@ -14,24 +12,4 @@ pub enum RunError {
     /// They are an object file whose code doesn't decode.
     #[error("no code: {0}")]
     Code(DecodeError),
-}
-
-impl From<ObjectError> for RunError {
-    ghost use Rattle.object_runs.specs.declared.error.RunError.TheVariants.{Object};
-
-    ghost from_gives = { λ error run. run ≡ Object error };
-
-    fn from(error: ObjectError) -> RunError {
-        RunError::Object(error)
-    }
-}
-
-impl From<DecodeError> for RunError {
-    ghost use Rattle.object_runs.specs.declared.error.RunError.TheVariants.{Code};
-
-    ghost from_gives = { λ error run. run ≡ Code error };
-
-    fn from(error: DecodeError) -> RunError {
-        RunError::Code(error)
-    }
 }

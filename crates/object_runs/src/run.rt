@@ -6,7 +6,7 @@ ghost use Rattle.object_runs.specs.ObjectRuns.{HaltsObject, RunsObject, Refuses}
 
 use crate::error::RunError;
 use crate::limit::Limit;
-use interp::{Halt, Run, Trap, run_checked, run_to_halt};
+use interp::{Halt, Run, Trap, run_to_halt};
 use isa::decode;
 use machine::Input;
 use maps::{Seat, Shared};
@@ -35,10 +35,10 @@ pub fn run_object(
     ensures refuses { IfErr result (Refuses bytes.now) }
     ensures same { OnErr result (seat.new ≡ seat.old) }
 {
-    let object = object::read(alloc, bytes)?;
-    let code = decode(alloc, object.code())?;
-    let most = limit.of(&object);
-    Ok(run_checked(&code, object.hook(), most, input, shared, seat))
+    match run_object_to_halt(alloc, bytes, limit, input, shared, seat) {
+        Ok(halt) => Ok(halt.outcome),
+        Err(error) => Err(error),
+    }
 }
 
 /// Runs the program of an object file as `run_object` does, and returns the state at the end as
@@ -65,8 +65,14 @@ pub fn run_object_to_halt(
     ensures refuses { IfErr result (Refuses bytes.now) }
     ensures same { OnErr result (seat.new ≡ seat.old) }
 {
-    let object = object::read(alloc, bytes)?;
-    let code = decode(alloc, object.code())?;
-    let within = limit.of(&object);
-    Ok(run_to_halt(&code, object.hook(), within, input, shared, seat))
+    match object::read(alloc, bytes) {
+        Ok(object) => match decode(alloc, object.code()) {
+            Ok(code) => {
+                let within = limit.of(&object);
+                Ok(run_to_halt(&code, object.hook(), within, input, shared, seat))
+            }
+            Err(error) => Err(RunError::Code(error)),
+        },
+        Err(error) => Err(RunError::Object(error)),
+    }
 }
