@@ -582,10 +582,13 @@ def attach_filter(one: socket.socket, program: list[tuple[int, int, int, int]]) 
 
 def notice_socket(groups: int, prepare: Callable[[socket.socket], None]) -> socket.socket:
     """A socket for the kernel's notices of these groups, prepared so; `CannotAsk` without one."""
+    one: socket.socket | None = None
     try:
         one = netlink(groups)
         prepare(one)
     except OSError as error:
+        if one is not None:
+            one.close()
         words = f"no socket for the kernel's notices: {error.strerror}"
         raise CannotAsk(words) from error
     return one

@@ -334,6 +334,17 @@ class Noticed(unittest.TestCase):
             with self.subTest(data.hex()):
                 self.assertEqual(runs(filter_of_others(own, 89), data), is_taken)
 
+    def test_a_socket_that_cannot_be_prepared_is_closed(self) -> None:
+        def refused(one: socket.socket) -> None:
+            raise OSError(1, "Operation not permitted")
+
+        for opened in (mock.Mock(), OSError(24, "Too many open files")):
+            with self.subTest(opened), mock.patch.object(rtnetlink, "netlink", side_effect=[opened]):
+                with self.assertRaisesRegex(CannotAsk, "^no socket for the kernel's notices: "):
+                    rtnetlink.notice_socket(OF_LINKS, refused)
+                if isinstance(opened, mock.Mock):
+                    opened.close.assert_called_once_with()
+
     def test_routes_that_take_the_place_of_own_ones(self) -> None:
         """Another program's, with the box's metric: `ip route replace` tells of no other one."""
         deleted = bytes.fromhex(ROUTE_DELETED)
