@@ -1,8 +1,4 @@
 -- for the parts of an event above
 pub use Rattle.router_state.proofs.Making
 pub use Rattle.router_state.proofs.Drafts
-pub mod Keys
-pub mod Found
 pub mod Filtered
-pub mod Texts
-pub mod Heard

@@ -6,8 +6,7 @@ ghost use Rattle.event_rules.specs.Commands.{same_external, same_kind, same_netw
 ghost use Rattle.event_rules.specs.Originations.{external_key};
 ghost use Rattle.procedures.specs.Making.{Does};
 
-use crate::origination::originate;
-use router_state::Router;
+use router_state::{Router, originate};
 use std::alloc::{AllocError, Global};
 use words::{External, ExternalType, Key, LS_INFINITY, Prefix, Second, external_key};
 

@@ -3,8 +3,7 @@ ghost use Rattle.std.specs.Prelude.{◌≡◌, ◌++◌, [], ◌∷◌, IfOk, On
 ghost use Rattle.event_rules.specs.Originations.{due_keys, is_due, originate_due};
 ghost use Rattle.router_state.specs.Making.{Does};
 
-use crate::origination::originate_or_put_off;
-use router_state::Router;
+use router_state::{Router, originate_or_put_off};
 use std::alloc::{AllocError, Global};
 use words::{Key, Second, router_key};
 

@@ -6,9 +6,8 @@ ghost use Rattle.procedures.specs.Full.{full_routers};
 ghost use Rattle.procedures.specs.EndingParts.{fill, refill};
 ghost use Rattle.procedures.specs.Making.{Does, interfaces_of};
 
-use crate::origination::originate_or_put_off;
 use crate::telling::{full_routers, has_changed, is_untold};
-use router_state::Router;
+use router_state::{Router, originate_or_put_off};
 use std::alloc::{AllocError, Global};
 use words::{RouterId, Second, router_key};
 

@@ -17,3 +17,6 @@ pub mod Aged
 pub mod OfAge
 mod Within
 pub mod Onwards
+pub mod Found
+pub mod Texts
+pub mod Heard

@@ -5,3 +5,5 @@ pub mod ReceivedHellos
 pub mod Aging
 pub mod SentHellos
 pub mod Parts
+pub mod Received
+pub mod Wanted

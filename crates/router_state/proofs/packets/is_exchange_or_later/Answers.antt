@@ -1,8 +1,8 @@
 use Rattle.std.proofs.Common.{ap, ◌∙◌}
 use Rattle.event_rules.specs.received.Links.{neighbor_at}
-use Rattle.procedures.specs.Received.{is_exchange_or_later_named}
-use Rattle.procedures.proofs.Heard.{exchange_named}
-use Rattle.procedures.proofs.packets.is_exchange_or_later.Goals as goal
+use Rattle.router_state.specs.Received.{is_exchange_or_later_named}
+use Rattle.router_state.proofs.Heard.{exchange_named}
+use Rattle.router_state.proofs.packets.is_exchange_or_later.Goals as goal
 
 pub returns : goal.returns
 returns c =

@@ -1,8 +1,8 @@
 use Rattle.std.proofs.Common.{ap, ◌∙◌}
 use Rattle.event_rules.specs.received.Links.{neighbor_at}
-use Rattle.procedures.specs.Received.{is_from_named}
-use Rattle.procedures.proofs.Heard.{from_named}
-use Rattle.procedures.proofs.packets.is_from.Goals as goal
+use Rattle.router_state.specs.Received.{is_from_named}
+use Rattle.router_state.proofs.Heard.{from_named}
+use Rattle.router_state.proofs.packets.is_from.Goals as goal
 
 pub returns : goal.returns
 returns c =

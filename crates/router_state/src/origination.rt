@@ -1,15 +1,15 @@
 //! New instances of self-originated LSAs.
 ghost use Rattle.std.specs.Prelude.{◌≡◌};
 ghost use Rattle.event_rules.specs.Originations.{originate_or_put_off, receive_self_originated};
-ghost use Rattle.adjacency.specs.lsdb.Headers.{Lsa};
+ghost use Rattle.flooding.specs.adjacency.lsdb.Headers.{Lsa};
 ghost use Rattle.originations.specs.Decisions.{after_origination};
 ghost use Rattle.router_state.specs.Making.{Does};
-ghost use Rattle.procedures.specs.Wanted.{originate_wanted};
+ghost use Rattle.router_state.specs.Wanted.{originate_wanted};
 
+use crate::router::Router;
 use crate::wanted::{is_wanted, wanted_origination};
 use lsa::Header;
 use originations::Origination;
-use router_state::Router;
 use std::alloc::{AllocError, Global};
 use words::{Key, Second};
 

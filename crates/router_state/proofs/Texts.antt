@@ -7,19 +7,19 @@ use Rattle.lsa.specs.declared.fault.LsaFault.{LsaFault}
 use Rattle.lsa.specs.declared.fault.LsaError.TheVariants as errors
 use Rattle.lsa.specs.Outcome.{Reads}
 use Rattle.lsa.specs.Reading.{lsa_in, lsa_of}
-use Rattle.adjacency.specs.lsdb.Headers.{Lsa}
+use Rattle.flooding.specs.adjacency.lsdb.Headers.{Lsa}
 use Rattle.event_rules.specs.received.Cases.{Case}
 use Rattle.event_rules.specs.received.Updates.{after_case, case_at, goes_on}
 use Rattle.event_rules.specs.EventState.{EventState, on_area}
 use Rattle.event_rules.specs.Originations.{receive_self_originated}
 use Rattle.event_rules.specs.Packets.{after_lsa, after_lsas, after_unread, case_in}
 use Rattle.event_rules.specs.Routers.{Router}
-use Rattle.originations.specs.flooding.Cases.{is_newer}
-use Rattle.originations.proofs.flooding.Updates.{drop_end}
+use Rattle.flooding.specs.Cases.{is_newer}
+use Rattle.flooding.proofs.Updates.{drop_end}
 use Rattle.router_state.specs.Kept.{KeptRouter}
-use Rattle.procedures.specs.Making.{Makes}
-use Rattle.procedures.proofs.Making.{makes_nothing, makes_same, makes_then}
-use Rattle.procedures.specs.Received.{goes_on_at}
+use Rattle.router_state.specs.Making.{Makes}
+use Rattle.router_state.proofs.Making.{makes_nothing, makes_same, makes_then}
+use Rattle.router_state.specs.Received.{goes_on_at}
 
 -- ---- what bytes are parsed as
 
@@ -97,6 +97,13 @@ module _ (moment number : ℕ) (lsa : Lsa) (c : Case) where
   text_read is a =
       makes_same (λ p here. ap (λ (k : Case). after_lsa k moment number lsa p)
       (is ∙ ap (λ (r : Router). case_at moment number lsa r.area) (sym here))) a
+
+-- bytes that are parsed as this LSA
+pub as_read : {old new : KeptRouter} (moment number : ℕ) (lsa : Lsa) (o : Option Lsa)
+    → Some lsa ≡ o → Makes (after_unread moment number (Some lsa)) old new
+    → Makes (after_unread moment number o) old new
+as_read {old} {new} moment number lsa o is a =
+    subst (λ (x : Option Lsa). Makes (after_unread moment number x) old new) is a
 
 pub text_skipped : (moment number : ℕ) (r : KeptRouter)
     → Makes (after_unread moment number None) r r

@@ -1,8 +1,8 @@
 use Rattle.std.proofs.Common.{◌+◌, ◌∷◌, drop, refl, sym, ap, ◌∙◌, arith}
-use Rattle.originations.proofs.flooding.Updates.{drop_next}
-use Rattle.procedures.proofs.Making.{as_many_links, done, refused}
-use Rattle.procedures.proofs.Texts.{goes_further, goes_no_further, goes_to_the_end}
-use Rattle.procedures.proofs.updates.receive_lsas.Goals as goal
+use Rattle.flooding.proofs.Updates.{drop_next}
+use Rattle.router_state.proofs.Making.{as_many_links, done, refused}
+use Rattle.router_state.proofs.Texts.{goes_further, goes_no_further, goes_to_the_end}
+use Rattle.router_state.proofs.updates.receive_lsas.Goals as goal
 
 pub loop-i-init : goal.loop-i-init
 loop-i-init c = record { goes = λ new makes. makes; links = refl; settled = refl }
@@ -19,7 +19,7 @@ returns-then-not-goes c =
     let split = drop_next i lsas c.index-lsas-i.result (omega (arith, c.loop-i-test.true))
     ∙ ap (λ y. y ∷ drop (i + 1) lsas) (sym (c.as_slice-bytes.ensures ∙ c.index-lsas-i.is)) in
     done _ (goes_no_further c.args.moment c.args.number lsas c.args.router.now i
-    c.as_slice-bytes.result.now c.loop-i.router c.receive_lsa.new.router split
+    c.as_slice-bytes.result.now c.loop-i.router c.receive_lsa.new.self split
     (sym c.in_ok-goes.ensures.goes_on ∙ c.if-not-goes.true) c.in_ok-goes.ensures.does.makes
     c.loop-i.invariant.goes)
 
@@ -32,7 +32,7 @@ loop-i-preserved c =
     let does = c.in_ok-goes.ensures.does in
     record {
       goes = goes_further c.args.moment c.args.number lsas c.args.router.now i
-          c.as_slice-bytes.result.now c.loop-i.router c.receive_lsa.new.router split
+          c.as_slice-bytes.result.now c.loop-i.router c.receive_lsa.new.self split
           (sym c.in_ok-goes.ensures.goes_on ∙ c.if-not-goes.false) does.makes
           c.loop-i.invariant.goes;
       links = as_many_links does.makes ∙ c.loop-i.invariant.links;

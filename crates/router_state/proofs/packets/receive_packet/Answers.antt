@@ -1,9 +1,9 @@
 use Rattle.std.proofs.Common.{sym, ap, ◌∙◌}
-use Rattle.procedures.specs.Received.{counts_before_exchange}
-use Rattle.procedures.proofs.Heard.{acknowledges, came_in_exchange, describes, greets, is_discarded}
-use Rattle.procedures.proofs.Heard.{requests, updates}
-use Rattle.procedures.proofs.Making.{done}
-use Rattle.procedures.proofs.packets.receive_packet.Goals as goal
+use Rattle.router_state.specs.Received.{counts_before_exchange}
+use Rattle.router_state.proofs.Heard.{acknowledges, came_in_exchange, describes, greets, is_discarded}
+use Rattle.router_state.proofs.Heard.{requests, updates}
+use Rattle.router_state.proofs.Making.{done}
+use Rattle.router_state.proofs.packets.receive_packet.Goals as goal
 
 pub returns-then-not-is_processed : goal.returns-then-not-is_processed
 returns-then-not-is_processed c =

@@ -6,7 +6,7 @@ use Rattle.words.specs.declared.key.Key.{Key}
 use Rattle.words.specs.declared.route.External.{External}
 use Rattle.keyed_map.specs.Keys.{same_key}
 use Rattle.lsa.specs.declared.body.LsaBody.{LsaBody}
-use Rattle.adjacency.specs.lsdb.Copies.{Database}
+use Rattle.flooding.specs.adjacency.lsdb.Copies.{Database}
 use Rattle.event_rules.specs.received.Links.{Link}
 use Rattle.event_rules.specs.EventState.{EventState}
 use Rattle.event_rules.specs.Originations.{announced_body, external_body, external_key}
@@ -17,8 +17,8 @@ use Rattle.originations.proofs.Decided.{are_the_rules}
 use Rattle.originations.specs.Decisions.{after_origination, origination}
 use Rattle.originations.specs.declared.origination.Origination.{Origination}
 use Rattle.router_state.specs.Owned.{AreOwn}
-use Rattle.procedures.specs.Wanted.{originate_wanted, wanted_origination}
-use Rattle.procedures.proofs.Keys.{tied_key}
+use Rattle.router_state.specs.Wanted.{originate_wanted, wanted_origination}
+use Rattle.flooding.proofs.lsdb.Keys.{tied}
 
 -- ---- which LSAs are wanted
 
@@ -39,7 +39,7 @@ pub found_router : (may_now : Bool) (moment : ℕ) (key : Key) (r : Router) (own
     (finite.get d (router_key own)) last
     → Some found ≡ wanted_origination may_now moment key r (wanted_body r key)
 found_router may_now moment key r own links d last found id test these there at is =
-    let named = sym (tied_key key (router_key own) test) in
+    let named = sym (tied key (router_key own) test) in
     let here = is ∙ (λ i. origination may_now moment (named i) (router_body (these i))
     (finite.get (there i) (named i)) (at i)) in
     ap (λ x. Some x) here ∙ ap (wanted_origination may_now moment key r)

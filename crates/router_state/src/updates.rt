@@ -3,16 +3,33 @@ ghost use Rattle.std.specs.Prelude.{◌≡◌, ◌≤◌, IfOk, length};
 ghost use Rattle.lsa.specs.Reading.{lsa_in};
 ghost use Rattle.event_rules.specs.received.Updates.{goes_on};
 ghost use Rattle.event_rules.specs.Packets.{after_lsas, after_unread};
-ghost use Rattle.originations.specs.flooding.Cases.{case_of};
-ghost use Rattle.procedures.specs.Making.{Does};
-ghost use Rattle.procedures.specs.Received.{goes_on_at};
+ghost use Rattle.flooding.specs.Cases.{case_of, is_newer};
+ghost use Rattle.router_state.specs.Making.{Does};
+ghost use Rattle.router_state.specs.Received.{goes_on_at};
 
 use crate::origination::receive_self_originated;
+use crate::router::Router;
+use flooding::Case;
 use lsa::{Lsa, LsaError, read};
-use originations::Case;
-use router_state::{Router, is_newer};
 use std::alloc::{AllocError, Global};
 use words::{Second, Sequence};
+
+// Whether an LSA of this case is installed: it is newer than the copy, or there is none.
+fn is_newer(case: Case) -> bool
+    ensures { result ≡ is_newer (case_of case) }
+{
+    match case {
+        Case::NothingToFlush => false,
+        Case::TooSoon => false,
+        Case::Newer => true,
+        Case::BadRequest => false,
+        Case::ImpliedAcknowledgment => false,
+        Case::Duplicate => false,
+        Case::SequenceWraps => false,
+        Case::SentJustNow => false,
+        Case::Older => false,
+    }
+}
 
 // After a bad request (BadLSReq) the rest of the Link State Update is dropped.
 fn goes_on(case: Case) -> bool
@@ -42,36 +59,39 @@ fn read_lsa(alloc: Global, bytes: &[u8]) -> Result<Option<Lsa>, AllocError>
     }
 }
 
-// Processes the bytes of an LSA, or bytes that encode none. Returns whether the rest of the Link
-// State Update is processed. A self-originated LSA that was installed is originated again or
-// flushed.
-fn receive_lsa(
-    router: &mut Router,
-    alloc: Global,
-    moment: Second,
-    number: usize,
-    bytes: &[u8],
-) -> Result<bool, AllocError>
-    requires first { 1 ≤ number }
-    requires last { number ≤ length router.old.present.area.links }
-    ensures goes_on { IfOk result (λ goes. goes
-        ≡ goes_on_at moment number (lsa_in bytes.now) router.old.present) }
-    ensures does { Does (after_unread moment number (lsa_in bytes.now))
-        router.old router.new result }
-{
-    let unread = read_lsa(alloc, bytes)?;
-    let Some(lsa) = unread else {
-        return Ok(true);
-    };
-    let header = lsa.header();
-    let case = router.area().case_at(moment, number, &lsa);
-    router.receive_lsa(alloc, case, moment, number, lsa)?;
-    let newer = is_newer(case);
-    if newer {
-        receive_self_originated(router, alloc, moment, &header)?;
-        return Ok(true);
+impl Router {
+    // Processes the bytes of an LSA, or bytes that encode none. Returns whether the rest of the
+    // Link State Update is processed. One of the case `Newer` is installed and flooded; if it is
+    // self-originated, it is originated again or flushed.
+    fn receive_lsa(
+        &mut self,
+        alloc: Global,
+        moment: Second,
+        number: usize,
+        bytes: &[u8],
+    ) -> Result<bool, AllocError>
+        requires first { 1 ≤ number }
+        requires last { number ≤ length self.old.present.area.links }
+        ensures goes_on { IfOk result (λ goes. goes
+            ≡ goes_on_at moment number (lsa_in bytes.now) self.old.present) }
+        ensures does { Does (after_unread moment number (lsa_in bytes.now))
+            self.old self.new result }
+    {
+        let unread = read_lsa(alloc, bytes)?;
+        let Some(lsa) = unread else {
+            return Ok(true);
+        };
+        let header = lsa.header();
+        let case = self.area.case_at(moment, number, &lsa);
+        let newer = is_newer(case);
+        if newer {
+            self.area.install(alloc, moment, number, lsa)?;
+            receive_self_originated(self, alloc, moment, &header)?;
+            return Ok(true);
+        }
+        self.area.after_case(alloc, case, moment, number, &lsa)?;
+        Ok(goes_on(case))
     }
-    Ok(goes_on(case))
 }
 
 /// Processes the LSAs of a Link State Update that was received at the interface with this number,
@@ -93,7 +113,7 @@ pub fn receive_lsas(
 {
     for i in 0..lsas.len() {
         let bytes = lsas[i].as_slice();
-        let goes = receive_lsa(router, alloc, moment, number, bytes)?;
+        let goes = router.receive_lsa(alloc, moment, number, bytes)?;
         if !goes {
             return Ok(());
         }

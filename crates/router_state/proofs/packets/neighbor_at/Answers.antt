@@ -1,11 +1,11 @@
 use Rattle.std.proofs.Common.{◌-◌, length, ap, ◌∙◌, arith}
 use Rattle.std.proofs.lemmas.List.{length-map}
-use Rattle.adjacency.specs.Steps.{named_neighbor}
+use Rattle.flooding.specs.adjacency.Steps.{named_neighbor}
 use Rattle.event_rules.specs.received.Links.{neighbor_at}
-use Rattle.originations.specs.flooding.Kept.{KeptLink, RouterArea}
-use Rattle.originations.specs.flooding.Links.{present}
-use Rattle.originations.proofs.flooding.Synchronizing.{shown_neighbor}
-use Rattle.procedures.proofs.packets.neighbor_at.Goals as goal
+use Rattle.flooding.specs.Kept.{KeptLink, RouterArea}
+use Rattle.flooding.specs.Links.{present}
+use Rattle.flooding.proofs.Synchronizing.{shown_neighbor}
+use Rattle.router_state.proofs.packets.neighbor_at.Goals as goal
 
 pub returns : goal.returns
 returns c =

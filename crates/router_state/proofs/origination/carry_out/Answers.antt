@@ -2,7 +2,7 @@ use Rattle.std.proofs.Common.{sym, subst}
 use Rattle.originations.specs.Decisions.{after_origination}
 use Rattle.originations.specs.declared.origination.Origination.{Origination}
 use Rattle.router_state.specs.Making.{Does}
-use Rattle.procedures.proofs.origination.carry_out.Goals as goal
+use Rattle.router_state.proofs.origination.carry_out.Goals as goal
 
 pub returns-in-Waits : goal.returns-in-Waits
 returns-in-Waits c =

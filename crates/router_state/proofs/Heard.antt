@@ -3,14 +3,14 @@ use Rattle.std.proofs.Common.{◌≡◌, ℕ, Bool, true, false, cond, List, Res
 use Rattle.std.specs.Prelude.{◌&&◌, ◌||◌, Option, None, Some}
 use mathlib.Core.Bool.{false≢true}
 use Rattle.words.specs.declared.key.Key.{Key}
-use Rattle.adjacency.specs.lsdb.Headers.{Header}
+use Rattle.flooding.specs.adjacency.lsdb.Headers.{Header}
 use Rattle.packet.specs.declared.model.PacketBody.{PacketBody}
 use Rattle.packet.specs.declared.model.PacketBody.TheVariants as body
 use Rattle.packet.specs.declared.model.Description.{Description}
 use Rattle.packet.specs.declared.model.Hello.{Hello}
 use Rattle.packet.specs.declared.model.Packet.{Packet}
-use Rattle.adjacency.specs.Neighbors.{Neighbor}
-use Rattle.adjacency.specs.Steps.{named_neighbor}
+use Rattle.flooding.specs.adjacency.Neighbors.{Neighbor}
+use Rattle.flooding.specs.adjacency.Steps.{named_neighbor}
 use Rattle.event_rules.specs.received.Links.{neighbor_at}
 use Rattle.event_rules.specs.EventState.{EventState, on_area}
 use Rattle.event_rules.specs.Packets.{after_lsas, after_packet, receive_acknowledgment}
@@ -20,11 +20,11 @@ use Rattle.event_rules.specs.Packets.{receive_description}
 use Rattle.event_rules.specs.Packets.{receive_request}
 use Rattle.event_rules.specs.Routers.{Router}
 use Rattle.router_state.specs.Kept.{KeptRouter}
-use Rattle.procedures.specs.Making.{Does, Makes}
-use Rattle.procedures.proofs.Making.{does_if_true, does_same, makes_nothing, makes_same}
-use Rattle.procedures.specs.Received.{counts_before_exchange, is_exchange_or_later_named}
-use Rattle.procedures.specs.Received.{is_from_named}
-use Rattle.procedures.specs.Received.{is_processed}
+use Rattle.router_state.specs.Making.{Does, Makes}
+use Rattle.router_state.proofs.Making.{does_if_true, does_same, makes_nothing, makes_same}
+use Rattle.router_state.specs.Received.{counts_before_exchange, is_exchange_or_later_named}
+use Rattle.router_state.specs.Received.{is_from_named}
+use Rattle.router_state.specs.Received.{is_processed}
 
 pub exchange_named : (o : Option Neighbor)
     → is_exchange_or_later_named (named_neighbor o) ≡ any_exchange_or_later o

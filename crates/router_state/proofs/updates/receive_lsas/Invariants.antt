@@ -1,6 +1,6 @@
 use Rattle.std.proofs.Common.{◌≡◌, length}
-use Rattle.procedures.proofs.Texts.{Going}
-use Rattle.procedures.proofs.updates.receive_lsas.Given as goal
+use Rattle.router_state.proofs.Texts.{Going}
+use Rattle.router_state.proofs.updates.receive_lsas.Given as goal
 
 abbrev pub invariant-loop-i : goal.invariant-loop-i
 invariant-loop-i l = record {

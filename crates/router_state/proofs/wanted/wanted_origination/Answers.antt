@@ -1,7 +1,7 @@
 use Rattle.std.proofs.Common.{ap, sym, ◌∙◌}
 use Rattle.std.specs.FinMap as finite
-use Rattle.procedures.proofs.Found.{found_external, found_router}
-use Rattle.procedures.proofs.wanted.wanted_origination.Goals as goal
+use Rattle.router_state.proofs.Found.{found_external, found_router}
+use Rattle.router_state.proofs.wanted.wanted_origination.Goals as goal
 
 pub returns-then-names_router_lsa : goal.returns-then-names_router_lsa
 returns-then-names_router_lsa c =

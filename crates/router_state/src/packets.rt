@@ -1,17 +1,18 @@
 //! Received packets by their types.
 ghost use Rattle.std.specs.Prelude.{◌≡◌, ◌≤◌, length};
-ghost use Rattle.adjacency.specs.Steps.{named_neighbor};
+ghost use Rattle.flooding.specs.adjacency.Steps.{named_neighbor};
 ghost use Rattle.event_rules.specs.received.Links.{neighbor_at};
 ghost use Rattle.event_rules.specs.Packets.{after_packet, any_exchange_or_later, is_from, is_heard};
 ghost use Rattle.event_rules.specs.Packets.{is_hello};
-ghost use Rattle.procedures.specs.Making.{Does};
-ghost use Rattle.procedures.specs.Received.{counts_before_exchange, is_from_named};
-ghost use Rattle.procedures.specs.Received.{is_exchange_or_later_named, is_processed};
+ghost use Rattle.router_state.specs.Making.{Does};
+ghost use Rattle.router_state.specs.Received.{counts_before_exchange, is_from_named};
+ghost use Rattle.router_state.specs.Received.{is_exchange_or_later_named, is_processed};
 
+use crate::received_hellos::is_foreign;
+use crate::router::Router;
 use crate::updates::receive_lsas;
-use adjacency::NeighborState;
+use flooding::NeighborState;
 use packet::{Packet, PacketBody};
-use router_state::{Router, is_foreign};
 use std::alloc::{AllocError, Global};
 use words::{RouterId, Second};
 

@@ -2,10 +2,10 @@
 ghost use Rattle.std.specs.Prelude.{◌≡◌, IfOk};
 ghost use Rattle.keyed_map.specs.Keys.{same_key};
 ghost use Rattle.event_rules.specs.Originations.{is_wanted, router_key, wanted_body};
-ghost use Rattle.procedures.specs.Wanted.{wanted_origination};
+ghost use Rattle.router_state.specs.Wanted.{wanted_origination};
 
+use crate::router::Router;
 use originations::{Origination, originate_external, originate_router};
-use router_state::Router;
 use std::alloc::{AllocError, Global};
 use words::{Key, RouterId, Second, router_key};
 
