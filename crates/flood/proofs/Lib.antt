@@ -9,3 +9,8 @@ pub mod Offering
 pub mod Answering
 pub mod Kept
 pub mod Owing
+mod Replayed
+mod Unheeded
+mod Forgotten
+mod Noted
+pub mod Late

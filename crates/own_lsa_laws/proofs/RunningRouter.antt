@@ -7,8 +7,8 @@ use Rattle.event_rules.specs.Events.{Happens, Step, initial}
 use Rattle.event_rules.specs.Routers.{Occurrence, Router}
 use Rattle.router_runs.specs.Clocks.{ClockRunsOn, RoutersRefuseClocksThatGoBack}
 use Rattle.own_lsa_laws.specs.OwnCopies.{EndsWithTick, NobodySpeaksForThisRouter, SpeaksForItself}
-use Rattle.book.specs.Event.{Event}
-use Rattle.book.specs.Event.TheVariants as event
+use Rattle.flood.specs.declared.event.Event.{Event}
+use Rattle.flood.specs.declared.event.Event.TheVariants as event
 use Rattle.worker.specs.Replay.{Leads}
 use Rattle.worker.specs.Turns.{IsOfferedBySome, Sends, TakesFor, took_from}
 use Rattle.worker.specs.Work.TheVariants.{Tick}

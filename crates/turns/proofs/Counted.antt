@@ -3,12 +3,12 @@ use Rattle.std.proofs.Common.{◌≡◌, ◌⊎◌, inl, inr, ℕ, List, Option,
 use Rattle.std.specs.Prelude.{IfNone, IfSome}
 use Rattle.words.specs.Numbers.{InterfaceNumber, Moment}
 use Rattle.maps.specs.Words.{SeatView}
-use Rattle.book.specs.event_rules.declared.model.CoreError.TheVariants as core_error
+use Rattle.flood.specs.event_rules.declared.model.CoreError.TheVariants as core_error
 use Rattle.hooks.specs.declared.operation.LoaderOperation.{LoaderOperation}
 use Rattle.hooks.specs.Answered.{IsAnswered}
 use Rattle.hooks.specs.Questions.{count_input}
-use Rattle.book.specs.declared.error.BookError.TheVariants as book_error
-use Rattle.book.specs.Event.{Event}
+use Rattle.flood.specs.declared.book.error.BookError.TheVariants as book_error
+use Rattle.flood.specs.declared.event.Event.{Event}
 use Rattle.turns.specs.Turns.{AsksFor, CountsFor, IsCounted, IsFor, IsInstalling, IsUnaskedFor}
 use Rattle.turns.specs.Turns.{Lack, Offers, Refuses, Took}
 use Rattle.turns.specs.declared.turned.TurnError.{TurnError}

@@ -5,16 +5,16 @@ use Rattle.std.specs.Prelude.{◌↔◌, Result, Ok, Err, IfSome, IsTrue, MatchR
 use Rattle.words.specs.Numbers.{Moment}
 use Rattle.words.specs.declared.route.Route.{Route}
 use Rattle.words.specs.declared.route.TableRow.{TableRow}
-use Rattle.book.specs.event_rules.declared.model.Out.{Out}
-use Rattle.book.specs.event_rules.Events.{Happens}
-use Rattle.book.specs.event_rules.Routers.{Router}
-use Rattle.book.specs.Event.{Event}
-use Rattle.book.specs.Occurrences.{occurrence_of}
-use Rattle.book.specs.Refusals.{AnswersAnew}
-use Rattle.book.specs.Replay.{BookView, Leads}
-use Rattle.book.specs.declared.error.BookError.{BookError}
-use Rattle.book.specs.declared.error.BookError.TheVariants as refusing
-use Rattle.book.specs.Offers.{AreCandidatesNow, IsOffered, IsStaleNow}
+use Rattle.flood.specs.event_rules.declared.model.Out.{Out}
+use Rattle.flood.specs.event_rules.Events.{Happens}
+use Rattle.flood.specs.event_rules.Routers.{Router}
+use Rattle.flood.specs.declared.event.Event.{Event}
+use Rattle.flood.specs.Occurrences.{occurrence_of}
+use Rattle.flood.specs.Refusals.{AnswersAnew}
+use Rattle.flood.specs.Replay.{BookView, Leads}
+use Rattle.flood.specs.declared.book.error.BookError.{BookError}
+use Rattle.flood.specs.declared.book.error.BookError.TheVariants as refusing
+use Rattle.flood.specs.Offers.{AreCandidatesNow, IsOffered, IsStaleNow}
 use Rattle.turns.specs.Turns.{IsOfferedBySome, IsRefusedBySome, RefusesAt, Sends, taken_at}
 use Rattle.turns.proofs.Tables.{rows_beside}
 

@@ -15,10 +15,10 @@ use Rattle.tables.proofs.Ordered.{answers_exact, answers_total}
 use Rattle.tables.specs.Orders.{answer_cmp}
 use Rattle.tables.specs.Parts.{AreLetIn}
 use Rattle.tables.specs.Rows.{rows_of}
-use Rattle.book.specs.area_routes.Offers.{root_by}
+use Rattle.flood.specs.area_routes.Offers.{root_by}
 use Rattle.tables.specs.routes.Said.{said_at}
-use Rattle.book.specs.event_rules.Routers.{Router}
-use Rattle.book.specs.Offers.{AreCandidatesNow, IsOffered}
+use Rattle.flood.specs.event_rules.Routers.{Router}
+use Rattle.flood.specs.Offers.{AreCandidatesNow, IsOffered}
 
 same_or_not : (a b : Route × ℕ) → (a ≡ b) ⊎ (a ≡ b → ⊥)
 same_or_not a b =

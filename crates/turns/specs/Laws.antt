@@ -4,12 +4,12 @@ use Rattle.words.specs.Numbers.{InterfaceNumber, Moment}
 use Rattle.words.specs.declared.route.External.{External}
 use Rattle.words.specs.declared.route.Route.{Route}
 use Rattle.words.specs.declared.route.TableRow.{TableRow}
-use Rattle.book.specs.event_rules.declared.model.Out.{Out}
-use Rattle.book.specs.event_rules.Routers.{Router}
+use Rattle.flood.specs.event_rules.declared.model.Out.{Out}
+use Rattle.flood.specs.event_rules.Routers.{Router}
 use Rattle.hooks.specs.declared.operation.LoaderOperation.{LoaderOperation}
 use Rattle.hooks.specs.Questions.{ExternalAnswer}
-use Rattle.book.specs.Event.{Event}
-use Rattle.book.specs.Event.TheVariants as event
+use Rattle.flood.specs.declared.event.Event.{Event}
+use Rattle.flood.specs.declared.event.Event.TheVariants as event
 use Rattle.turns.specs.Turns.{AreBeside, IsFor, IsOfferedBySome, Sends, TakesFor, took_from}
 use Rattle.turns.specs.declared.work.Work.TheVariants as work
 

@@ -1,6 +1,6 @@
 -- The numbers of a turn's refusals.
 use Rattle.std.specs.Prelude.{ℕ}
-use Rattle.book.specs.Numbers.{book_error_number}
+use Rattle.flood.specs.Numbers.{book_error_number}
 use Rattle.turns.specs.declared.turned.TurnError.{TurnError}
 use Rattle.turns.specs.declared.turned.TurnError.TheVariants as refusing
 

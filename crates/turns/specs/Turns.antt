@@ -14,26 +14,26 @@ use Rattle.words.specs.declared.route.TableRow.{TableRow}
 use Rattle.hooks.specs.machine.Given.{Given}
 use Rattle.hooks.specs.machine.Label.{Label}
 use Rattle.maps.specs.Words.{SeatView}
-use Rattle.book.specs.event_rules.declared.model.CoreError.TheVariants as core_error
-use Rattle.book.specs.event_rules.declared.model.Out.{Out}
-use Rattle.book.specs.event_rules.Commands.{is_for}
-use Rattle.book.specs.event_rules.Events.{Happens}
-use Rattle.book.specs.event_rules.Originations.{external_key}
-use Rattle.book.specs.event_rules.Routers.{Router}
+use Rattle.flood.specs.event_rules.declared.model.CoreError.TheVariants as core_error
+use Rattle.flood.specs.event_rules.declared.model.Out.{Out}
+use Rattle.flood.specs.event_rules.Commands.{is_for}
+use Rattle.flood.specs.event_rules.Events.{Happens}
+use Rattle.flood.specs.event_rules.Originations.{external_key}
+use Rattle.flood.specs.event_rules.Routers.{Router}
 use Rattle.hooks.specs.declared.operation.LoaderOperation.{LoaderOperation}
 use Rattle.hooks.specs.Answered.{IsAnswered}
 use Rattle.hooks.specs.Operations.{Answers}
 use Rattle.hooks.specs.Questions.{ExternalAnswer, RouteAnswer}
 use Rattle.hooks.specs.Questions.{count_input, price_input, tag_input, veto_input}
-use Rattle.book.specs.declared.error.BookError.{BookError}
-use Rattle.book.specs.declared.error.BookError.TheVariants as book_error
-use Rattle.book.specs.Event.{Event}
-use Rattle.book.specs.Event.TheVariants as event
-use Rattle.book.specs.Occurrences.{occurrence_of}
-use Rattle.book.specs.Offers.{IsOffered, IsStaleNow}
-use Rattle.book.specs.Refusals.{AnswersAnew}
-use Rattle.book.specs.Replay.{BookView, Leads}
-use Rattle.book.specs.NeighborState.{NeighborState}
+use Rattle.flood.specs.declared.book.error.BookError.{BookError}
+use Rattle.flood.specs.declared.book.error.BookError.TheVariants as book_error
+use Rattle.flood.specs.declared.event.Event.{Event}
+use Rattle.flood.specs.declared.event.Event.TheVariants as event
+use Rattle.flood.specs.Occurrences.{occurrence_of}
+use Rattle.flood.specs.Offers.{IsOffered, IsStaleNow}
+use Rattle.flood.specs.Refusals.{AnswersAnew}
+use Rattle.flood.specs.Replay.{BookView, Leads}
+use Rattle.flood.specs.NeighborState.{NeighborState}
 use Rattle.turns.specs.declared.turned.Turned.{Turned}
 use Rattle.turns.specs.declared.turned.TurnError.{TurnError}
 use Rattle.turns.specs.declared.turned.TurnError.TheVariants as turn_error

@@ -25,7 +25,7 @@ use crate::port::Port;
 use crate::site::Site;
 use crate::taker::{Taken, Taker};
 use crate::turned::TurnError;
-use book::{Book, BookError, CoreError, Event, NeighborState, Offered};
+use flood::{Book, BookError, CoreError, Event, NeighborState, Offered};
 use hooks::Notice;
 use maps::Shared;
 use std::alloc::{AllocError, Global};

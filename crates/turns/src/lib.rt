@@ -2,7 +2,7 @@
 //! what the event needs, and gives the event to the router's book under one lock.
 //!
 //! What a turn says is said of the event that it gave: the book is behind the lock, and of it the
-//! type [`book::Book`] and a ledger tell, in which each port's share counts its own events.
+//! type [`flood::Book`] and a ledger tell, in which each port's share counts its own events.
 #![tactic(auto)]
 
 mod gate;
@@ -16,7 +16,7 @@ mod turned;
 mod turns;
 mod work;
 
-pub use book::{
+pub use flood::{
     Book, BookError, Config, ConfigError, Core, CoreError, Event, Interface, NeighborState,
     Offered, Origin, Out,
 };

@@ -20,7 +20,7 @@ use crate::site::Site;
 use crate::taker::Taker;
 use crate::turned::TurnError;
 use crate::work::Work;
-use book::{Event, Offered};
+use flood::{Event, Offered};
 use hooks::{Asker, PriceAnswer, TagAnswer, VetoAnswer};
 use maps::{Seat, Shared};
 use std::sync::Wait;

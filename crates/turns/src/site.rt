@@ -4,7 +4,7 @@ ghost use Rattle.logbook.specs.Pages.{Book as History};
 ghost use Rattle.maps.specs.Words.{IsOf, SharedWords};
 ghost use Rattle.hooks.specs.Known.{asks_of};
 
-use book::Origin;
+use flood::Origin;
 use hooks::Asker;
 use maps::Seat;
 use std::marker::{Brand, PhantomData};

@@ -13,12 +13,12 @@ ghost use Rattle.hooks.specs.Answered.{IsAnswered};
 ghost use Rattle.hooks.specs.Known.{asks_of, known_to, told_by};
 ghost use Rattle.hooks.specs.Questions.{count_input, price_input, tag_input, veto_input};
 ghost use Rattle.hooks.specs.Vacant.{IsAnsweredByNone, let_in};
-ghost use Rattle.book.specs.event_rules.Events.{Happens};
-ghost use Rattle.book.specs.event_rules.Routers.{shown_at};
-ghost use Rattle.book.specs.Event.{Event};
-ghost use Rattle.book.specs.Occurrences.{occurrence_of};
-ghost use Rattle.book.specs.Offers.{AreCandidatesNow, IsOffered, IsStaleNow};
-ghost use Rattle.book.specs.NeighborState.{NeighborState};
+ghost use Rattle.flood.specs.event_rules.Events.{Happens};
+ghost use Rattle.flood.specs.event_rules.Routers.{shown_at};
+ghost use Rattle.flood.specs.declared.event.Event.{Event};
+ghost use Rattle.flood.specs.Occurrences.{occurrence_of};
+ghost use Rattle.flood.specs.Offers.{AreCandidatesNow, IsOffered, IsStaleNow};
+ghost use Rattle.flood.specs.NeighborState.{NeighborState};
 ghost use Rattle.turns.specs.Turns.{
   IsAsked,
   IsInstalling,
@@ -42,7 +42,7 @@ ghost use Rattle.turns.specs.Turns.{
   took_from,
 };
 
-use book::{Book, BookError, CoreError, Event, NeighborState, Offered, Origin, Out};
+use flood::{Book, BookError, CoreError, Event, NeighborState, Offered, Origin, Out};
 use hooks::{Asker, HookAnswer, Notice, PriceAnswer, TagAnswer, VetoAnswer};
 use maps::{Seat, Shared};
 use std::alloc::{AllocError, Global};

@@ -2,7 +2,7 @@
 ghost use Rattle.std.specs.Prelude.{◌≡◌};
 ghost use Rattle.turns.specs.Numbers.{turn_error_number};
 
-use book::{BookError, CoreError, Out};
+use flood::{BookError, CoreError, Out};
 use std::alloc::AllocError;
 use thiserror::Error;
 
@@ -50,8 +50,8 @@ impl From<BookError> for TurnError {
 }
 
 impl From<AllocError> for TurnError {
-    ghost use Rattle.book.specs.event_rules.declared.model.CoreError.TheVariants.{Memory};
-    ghost use Rattle.book.specs.declared.error.BookError.TheVariants.{Core};
+    ghost use Rattle.flood.specs.event_rules.declared.model.CoreError.TheVariants.{Memory};
+    ghost use Rattle.flood.specs.declared.book.error.BookError.TheVariants.{Core};
     ghost use Rattle.turns.specs.declared.turned.TurnError.TheVariants.{Book};
 
     ghost from_gives = { λ _ e. e ≡ Book (Core Memory) };

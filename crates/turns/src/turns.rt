@@ -24,7 +24,7 @@ use crate::site::Site;
 use crate::taker::Taker;
 use crate::turned::{TurnError, Turned};
 use crate::work::Work;
-use book::{BookError, CoreError, Out};
+use flood::{BookError, CoreError, Out};
 use std::sync::Wait;
 use words::Second;
 
@@ -32,16 +32,16 @@ use words::Second;
 /// event to the book under the lock. If that left the router stale, a refresh follows, which passes
 /// no gate. It may wait for the lock.
 ///
-/// At a [`Book`](book::Book) the outs are those that the event gives, by the rules of a whole
+/// At a [`Book`](flood::Book) the outs are those that the event gives, by the rules of a whole
 /// event, at a router that took at least as many events as the port had given; which router it was,
 /// only the book knows. An installation happens at the moment of the router's last event, if that
 /// is later than the turn's: it may have passed while the programs were asked. All else happens at
 /// the turn's moment.
 ///
 /// Refused: `Away` if `tag`, `price` or `veto` got no reading; else as the book refuses the event
-/// ([`Book::apply_anew`](book::Book::apply_anew)). `Memory` may come earlier, while the programs
+/// ([`Book::apply_anew`](flood::Book::apply_anew)). `Memory` may come earlier, while the programs
 /// are asked. A refused turn adds no event to the book. What the programs did to the shared words
-/// stays, and so does a mark ([`Book::mark`](book::Book::mark)).
+/// stays, and so does a mark ([`Book::mark`](flood::Book::mark)).
 ///
 /// The refresh is refused too if the programs were changed since the turn began
 /// ([`Hub::programs_changed`]). A refusal of it leaves the turn's outs as they are, and the next

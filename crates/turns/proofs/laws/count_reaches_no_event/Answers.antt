@@ -1,6 +1,6 @@
 use Rattle.std.proofs.Common.{refl, subst}
-use Rattle.book.specs.Event.{Event}
-use Rattle.book.specs.Event.TheVariants as event
+use Rattle.flood.specs.declared.event.Event.{Event}
+use Rattle.flood.specs.declared.event.Event.TheVariants as event
 use Rattle.turns.specs.Turns.{Sends}
 use Rattle.turns.proofs.laws.count_reaches_no_event.Goals as goal
 

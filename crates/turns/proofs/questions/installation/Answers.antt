@@ -7,7 +7,7 @@ use Rattle.hooks.specs.Known.{known_to}
 use Rattle.hooks.specs.Questions.{RouteAnswer, veto_input}
 use Rattle.hooks.specs.Vacant.{IsAnsweredByNone, let_in}
 use Rattle.hooks.proofs.Fronts.{prefix_self}
-use Rattle.book.specs.Event.TheVariants as event
+use Rattle.flood.specs.declared.event.Event.TheVariants as event
 use Rattle.turns.proofs.LetIn.{all_let_in}
 use Rattle.turns.proofs.Longer.{install_longer}
 use Rattle.turns.proofs.questions.installation.Goals as goal

@@ -1,6 +1,6 @@
 use Rattle.std.proofs.Common.{subst, sym}
-use Rattle.book.specs.event_rules.Routers.{Router}
-use Rattle.book.specs.Replay.{Leads}
+use Rattle.flood.specs.event_rules.Routers.{Router}
+use Rattle.flood.specs.Replay.{Leads}
 use Rattle.turns.proofs.FromSome.{candidates_of_some}
 use Rattle.turns.proofs.taker.BookTaker.candidates.Goals as goal
 

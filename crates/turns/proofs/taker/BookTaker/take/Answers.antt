@@ -1,10 +1,10 @@
 use Rattle.std.proofs.Common.{◌≤◌, ap, subst, sym, ◌∙◌}
 use Rattle.std.specs.Prelude.{◌↔◌, IfErr, IfSome, IsTrue, Result}
-use Rattle.book.specs.declared.error.BookError.{BookError}
-use Rattle.book.specs.event_rules.Routers.{Router}
-use Rattle.book.specs.Offers.{IsStaleNow}
-use Rattle.book.specs.Replay.{BookView}
-use Rattle.book.proofs.Late.{no_earlier}
+use Rattle.flood.specs.declared.book.error.BookError.{BookError}
+use Rattle.flood.specs.event_rules.Routers.{Router}
+use Rattle.flood.specs.Offers.{IsStaleNow}
+use Rattle.flood.specs.Replay.{BookView}
+use Rattle.flood.proofs.Late.{no_earlier}
 use Rattle.turns.specs.Turns.{IsRefusedBySome, taken_at}
 use Rattle.turns.proofs.FromSome.{left_stale, refused_by_some, sent_by_some}
 use Rattle.turns.proofs.taker.BookTaker.take.Goals as goal

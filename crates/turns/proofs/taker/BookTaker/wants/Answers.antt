@@ -1,6 +1,6 @@
 use Rattle.std.proofs.Common.{◌≤◌, ap, subst, sym, ◌∙◌}
-use Rattle.book.specs.event_rules.Routers.{Router}
-use Rattle.book.specs.Replay.{BookView, Leads}
+use Rattle.flood.specs.event_rules.Routers.{Router}
+use Rattle.flood.specs.Replay.{BookView, Leads}
 use Rattle.turns.specs.Turns.{announces}
 use Rattle.turns.proofs.taker.BookTaker.wants.Goals as goal
 

@@ -1,0 +1,68 @@
+-- A journal with one more event.
+use Rattle.std.proofs.Common.{◌≡◌, ◌≤◌, ℕ, ◌+◌, List, [], ◌∷◌, ◌++◌, map, Ok, sym, subst}
+use Rattle.std.proofs.Common.{refl, ap, ◌∙◌}
+use Rattle.std.proofs.lemmas.List.{length-append, map-append}
+use Rattle.std.proofs.lemmas.List.Sums.{fold-append}
+use Rattle.event_rules.specs.declared.model.Out.{Out}
+use Rattle.event_rules.specs.Events.{Happens, Run, Step}
+use Rattle.event_rules.specs.Refusals.{Answers}
+use Rattle.event_rules.specs.Routers.{Occurrence, Router}
+use Rattle.router_runs.proofs.Clocks.{later_moment, one_more, taken_moment}
+use Rattle.flood.specs.Occurrences.{occurrence_of}
+use Rattle.flood.specs.declared.book.entry.JournalEntry.{JournalEntry}
+use Rattle.flood.specs.Bytes.{bytes_of, with_event}
+use Rattle.flood.specs.Replay.{Leads, Replays, entry_occurrence, step_occurrence}
+
+abbrev step : JournalEntry → List Out → Step
+step e outs = record { moment = e.moment; event = occurrence_of e.event; outs = outs }
+
+run_on : (steps : List Step) (old middle new : Router) (s : Step) → Run old steps middle
+    → Happens middle s.moment s.event s.outs new → Run old (steps ++ s ∷ []) new
+run_on [] old middle new s same now =
+    (new, subst (λ (r : Router). Happens r s.moment s.event s.outs new) same now, refl)
+run_on (x ∷ steps) old middle new s earlier now =
+    (earlier.0, earlier.1, run_on steps earlier.0 middle new s earlier.2 now)
+
+same_on : (steps : List Step) (journal : List JournalEntry) (s : Step) (e : JournalEntry)
+    → map step_occurrence steps ≡ map entry_occurrence journal
+    → step_occurrence s ≡ entry_occurrence e
+    → map step_occurrence (steps ++ s ∷ []) ≡ map entry_occurrence (journal ++ e ∷ [])
+same_on steps journal s e same one =
+    map-append step_occurrence steps (s ∷ []) ∙ ap (λ l. l ++ step_occurrence s ∷ []) same
+    ∙ ap (λ x. map entry_occurrence journal ++ x ∷ []) one
+    ∙ sym (map-append entry_occurrence journal (e ∷ []))
+
+pub replays_on : (start : Router) (journal : List JournalEntry) (before after : Router)
+    (e : JournalEntry) (outs : List Out) → Replays start journal before
+    → Happens before e.moment (occurrence_of e.event) outs after
+    → Replays start (journal ++ e ∷ []) after
+replays_on start journal before after e outs (steps, same, run) now = (
+  steps ++ step e outs ∷ [],
+  same_on steps journal (step e outs) e same refl,
+  run_on steps start before after (step e outs) run now,
+)
+
+-- an event that is taken is no earlier than the router's last one
+pub late_enough : {X : Type 0} (r : Router) (moment : ℕ) (event : Occurrence) (x : X)
+    → Answers {X = X} r moment event (Ok x) → r.moment ≤ moment
+late_enough r moment event x answers =
+    later_moment r moment (taken_moment r moment event answers.0)
+
+-- one event more, which is no earlier, leads on
+pub leads_on : (origin : Router) (taken : ℕ) (before after : Router) (e : JournalEntry)
+    (outs : List Out) → Leads origin taken before → before.moment ≤ e.moment
+    → Happens before e.moment (occurrence_of e.event) outs after
+    → Leads origin (taken + 1) after
+leads_on origin taken before after e outs (steps, run, many, clock) late now =
+    let longer = one_more steps origin before after (step e outs) run clock late now in (
+      steps ++ step e outs ∷ [],
+      longer.0,
+      length-append steps (step e outs ∷ []) ∙ ap (λ n. n + 1) many,
+      longer.1,
+    )
+
+-- the bytes of a journal with one more event
+pub bytes_with : (journal : List JournalEntry) (e : JournalEntry)
+    → bytes_of (journal ++ e ∷ []) ≡ with_event (bytes_of journal) e.event
+bytes_with journal e = fold-append (λ bytes (x : JournalEntry). with_event bytes x.event) 0 journal
+    (e ∷ [])

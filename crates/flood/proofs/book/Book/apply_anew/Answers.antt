@@ -1,0 +1,256 @@
+use Rattle.std.proofs.Common.{◌≡◌, ◌+◌, Global, Vec, Ok, Err, length, sym, subst, ap, ◌∙◌, arith}
+use Rattle.std.proofs.Common.{None, Some, inl, inr, refl}
+use Rattle.event_rules.specs.declared.model.CoreError.{CoreError}
+use Rattle.event_rules.specs.declared.model.CoreError.TheVariants as error
+use Rattle.event_rules.specs.declared.model.Out.{Out}
+use Rattle.event_rules.specs.Events.{Happens}
+use Rattle.event_rules.specs.Routers.{Router}
+use Rattle.flood.specs.Early.{early_refusal}
+use Rattle.flood.specs.Occurrences.{occurrence_of}
+use Rattle.flood.specs.declared.event.Event.{Event}
+use Rattle.flood.proofs.Early.{early_answers}
+use Rattle.flood.specs.Replay.{BookView, IsNotedIn, IsSameOrAnew, entry, marked_book}
+use Rattle.flood.proofs.Noted.{answered_anew, answered_at, answered_back, happens_at, marked_again}
+use Rattle.flood.proofs.Noted.{never_short, not_early, noted_in, same_or_anew}
+use Rattle.flood.proofs.book.Book.apply_anew.Goals as goal
+
+-- ---- before any mark
+
+pub returns-in-Some-clause-refused : goal.returns-in-Some-clause-refused
+returns-in-Some-clause-refused g c =
+    let event = occurrence_of c.args.event in
+    let early : early_refusal c.args.self.now.current c.args.moment event ≡ Some c.in-Some.error =
+    ap (λ (r : Router). early_refusal r c.args.moment event) (sym c.now.ensures.router)
+    ∙ sym c.refuses.ensures ∙ c.in-Some.is in (
+      (λ spent. omega (arith, spent, c.taken.ensures.taken)),
+      early_answers (Unit {0}) c.args.self.now.current c.args.moment event c.in-Some.error early,
+    )
+
+pub returns-in-Some-clause-short : goal.returns-in-Some-clause-short
+returns-in-Some-clause-short g c is =
+    let event = occurrence_of c.args.event in
+    let early : early_refusal c.args.self.now.current c.args.moment event ≡ Some c.in-Some.error =
+    ap (λ (r : Router). early_refusal r c.args.moment event) (sym c.now.ensures.router)
+    ∙ sym c.refuses.ensures ∙ c.in-Some.is in
+    let short : c.in-Some.error ≡ error.Memory = cc in
+    absurd (never_short c.args.self.now.current c.args.moment event
+    (early ∙ ap (λ (e : CoreError). Some e) short))
+
+pub returns-in-Some-clause-err : goal.returns-in-Some-clause-err
+returns-in-Some-clause-err g c =
+    let event = occurrence_of c.args.event in
+    let early : early_refusal c.args.self.now.current c.args.moment event ≡ Some c.in-Some.error =
+    ap (λ (r : Router). early_refusal r c.args.moment event) (sym c.now.ensures.router)
+    ∙ sym c.refuses.ensures ∙ c.in-Some.is in
+    (inl (inr (λ none. let no : Some c.in-Some.error ≡ None = sym early ∙ none in absurd cc)), refl)
+
+-- ---- the first try
+
+pub attempt-requires-clause-few : goal.attempt-requires-clause-few
+attempt-requires-clause-few g c =
+    omega (arith, c.make_room.ensures.taken, c.taken.ensures.taken, c.taken.ensures.few)
+
+pub attempt-requires-clause-early : goal.attempt-requires-clause-early
+attempt-requires-clause-early g c =
+    ap (λ (r : Router). early_refusal r c.args.moment (occurrence_of c.args.event))
+    (c.make_room.ensures.current ∙ sym c.now.ensures.router)
+    ∙ sym c.refuses.ensures ∙ c.in_default.is
+
+pub returns-in-Ok-clause-ok : goal.returns-in-Ok-clause-ok
+returns-in-Ok-clause-ok g c =
+    let event = occurrence_of c.args.event in
+    subst (λ (r : Router). Happens r c.args.moment event c.in-Ok.outs.items
+    c.lighten.new.self.current) c.make_room.ensures.current
+    (subst (λ (r : Router). Happens c.make_room.new.self.current c.args.moment event
+    c.in-Ok.outs.items r)
+    (sym (ap (λ (b : BookView). b.current) c.lighten.ensures.book)) c.in-Ok.ensures.ok)
+
+pub returns-in-Ok-clause-noted : goal.returns-in-Ok-clause-noted
+returns-in-Ok-clause-noted g c = (
+  c.make_room.new.self,
+  same_or_anew c.args.self.now c.make_room.new.self c.make_room.ensures.book,
+  noted_in c.make_room.new.self c.attempt.new.self c.lighten.new.self
+      (entry c.args.moment c.args.event)
+      c.in-Ok.ensures.book c.lighten.ensures.book c.lighten.ensures.journal,
+)
+
+pub returns-in-Ok-clause-taken : goal.returns-in-Ok-clause-taken
+returns-in-Ok-clause-taken g c =
+    ap (λ (b : BookView). b.taken) c.lighten.ensures.book
+    ∙ ap (λ (b : BookView). b.taken) c.in-Ok.ensures.book
+    ∙ ap (λ n. n + 1) c.make_room.ensures.taken
+
+pub returns-in-Ok-clause-refused : goal.returns-in-Ok-clause-refused
+returns-in-Ok-clause-refused g c =
+    answered_at c.args.self.now c.make_room.new.self c.args.moment c.args.event (Ok c.in-Ok.outs)
+    c.make_room.ensures.current c.make_room.ensures.taken
+    (answered_anew c.make_room.new.self c.args.moment c.args.event (Ok c.in-Ok.outs)
+    c.make_room.ensures.room c.in-Ok.ensures.refused)
+
+pub returns-in-Ok-clause-early : goal.returns-in-Ok-clause-early
+returns-in-Ok-clause-early g c refused =
+    let event = occurrence_of c.args.event in
+    let more : c.args.self.now.taken ≡ 9223372036854775808 → ⊥ =
+    λ spent. omega (arith, spent, c.taken.ensures.taken) in
+    absurd (not_early c.args.self.now c.args.moment c.args.event more
+    (ap (λ (r : Router). early_refusal r c.args.moment event) (sym c.now.ensures.router)
+    ∙ sym c.refuses.ensures ∙ c.in_default.is) refused)
+
+-- ---- a refusal that isn't for want of memory
+
+pub returns-then-not-is_short-clause-refused : goal.returns-then-not-is_short-clause-refused
+returns-then-not-is_short-clause-refused g c =
+    answered_at {X = Vec Out Global} c.args.self.now c.make_room.new.self c.args.moment
+    c.args.event
+    (Err c.in-Err.refused.error) c.make_room.ensures.current c.make_room.ensures.taken
+    (answered_anew {X = Vec Out Global} c.make_room.new.self c.args.moment c.args.event
+    (Err c.in-Err.refused.error)
+    c.make_room.ensures.room c.in-Err.ensures.refused)
+
+pub returns-then-not-is_short-clause-early : goal.returns-then-not-is_short-clause-early
+returns-then-not-is_short-clause-early g c refused =
+    let event = occurrence_of c.args.event in
+    let more : c.args.self.now.taken ≡ 9223372036854775808 → ⊥ =
+    λ spent. omega (arith, spent, c.taken.ensures.taken) in
+    absurd (not_early c.args.self.now c.args.moment c.args.event more
+    (ap (λ (r : Router). early_refusal r c.args.moment event) (sym c.now.ensures.router)
+    ∙ sym c.refuses.ensures ∙ c.in_default.is) refused)
+
+pub returns-then-not-is_short-clause-short : goal.returns-then-not-is_short-clause-short
+returns-then-not-is_short-clause-short g c is =
+    absurd (c.is_short.ensures.other c.if-not-is_short.true (cc))
+
+pub returns-then-not-is_short-clause-err : goal.returns-then-not-is_short-clause-err
+returns-then-not-is_short-clause-err g c = (
+  inr (subst (λ (b : BookView). IsSameOrAnew c.args.self.now b) (sym c.in-Err.ensures.err.0)
+      (same_or_anew c.args.self.now c.make_room.new.self c.make_room.ensures.book)),
+  c.in-Err.ensures.err.1,
+)
+
+-- ---- the second try
+
+pub attempt-requires-2-clause-room : goal.attempt-requires-2-clause-room
+attempt-requires-2-clause-room g c =
+    let none : length c.start_anew.new.self.journal ≡ 0 =
+    ap (λ (b : BookView). length b.journal) c.start_anew.ensures in
+    omega (arith, none)
+
+pub attempt-requires-2-clause-few : goal.attempt-requires-2-clause-few
+attempt-requires-2-clause-few g c =
+    let same : c.start_anew.new.self.taken ≡ c.args.self.now.taken =
+    ap (λ (b : BookView). b.taken) (c.start_anew.ensures ∙ ap marked_book c.in-Err.ensures.err.0)
+    ∙ c.make_room.ensures.taken in
+    omega (arith, same, c.taken.ensures.taken, c.taken.ensures.few)
+
+pub attempt-requires-2-clause-early : goal.attempt-requires-2-clause-early
+attempt-requires-2-clause-early g c =
+    let back = occurrence_of c.in-Err.refused.event in
+    ap (λ (r : Router). early_refusal r c.args.moment back)
+    (ap (λ (b : BookView). b.current) (c.start_anew.ensures ∙ ap marked_book c.in-Err.ensures.err.0)
+    ∙ c.make_room.ensures.current ∙ sym c.now.ensures.router)
+    ∙ ap (λ (e : Event). early_refusal c.now.result.now c.args.moment (occurrence_of e))
+    c.in-Err.ensures.back
+    ∙ sym c.refuses.ensures ∙ c.in_default.is
+
+pub returns-in-Ok-attempt-clause-ok : goal.returns-in-Ok-attempt-clause-ok
+returns-in-Ok-attempt-clause-ok g c =
+    let marked : c.start_anew.new.self ≡ marked_book c.args.self.now =
+    marked_again c.args.self.now c.make_room.new.self c.attempt.new.self c.start_anew.new.self
+    c.make_room.ensures.book c.in-Err.ensures.err.0 c.start_anew.ensures in
+    let light = c.lighten-in-Ok-attempt in
+    happens_at c.args.self.now.current c.start_anew.new.self.current c.args.moment c.args.event
+    c.in-Err.refused.event c.in-Ok-attempt.outs.items light.new.self.current
+    c.in-Err.ensures.back (ap (λ (b : BookView). b.current) marked)
+    (subst (λ (r : Router). Happens c.start_anew.new.self.current c.args.moment
+    (occurrence_of c.in-Err.refused.event) c.in-Ok-attempt.outs.items r)
+    (sym (ap (λ (b : BookView). b.current) light.ensures.book)) c.in-Ok-attempt.ensures.ok)
+
+pub returns-in-Ok-attempt-clause-noted : goal.returns-in-Ok-attempt-clause-noted
+returns-in-Ok-attempt-clause-noted g c =
+    let marked : c.start_anew.new.self ≡ marked_book c.args.self.now =
+    marked_again c.args.self.now c.make_room.new.self c.attempt.new.self c.start_anew.new.self
+    c.make_room.ensures.book c.in-Err.ensures.err.0 c.start_anew.ensures in
+    let light = c.lighten-in-Ok-attempt in (
+      c.start_anew.new.self,
+      inr marked,
+      subst (λ (e : Event). IsNotedIn c.start_anew.new.self (entry c.args.moment e) light.new.self)
+          c.in-Err.ensures.back
+          (noted_in c.start_anew.new.self c.attempt-2.new.self light.new.self
+          (entry c.args.moment c.in-Err.refused.event) c.in-Ok-attempt.ensures.book
+          light.ensures.book light.ensures.journal),
+    )
+
+pub returns-in-Ok-attempt-clause-taken : goal.returns-in-Ok-attempt-clause-taken
+returns-in-Ok-attempt-clause-taken g c =
+    let marked : c.start_anew.new.self ≡ marked_book c.args.self.now =
+    marked_again c.args.self.now c.make_room.new.self c.attempt.new.self c.start_anew.new.self
+    c.make_room.ensures.book c.in-Err.ensures.err.0 c.start_anew.ensures in
+    ap (λ (b : BookView). b.taken) c.lighten-in-Ok-attempt.ensures.book
+    ∙ ap (λ (b : BookView). b.taken) c.in-Ok-attempt.ensures.book
+    ∙ ap (λ (b : BookView). b.taken + 1) marked
+
+pub returns-in-Ok-attempt-clause-refused : goal.returns-in-Ok-attempt-clause-refused
+returns-in-Ok-attempt-clause-refused g c =
+    let marked : c.start_anew.new.self ≡ marked_book c.args.self.now =
+    marked_again c.args.self.now c.make_room.new.self c.attempt.new.self c.start_anew.new.self
+    c.make_room.ensures.book c.in-Err.ensures.err.0 c.start_anew.ensures in
+    answered_back c.args.self.now c.start_anew.new.self c.args.moment c.args.event
+    c.in-Err.refused.event (Ok c.in-Ok-attempt.outs) c.in-Err.ensures.back
+    (ap (λ (b : BookView). b.current) marked) (ap (λ (b : BookView). b.taken) marked)
+    (answered_anew c.start_anew.new.self c.args.moment c.in-Err.refused.event
+    (Ok c.in-Ok-attempt.outs)
+    (let none : length c.start_anew.new.self.journal ≡ 0 =
+    ap (λ (b : BookView). length b.journal) c.start_anew.ensures in
+    omega (arith, none))
+    c.in-Ok-attempt.ensures.refused)
+
+pub returns-in-Ok-attempt-clause-early : goal.returns-in-Ok-attempt-clause-early
+returns-in-Ok-attempt-clause-early g c refused =
+    let event = occurrence_of c.args.event in
+    let more : c.args.self.now.taken ≡ 9223372036854775808 → ⊥ =
+    λ spent. omega (arith, spent, c.taken.ensures.taken) in
+    absurd (not_early c.args.self.now c.args.moment c.args.event more
+    (ap (λ (r : Router). early_refusal r c.args.moment event) (sym c.now.ensures.router)
+    ∙ sym c.refuses.ensures ∙ c.in_default.is) refused)
+
+pub returns-in-Err-attempt-clause-refused : goal.returns-in-Err-attempt-clause-refused
+returns-in-Err-attempt-clause-refused g c =
+    let marked : c.start_anew.new.self ≡ marked_book c.args.self.now =
+    marked_again c.args.self.now c.make_room.new.self c.attempt.new.self c.start_anew.new.self
+    c.make_room.ensures.book c.in-Err.ensures.err.0 c.start_anew.ensures in
+    answered_back {X = Vec Out Global} c.args.self.now c.start_anew.new.self c.args.moment
+    c.args.event
+    c.in-Err.refused.event (Err c.in-Err-attempt.refused.error) c.in-Err.ensures.back
+    (ap (λ (b : BookView). b.current) marked) (ap (λ (b : BookView). b.taken) marked)
+    (answered_anew {X = Vec Out Global} c.start_anew.new.self c.args.moment
+    c.in-Err.refused.event
+    (Err c.in-Err-attempt.refused.error)
+    (let none : length c.start_anew.new.self.journal ≡ 0 =
+    ap (λ (b : BookView). length b.journal) c.start_anew.ensures in
+    omega (arith, none))
+    c.in-Err-attempt.ensures.refused)
+
+pub returns-in-Err-attempt-clause-early : goal.returns-in-Err-attempt-clause-early
+returns-in-Err-attempt-clause-early g c refused =
+    let event = occurrence_of c.args.event in
+    let more : c.args.self.now.taken ≡ 9223372036854775808 → ⊥ =
+    λ spent. omega (arith, spent, c.taken.ensures.taken) in
+    absurd (not_early c.args.self.now c.args.moment c.args.event more
+    (ap (λ (r : Router). early_refusal r c.args.moment event) (sym c.now.ensures.router)
+    ∙ sym c.refuses.ensures ∙ c.in_default.is) refused)
+
+pub returns-in-Err-attempt-clause-short : goal.returns-in-Err-attempt-clause-short
+returns-in-Err-attempt-clause-short g c is =
+    let marked : c.start_anew.new.self ≡ marked_book c.args.self.now =
+    marked_again c.args.self.now c.make_room.new.self c.attempt.new.self c.start_anew.new.self
+    c.make_room.ensures.book c.in-Err.ensures.err.0 c.start_anew.ensures in
+    c.in-Err-attempt.ensures.err.0 ∙ marked
+
+pub returns-in-Err-attempt-clause-err : goal.returns-in-Err-attempt-clause-err
+returns-in-Err-attempt-clause-err g c =
+    let marked : c.start_anew.new.self ≡ marked_book c.args.self.now =
+    marked_again c.args.self.now c.make_room.new.self c.attempt.new.self c.start_anew.new.self
+    c.make_room.ensures.book c.in-Err.ensures.err.0 c.start_anew.ensures in (
+      inr (inr (c.in-Err-attempt.ensures.err.0 ∙ marked)),
+      c.in-Err-attempt.ensures.err.1 ∙ c.in-Err.ensures.err.1,
+    )

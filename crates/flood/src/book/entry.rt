@@ -1,0 +1,10 @@
+//! An event in the journal.
+use crate::event::Event;
+use words::Second;
+
+/// An event and the moment at which it came.
+#[derive(Debug, Drop)]
+pub struct JournalEntry {
+    pub moment: Second,
+    pub event: Event,
+}
