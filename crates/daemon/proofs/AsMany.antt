@@ -7,8 +7,8 @@ use Rattle.console.specs.Configurations.{Says}
 use Rattle.worker.specs.event_rules.Events.{initial}
 use Rattle.worker.specs.event_rules.Routers.{Router}
 use Rattle.worker.specs.event_rules.declared.model.Config.{Config}
-use Rattle.sockets.specs.declared.wire.Wire.{Wire}
-use Rattle.sockets.specs.Wires.{AreBound, Bound}
+use Rattle.worker.specs.declared.sockets.wire.Wire.{Wire}
+use Rattle.worker.specs.Wires.{AreBound, Bound}
 use Rattle.daemon.specs.Statuses.{HasRan, HasRanFor, HasRanOver, IsConfigOf}
 use Rattle.daemon.specs.declared.ran.Ran.{Ran}
 

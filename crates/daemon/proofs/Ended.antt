@@ -3,8 +3,8 @@ use Rattle.std.proofs.Common.{◌≡◌, ℕ, ◌<◌, ◌⊎◌, inl, inr, List
 use Rattle.std.proofs.Common.{sym, subst, ◌∙◌, arith}
 use Rattle.std.proofs.lemmas.Bool.{ltb-false, ltb-true}
 use Rattle.std.specs.Prelude.{◌↔◌, ⊤, IfErr, IfOk, nat_lt}
-use Rattle.sockets.specs.Ends.{has_failed}
-use Rattle.sockets.specs.declared.socket_links.LinkEnd.{LinkEnd}
+use Rattle.worker.specs.Ends.{has_failed}
+use Rattle.worker.specs.declared.sockets.socket_links.LinkEnd.{LinkEnd}
 use Rattle.worker.specs.declared.serving.Ended.{Ended}
 use Rattle.worker.specs.declared.serving.Ended.TheVariants.{Fault, Quit}
 use Rattle.console.specs.Configurations.{Refuses, Says}
@@ -12,10 +12,10 @@ use Rattle.console.specs.declared.configuration.Configured.{Configured}
 use Rattle.console.specs.declared.configuration.ConfiguredInterface.{ConfiguredInterface}
 use Rattle.console.specs.declared.configuration.ConfigurationError.{ConfigurationError}
 use Rattle.console.specs.declared.configuration.ConfigurationError.TheVariants as configuration
-use Rattle.sockets.specs.Wires.{IsRefusalOf, IsWhyNoneWaits}
-use Rattle.sockets.specs.declared.wire.Wire.{Wire}
-use Rattle.sockets.specs.declared.error.SocketError.{SocketError}
-use Rattle.sockets.specs.declared.error.SocketError.TheVariants as socket_error
+use Rattle.worker.specs.Wires.{IsRefusalOf, IsWhyNoneWaits}
+use Rattle.worker.specs.declared.sockets.wire.Wire.{Wire}
+use Rattle.worker.specs.declared.sockets.error.SocketError.{SocketError}
+use Rattle.worker.specs.declared.sockets.error.SocketError.TheVariants as socket_error
 use Rattle.daemon.specs.Lines.{Fails}
 use Rattle.daemon.specs.Texts.{HasFailed}
 use Rattle.daemon.specs.Refusals.{IsLaterWhy, IsPortOf, IsWhy, of_sockets, of_text}

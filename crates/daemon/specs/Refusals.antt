@@ -8,8 +8,8 @@ use Rattle.console.specs.declared.configuration.ConfigurationError.TheVariants a
 use Rattle.hooks.specs.Refusals.{refusal_number}
 use Rattle.hooks.specs.declared.error.HookError.{HookError}
 use Rattle.hooks.specs.declared.error.HookError.TheVariants as hook_error
-use Rattle.sockets.specs.declared.error.SocketError.{SocketError}
-use Rattle.sockets.specs.declared.error.SocketError.TheVariants as socket_error
+use Rattle.worker.specs.declared.sockets.error.SocketError.{SocketError}
+use Rattle.worker.specs.declared.sockets.error.SocketError.TheVariants as socket_error
 use Rattle.daemon.specs.declared.error.RouteError.{RouteError}
 use Rattle.daemon.specs.declared.error.RouteError.TheVariants.{Configuration, Bind, Socket, Hooks}
 use Rattle.daemon.specs.declared.error.RouteError.TheVariants.{Output, Memory}

@@ -6,7 +6,7 @@ use Rattle.worker.specs.event_rules.Routers.{Router}
 use Rattle.worker.specs.event_rules.declared.model.Config.{Config}
 use Rattle.console.specs.Configurations.{Says}
 use Rattle.console.specs.declared.configuration.Configured.{Configured}
-use Rattle.sockets.specs.Ends.{has_failed}
+use Rattle.worker.specs.Ends.{has_failed}
 use Rattle.daemon.specs.declared.error.RouteError.{RouteError}
 use Rattle.daemon.specs.declared.error.RouteError.TheVariants.{Configuration, Bind, Socket, Hooks}
 use Rattle.daemon.specs.declared.error.RouteError.TheVariants.{Output, Memory}

@@ -13,7 +13,6 @@ use crate::talk::{Console, Parted, talk};
 use crate::texts::WritesTexts;
 use log::Log;
 use operator::Desk;
-use sockets::{Sockets, SystemSeconds};
 use std::alloc::{AllocError, Global};
 use std::rt::Files;
 use std::sync::Wait;
@@ -21,7 +20,10 @@ use std::sync::atomic::Ordering;
 use std::thread;
 use std::thread::{JoinHandle, Scope, Threads};
 use std::time::Clock;
-use worker::{Book, Closed, Core, Hub, Port, Setup, Signal, Site, close_hub, open_hub};
+use worker::{
+    Book, Closed, Core, Hub, Port, Setup, Signal, Site, Sockets, SystemSeconds, close_hub,
+    open_hub,
+};
 
 /// Lets each worker run on a thread with a port of its own, and the operator on this thread at port
 /// 0, until the operator is done. Every thread is joined before it answers, whatever it answers.

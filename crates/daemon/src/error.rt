@@ -6,7 +6,7 @@ ghost use Rattle.daemon.specs.declared.error.RouteError.TheVariants.{Memory};
 
 use console::ConfigurationError;
 use hooks::HookError;
-use sockets::SocketError;
+use worker::SocketError;
 use std::alloc::{AllocError, AllocFailed};
 use thiserror::Error;
 

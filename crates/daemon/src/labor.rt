@@ -1,17 +1,16 @@
 //! What the threads of the interfaces do.
 ghost use Rattle.std.specs.Prelude.{◌≡◌, false, true};
 ghost use Rattle.hooks.specs.Known.{known_to};
-ghost use Rattle.sockets.specs.Ends.{has_failed};
+ghost use Rattle.worker.specs.Ends.{has_failed};
 ghost use Rattle.worker.specs.Lives.{standing};
 ghost use Rattle.daemon.specs.Labors.{HasServed, HasServedOn, senses_at};
 
 use links::{Seconds, Transport};
 use log::{Level, Log, Logged, warn};
-use sockets::{DatagramSocket, LinkEnd, Sockets, Waits};
 use std::alloc::Global;
 use std::sync::Wait;
 use std::sync::atomic::AtomicBool;
-use worker::{Book, Flag, Hub, Open, Port, Site, run};
+use worker::{Book, DatagramSocket, Flag, Hub, LinkEnd, Open, Port, Site, Sockets, Waits, run};
 
 /// What the workers of all interfaces have.
 #[derive(Drop)]

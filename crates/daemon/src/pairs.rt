@@ -1,8 +1,7 @@
 //! Ports and the links that receive at their interfaces.
 ghost use Rattle.std.specs.Prelude.{◌≡◌, ◌+◌, IfNone, IfSome, map, vec_len};
 
-use sockets::Sockets;
-use worker::{Port, Site};
+use worker::{Port, Site, Sockets};
 
 /// The last port and the last link, which receives at the interface of the port's number.
 #[tactic(auto, using(crate::proofs::Alike::last_alike, crate::proofs::Alike::rest_alike))]

@@ -5,9 +5,8 @@ ghost use Rattle.daemon.specs.Statuses.{any_failed, status_of_ran};
 use crate::labor::Worked;
 use crate::talk::Parted;
 use crate::totals::Printed;
-use sockets::LinkEnd;
 use std::snapshot::Snapshot;
-use worker::Core;
+use worker::{Core, LinkEnd};
 
 /// How a router ran: as which it began (of which nothing is kept when it runs), that each worker
 /// lived and how its link ended, how that of the console ended, and the conversation; and that the

@@ -3,8 +3,8 @@ ghost use Rattle.std.specs.Prelude.{◌≡◌, ◌⊎◌, ◌≤◌, ◌+◌, Al
 ghost use Rattle.std.specs.Prelude.{nat_lt, vec_len, ⊤};
 ghost use Rattle.links.specs.Descending.{CountDownTo};
 ghost use Rattle.hooks.specs.Known.{history_of};
-ghost use Rattle.sockets.specs.Ends.{has_failed};
-ghost use Rattle.sockets.specs.Wires.{AreBound};
+ghost use Rattle.worker.specs.Ends.{has_failed};
+ghost use Rattle.worker.specs.Wires.{AreBound};
 ghost use Rattle.worker.specs.event_rules.Events.{initial};
 ghost use Rattle.worker.specs.Opening.{IsSetUpFor};
 ghost use Rattle.daemon.specs.Refusals.{IsLaterWhy, IsWhy};
@@ -26,7 +26,6 @@ use hooks::Loader;
 use links::Seconds;
 use log::Log;
 use operator::{Desk, Outlet};
-use sockets::{Sockets, SystemSeconds, Wire, bind_each, listening};
 use std::alloc::{AllocError, Global};
 use std::io::BufRead;
 use std::marker::{Brand, PhantomData};
@@ -38,7 +37,9 @@ use std::sync::atomic::AtomicBool;
 use std::thread::Threads;
 use std::time::Clock;
 use words::Sequence;
-use worker::{Closed, ConfigError, Core, Setup, Site};
+use worker::{
+    Closed, ConfigError, Core, Setup, Site, Sockets, SystemSeconds, Wire, bind_each, listening,
+};
 
 // The interfaces of a configuration, without their ports.
 fn interfaces_of(

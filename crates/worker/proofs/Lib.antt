@@ -3,3 +3,6 @@ mod SeatsOf
 mod Sending
 mod Living
 mod Tries
+mod Refused
+mod Silent
+mod Binding

@@ -10,5 +10,10 @@ pub mod Sending
 pub mod Refusals
 pub mod Lives
 pub mod Opening
+pub mod SocketRefusals
+pub mod Wires
+pub mod Addresses
+pub mod Clocks
+pub mod Ends
 -- what crates above name of those below
 pub use Rattle.turns.specs.event_rules as event_rules

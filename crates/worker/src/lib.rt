@@ -1,5 +1,6 @@
 //! Workers that take turns at one router ([`turn`]): what they start with, the loop of one over its
-//! link and its clock, and what they bring back.
+//! link and its clock, and what they bring back; and links and a clock at the machine, UDP sockets
+//! and the system's seconds.
 #![tactic(auto)]
 
 mod flag;
@@ -7,12 +8,20 @@ mod opening;
 mod serving;
 mod settling;
 mod setup;
+mod sockets;
 
 pub use flag::{Flag, Signal};
 pub use opening::open_hub;
 pub use serving::{Ended, run, send_all, tried};
 pub use settling::{Closed, Settled, close_hub, settle};
 pub use setup::Setup;
+pub use sockets::clock::{ReadsSeconds, SystemSeconds};
+pub use sockets::error::SocketError;
+pub use sockets::refusals::{came, sent};
+pub use sockets::socket::DatagramSocket;
+pub use sockets::socket_links::{LinkEnd, Sockets, listening, listening_with};
+pub use sockets::waiting::{Ear, ListensAt, SystemPoller, Waits};
+pub use sockets::wire::{BindsSockets, SystemSockets, Wire, bind_each, bind_each_with};
 pub use turns::{
     Book, BookError, Config, ConfigError, Core, CoreError, Event, Gate, Hub, Interface,
     NeighborState, Offered, Open, Origin, Out, Port, Site, Taken, Taker, TurnError, Turned, Work,

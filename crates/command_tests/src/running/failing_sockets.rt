@@ -3,7 +3,6 @@ use console::ConfiguredInterface;
 use daemon::{RouteError, operate};
 use event_rules::{Config, Interface};
 use log::Log;
-use sockets::{SocketError, Sockets, Wire, bind_each, listening};
 use std::alloc::{AllocError, Global};
 use std::io::{self, Cursor, Write};
 use std::net::Net;
@@ -13,6 +12,7 @@ use std::sync::Wait;
 use std::thread::{Threads, sleep};
 use std::time::{Clock, Duration};
 use words::{Address, RouterId, Second, Sequence};
+use worker::{SocketError, Sockets, Wire, bind_each, listening};
 
 // Whether the router has an interface, the ports that the sockets of its worker and of the console
 // send to, the seconds that the workers have, and the router's status at its end.

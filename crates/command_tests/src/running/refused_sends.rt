@@ -1,9 +1,9 @@
 //! A link whose socket refuses sends, as by a rule of a firewall, for some calls.
 use links::Transport;
-use sockets::{DatagramSocket, Sockets, Wire, came, sent};
 use std::io;
 use std::process::Abort;
 use std::sync::atomic::{AtomicUsize, Ordering};
+use worker::{DatagramSocket, Sockets, Wire, came, sent};
 
 // EPERM, EACCES, EAGAIN, ENOMEM, EMSGSIZE, EADDRNOTAVAIL, ENETDOWN, ENETUNREACH, ENETRESET,
 // ENOBUFS, ECONNREFUSED, EHOSTDOWN and EHOSTUNREACH of Linux, and at last EINVAL, which a route

@@ -1,3 +1,0 @@
-mod Refused
-mod Silent
-mod Binding

@@ -1,7 +1,0 @@
--- How a link ended.
-use Rattle.std.specs.Prelude.{Bool, nat_lt}
-use Rattle.sockets.specs.declared.socket_links.LinkEnd.{LinkEnd}
-
--- a call of it failed
-abbrev pub has_failed : LinkEnd → Bool
-has_failed end = nat_lt 0 end.faults

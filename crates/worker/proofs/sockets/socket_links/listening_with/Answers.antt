@@ -1,0 +1,36 @@
+use Rattle.std.proofs.Common.{rules, ◌≡◌, ◌+◌, ◌-◌, All, length, map, sym, subst, arith}
+use Rattle.std.proofs.lemmas.List.Elements.{All-push}
+use Rattle.links.specs.Descending.{CountDownTo}
+use Rattle.links.proofs.Counted.{counted_more}
+use Rattle.worker.specs.Wires.{IsListening}
+use Rattle.worker.proofs.sockets.socket_links.listening_with.Goals as goal
+
+pub loop-before-preserved : goal.loop-before-preserved
+loop-before-preserved g c =
+    let interface = length c.args.wires.now - c.loop-before.before in
+    let same : c.in_ok-link.link.own ≡ interface = search rules in
+    let more = counted_more (λ link. link.own) interface c.loop-before.links.items c.in_ok-link.link
+    same c.loop-before.invariant.interfaces in
+    let next : length c.args.wires.now - (c.loop-before.before + 1) + 1 ≡ interface =
+    omega (arith, c.loop-before-test) in
+    let listens = g.P.ListensAt.listens in
+    let there : IsListening listens c.args.wires.now c.in_ok-link.link.own c.in_ok-link.link.ear =
+    subst (λ n. IsListening listens c.args.wires.now n c.in_ok-link.link.ear)
+    (sym c.in_ok-link.ensures.own) c.in_ok-link.ensures.ear in
+    record {
+      each = search rules;
+      interfaces = subst (λ n. CountDownTo n (map (λ link. link.own) c.push.new.self.items))
+          (sym next)
+          (subst (λ items. CountDownTo interface (map (λ link. link.own) items))
+          (sym c.in_ok-push.ensures.items) more);
+      wires = subst (λ items. All (λ link. (link.wires.now ≡ c.args.wires.now)
+          × (link.faults ≡ 0)) items) (sym c.in_ok-push.ensures.items)
+          (All-push (λ link. (link.wires.now ≡ c.args.wires.now) × (link.faults ≡ 0))
+          c.loop-before.links.items c.in_ok-link.link
+          c.loop-before.invariant.wires c.in_ok-link.ensures.wires);
+      ears = subst (λ items. All (λ link. IsListening listens c.args.wires.now link.own link.ear)
+          items) (sym c.in_ok-push.ensures.items)
+          (All-push (λ link. IsListening listens c.args.wires.now link.own link.ear)
+          c.loop-before.links.items c.in_ok-link.link
+          c.loop-before.invariant.ears there);
+    }

@@ -1,0 +1,131 @@
+//! The sockets of the interfaces.
+ghost use Rattle.std.specs.Prelude.{◌≡◌, ℕ, IfErr, IfNone, IfOk, IfSome, map, ⊤};
+ghost use Rattle.std.specs.Option.{option_copied};
+ghost use Rattle.worker.specs.Wires.{AreBound, IsBound, IsRefusalOf, wire_at};
+ghost use Rattle.worker.specs.declared.sockets.error.SocketError.TheVariants.{Bind};
+
+use crate::sockets::error::SocketError;
+use crate::sockets::socket::address_of;
+use console::ConfiguredInterface;
+use mio::net::UdpSocket;
+use std::alloc::{AllocFailed, Global};
+use std::net::Net;
+
+/// An interface's socket, and the port that its packets go to.
+#[derive(Drop)]
+pub struct Wire<S = UdpSocket> {
+    pub(crate) socket: S,
+    pub(crate) peer: u16,
+}
+
+impl<S> Wire<S> {
+    /// A socket whose packets go to this port of 127.0.0.1. To port 0 none can.
+    pub fn new(socket: S, peer: u16) -> Wire<S>
+        ensures { (result.socket ≡ socket) × (result.peer ≡ peer) }
+    {
+        Wire { socket, peer }
+    }
+
+    /// Its socket.
+    pub fn socket(&self) -> &S
+        ensures { result.now ≡ self.now.socket }
+    {
+        &self.socket
+    }
+}
+
+/// Binds sockets to ports of 127.0.0.1.
+///
+/// Which socket was bound (`bound`) and which port couldn't be had (`refused`) is left open: code
+/// that is proved for any of these knows it from the call alone.
+pub trait BindsSockets<S> {
+    ghost bound: { S → (port : ℕ) → Type 0 };
+
+    ghost refused: { (port : ℕ) → Type 0 };
+
+    /// A socket at this port; `None` if that can't be had.
+    fn bind(&self, port: u16) -> Option<S>
+        ensures bound { IfSome result (λ socket. bound socket port) }
+        ensures refused { IfNone result (refused port) };
+}
+
+/// Binds sockets of the system, of which nothing is known.
+#[derive(Drop)]
+pub struct SystemSockets<'a, R> {
+    pub rt: &'a R,
+}
+
+impl<'a, R: Net> BindsSockets<UdpSocket> for SystemSockets<'a, R> {
+    ghost bound = { λ _ _. ⊤ };
+
+    ghost refused = { λ _. ⊤ };
+
+    fn bind(&self, port: u16) -> Option<UdpSocket> {
+        UdpSocket::bind(self.rt, address_of(port)).ok()
+    }
+}
+
+// Binds the socket of an interface.
+fn bound<S: Drop, B: BindsSockets<S>>(
+    binder: &B,
+    configured: &ConfiguredInterface,
+) -> Result<Wire<S>, SocketError>
+    ensures wire { IfOk result (IsBound B.bound configured.now) }
+    ensures port { IfErr result (λ error. error ≡ Bind configured.now.port) }
+    ensures refused { IfErr result (λ _. B.refused configured.now.port) }
+{
+    match binder.bind(configured.port) {
+        Some(socket) => Ok(Wire::new(socket, configured.peer)),
+        None => Err(SocketError::Bind(configured.port)),
+    }
+}
+
+/// Binds the socket of each interface, in order, with what this binds: at the interface's own port.
+/// What interface n sends goes to the peer of the nth.
+///
+/// # Errors
+///
+/// `Bind` with the first port that can't be had; `Memory` if an allocation was refused.
+#[tactic(auto, using(crate::proofs::Refused::refused_at, crate::proofs::Binding::all_bound))]
+pub fn bind_each_with<S: Drop, B: BindsSockets<S>>(
+    binder: &B,
+    alloc: Global,
+    interfaces: &[ConfiguredInterface],
+) -> Result<Vec<Wire<S>>, SocketError>
+    ensures bound { IfOk result (λ wires. AreBound B.bound interfaces.now wires.items) }
+    ensures port { IfErr result (IsRefusalOf B.refused interfaces.now) }
+{
+    let mut wires = Vec::with_capacity(alloc, interfaces.len())?;
+    for configured in interfaces {
+        let wire = bound(binder, configured)?;
+        wires.push(wire)?;
+    }
+    Ok(wires)
+}
+
+/// Binds the system's sockets so.
+///
+/// # Errors
+///
+/// As [`bind_each_with`].
+pub fn bind_each<R: Net>(
+    rt: &R,
+    alloc: Global,
+    interfaces: &[ConfiguredInterface],
+) -> Result<Vec<Wire>, SocketError>
+    ensures bound { IfOk result (λ wires.
+        AreBound (λ _ _. ⊤) interfaces.now wires.items) }
+    ensures port { IfErr result (IsRefusalOf (λ _. ⊤) interfaces.now) }
+{
+    bind_each_with(&SystemSockets { rt }, alloc, interfaces)
+}
+
+/// The socket of the interface of this number, counted from 1.
+pub fn wire_at<S>(wires: &[Wire<S>], interface: u16) -> Option<&Wire<S>>
+    ensures { option_copied result ≡ wire_at wires.now interface }
+{
+    if interface == 0 {
+        return None;
+    }
+    wires.get(interface as usize - 1)
+}
