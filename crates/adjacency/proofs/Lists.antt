@@ -1,53 +1,21 @@
 -- Lists that are filled from the database, and lists without their first entries.
-use Rattle.std.proofs.Common.{◌≡◌, ℕ, zero, suc, ◌+◌, ◌<◌, T, Bool, true, false, cond, ◌&&◌, ◌||◌}
+use Rattle.std.proofs.Common.{◌≡◌, ℕ, zero, suc, ◌+◌, ◌<◌, T, Bool, true, false, cond, ◌||◌}
 use Rattle.std.proofs.Common.{List, [], ◌∷◌, ◌++◌, map, length, take, drop, get_or, Option, None}
-use Rattle.std.proofs.Common.{Some, is_some, refl, sym, ap, subst, ◌∙◌, arith}
+use Rattle.std.proofs.Common.{Some, is_some, refl, sym, ap, ◌∙◌, arith}
 use Rattle.std.proofs.lemmas.List.{take_more}
 use Rattle.std.proofs.lemmas.List.Elements.{filter_map-append}
 use Rattle.std.specs.List.{AllByRecursion, cons_option, filter, filter_map, fold, list_any}
 use Rattle.std.specs.FinMap as finite
 use Rattle.std.specs.FinMap.Entries.{below_all, is_sorted}
-use Rattle.std.specs.Ordering.{eq_by_cmp, is_eq, is_lt}
-use Rattle.std.specs.declared.cmp.Ordering.{Ordering}
-use Rattle.std.specs.declared.cmp.Ordering.TheVariants.{Less, Equal, Greater}
+use Rattle.std.specs.Ordering.{eq_by_cmp}
 use Rattle.words.specs.declared.key.Key.{Key}
 use Rattle.lsdb.specs.Copies.{Database, DatabaseCopy, list_entry_of}
 use Rattle.lsdb.specs.Instances.{ListEntry, aged_header}
 use Rattle.lsdb.specs.Keys.{ByKey, key_cmp}
-use Rattle.lsdb.proofs.Keys.{keys_exact, keys_total}
+use Rattle.lsdb.proofs.Keys.{absent, equal, first, keys_exact, keys_total, second}
 use Rattle.adjacency.specs.Descriptions.{listed_where}
 use Rattle.adjacency.specs.Exchanges.{entry_header, with_copy, with_key}
 use Rattle.adjacency.proofs.Maps.{IfThere, OfEntry, entries_in}
-
--- ---- tests
-
-first : (a b : Bool) → T (a && b) → T a
-first true b p = tt
-first false b p = p
-
-second : (a b : Bool) → T (a && b) → T b
-second true b p = p
-second false b p = absurd p
-
-less : (r : Ordering) → T (is_lt r) → r ≡ Less
-less Less p = refl
-less Equal p = absurd p
-less Greater p = absurd p
-
-equal : (r : Ordering) → is_eq r ≡ true → r ≡ Equal
-equal Less p = absurd (subst T (sym p) tt)
-equal Equal p = refl
-equal Greater p = absurd (subst T (sym p) tt)
-
--- a key that is equal to one below all others isn't among them
-absent : {X : Type 0} (q k : Key) (es : List (Key × X)) → key_cmp q k ≡ Equal
-    → T (below_all key_cmp k es) → finite.find key_cmp q es ≡ None
-absent q k [] same all = refl
-absent q k (e ∷ es) same all =
-    ap (λ r. cond (is_eq r) (Some e.1) (finite.find key_cmp q es))
-    (keys_total.congr q k e.0 same ∙ less (key_cmp k e.0)
-    (first (is_lt (key_cmp k e.0)) (below_all key_cmp k es) all))
-    ∙ absent q k es same (second (is_lt (key_cmp k e.0)) (below_all key_cmp k es) all)
 
 -- ---- lists without their first keys
 

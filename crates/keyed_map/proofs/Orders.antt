@@ -1,10 +1,10 @@
 -- Slots in the order of their keys: the live entries keep the order.
-use Rattle.std.proofs.Common.{Ordering, cond, Some, None, ◌≡◌, ℕ, zero, suc, ◌≤◌, arith, length}
+use Rattle.std.proofs.Common.{cond, Some, None, ◌≡◌, ℕ, zero, suc, ◌≤◌, arith, length}
 use Rattle.std.proofs.Common.{take, Bool, true, false, T, List, [], ◌∷◌, ◌++◌, map, ◌&&◌, refl, sym}
 use Rattle.std.proofs.Common.{ap, subst, ◌∙◌}
 use Rattle.std.specs.List.{AllByRecursion, filter}
 use Rattle.std.specs.List.Sorted.{IsStrictlySortedBy}
-use Rattle.std.specs.declared.cmp.Ordering.TheVariants.{Less, Equal, Greater}
+use Rattle.std.specs.declared.cmp.Ordering.TheVariants.{Less, Equal}
 use Rattle.std.specs.declared.ops.Bound.TheVariants.{Included, Unbounded}
 use Rattle.std.specs.BTreeMap.Range.{entries_between}
 use Rattle.std.specs.Ordering.{eq_by_cmp, is_eq, is_le, is_lt}
@@ -20,28 +20,11 @@ use Rattle.keyed_map.specs.Keys.{key_cmp}
 use Rattle.keyed_map.specs.Slots.{holds, kept, keys_from, live, slots_of}
 use Rattle.keyed_map.proofs.Keys.{keys_exact, keys_total}
 use Rattle.keyed_map.proofs.Slots.{live-empty, slots-empty}
+use Rattle.keyed_map.proofs.Tests.{equal, first, less, second}
 
 both : (a b : Bool) → T a → T b → T (a && b)
 both true b p q = q
 both false b p q = p
-
-first : (a b : Bool) → T (a && b) → T a
-first true b p = tt
-first false b p = p
-
-second : (a b : Bool) → T (a && b) → T b
-second true b p = p
-second false b p = absurd p
-
-less : (r : Ordering) → T (is_lt r) → r ≡ Less
-less Less p = refl
-less Equal p = absurd p
-less Greater p = absurd p
-
-equal : (r : Ordering) → is_eq r ≡ true → r ≡ Equal
-equal Less p = absurd (subst T (sym p) tt)
-equal Equal p = refl
-equal Greater p = absurd (subst T (sym p) tt)
 
 module _ {Y : Type 0} where
   below_from : (x : Key) (es : List (Key × Y))

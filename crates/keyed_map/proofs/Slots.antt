@@ -1,10 +1,9 @@
 -- The slots after an edit, and after it is undone.
 use Rattle.std.proofs.Common.{◌≡◌, Bool, true, false, cond, T, List, [], ◌∷◌, ◌++◌, Some, None}
-use Rattle.std.proofs.Common.{IsSome, ◌&&◌, refl, sym, ap, subst, ◌∙◌}
+use Rattle.std.proofs.Common.{IsSome, refl, sym, ap, subst, ◌∙◌}
 use Rattle.std.specs.Prelude.{Option}
-use Rattle.std.specs.declared.cmp.Ordering.{Ordering}
-use Rattle.std.specs.declared.cmp.Ordering.TheVariants.{Less, Equal, Greater}
-use Rattle.std.specs.Ordering.{eq_by_cmp, is_eq, is_lt}
+use Rattle.std.specs.declared.cmp.Ordering.TheVariants.{Equal}
+use Rattle.std.specs.Ordering.{eq_by_cmp, is_eq}
 use Rattle.std.specs.Cmp.{eq_by_cmp_equiv, tied_itself}
 use Rattle.std.specs.FinMap as map
 use Rattle.std.specs.FinMap.Entries.{below_all}
@@ -19,24 +18,7 @@ use Rattle.keyed_map.specs.Keys.{key_cmp}
 use Rattle.keyed_map.specs.Slots.{AllFit, Fits, HasPlace, count_after_change, holds, kept, live}
 use Rattle.keyed_map.specs.Slots.{put_back, put_live, slots_of, undo, undone}
 use Rattle.keyed_map.proofs.Keys.{keys_exact, keys_total}
-
-first : (a b : Bool) → T (a && b) → T a
-first true b p = tt
-first false b p = p
-
-second : (a b : Bool) → T (a && b) → T b
-second true b p = p
-second false b p = absurd p
-
-less : (r : Ordering) → T (is_lt r) → r ≡ Less
-less Less p = refl
-less Equal p = absurd p
-less Greater p = absurd p
-
-equal : (r : Ordering) → is_eq r ≡ true → r ≡ Equal
-equal Less p = absurd (subst T (sym p) tt)
-equal Equal p = refl
-equal Greater p = absurd (subst T (sym p) tt)
+use Rattle.keyed_map.proofs.Tests.{equal, first, less, second}
 
 abbrev pub held_in : {X : Type 0} → Option (KeySlot X) → Option X
 held_in None = None

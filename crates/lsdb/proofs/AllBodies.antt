@@ -21,8 +21,9 @@ use Rattle.lsdb.specs.Bodies.{AreBodies}
 use Rattle.lsdb.specs.Changes.{IsUpTo}
 use Rattle.lsdb.specs.Copies.{Database, DatabaseCopy, is_aged_out, said_by}
 use Rattle.lsdb.specs.Keys.{key_cmp}
-use Rattle.lsdb.proofs.Entries.{below, entry_found, first, first_is, found_in, later_is, of_cons}
-use Rattle.lsdb.proofs.Entries.{of_empty, second}
+use Rattle.lsdb.proofs.Entries.{below, entry_found, first_is, found_in, later_is, of_cons}
+use Rattle.lsdb.proofs.Entries.{of_empty}
+use Rattle.lsdb.proofs.Keys.{first, second}
 
 module _ {X : Type 0} where
   front_pairs : (R : X → X → Type 0) (xs ys : List X) → AllPairs R (xs ++ ys) → AllPairs R xs

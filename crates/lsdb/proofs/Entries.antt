@@ -1,17 +1,16 @@
 -- The entries of a map, as a list in the order of their keys.
-use Rattle.std.proofs.Common.{◌≡◌, zero, suc, ◌⊎◌, inl, inr, Bool, true, false, cond, T, ◌&&◌, List}
+use Rattle.std.proofs.Common.{◌≡◌, zero, suc, ◌⊎◌, inl, inr, Bool, true, false, cond, T, List}
 use Rattle.std.proofs.Common.{[], ◌∷◌, Some, refl, sym, ◌∙◌, ap, subst, arith}
 use Rattle.std.proofs.lemmas.Option.{none-some, same_Some}
 use Rattle.std.specs.Cmp.{tied_itself}
 use Rattle.std.specs.List.{Contains, filter}
 use Rattle.std.specs.FinMap as finite
 use Rattle.std.specs.FinMap.Entries.{below_all, is_sorted}
-use Rattle.std.specs.Ordering.{eq_by_cmp, is_eq, is_lt}
-use Rattle.std.specs.declared.cmp.Ordering.{Ordering}
-use Rattle.std.specs.declared.cmp.Ordering.TheVariants.{Equal, Greater, Less}
+use Rattle.std.specs.Ordering.{eq_by_cmp, is_eq}
+use Rattle.std.specs.declared.cmp.Ordering.TheVariants.{Equal, Less}
 use Rattle.words.specs.declared.key.Key.{Key}
 use Rattle.lsdb.specs.Keys.{ByKey, key_cmp}
-use Rattle.lsdb.proofs.Keys.{keys_total, tied}
+use Rattle.lsdb.proofs.Keys.{first, keys_total, less, second, tied}
 
 -- ---- lists
 
@@ -38,19 +37,6 @@ module _ {X : Type 0} where
       λ i. cond (alike x (first_is x xs) i) (x ∷ rest i) (rest i)
 
 -- ---- the order of keys
-
-pub first : (a b : Bool) → T (a && b) → T a
-first true b p = tt
-first false b p = p
-
-pub second : (a b : Bool) → T (a && b) → T b
-second true b p = p
-second false b p = absurd p
-
-less : (r : Ordering) → T (is_lt r) → r ≡ Less
-less Less p = refl
-less Equal p = absurd p
-less Greater p = absurd p
 
 module _ {X : Type 0} where
   pub below : (key : Key) (es : List (Key × X)) (x : Key × X) → T (below_all key_cmp key es)

@@ -1,17 +1,11 @@
 -- The order of keys is total, and distinguishes all keys.
-use Rattle.std.proofs.Common.{◌≡◌, true, T, refl, sym, subst}
+use Rattle.std.proofs.Common.{◌≡◌, true}
 use Rattle.std.specs.FinMap as finite
-use Rattle.std.specs.Ordering.{eq_by_cmp, is_eq}
-use Rattle.std.specs.declared.cmp.Ordering.{Ordering}
-use Rattle.std.specs.declared.cmp.Ordering.TheVariants.{Equal, Greater, Less}
+use Rattle.std.specs.Ordering.{eq_by_cmp}
 use Rattle.words.specs.declared.key.Key.{Key}
 use Rattle.lsdb.specs.Keys.{ByKey, key_cmp}
 pub use Rattle.keyed_map.proofs.Keys.{keys_exact, keys_total}
-
-equal : (r : Ordering) → is_eq r ≡ true → r ≡ Equal
-equal Less p = absurd (subst T (sym p) tt)
-equal Equal p = refl
-equal Greater p = absurd (subst T (sym p) tt)
+pub use Rattle.keyed_map.proofs.Tests.{absent, equal, first, less, second}
 
 pub tied : (q k : Key) → eq_by_cmp key_cmp q k ≡ true → q ≡ k
 tied q k is = keys_exact q k (equal _ is)

@@ -1,48 +1,18 @@
 -- The copies at MaxAge that are on no list, in turn, are those that don't stay.
 use Rattle.std.proofs.Common.{◌≡◌, ℕ, T, Bool, true, false, cond, not, ◌&&◌, ◌||◌, List, [], ◌∷◌}
-use Rattle.std.proofs.Common.{map, Option, None, Some, refl, sym, ap, subst, ◌∙◌}
+use Rattle.std.proofs.Common.{map, Option, None, Some, refl, sym, ap, ◌∙◌}
 use Rattle.std.specs.List.{filter, list_any}
 use Rattle.std.specs.FinMap as finite
 use Rattle.std.specs.FinMap.Entries.{below_all, is_sorted}
-use Rattle.std.specs.Ordering.{eq_by_cmp, is_eq, is_lt}
-use Rattle.std.specs.declared.cmp.Ordering.{Ordering}
-use Rattle.std.specs.declared.cmp.Ordering.TheVariants.{Less, Equal, Greater}
+use Rattle.std.specs.Ordering.{eq_by_cmp}
 use Rattle.words.specs.declared.key.Key.{Key}
 use Rattle.flooding.specs.lsdb.Copies.{Database, DatabaseCopy, aged_keys, is_aged_out}
 use Rattle.flooding.specs.lsdb.Keys.{key_cmp}
-use Rattle.flooding.proofs.lsdb.Keys.{keys_exact, keys_total}
+use Rattle.flooding.proofs.lsdb.Keys.{absent, equal, first, keys_exact, keys_total, second}
 use Rattle.flooding.specs.received.Links.{Area, Link, any_has_retransmission}
 use Rattle.event_rules.specs.Endings.{stays, stays_as}
 use Rattle.flooding.specs.Links.{without_acknowledged}
 use Rattle.router_state.specs.Aging.{without_each}
-
-first : (a b : Bool) → T (a && b) → T a
-first true b p = tt
-first false b p = p
-
-second : (a b : Bool) → T (a && b) → T b
-second true b p = p
-second false b p = absurd p
-
-less : (r : Ordering) → T (is_lt r) → r ≡ Less
-less Less p = refl
-less Equal p = absurd p
-less Greater p = absurd p
-
-equal : (r : Ordering) → is_eq r ≡ true → r ≡ Equal
-equal Less p = absurd (subst T (sym p) tt)
-equal Equal p = refl
-equal Greater p = absurd (subst T (sym p) tt)
-
--- a key that is equal to one below all others isn't among them
-absent : (q k : Key) (es : List (Key × DatabaseCopy)) → key_cmp q k ≡ Equal
-    → T (below_all key_cmp k es) → finite.find key_cmp q es ≡ None
-absent q k [] same all = refl
-absent q k (e ∷ es) same all =
-    ap (λ r. cond (is_eq r) (Some e.1) (finite.find key_cmp q es))
-    (keys_total.congr q k e.0 same ∙ less (key_cmp k e.0)
-    (first (is_lt (key_cmp k e.0)) (below_all key_cmp k es) all))
-    ∙ absent q k es same (second (is_lt (key_cmp k e.0)) (below_all key_cmp k es) all)
 
 abbrev passes : (DatabaseCopy → Bool) → Option DatabaseCopy → Bool
 passes t None = false

@@ -1,26 +1,19 @@
 -- Announced destinations have their own keys, also after each edit.
-use Rattle.std.proofs.Common.{◌≡◌, T, Bool, true, false, cond, not, ◌&&◌, Option, None, Some, refl}
+use Rattle.std.proofs.Common.{◌≡◌, Bool, true, false, cond, not, ◌&&◌, Option, None, Some, refl}
 use Rattle.std.proofs.Common.{sym, ap, subst, ◌∙◌}
 use mathlib.Core.Bool.{false≢true}
 use Rattle.std.specs.Prelude.{is_some}
 use Rattle.std.specs.FinMap as finite
 use Rattle.std.specs.FinSet as set
-use Rattle.std.specs.Ordering.{eq_by_cmp, is_eq}
-use Rattle.std.specs.declared.cmp.Ordering.{Ordering}
-use Rattle.std.specs.declared.cmp.Ordering.TheVariants.{Less, Equal, Greater}
+use Rattle.std.specs.Ordering.{eq_by_cmp}
 use Rattle.words.specs.Numbers.{RouterNumber}
 use Rattle.words.specs.declared.key.Key.{Key}
 use Rattle.words.specs.declared.route.External.{External}
 use Rattle.flooding.specs.lsdb.Keys.{ByKey, key_cmp}
-use Rattle.flooding.proofs.lsdb.Keys.{keys_exact, keys_total}
+use Rattle.flooding.proofs.lsdb.Keys.{equal, keys_exact, keys_total}
 use Rattle.flooding.specs.adjacency.Views.{keys_of}
 use Rattle.flooding.proofs.adjacency.Neighbors.{contains_key_of}
 use Rattle.router_state.specs.Owned.{AreOwn, IsOwn}
-
-equal : (r : Ordering) → is_eq r ≡ true → r ≡ Equal
-equal Less p = absurd (subst T (sym p) tt)
-equal Equal p = refl
-equal Greater p = absurd (subst T (sym p) tt)
 
 value_or : External → Option External → External
 value_or e None = e

@@ -1,48 +1,18 @@
 -- Without the keys since whose origination MinLSInterval has passed, the originations are the
 -- recent ones.
-use Rattle.std.proofs.Common.{◌≡◌, ℕ, T, Bool, true, false, cond, not, ◌&&◌, ◌||◌, List, [], ◌∷◌}
-use Rattle.std.proofs.Common.{map, Option, None, Some, refl, sym, ap, subst, ◌∙◌}
+use Rattle.std.proofs.Common.{◌≡◌, ℕ, T, Bool, true, false, cond, not, ◌||◌, List, [], ◌∷◌}
+use Rattle.std.proofs.Common.{map, Option, None, Some, refl, sym, ap, ◌∙◌}
 use Rattle.std.specs.List.{filter, fold, list_any}
 use Rattle.std.specs.FinMap as finite
 use Rattle.std.specs.FinMap.Entries.{below_all, is_sorted}
-use Rattle.std.specs.Ordering.{eq_by_cmp, is_eq, is_lt}
-use Rattle.std.specs.declared.cmp.Ordering.{Ordering}
-use Rattle.std.specs.declared.cmp.Ordering.TheVariants.{Less, Equal, Greater}
+use Rattle.std.specs.Ordering.{eq_by_cmp}
 use Rattle.words.specs.declared.key.Key.{Key}
 use Rattle.keyed_map.specs.Slots.{keys_where}
 use Rattle.flooding.specs.lsdb.Keys.{ByKey, key_cmp}
-use Rattle.flooding.proofs.lsdb.Keys.{keys_exact, keys_total}
+use Rattle.flooding.proofs.lsdb.Keys.{absent, equal, first, keys_exact, keys_total, second}
 use Rattle.event_rules.specs.Originations.{interval_is_over, is_recent}
 
-first : (a b : Bool) → T (a && b) → T a
-first true b p = tt
-first false b p = p
-
-second : (a b : Bool) → T (a && b) → T b
-second true b p = p
-second false b p = absurd p
-
-less : (r : Ordering) → T (is_lt r) → r ≡ Less
-less Less p = refl
-less Equal p = absurd p
-less Greater p = absurd p
-
-equal : (r : Ordering) → is_eq r ≡ true → r ≡ Equal
-equal Less p = absurd (subst T (sym p) tt)
-equal Equal p = refl
-equal Greater p = absurd (subst T (sym p) tt)
-
 module _ {X : Type 0} where
-  -- a key that is equal to one below all others isn't among them
-  absent : (q k : Key) (es : List (Key × X)) → key_cmp q k ≡ Equal → T (below_all key_cmp k es)
-      → finite.find key_cmp q es ≡ None
-  absent q k [] same all = refl
-  absent q k (e ∷ es) same all =
-      ap (λ r. cond (is_eq r) (Some e.1) (finite.find key_cmp q es))
-      (keys_total.congr q k e.0 same ∙ less (key_cmp k e.0)
-      (first (is_lt (key_cmp k e.0)) (below_all key_cmp k es) all))
-      ∙ absent q k es same (second (is_lt (key_cmp k e.0)) (below_all key_cmp k es) all)
-
   abbrev pub passes : (X → Bool) → Option X → Bool
   passes t None = false
   passes t (Some x) = t x
