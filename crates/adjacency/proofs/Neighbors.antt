@@ -36,7 +36,8 @@ gone_or : {X : Type 0} (b : Bool) (o : Option X) → is_some (cond b None o) ≡
 gone_or true o = refl
 gone_or false o = refl
 
-keys_remove : {X : Type 0} (m : ByKey X) (k : Key)
+-- a set that is kept as a map, without a key
+pub keys_remove : {X : Type 0} (m : ByKey X) (k : Key)
     → keys_of (finite.remove m k) ≡ set.remove (keys_of m) k
 keys_remove m k = set.same_set keys_total keys_exact (keys_of (finite.remove m k))
     (set.remove (keys_of m) k) (λ q.

@@ -26,12 +26,12 @@ use Rattle.event_rules.specs.LsaInstances.{LsaInstance, instance_of_header, inst
 use Rattle.event_rules.specs.LsaInstances.{instances_in_update}
 use Rattle.event_rules.specs.Packing.{at_interface, bodies, out_of, outs_at, outs_of, packet_of}
 use Rattle.event_rules.specs.Packing.{sent_lsa, IsSentText}
-use Rattle.event_rules.proofs.Rooms.{both, mapped_all}
+use Rattle.event_rules.proofs.Rooms.{both, mapped_all, paired_all}
 use Rattle.flood_laws.specs.Keeping.{AreTexts, AreTextsAt, IsInstance}
-use Rattle.flood_laws.proofs.Known.{of_member, paired_all}
+use Rattle.event_rules.proofs.Fitting.{read_unless}
+use Rattle.flood_laws.proofs.Known.{of_member}
 use Rattle.flood_laws.proofs.Lists.{later_is, of_cons, of_empty}
 use Rattle.flood_laws.proofs.Taken.{named_first}
-use Rattle.flood_laws.proofs.Read.{read_unless}
 use Rattle.flood_laws.proofs.Packed.{bodies_pack}
 use Rattle.flood_laws.proofs.Keeping.{name_read}
 use Rattle.agreement_laws.specs.NeighborHistories.{text_at}

@@ -51,7 +51,7 @@ use Rattle.flood_laws.proofs.Lists.{of_cons, of_empty}
 use Rattle.flood_laws.proofs.Retransmitted.{IsItsOwn, OwnKeys, There, all_there, own_at, read}
 use Rattle.flood_laws.proofs.Retransmitted as retransmitted
 use Rattle.flood_laws.proofs.Worlds.{mapped}
-use Rattle.flood_laws.proofs.Read.{read_unless}
+use Rattle.event_rules.proofs.Fitting.{read_unless}
 use Rattle.agreement_laws.specs.Exchanged.{Converses, Tells, conversation_with, headers_told}
 use Rattle.agreement_laws.proofs.Ages.{aged_at_least}
 use Rattle.agreement_laws.proofs.Describing.{held, instance_at}

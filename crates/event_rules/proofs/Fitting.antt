@@ -5,7 +5,7 @@ use Rattle.std.proofs.Common.{Some, refl, sym, ap, ◌∙◌, arith, length-appe
 use Rattle.std.specs.Prelude.{nat_le}
 use Rattle.std.specs.List.{AllByRecursion, flat_map}
 use Rattle.std.specs.FinMap as finite
-use Rattle.std.proofs.lemmas.Bool.{eqb-true, leb-true}
+use Rattle.std.proofs.lemmas.Bool.{and_parts, eqb-true, leb-true}
 use Rattle.words.specs.declared.key.Key.{Key}
 use Rattle.words.specs.declared.route.External.{External}
 use Rattle.words.specs.Fields.{field, fields}
@@ -18,12 +18,12 @@ use Rattle.lsa.specs.declared.body.LinkKind.TheVariants.{PointToPoint}
 use Rattle.lsa.specs.declared.fault.LsaFault.{LsaFault}
 use Rattle.lsa.specs.Headers.{header_at, header_text}
 use Rattle.lsa.specs.Origination.{sealed_lsa}
-use Rattle.lsa.specs.Reading.{attached_at, body_fills, body_of, external_fills, external_of}
+use Rattle.lsa.specs.Reading.{router_id_at, body_fills, body_of, external_fills, external_of}
 use Rattle.lsa.specs.Reading.{external_tos_at, fault_of, faults, first_of, is_external_bit}
 use Rattle.lsa.specs.Reading.{is_link_kind, link_at, link_size, link_tos_at, links_at, links_fill}
 use Rattle.lsa.specs.Reading.{lsa_in, lsa_of, network_fills, network_of, router_fills, router_of}
 use Rattle.lsa.specs.Reading.{summary_fills, summary_of, summary_tos_at}
-use Rattle.lsa.specs.Text.{IsAttached, IsExternalTos, IsLinkTos, IsSummaryTos, attached_text}
+use Rattle.lsa.specs.Text.{IsRouterId, IsExternalTos, IsLinkTos, IsSummaryTos, router_id_text}
 use Rattle.lsa.specs.Text.{body_text, external_fields, external_tos_text, link_fields, link_text}
 use Rattle.lsa.specs.Text.{link_tos_text, router_fields, summary_fields, summary_text}
 use Rattle.lsa.specs.Text.{summary_tos_text, text}
@@ -46,10 +46,6 @@ use Rattle.event_rules.specs.Originations.{router_body, router_key, stub, wanted
 use Rattle.event_rules.specs.Routers.{Router}
 
 -- ---- tests
-
-and_parts : (a b : Bool) → (a && b) ≡ true → (a ≡ true) × (b ≡ true)
-and_parts true b e = (refl, e)
-and_parts false b e = absurd cc
 
 not_false : (b : Bool) → not b ≡ false → b ≡ true
 not_false true e = refl
@@ -76,8 +72,8 @@ length-records read width bytes at (suc n) =
 link_tos-wide : IsWide link_tos_text 4
 link_tos-wide t = refl
 
-attached-wide : IsWide attached_text 4
-attached-wide r = refl
+router_id-wide : IsWide router_id_text 4
+router_id-wide r = refl
 
 summary_tos-wide : IsWide summary_tos_text 4
 summary_tos-wide t = refl
@@ -131,14 +127,14 @@ network_filled : (bytes : List ℕ) → network_fills bytes ≡ true
 network_filled bytes e =
     let a = and_parts (nat_le 24 (length bytes)) (eqb ((length bytes - 24) % 4) 0) e in
     let n : ℕ = (length bytes - 24) / 4 in
-    let routers : List ℕ = records attached_at 4 bytes 24 ((length bytes - 24) / 4) in
+    let routers : List ℕ = records router_id_at 4 bytes 24 ((length bytes - 24) / 4) in
     omega (
       arith,
       leb-true 24 (length bytes) a.0,
       eqb-true ((length bytes - 24) % 4) 0 a.1,
-      length-append (fields ((4, field bytes 20 4) ∷ [])) (flat_map attached_text routers),
-      length-records_text attached_at attached_text IsAttached 4 attached-wide routers,
-      length-records attached_at 4 bytes 24 ((length bytes - 24) / 4),
+      length-append (fields ((4, field bytes 20 4) ∷ [])) (flat_map router_id_text routers),
+      length-records_text router_id_at router_id_text IsRouterId 4 router_id-wide routers,
+      length-records router_id_at 4 bytes 24 ((length bytes - 24) / 4),
     )
 
 summary_filled : (bytes : List ℕ) → summary_fills bytes ≡ true
@@ -210,7 +206,8 @@ abbrev pub FitsIfRead : Option Lsa → Type 0
 FitsIfRead None = Unit {0}
 FitsIfRead (Some lsa) = Fits lsa
 
-abbrev read_unless : List ℕ → Option LsaFault → Option Lsa
+-- the LSA in the bytes, by their fault
+abbrev pub read_unless : List ℕ → Option LsaFault → Option Lsa
 read_unless bytes None = Some (lsa_of bytes)
 read_unless bytes (Some f) = None
 
@@ -251,7 +248,7 @@ brings_short o (packets.Update lsas) few =
     each_short lsas (omega (
       arith,
       few,
-      length-append (packet_text.router_text (length lsas))
+      length-append (packet_text.router_id_text (length lsas))
           (flat_map (λ (lsa : List ℕ). lsa) lsas),
     ))
 brings_short o (packets.Acknowledgment headers) few = tt

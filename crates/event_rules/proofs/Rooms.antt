@@ -15,10 +15,10 @@ use Rattle.packet.specs.declared.model.PacketBody.{PacketBody}
 use Rattle.packet.specs.declared.model.PacketBody.TheVariants as body
 use Rattle.packet.specs.declared.model.Packet.{Packet}
 use Rattle.packet.specs.Checksum.{packet_checksum}
-use Rattle.packet.specs.Reading.{key_at, router_at}
-use Rattle.packet.specs.Text.{IsKey, IsRouter, body_text, canonical, closed_fields, description}
-use Rattle.packet.specs.Text.{header, hello, key_text, router_text, text, type_of}
-use Rattle.packet.proofs.Records.{key-wide, router-wide}
+use Rattle.packet.specs.Reading.{key_at, router_id_at}
+use Rattle.packet.specs.Text.{IsKey, IsRouterId, body_text, canonical, closed_fields, description}
+use Rattle.packet.specs.Text.{header, hello, key_text, router_id_text, text, type_of}
+use Rattle.packet.proofs.Records.{key-wide, router_id-wide}
 use Rattle.received.specs.adjacency.Contents.{Content}
 use Rattle.received.specs.Links.{Link}
 use Rattle.received.specs.Outcomes.{Send}
@@ -50,7 +50,7 @@ pub mapped_all : {X Y : Type 0} (f : X → Y) (P : X → Type 0) (Q : Y → Type
 mapped_all f P Q each [] p = tt
 mapped_all f P Q each (x ∷ xs) p = (each x p.0, mapped_all f P Q each xs p.1)
 
-paired_all : {X : Type 0} (P Q : X → Type 0) (xs : List X) → AllByRecursion P xs
+pub paired_all : {X : Type 0} (P Q : X → Type 0) (xs : List X) → AllByRecursion P xs
     → AllByRecursion Q xs → AllByRecursion (λ x. P x × Q x) xs
 paired_all P Q [] p q = tt
 paired_all P Q (x ∷ xs) p q = ((p.0, q.0), paired_all P Q xs p.1 q.1)
@@ -106,12 +106,12 @@ canonical_length p = length-append
 
 hello_room : (c : Content) → HasRoom c → AllByRecursion HasPacketRoom (cons_option (hellos c) [])
 hello_room (Content.SendsHello h) room =
-    let wide : length (flat_map router_text h.neighbors) ≡ 4 * length h.neighbors =
-    length-records_text router_at router_text IsRouter 4 router-wide h.neighbors in
-    let size : length (fields (hello closed_fields h) ++ flat_map router_text h.neighbors)
-    ≡ 20 + length (flat_map router_text h.neighbors) =
-    length-append (fields (hello closed_fields h)) (flat_map router_text h.neighbors) in
-    let few : 24 + length (fields (hello closed_fields h) ++ flat_map router_text h.neighbors)
+    let wide : length (flat_map router_id_text h.neighbors) ≡ 4 * length h.neighbors =
+    length-records_text router_id_at router_id_text IsRouterId 4 router_id-wide h.neighbors in
+    let size : length (fields (hello closed_fields h) ++ flat_map router_id_text h.neighbors)
+    ≡ 20 + length (flat_map router_id_text h.neighbors) =
+    length-append (fields (hello closed_fields h)) (flat_map router_id_text h.neighbors) in
+    let few : 24 + length (fields (hello closed_fields h) ++ flat_map router_id_text h.neighbors)
     ≤ 8192 = omega (arith, wide, size, room) in
     (record { bytes = few; count = omega arith }, tt)
 hello_room (Content.Describes d) room = tt
@@ -201,9 +201,9 @@ update_bytes : (delay : ℕ) (lsas : List Lsa)
     → HasPacketRoom (update_of delay lsas)
 update_bytes delay lsas p =
     let texts : List (List ℕ) = map (λ (l : Lsa). lsa_text.text (sent_lsa delay l)) lsas in
-    let size : length (router_text (length texts) ++ flat_map (λ (t : List ℕ). t) texts)
+    let size : length (router_id_text (length texts) ++ flat_map (λ (t : List ℕ). t) texts)
     ≡ 4 + sizes lsa_size lsas =
-    length-append (router_text (length texts)) (flat_map (λ (t : List ℕ). t) texts)
+    length-append (router_id_text (length texts)) (flat_map (λ (t : List ℕ). t) texts)
     ∙ ap (λ n. 4 + n) (texts_length delay lsas p.0) in
     record {
       bytes = omega (arith, size, p.1);

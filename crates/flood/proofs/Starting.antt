@@ -1,7 +1,7 @@
 -- What a valid configuration means for the start.
-use Rattle.std.proofs.Common.{◌≡◌, ◌≤◌, Bool, true, false, ◌&&◌, length, List, map, [], ◌∷◌, refl}
+use Rattle.std.proofs.Common.{◌≡◌, ◌≤◌, true, length, List, map, [], ◌∷◌, refl}
 use Rattle.std.proofs.Common.{sym, ap, ◌∙◌, arith}
-use Rattle.std.proofs.lemmas.Bool.{leb-true}
+use Rattle.std.proofs.lemmas.Bool.{and_parts, leb-true}
 use Rattle.std.proofs.lemmas.List.{length-map}
 use Rattle.flood_laws.specs.adjacency.declared.interface.Interface.{Interface}
 use Rattle.event_rules.specs.declared.model.Config.{Config}
@@ -13,10 +13,6 @@ use Rattle.procedures.specs.Kept.{KeptRouter}
 use Rattle.procedures.specs.Making.{Makes}
 use Rattle.procedures.proofs.Making.{making_starts}
 use Rattle.flood.specs.Starts.{fresh_kept}
-
-and_parts : (a b : Bool) → (a && b) ≡ true → (a ≡ true) × (b ≡ true)
-and_parts true b e = (refl, e)
-and_parts false b e = absurd cc
 
 pub few_interfaces : (c : Config) → in_profile c ≡ true → length c.interfaces ≤ 63
 few_interfaces c e =

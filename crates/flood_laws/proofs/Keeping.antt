@@ -32,7 +32,7 @@ use Rattle.adjacency.proofs.Maps.{IfThere, none_in}
 use Rattle.adjacency.proofs.Told.{OfCopy, Telling}
 use Rattle.received.specs.Links.{Link}
 use Rattle.received.specs.Outcomes.{Send}
-use Rattle.event_rules.proofs.Rooms.{both, mapped_all}
+use Rattle.event_rules.proofs.Rooms.{both, mapped_all, paired_all}
 use Rattle.event_rules.proofs.Walk.{OfEvent}
 use Rattle.event_rules.specs.declared.model.Config.{Config}
 use Rattle.event_rules.specs.declared.model.Out.{Out}
@@ -56,13 +56,13 @@ use Rattle.flood_laws.specs.Known.{Bears, EventsHoldOnlyWhatIsKnown, IsOutOf, Is
 use Rattle.flood_laws.specs.Known.{instances_in_content, instances_in_sends}
 use Rattle.flood_laws.specs.TakenOff.{TakesOffWhatIsTold}
 use Rattle.flood_laws.proofs.Acknowledged.{taken_off_was_told}
+use Rattle.event_rules.proofs.Fitting.{read_unless}
 use Rattle.flood_laws.proofs.Known.{Enters, IsExplained, Leaves, all_known, all_new, event_leaves}
 use Rattle.flood_laws.proofs.Known.{first_own, held_named, left_all, named_by, named_sends}
-use Rattle.flood_laws.proofs.Known.{new_ones, none_on, of_member, of_members, own_stays, paired_all}
+use Rattle.flood_laws.proofs.Known.{new_ones, none_on, of_member, of_members, own_stays}
 use Rattle.flood_laws.proofs.Known.{right_all, router_stays}
 use Rattle.flood_laws.proofs.News.{all_explained}
 use Rattle.flood_laws.proofs.Packed.{at_number, bodies_bear, outs_bear}
-use Rattle.flood_laws.proofs.Read.{read_unless}
 use Rattle.flood_laws.proofs.Told.{IsOwn, first_told, told}
 
 -- ---- an LSA is parsed with the instance that was written, whatever its other header fields

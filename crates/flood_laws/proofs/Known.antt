@@ -76,11 +76,6 @@ pub each_all : {X : Type 0} (P Q : X → Type 0) → ((x : X) → P x → Q x) �
 each_all P Q so [] h = tt
 each_all P Q so (x ∷ xs) h = (so x h.0, each_all P Q so xs h.1)
 
-pub paired_all : {X : Type 0} (P Q : X → Type 0) (xs : List X) → AllByRecursion P xs
-    → AllByRecursion Q xs → AllByRecursion (λ x. P x × Q x) xs
-paired_all P Q [] p q = tt
-paired_all P Q (x ∷ xs) p q = ((p.0, q.0), paired_all P Q xs p.1 q.1)
-
 pub named_sends : (K : LsaInstance → Type 0) (sends : List Send)
     → AllByRecursion K (instances_in_sends sends)
     → AllByRecursion (λ (s : Send). AllByRecursion K (instances_in_content s.content)) sends

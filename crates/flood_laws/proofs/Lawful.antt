@@ -14,7 +14,7 @@ use Rattle.lsa.specs.declared.body.SummaryTos.{SummaryTos}
 use Rattle.lsa.specs.declared.body.SummaryLsa.{SummaryLsa}
 use Rattle.lsa.specs.declared.body.ExternalTos.{ExternalTos}
 use Rattle.lsa.specs.Headers.{IsHeader, header_fields, header_text}
-use Rattle.lsa.specs.Text.{attached_text, body_text, external_fields, external_tos_text}
+use Rattle.lsa.specs.Text.{router_id_text, body_text, external_fields, external_tos_text}
 use Rattle.lsa.specs.Text.{link_fields, link_text, link_tos_text, router_fields, summary_fields}
 use Rattle.lsa.specs.Text.{summary_text, summary_tos_text, text}
 use Rattle.lsa.proofs.Headers.{header-reads_back}
@@ -84,9 +84,9 @@ body_small : (b : LsaBody) → Small (body_text b)
 body_small (bodies.Router r) = both_small (fields (router_fields r)) (flat_map link_text r.links)
     (fields_small (router_fields r)) (each_small link_text link_small r.links)
 body_small (bodies.Network n) =
-    both_small (fields ((4, n.mask) ∷ [])) (flat_map attached_text n.attached)
+    both_small (fields ((4, n.mask) ∷ [])) (flat_map router_id_text n.attached)
     (fields_small ((4, n.mask) ∷ []))
-    (each_small attached_text (λ r. fields_small ((4, r) ∷ [])) n.attached)
+    (each_small router_id_text (λ r. fields_small ((4, r) ∷ [])) n.attached)
 body_small (bodies.NetworkSummary s) = summary_small s
 body_small (bodies.RouterSummary s) = summary_small s
 body_small (bodies.External e) =

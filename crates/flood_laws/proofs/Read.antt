@@ -1,9 +1,9 @@
 -- The bytes of an LSA are parsed with the header that was written, if they are parsed.
-use Rattle.std.proofs.Common.{◌≡◌, ℕ, suc, ◌<◌, length, List, [], ◌∷◌, map, Option, None, Some, sym}
+use Rattle.std.proofs.Common.{◌≡◌, suc, ◌<◌, length, List, [], ◌∷◌, map, Option, None, Some, sym}
 use Rattle.std.proofs.Common.{ap, arith}
 use Rattle.std.specs.List.{AllByRecursion, Contains, cons_option, filter_map}
 use Rattle.lsa.specs.Headers.{IsHeader}
-use Rattle.lsa.specs.Reading.{fault_of, lsa_in, lsa_of}
+use Rattle.lsa.specs.Reading.{fault_of, lsa_in}
 use Rattle.lsa.specs.Text.{body_text, text}
 use Rattle.lsa.specs.declared.fault.LsaFault.{LsaFault}
 use Rattle.lsa.proofs.Headers.{header-reads_back}
@@ -11,16 +11,13 @@ use Rattle.lsdb.specs.Headers.{Header, Lsa}
 use Rattle.flood_laws.specs.Known.{UpdatesTellWhatTheyBear}
 use Rattle.event_rules.specs.LsaInstances.{LsaInstance, instance_of_lsa, instance_of_header}
 use Rattle.event_rules.specs.LsaInstances.{instances_in_update}
+use Rattle.event_rules.proofs.Fitting.{read_unless}
 use Rattle.flood_laws.proofs.Known.{of_member}
 use Rattle.flood_laws.proofs.Lists.{later_is}
 
 abbrev NamedAs : Lsa → Option Lsa → Type 0
 NamedAs l None = Unit {0}
 NamedAs l (Some m) = instance_of_lsa l ≡ instance_of_lsa m
-
-abbrev pub read_unless : List ℕ → Option LsaFault → Option Lsa
-read_unless bytes None = Some (lsa_of bytes)
-read_unless bytes (Some f) = None
 
 read_name : (l : Lsa) → IsHeader l.header → NamedAs l (lsa_in (text l))
 read_name l is = by_fault (fault_of (text l))

@@ -1,7 +1,7 @@
 //! Lemmas for proofs: the ranges that the types of a body's fields ensure. Nothing here does
 //! anything at run time.
 ghost use Rattle.std.specs.List.{AllByRecursion};
-ghost use Rattle.lsa.specs.Text.{IsAttached, IsLinkTos};
+ghost use Rattle.lsa.specs.Text.{IsRouterId, IsLinkTos};
 ghost use Rattle.lsa.specs.Ranges.{BodyIsTyped, ExternalIsTyped, ExternalTosIsTyped, LinkIsTyped};
 ghost use Rattle.lsa.specs.Ranges.{RouterIsTyped, SummaryIsTyped, SummaryTosIsTyped};
 
@@ -50,8 +50,9 @@ fn check_router(router: &RouterLsa)
     check_links(router.links.as_slice());
 }
 
-fn check_attached(routers: &[RouterId])
-    ensures { AllByRecursion IsAttached routers.now }
+/// Router IDs are numbers of 32 bits: for proofs alone, nothing happens at run time.
+pub fn check_router_ids(routers: &[RouterId])
+    ensures { AllByRecursion IsRouterId routers.now }
 {
     for router in routers {
         let _number = router.number();
@@ -116,7 +117,7 @@ impl LsaBody {
             LsaBody::Router(router) => check_router(router),
             LsaBody::Network(network) => {
                 let _mask = network.mask.bits();
-                check_attached(network.attached.as_slice());
+                check_router_ids(network.attached.as_slice());
             }
             LsaBody::NetworkSummary(summary) => check_summary(summary),
             LsaBody::RouterSummary(summary) => check_summary(summary),

@@ -21,10 +21,10 @@ use Rattle.packet.specs.declared.model.Description.{Description}
 use Rattle.packet.specs.declared.model.PacketBody.{PacketBody}
 use Rattle.packet.specs.declared.model.PacketBody.TheVariants as body
 use Rattle.packet.specs.Reading.{are_lsas, body_of, is_filled, key_at, least_length, lsas_of}
-use Rattle.packet.specs.Reading.{router_at}
-use Rattle.packet.specs.Text.{IsBody, IsDescription, IsHello, IsKey, IsRouter, IsUnread, Open, bit}
-use Rattle.packet.specs.Text.{body_text, description, flags, hello, key_text, router_text, type_of}
-use Rattle.packet.proofs.Records.{key-reads_back, key-wide, router-reads_back, router-wide, value}
+use Rattle.packet.specs.Reading.{router_id_at}
+use Rattle.packet.specs.Text.{IsBody, IsDescription, IsHello, IsKey, IsRouterId, IsUnread, Open, bit}
+use Rattle.packet.specs.Text.{body_text, description, flags, hello, key_text, router_id_text, type_of}
+use Rattle.packet.proofs.Records.{key-reads_back, key-wide, router_id-reads_back, router_id-wide, value}
 use Rattle.packet.proofs.Bodies.{take-size}
 use Rattle.packet.proofs.Firsts.{is_equal}
 
@@ -143,15 +143,15 @@ lsas_room (lsa ∷ lsas) all = omega (
 hello_again : (o : Open) (h : Hello) (bytes : List ℕ) → o.designated < 2 ^ 32 → o.backup < 2 ^ 32
     → IsHello h → bytes ≡ body_text o (body.Hello h) → IsAgain (body.Hello h) bytes
 hello_again o h bytes designated backup is e =
-    let rest = flat_map router_text h.neighbors in
-    let wide : length (flat_map router_text h.neighbors) ≡ 4 * length h.neighbors =
-    length-records_text router_at router_text IsRouter 4 router-wide h.neighbors in
+    let rest = flat_map router_id_text h.neighbors in
+    let wide : length (flat_map router_id_text h.neighbors) ≡ 4 * length h.neighbors =
+    length-records_text router_id_at router_id_text IsRouterId 4 router_id-wide h.neighbors in
     let size : length bytes ≡ 20 + 4 * length h.neighbors = omega (arith, ap length e, wide) in
     let whole : (length bytes - 20) % 4 ≡ 0 = omega arith in
     let many : (length bytes - 20) / 4 ≡ length h.neighbors = omega arith in
     let back : read_from bytes 0 (4 ∷ 2 ∷ 1 ∷ 1 ∷ 4 ∷ 4 ∷ 4 ∷ []) ≡ hello o h =
     ap (λ b. read_from b 0 (4 ∷ 2 ∷ 1 ∷ 1 ∷ 4 ∷ 4 ∷ 4 ∷ [])) e
-    ∙ read_from-fields (hello o h) [] (flat_map router_text h.neighbors) (
+    ∙ read_from-fields (hello o h) [] (flat_map router_id_text h.neighbors) (
       is.mask,
       (
         is.hello_interval,
@@ -161,12 +161,12 @@ hello_again o h bytes designated backup is e =
         ),
       ),
     ) in
-    let regrouped : bytes ≡ fields (hello o h) ++ (flat_map router_text h.neighbors ++ []) =
-    e ∙ ap (λ t. fields (hello o h) ++ t) (sym (append-nil (flat_map router_text h.neighbors)))
+    let regrouped : bytes ≡ fields (hello o h) ++ (flat_map router_id_text h.neighbors ++ []) =
+    e ∙ ap (λ t. fields (hello o h) ++ t) (sym (append-nil (flat_map router_id_text h.neighbors)))
     in
-    let neighbors : records router_at 4 bytes 20 ((length bytes - 20) / 4) ≡ h.neighbors =
-    (λ i. records router_at 4 (regrouped i) 20 (many i))
-    ∙ records-read_back router_at router_text IsRouter 4 router-wide router-reads_back
+    let neighbors : records router_id_at 4 bytes 20 ((length bytes - 20) / 4) ≡ h.neighbors =
+    (λ i. records router_id_at 4 (regrouped i) 20 (many i))
+    ∙ records-read_back router_id_at router_id_text IsRouterId 4 router_id-wide router_id-reads_back
     h.neighbors (fields (hello o h)) [] is.neighbors in
     record {
       room = omega (arith, size);

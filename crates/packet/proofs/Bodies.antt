@@ -1,11 +1,11 @@
 -- The bytes after a packet's header: bytes that a body fills encode it, and the encoding of a body
 -- is filled and read as that body.
-use Rattle.std.proofs.Common.{◌≡◌, ℕ, zero, suc, ◌+◌, ◌-◌, ◌*◌, ◌/◌, ◌%◌, ◌<◌, ◌≤◌, Bool, true}
-use Rattle.std.proofs.Common.{false, not, ◌&&◌, eqb, ltb, List, [], ◌∷◌, ◌++◌, length, get_or, take}
+use Rattle.std.proofs.Common.{◌≡◌, ℕ, zero, suc, ◌+◌, ◌-◌, ◌*◌, ◌/◌, ◌%◌, ◌<◌, ◌≤◌, true}
+use Rattle.std.proofs.Common.{not, eqb, ltb, List, [], ◌∷◌, ◌++◌, length, get_or, take}
 use Rattle.std.proofs.Common.{drop, Some, refl, sym, ap, ◌∙◌, arith}
 use Rattle.std.specs.Prelude.{bit_and}
 use Rattle.std.specs.List.{flat_map, AllByRecursion}
-use Rattle.std.proofs.lemmas.Bool.{eqb-true, ltb-true}
+use Rattle.std.proofs.lemmas.Bool.{and_parts, eqb-true, ltb-true}
 use Rattle.std.proofs.lemmas.List.{append-nil, drop-take, drop_all, length-take, take-append-drop}
 use Rattle.byteorder.specs.Endian.{big_bytes, big_number}
 use Rattle.byteorder.specs.Numbers.{big_from-take}
@@ -18,10 +18,10 @@ use Rattle.lsa.proofs.Headers.{field-below, header-fits, header-spells}
 use Rattle.packet.specs.declared.model.PacketType.{PacketType}
 use Rattle.packet.specs.declared.model.PacketType.TheVariants as types
 use Rattle.packet.specs.Reading.{are_lsas, body_of, hello_of, is_filled, key_at, least_length}
-use Rattle.packet.specs.Reading.{lsas_of, router_at}
-use Rattle.packet.specs.Text.{IsBody, IsKey, IsRouter, IsUnread, Open, body_text, flags, hello}
-use Rattle.packet.specs.Text.{key_text, router_text}
-use Rattle.packet.proofs.Records.{key-fits, key-spells, router-fits, router-spells}
+use Rattle.packet.specs.Reading.{lsas_of, router_id_at}
+use Rattle.packet.specs.Text.{IsBody, IsKey, IsRouterId, IsUnread, Open, body_text, flags, hello}
+use Rattle.packet.specs.Text.{key_text, router_id_text}
+use Rattle.packet.proofs.Records.{key-fits, key-spells, router_id-fits, router_id-spells}
 use Rattle.packet.proofs.Cuts.{lsas_first}
 
 -- the bytes of the fields that a body leaves open
@@ -43,10 +43,6 @@ hello_widths = 4 ∷ 2 ∷ 1 ∷ 1 ∷ 4 ∷ 4 ∷ 4 ∷ []
 
 abbrev description_widths : List ℕ
 description_widths = 2 ∷ 1 ∷ 1 ∷ 4 ∷ []
-
-and_parts : (a b : Bool) → (a && b) ≡ true → (a ≡ true) × (b ≡ true)
-and_parts true b e = (refl, e)
-and_parts false b e = absurd cc
 
 -- nothing is after the end
 at_end : (bytes text : List ℕ) (n : ℕ) → n ≡ length bytes → text ++ drop n bytes ≡ text
@@ -145,8 +141,8 @@ spelled a types.Hello bytes f =
     let room : 44 ≤ 24 + length bytes = f.room in
     let count : 20 + 4 * ((length bytes - 20) / 4) ≡ length bytes = omega arith in
     ap (λ t. fields (hello (filler_of a bytes) (hello_of bytes)) ++ t)
-    (records_all router_at router_text IsRouter 4 ((length bytes - 20) / 4) 20 bytes
-    router-spells f.are_bytes count)
+    (records_all router_id_at router_id_text IsRouterId 4 ((length bytes - 20) / 4) 20 bytes
+    router_id-spells f.are_bytes count)
     ∙ fields-read_from hello_widths bytes 0 f.are_bytes (omega (arith, room))
 spelled a types.Description bytes f =
     let parts = and_parts (ltb (field bytes 3 1) 8) (eqb ((length bytes - 8) % 20) 0) f.filled in
@@ -182,7 +178,7 @@ body_fits types.Hello bytes f = record {
   options = field-below bytes 6 1 f.are_bytes;
   priority = field-below bytes 7 1 f.are_bytes;
   dead_interval = field-below bytes 8 4 f.are_bytes;
-  neighbors = records-fit router_at router_text IsRouter 4 router-fits bytes
+  neighbors = records-fit router_id_at router_id_text IsRouterId 4 router_id-fits bytes
       ((length bytes - 20) / 4) 20 f.are_bytes;
 }
 body_fits types.Description bytes f = record {

@@ -2,7 +2,7 @@
 use Rattle.std.proofs.Common.{◌≡◌, ℕ, suc, ◌+◌, ◌-◌, ◌<◌, ◌≤◌, ◌⊎◌, inl, inr, Bool, true, false}
 use Rattle.std.proofs.Common.{◌&&◌, leb, List, [], ◌∷◌, ◌++◌, length, take, drop, refl, sym, ap}
 use Rattle.std.proofs.Common.{◌∙◌, append_assoc, arith}
-use Rattle.std.proofs.lemmas.Bool.{le-leb, leb-true, lt-leb}
+use Rattle.std.proofs.lemmas.Bool.{and_parts, le-leb, leb-true, lt-leb}
 use Rattle.words.specs.Fields.{field}
 use Rattle.packet.specs.Reading.{are_lsas, lsas_of}
 
@@ -53,10 +53,6 @@ pub record IsNext (n i : ℕ) (bytes : List ℕ) : Type 0 where
   pub least : 20 ≤ size_of bytes
   pub fits : size_of bytes ≤ length bytes
   pub after : are_lsas (n - (i + 1)) (drop (size_of bytes) bytes) ≡ true
-
-and_parts : (a b : Bool) → (a && b) ≡ true → (a ≡ true) × (b ≡ true)
-and_parts true b e = (refl, e)
-and_parts false b e = absurd cc
 
 pub lsas_next : (n i : ℕ) (bytes : List ℕ) → i < n → are_lsas (n - i) bytes ≡ true
     → IsNext n i bytes

@@ -6,25 +6,25 @@ use Rattle.words.proofs.Bytes.{fields-read_from, read_from, read_from-fields}
 use Rattle.words.proofs.Records.{IsLocal, IsWide, ReadsBack, ReadsFitting, Spells, field-local}
 use Rattle.words.proofs.Records.{reads_back-in_front, spells-in_front}
 use Rattle.lsa.proofs.Headers.{field-below}
-use Rattle.packet.specs.Reading.{key_at, router_at}
-use Rattle.packet.specs.Text.{IsKey, IsRouter, key_fields, key_text, router_text}
+use Rattle.packet.specs.Reading.{key_at, router_id_at}
+use Rattle.packet.specs.Text.{IsKey, IsRouterId, key_fields, key_text, router_id_text}
 
 -- the value at an index of a table
 abbrev pub value : ℕ → List (ℕ × ℕ) → ℕ
 value k fs = (get_or fs k (0, 0)).1
 
-pub router-wide : IsWide router_text 4
-router-wide r = refl
+pub router_id-wide : IsWide router_id_text 4
+router_id-wide r = refl
 
-pub router-spells : Spells router_at router_text 4
-router-spells bytes at fits le = fields-read_from (4 ∷ []) bytes at fits le
+pub router_id-spells : Spells router_id_at router_id_text 4
+router_id-spells bytes at fits le = fields-read_from (4 ∷ []) bytes at fits le
 
-pub router-reads_back : ReadsBack router_at router_text IsRouter
-router-reads_back r before rest fits =
+pub router_id-reads_back : ReadsBack router_id_at router_id_text IsRouterId
+router_id-reads_back r before rest fits =
     ap (value 0) (read_from-fields ((4, r) ∷ []) before rest (fits, tt))
 
-pub router-fits : ReadsFitting router_at IsRouter
-router-fits bytes at fits = field-below bytes at 4 fits
+pub router_id-fits : ReadsFitting router_id_at IsRouterId
+router_id-fits bytes at fits = field-below bytes at 4 fits
 
 pub key-wide : IsWide key_text 12
 key-wide k = refl

@@ -7,7 +7,7 @@ use Rattle.lsa.specs.Headers.{IsHeader}
 use Rattle.packet.specs.declared.model.PacketBody.{PacketBody}
 use Rattle.packet.specs.declared.model.PacketBody.TheVariants as body
 use Rattle.packet.specs.declared.model.Packet.{Packet}
-use Rattle.packet.specs.Text.{IsDescription, IsHello, IsKey, IsRouter}
+use Rattle.packet.specs.Text.{IsDescription, IsHello, IsKey, IsRouterId}
 
 -- ---- ensured by the types
 
@@ -19,7 +19,7 @@ BodyIsTyped (body.Update lsas) = AllByRecursion AreBytes lsas
 BodyIsTyped (body.Acknowledgment headers) = AllByRecursion IsHeader headers
 
 pub record PacketIsTyped (p : Packet) : Type 0 where
-  pub router : IsRouter p.router
+  pub router : IsRouterId p.router
   pub body : BodyIsTyped p.body
 
 -- ---- left to prove

@@ -3,20 +3,12 @@
 ghost use Rattle.std.specs.List.{AllByRecursion};
 ghost use Rattle.words.specs.Fields.{AreBytes};
 ghost use Rattle.lsa.specs.Headers.{IsHeader};
-ghost use Rattle.packet.specs.Text.{IsDescription, IsHello, IsKey, IsRouter};
+ghost use Rattle.packet.specs.Text.{IsDescription, IsHello, IsKey};
 ghost use Rattle.packet.specs.Ranges.{BodyIsTyped, PacketIsTyped};
 
 use crate::model::{Description, Hello, Packet, PacketBody};
-use lsa::Header;
-use words::{Key, RouterId, Sequence};
-
-fn check_routers(routers: &[RouterId])
-    ensures { AllByRecursion IsRouter routers.now }
-{
-    for router in routers {
-        let _number = router.number();
-    }
-}
+use lsa::{Header, check_router_ids};
+use words::{Key, Sequence};
 
 fn check_headers(headers: &[Header])
     ensures { AllByRecursion IsHeader headers.now }
@@ -64,7 +56,7 @@ fn check_hello(hello: &Hello)
     let _options = hello.options;
     let _priority = hello.priority;
     let _dead_interval = hello.dead_interval;
-    check_routers(hello.neighbors.as_slice());
+    check_router_ids(hello.neighbors.as_slice());
 }
 
 fn check_description(description: &Description)

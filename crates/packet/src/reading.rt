@@ -5,33 +5,16 @@ ghost use Rattle.words.specs.Constants.{largest_packet};
 ghost use Rattle.lsa.specs.Headers.{header_at};
 ghost use Rattle.packet.specs.Text.{PacketText, closed_fields, lsa_count, text};
 ghost use Rattle.packet.specs.Reading.{are_lsas, body_of, description_of, hello_of, is_filled};
-ghost use Rattle.packet.specs.Reading.{key_at, least_length, lsas_of, router_at};
+ghost use Rattle.packet.specs.Reading.{key_at, least_length, lsas_of};
 ghost use Rattle.words.specs.Records.{records};
 ghost use Rattle.packet.specs.Outcome.{Reads};
 
 use crate::judging::{behind, front, judge};
 use crate::model::{Description, Hello, Packet, PacketBody, PacketType};
 use crate::refusal::PacketError;
-use lsa::{Header, header_at};
+use lsa::{Header, header_at, router_ids};
 use std::alloc::{AllocError, Global};
 use words::{Key, LinkStateId, RouterId, Sequence, byte_at, u16_at, u32_at};
-
-// Consecutive Router IDs from index `at` on.
-fn routers(
-    alloc: Global,
-    bytes: &[u8],
-    at: usize,
-    count: usize,
-) -> Result<Sequence<RouterId>, AllocError>
-    requires { at + 4 * count ≤ length bytes.now }
-    ensures { IfOk result (λ rs. rs ≡ records router_at 4 bytes.now at count) }
-{
-    let mut routers = Vec::with_capacity(alloc, count)?;
-    for i in 0..count {
-        routers.push(RouterId::new(u32_at(bytes, at + 4 * i)))?;
-    }
-    Ok(Sequence::from_vec(routers))
-}
 
 // Consecutive LSA headers from index `at` on.
 fn headers(
@@ -104,7 +87,7 @@ fn hello(alloc: Global, body: &[u8]) -> Result<Hello, AllocError>
         options: byte_at(body, 6),
         priority: byte_at(body, 7),
         dead_interval: u32_at(body, 8),
-        neighbors: routers(alloc, body, 20, (body.len() - 20) / 4)?,
+        neighbors: router_ids(alloc, body, 20, (body.len() - 20) / 4)?,
     })
 }
 

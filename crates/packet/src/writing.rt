@@ -9,12 +9,12 @@ ghost use Rattle.lsa.specs.Headers.{header_text};
 ghost use Rattle.packet.specs.Ranges.{LsasAreWhole};
 ghost use Rattle.packet.specs.Text.{PacketText, body_text, canonical};
 ghost use Rattle.packet.specs.Text.{closed_fields, description, flags};
-ghost use Rattle.packet.specs.Text.{header, hello, key_text, lsa_count, router_text, text};
+ghost use Rattle.packet.specs.Text.{header, hello, key_text, lsa_count, router_id_text, text};
 ghost use Rattle.packet.specs.Text.{type_number, type_of};
 
 use crate::checksum::checksum;
 use crate::model::{Description, Hello, Packet, PacketBody, PacketType};
-use lsa::{Header, put_header};
+use lsa::{Header, put_header, put_router_ids};
 use std::alloc::{AllocError, Global};
 use words::{Key, LARGEST_PACKET, RouterId, Sequence, put_u8, put_u16, put_u32};
 
@@ -51,15 +51,6 @@ fn put_start(out: &mut Vec<u8>, kind: PacketType, router: RouterId) -> Result<()
     put_u16(out, 0)?;
     put_u32(out, router.number())?;
     out.extend_from_slice(&[0; 16])
-}
-
-fn put_routers(out: &mut Vec<u8>, routers: &[RouterId]) -> Result<(), AllocError>
-    ensures { OnOk result (out.new.items ≡ out.old.items ++ flat_map router_text routers.now) }
-{
-    for router in routers {
-        put_u32(out, router.number())?;
-    }
-    Ok(())
 }
 
 fn put_headers(out: &mut Vec<u8>, headers: &[Header]) -> Result<(), AllocError>
@@ -127,10 +118,10 @@ fn put_sequence(out: &mut Vec<u8>, d: &Description) -> Result<(), AllocError>
 #[tactic(auto, using(crate::proofs::Sizes::two_parts))]
 fn put_hello(out: &mut Vec<u8>, h: &Hello) -> Result<(), AllocError>
     ensures { OnOk result (out.new.items ≡ out.old.items ++ (fields (hello closed_fields h.now)
-        ++ flat_map router_text h.now.neighbors)) }
+        ++ flat_map router_id_text h.now.neighbors)) }
 {
     put_intervals(out, h)?;
-    put_routers(out, h.neighbors.as_slice())
+    put_router_ids(out, h.neighbors.as_slice())
 }
 
 #[tactic(auto, using(crate::proofs::Sizes::two_parts))]

@@ -30,6 +30,7 @@ use Rattle.received.specs.Outcomes.{sends_at, on_database, on_links, one_neighbo
 use Rattle.received.specs.Outcomes.{sent_on, step_on, stepped_links}
 use Rattle.received.specs.Updates.{acknowledge_at_once, after_case, copy_of, install, send_copy}
 use Rattle.received.proofs.Holding.{changed_keeps, each_keeps}
+use Rattle.received.proofs.Marks.{changed_by}
 
 -- ---- what fits
 
@@ -71,10 +72,6 @@ inserted_fit db key c all fits =
     subst FitsIfThere (sym (finite.get-insert keys_total db key c q))
     (chosen FitsIfThere (eq_by_cmp key_cmp q key) (Some c) (finite.get db q) (λ is. fits)
     (λ is. fits_at db all q)))
-
-abbrev changed_by : Key → (DatabaseCopy → DatabaseCopy) → Database → Option DatabaseCopy → Database
-changed_by key change db None = db
-changed_by key change db (Some c) = finite.insert db key (change c)
 
 -- a change of a copy that keeps its LSA's length
 pub changed_fit : (key : Key) (change : DatabaseCopy → DatabaseCopy)

@@ -26,6 +26,7 @@ use Rattle.received.specs.Outcomes.{Outcome, Send, Stepping, each_neighbor, mark
 use Rattle.received.specs.Outcomes.{sends_at, on_database, on_links, one_neighbor, only_at, sending}
 use Rattle.received.specs.Outcomes.{sent_on, step_on, stepped_links}
 use Rattle.received.specs.Updates.{acknowledge_at_once, after_case, copy_of, install, send_copy}
+use Rattle.received.proofs.Marks.{changed_by}
 use Rattle.received.proofs.Roomy.{same_number}
 
 -- ---- what is held and sent
@@ -60,11 +61,6 @@ joined P (x ∷ xs) ys p q = (p.0, joined P xs ys p.1 q)
 
 module _ (t : Telling) where
   -- ---- databases
-
-  abbrev changed_by : Key → (DatabaseCopy → DatabaseCopy) → Database → Option DatabaseCopy
-      → Database
-  changed_by key change db None = db
-  changed_by key change db (Some c) = finite.insert db key (change c)
 
   -- a change of a copy
   pub changed_told : (key : Key) (change : DatabaseCopy → DatabaseCopy)

@@ -1,18 +1,15 @@
 -- Announced destinations have their own keys, also after each edit.
-use Rattle.std.proofs.Common.{◌≡◌, Bool, true, false, cond, not, ◌&&◌, Option, None, Some, refl}
+use Rattle.std.proofs.Common.{◌≡◌, Bool, true, false, cond, Option, None, Some, refl}
 use Rattle.std.proofs.Common.{sym, ap, subst, ◌∙◌}
 use mathlib.Core.Bool.{false≢true}
 use Rattle.std.specs.Prelude.{is_some}
 use Rattle.std.specs.FinMap as finite
-use Rattle.std.specs.FinSet as set
 use Rattle.std.specs.Ordering.{eq_by_cmp}
 use Rattle.words.specs.Numbers.{RouterNumber}
 use Rattle.words.specs.declared.key.Key.{Key}
 use Rattle.words.specs.declared.route.External.{External}
 use Rattle.flooding.specs.lsdb.Keys.{ByKey, key_cmp}
 use Rattle.flooding.proofs.lsdb.Keys.{equal, keys_exact, keys_total}
-use Rattle.flooding.specs.adjacency.Views.{keys_of}
-use Rattle.flooding.proofs.adjacency.Neighbors.{contains_key_of}
 use Rattle.router_state.specs.Owned.{AreOwn, IsOwn}
 
 value_or : External → Option External → External
@@ -50,18 +47,3 @@ module _ (id : RouterNumber) where
   pub remove_own : (m : ByKey External) (key : Key) → AreOwn id m → AreOwn id (finite.remove m key)
   remove_own m key own k x is = kept m k x (eq_by_cmp key_cmp k key) own
       (sym (finite.get-remove keys_total m key k) ∙ is)
-
--- ---- sets that are kept as maps
-
-gone_or : {X : Type 0} (b : Bool) (o : Option X) → is_some (cond b None o) ≡ (not b && is_some o)
-gone_or true o = refl
-gone_or false o = refl
-
-pub keys_remove : {X : Type 0} (m : ByKey X) (k : Key)
-    → keys_of (finite.remove m k) ≡ set.remove (keys_of m) k
-keys_remove m k = set.same_set keys_total keys_exact (keys_of (finite.remove m k))
-    (set.remove (keys_of m) k) (λ q.
-    contains_key_of (finite.remove m k) q ∙ ap is_some (finite.get-remove keys_total m k q)
-    ∙ gone_or (eq_by_cmp key_cmp q k) (finite.get m q)
-    ∙ ap (λ b. not (eq_by_cmp key_cmp q k) && b) (sym (contains_key_of m q))
-    ∙ sym (set.contains-remove keys_total (keys_of m) k q))

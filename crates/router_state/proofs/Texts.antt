@@ -6,7 +6,7 @@ use mathlib.Core.Bool.{false≢true}
 use Rattle.lsa.specs.declared.fault.LsaFault.{LsaFault}
 use Rattle.lsa.specs.declared.fault.LsaError.TheVariants as errors
 use Rattle.lsa.specs.Outcome.{Reads}
-use Rattle.lsa.specs.Reading.{lsa_in, lsa_of}
+use Rattle.lsa.specs.Reading.{lsa_in}
 use Rattle.flooding.specs.adjacency.lsdb.Headers.{Lsa}
 use Rattle.event_rules.specs.received.Cases.{Case}
 use Rattle.event_rules.specs.received.Updates.{after_case, case_at, goes_on}
@@ -14,6 +14,7 @@ use Rattle.event_rules.specs.EventState.{EventState, on_area}
 use Rattle.event_rules.specs.Originations.{receive_self_originated}
 use Rattle.event_rules.specs.Packets.{after_lsa, after_lsas, after_unread, case_in}
 use Rattle.event_rules.specs.Routers.{Router}
+use Rattle.event_rules.proofs.Fitting.{read_unless}
 use Rattle.flooding.specs.Cases.{is_newer}
 use Rattle.flooding.proofs.Updates.{drop_end}
 use Rattle.router_state.specs.Kept.{KeptRouter}
@@ -22,10 +23,6 @@ use Rattle.router_state.proofs.Making.{makes_nothing, makes_same, makes_then}
 use Rattle.router_state.specs.Received.{goes_on_at}
 
 -- ---- what bytes are parsed as
-
-abbrev read_unless : List ℕ → Option LsaFault → Option Lsa
-read_unless bytes None = Some (lsa_of bytes)
-read_unless bytes (Some f) = None
 
 pub reads_lsa : (bytes : List ℕ) (lsa : Lsa) → Reads bytes (Ok lsa) → Some lsa ≡ lsa_in bytes
 reads_lsa bytes lsa r = ap (λ (l : Lsa). Some l) r.1 ∙ sym (ap (read_unless bytes) r.0)

@@ -4,7 +4,7 @@ use Rattle.event_rules.specs.EventState.{on_area, on_router}
 use Rattle.event_rules.specs.Originations.{as_originated, install_and_flood}
 use Rattle.event_rules.specs.Routers.{Router}
 use Rattle.router_state.specs.Kept.{KeptRouter}
-use Rattle.router_state.proofs.Announced.{keys_remove}
+use Rattle.flooding.proofs.adjacency.Neighbors.{keys_remove}
 use Rattle.router_state.proofs.Answered.{area_does, area_stays}
 use Rattle.router_state.proofs.Edited.{notes}
 use Rattle.router_state.proofs.Leaves.{appends_install, keeps_install}

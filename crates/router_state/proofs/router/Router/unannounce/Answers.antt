@@ -4,7 +4,8 @@ use Rattle.flooding.specs.adjacency.Views.{keys_of}
 use Rattle.event_rules.specs.Routers.{Router}
 use Rattle.router_state.specs.Kept.{KeptRouter}
 use Rattle.router_state.specs.Owned.{AreOwn}
-use Rattle.router_state.proofs.Announced.{keys_remove, remove_own}
+use Rattle.flooding.proofs.adjacency.Neighbors.{keys_remove}
+use Rattle.router_state.proofs.Announced.{remove_own}
 use Rattle.router_state.proofs.Edited.{withdraws}
 use Rattle.router_state.proofs.Making.{refused}
 use Rattle.router_state.proofs.router.Router.unannounce.Goals as goal

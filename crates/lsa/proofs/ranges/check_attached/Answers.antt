@@ -1,9 +1,0 @@
-use Rattle.std.proofs.Common.{arith}
-use Rattle.words.proofs.Each.{each_one_more}
-use Rattle.lsa.specs.Text.{IsAttached}
-use Rattle.lsa.proofs.ranges.check_attached.Goals as goal
-
-pub loop-router-preserved : goal.loop-router-preserved
-loop-router-preserved c =
-    each_one_more IsAttached c.args.routers.now c.loop-router.router-index c.router-item.result
-    c.loop-router-test.true c.router-item.is (omega arith) c.loop-router.invariant
