@@ -8,10 +8,9 @@ use absdom::Domain;
 use inference::liveness::{has, reads};
 use isa::{Hook, Instruction, Operation, Register, Width};
 use kinds::{AbstractState, Kind, PointerPlace, kind_at};
+use machine::{load_length, map_length, store_length};
 use segments::places::jump_of;
-use transfer::load::{load_length, map_length};
 use transfer::place::reached;
-use transfer::store::store_length;
 use verifier::Rule;
 
 /// A load or store: the register with its base, the offset, and the number of bytes.

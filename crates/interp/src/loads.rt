@@ -14,7 +14,7 @@ ghost use Rattle.interp.specs.Classes.{fault_of_load, fault_of_base_load, LoadsI
 
 use crate::{contents, pieces, registers};
 use isa::{LoadSize, Map, Register};
-use machine::{Content, Fault, Input, Pointer, State};
+use machine::{Content, Fault, Input, Pointer, State, map_length};
 use maps::{Seat, Shared};
 
 fn load_context(
@@ -86,17 +86,6 @@ fn load_stack(state: &mut State, size: LoadSize, target: Register, at: u64) -> R
     }
     registers::fill(state, target, content);
     Ok(())
-}
-
-/// The size of a map, in bytes.
-pub(crate) fn map_length(map: Map) -> u64
-    ensures value { result ≡ Rattle.machine.specs.Memory.map_length map }
-    ensures range { (512 ≤ result) × (result ≤ 2048) }
-{
-    match map {
-        Map::Counters => 2048,
-        Map::Cells => 512,
-    }
 }
 
 fn load_map(

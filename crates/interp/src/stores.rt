@@ -9,9 +9,9 @@ ghost use Rattle.maps.specs.Words.{IsOf};
 ghost use Rattle.helpers.specs.Seats.{Makes};
 ghost use Rattle.interp.specs.Classes.{fault_of_store, fault_of_base_store, StoresAt, StoresFrom};
 
-use crate::{contents, loads, pieces, registers};
+use crate::{contents, pieces, registers};
 use isa::{Map, Register, Source, StoreSize};
-use machine::{Content, Fault, Pointer, State};
+use machine::{Content, Fault, Pointer, State, map_length};
 use maps::{Seat, Shared};
 
 /// A store of a number on the stack.
@@ -71,7 +71,7 @@ fn store_cell(
     ensures still { OnErr result (state.new ≡ state.old) }
     ensures unchanged { OnErr result (seat.new ≡ seat.old) }
 {
-    if at > loads::map_length(Map::Cells) - word_machine::store_length(size) as u64 {
+    if at > map_length(Map::Cells) - word_machine::store_length(size) as u64 {
         return Err(Fault::Bounds);
     }
     let is_word = matches!(size, StoreSize::Bits64);
