@@ -88,23 +88,23 @@ drafted_only (suc i) n k cs (l ∷ ls) (d ∷ ds) dl e dd lt lt_d at is =
 
 -- ---- a step of the neighbor on one link
 
-step_rests : (f : Neighbor → Step) (k p : ℕ) (l : Link) (o : Option Neighbor) → p ≢ k
+pub step_rests : (f : Neighbor → Step) (k p : ℕ) (l : Link) (o : Option Neighbor) → p ≢ k
     → step_on (only_at k f p l) o ≡ o
 step_rests f k p l None ne = refl
 step_rests f k p l (Some n) ne = ap (λ b. Some (cond b (f n) (no_sends n)).neighbor)
     (other_number p k ne)
 
-step_acts : (f : Neighbor → Step) (k : ℕ) (l : Link) (o : Option Neighbor)
+pub step_acts : (f : Neighbor → Step) (k : ℕ) (l : Link) (o : Option Neighbor)
     → neighbor.step_on f o ≡ step_on (only_at k f k l) o
 step_acts f k l None = refl
 step_acts f k l (Some n) = sym (ap (λ b. Some (cond b (f n) (no_sends n)).neighbor) (same_number k))
 
-sent_rests : (f : Neighbor → Step) (k p : ℕ) (l : Link) (o : Option Neighbor) → p ≢ k
+pub sent_rests : (f : Neighbor → Step) (k p : ℕ) (l : Link) (o : Option Neighbor) → p ≢ k
     → sent_on (only_at k f p l) o ≡ []
 sent_rests f k p l None ne = refl
 sent_rests f k p l (Some n) ne = ap (λ b. (cond b (f n) (no_sends n)).sends) (other_number p k ne)
 
-sent_acts : (f : Neighbor → Step) (k : ℕ) (l : Link) (o : Option Neighbor)
+pub sent_acts : (f : Neighbor → Step) (k : ℕ) (l : Link) (o : Option Neighbor)
     → neighbor.sent_on f o ≡ sent_on (only_at k f k l) o
 sent_acts f k l None = refl
 sent_acts f k l (Some n) = sym (ap (λ b. (cond b (f n) (no_sends n)).sends) (same_number k))

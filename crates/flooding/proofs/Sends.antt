@@ -24,12 +24,12 @@ by_number : (k : ℕ) (x : Send) (b : Bool) (whole front back : List Content) �
 by_number k x true whole front back is = ap (λ zs. x.content ∷ zs) is
 by_number k x false whole front back is = is
 
-picked-append : (k : ℕ) (xs ys : List Send)
+pub picked_append : (k : ℕ) (xs ys : List Send)
     → filter_map (at_interface k) (xs ++ ys) ≡ filter_map (at_interface k) xs
     ++ filter_map (at_interface k) ys
-picked-append k [] ys = refl
-picked-append k (x ∷ xs) ys = by_number k x (x.number == k) (filter_map (at_interface k) (xs ++ ys))
-    (filter_map (at_interface k) xs) (filter_map (at_interface k) ys) (picked-append k xs ys)
+picked_append k [] ys = refl
+picked_append k (x ∷ xs) ys = by_number k x (x.number == k) (filter_map (at_interface k) (xs ++ ys))
+    (filter_map (at_interface k) xs) (filter_map (at_interface k) ys) (picked_append k xs ys)
 
 pub picked_here : (k : ℕ) (cs : List Content) → filter_map (at_interface k) (sends_at k cs) ≡ cs
 picked_here k [] = refl
@@ -65,7 +65,7 @@ module _ (S : ℕ → Link → List Content) where
       → filter_map (at_interface k) (sends_from n links) ≡ []
   picked_later k n [] lt = refl
   picked_later k n (l ∷ ls) lt =
-      picked-append k (sends_at n (S n l)) (sends_from (n + 1) ls)
+      picked_append k (sends_at n (S n l)) (sends_from (n + 1) ls)
       ∙ ap (λ zs. zs ++ filter_map (at_interface k) (sends_from (n + 1) ls))
       (picked_elsewhere k n (S n l) (λ is. absurd (omega (arith, lt, is))))
       ∙ picked_later k (n + 1) ls (omega (arith, lt))
@@ -81,10 +81,10 @@ module _ (S : ℕ → Link → List Content) where
       → filter_map (at_interface n) (before ++ (sends_at n (S n l) ++ sends_from (n + 1) ls))
       ≡ S n l
   picked_all n before l ls none =
-      picked-append n before (sends_at n (S n l) ++ sends_from (n + 1) ls)
+      picked_append n before (sends_at n (S n l) ++ sends_from (n + 1) ls)
       ∙ ap (λ zs. zs ++ filter_map (at_interface n) (sends_at n (S n l) ++ sends_from (n + 1) ls))
       (none n (omega arith))
-      ∙ picked-append n (sends_at n (S n l)) (sends_from (n + 1) ls)
+      ∙ picked_append n (sends_at n (S n l)) (sends_from (n + 1) ls)
       ∙ ap (λ zs. zs ++ filter_map (at_interface n) (sends_from (n + 1) ls)) (picked_here n (S n l))
       ∙ ap (λ zs. S n l ++ zs) (picked_later n (n + 1) ls (omega arith))
       ∙ append_none (S n l)
@@ -100,7 +100,7 @@ module _ (S : ℕ → Link → List Content) where
       ≡ (before ++ sends_at n (S n l)) ++ sends_from (n + 1) ls =
       sym (append_assoc before (sends_at n (S n l)) (sends_from (n + 1) ls)) in
       let rest = drafts_behind (n + 1) (before ++ sends_at n (S n l)) ls ds (λ k le.
-      picked-append k before (sends_at n (S n l))
+      picked_append k before (sends_at n (S n l))
       ∙ ap (λ zs. zs ++ filter_map (at_interface k) (sends_at n (S n l)))
       (none k (omega (arith, le)))
       ∙ picked_elsewhere k n (S n l) (λ is. absurd (omega (arith, le, is)))) in

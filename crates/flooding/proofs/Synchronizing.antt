@@ -7,7 +7,8 @@ use Rattle.received.specs.Links.{neighbor_at, neighbor_on}
 use Rattle.flooding.specs.Kept.{KeptLink}
 use Rattle.flooding.specs.Links.{present}
 
-shown_get : (ls : List KeptLink) (i : ℕ) (d : KeptLink) → i < length ls
+-- the link at an index
+pub shown_get : (ls : List KeptLink) (i : ℕ) (d : KeptLink) → i < length ls
     → Some (get_or ls i d).present ≡ slice_get (map present ls) i
 shown_get [] i d lt = absurd (omega (arith, lt))
 shown_get (l ∷ ls) zero d lt = refl

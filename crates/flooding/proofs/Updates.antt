@@ -1,7 +1,6 @@
 -- The marks of what is sent are those of the keys that were added to the draft.
 use Rattle.std.proofs.Common.{◌≡◌, ℕ, zero, suc, ◌+◌, ◌<◌, ◌≤◌, List, [], ◌∷◌, ◌++◌, drop, length}
 use Rattle.std.proofs.Common.{map, get_or, refl, sym, ap, ◌∙◌, arith, append_assoc}
-use Rattle.std.specs.List.{slice_get}
 use Rattle.std.specs.Prelude.{Some}
 use Rattle.adjacency.specs.lsdb.Copies.{Database, mark_sent}
 use Rattle.adjacency.specs.lsdb.Headers.{lsa_key}
@@ -16,6 +15,7 @@ use Rattle.flooding.specs.Links.{present}
 use Rattle.flooding.specs.Steps.{key_of_update, mark_each}
 use Rattle.flooding.proofs.Marking.{marks}
 use Rattle.flooding.proofs.Sends.{append_none}
+use Rattle.flooding.proofs.Synchronizing.{shown_get}
 
 -- ---- lists from an index on
 
@@ -98,12 +98,6 @@ marks_behind moment delay n cs db d =
     ∙ sym (marks_of moment delay n cs db)
 
 -- ---- the link with a number
-
-shown_get : (ls : List KeptLink) (i : ℕ) (d : KeptLink) → i < length ls
-    → Some (get_or ls i d).present ≡ slice_get (map present ls) i
-shown_get [] i d lt = absurd (omega (arith, lt))
-shown_get (l ∷ ls) zero d lt = refl
-shown_get (l ∷ ls) (suc i) d lt = shown_get ls i d (omega (arith, lt))
 
 pub shown_link : (ls : List KeptLink) (i k : ℕ) (d : KeptLink) → i < length ls → k ≡ 1 + i
     → Some (get_or ls i d).present ≡ link_at k (map present ls)

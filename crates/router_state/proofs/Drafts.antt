@@ -1,27 +1,15 @@
 -- What is sent later is drafted later, and drafts depend only on the interface of a link.
-use Rattle.std.proofs.Common.{◌≡◌, ℕ, ◌+◌, ◌==◌, Bool, true, false, cond, List, [], ◌∷◌, ◌++◌, None}
-use Rattle.std.proofs.Common.{Some, refl, sym, ap, ◌∙◌}
-use Rattle.std.specs.List.{cons_option, filter_map}
+use Rattle.std.proofs.Common.{◌≡◌, ℕ, ◌+◌, List, [], ◌∷◌, ◌++◌}
+use Rattle.std.proofs.Common.{refl, sym, ap, ◌∙◌}
+use Rattle.std.specs.List.{filter_map}
 use Rattle.flooding.specs.adjacency.Contents.{Content}
 use Rattle.flooding.specs.adjacency.Drafts.{Drafted, adds, drafting}
 use Rattle.flooding.specs.adjacency.declared.interface.Interface.{Interface}
 use Rattle.flooding.specs.received.Links.{Link}
 use Rattle.flooding.specs.received.Outcomes.{Send}
 use Rattle.flooding.specs.Drafted.{at_interface, drafts_with, drafted_from}
+use Rattle.flooding.proofs.Sends.{picked_append}
 use Rattle.router_state.specs.Making.{interfaces_of}
-
-by_number : (k : ℕ) (x : Send) (b : Bool) (whole front back : List Content) → whole ≡ front ++ back
-    → cons_option (cond b (Some x.content) None) whole
-    ≡ cons_option (cond b (Some x.content) None) front ++ back
-by_number k x true whole front back is = ap (λ zs. x.content ∷ zs) is
-by_number k x false whole front back is = is
-
-picked_append : (k : ℕ) (xs ys : List Send)
-    → filter_map (at_interface k) (xs ++ ys) ≡ filter_map (at_interface k) xs
-    ++ filter_map (at_interface k) ys
-picked_append k [] ys = refl
-picked_append k (x ∷ xs) ys = by_number k x (x.number == k) (filter_map (at_interface k) (xs ++ ys))
-    (filter_map (at_interface k) xs) (filter_map (at_interface k) ys) (picked_append k xs ys)
 
 drafting_append : (delay : ℕ) (xs ys : List Content) (d : Drafted)
     → drafting delay ys (drafting delay xs d) ≡ drafting delay (xs ++ ys) d

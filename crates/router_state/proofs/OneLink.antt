@@ -1,11 +1,11 @@
 -- A step of one link by itself is a step of one neighbor.
-use Rattle.std.proofs.Common.{◌≡◌, ◌≢◌, ℕ, zero, suc, ◌-◌, ◌<◌, ◌≤◌, ◌==◌, cond, List, [], ◌∷◌}
+use Rattle.std.proofs.Common.{◌≡◌, ℕ, zero, suc, ◌-◌, ◌<◌, ◌≤◌, ◌==◌, cond, List, [], ◌∷◌}
 use Rattle.std.proofs.Common.{length, get_or, set, refl, sym, ap, ◌∙◌, arith}
 use Rattle.std.proofs.lemmas.List.{set-get_or}
 use Rattle.std.specs.List.{slice_get}
-use Rattle.std.specs.Prelude.{Option, None, Some}
+use Rattle.std.specs.Prelude.{Some}
 use Rattle.flooding.specs.lsdb.Copies.{Database}
-use Rattle.flooding.specs.adjacency.Contents.{Content, Step, no_sends}
+use Rattle.flooding.specs.adjacency.Contents.{Content, Step}
 use Rattle.flooding.specs.adjacency.Contents as neighbor
 use Rattle.flooding.specs.adjacency.Neighbors.{Neighbor}
 use Rattle.flooding.specs.received.Links.{Area, Link, change_link, link_at}
@@ -13,31 +13,8 @@ use Rattle.flooding.specs.received.Outcomes.{Outcome, sends_at, one_neighbor, on
 use Rattle.flooding.specs.received.Outcomes.{sent_on, step_on, stepped_links, stepping_sends}
 use Rattle.flooding.specs.Links.{start, with_neighbor}
 use Rattle.flooding.specs.Steps.{one_link, sent_by}
-use Rattle.flooding.proofs.Only.{sends_only, set_only}
+use Rattle.flooding.proofs.Only.{sends_only, sent_acts, sent_rests, set_only, step_acts, step_rests}
 use Rattle.flooding.proofs.Sends.{other_number, same_number}
-
--- ---- a step of one neighbor
-
-step_rests : (f : Neighbor → Step) (k p : ℕ) (l : Link) (o : Option Neighbor) → p ≢ k
-    → step_on (only_at k f p l) o ≡ o
-step_rests f k p l None ne = refl
-step_rests f k p l (Some n) ne = ap (λ b. Some (cond b (f n) (no_sends n)).neighbor)
-    (other_number p k ne)
-
-step_acts : (f : Neighbor → Step) (k : ℕ) (l : Link) (o : Option Neighbor)
-    → neighbor.step_on f o ≡ step_on (only_at k f k l) o
-step_acts f k l None = refl
-step_acts f k l (Some n) = sym (ap (λ b. Some (cond b (f n) (no_sends n)).neighbor) (same_number k))
-
-sent_rests : (f : Neighbor → Step) (k p : ℕ) (l : Link) (o : Option Neighbor) → p ≢ k
-    → sent_on (only_at k f p l) o ≡ []
-sent_rests f k p l None ne = refl
-sent_rests f k p l (Some n) ne = ap (λ b. (cond b (f n) (no_sends n)).sends) (other_number p k ne)
-
-sent_acts : (f : Neighbor → Step) (k : ℕ) (l : Link) (o : Option Neighbor)
-    → neighbor.sent_on f o ≡ sent_on (only_at k f k l) o
-sent_acts f k l None = refl
-sent_acts f k l (Some n) = sym (ap (λ b. (cond b (f n) (no_sends n)).sends) (same_number k))
 
 -- ---- the link with a number
 

@@ -58,9 +58,3 @@ all_are moment F a =
       };
       sends = sends_are (F a.database) 1 a.links i;
     }
-
-pub areas : {ls ms : List Link} {d e : Database} → ls ≡ ms → d ≡ e → ◌≡◌ {A = Area} (record {
-  links = ls;
-  database = d;
-}) (record { links = ms; database = e })
-areas ls d i = record { links = ls i; database = d i }

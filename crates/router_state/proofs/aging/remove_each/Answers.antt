@@ -5,7 +5,7 @@ use Rattle.router_state.proofs.Onwards.{from_end, from_next}
 use Rattle.flooding.specs.Links.{without_acknowledged}
 use Rattle.flooding.proofs.Doing.{on_err}
 use Rattle.router_state.specs.Aging.{without_each}
-use Rattle.router_state.proofs.Stepped.{areas}
+use Rattle.flooding.proofs.Marking.{area_is}
 use Rattle.router_state.proofs.aging.remove_each.Goals as goal
 
 pub loop-i-preserved : goal.loop-i-preserved
@@ -43,7 +43,7 @@ pub returns : goal.returns
 returns c =
     let L = c.args.area.now.present.links in
     record {
-      area = areas c.loop-i.invariant.links
+      area = area_is c.loop-i.invariant.links
           (ap (without_each L c.loop-i.area.present.database)
           (sym (from_end c.loop-i.i c.args.keys.now
           (omega (arith, c.loop-i-test.false, c.loop-i.auto.i-end))))
