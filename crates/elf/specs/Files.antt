@@ -1,5 +1,6 @@
 -- Which bytes are a relocatable BPF object (gABI, chapter 4).
-use Rattle.std.specs.Prelude.{◌≡◌, ◌≢◌, ℕ, ◌+◌, ◌-◌, ◌*◌, ◌/◌, ◌%◌, ◌<◌, ◌≤◌, ◌⊎◌, true, List, length, slice_index}
+use Rattle.std.specs.Prelude.{◌≡◌, ◌≢◌, ℕ, ◌+◌, ◌-◌, ◌*◌, ◌/◌, ◌%◌, ◌<◌, ◌≤◌, ◌⊎◌, true, List}
+use Rattle.std.specs.Prelude.{length, slice_index}
 use Rattle.elf.specs.declared.section.Section.{Section}
 use Rattle.elf.specs.declared.section.SectionKind.{SectionKind}
 use Rattle.elf.specs.declared.section.SectionKind.TheVariants as kinds

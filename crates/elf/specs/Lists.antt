@@ -1,6 +1,7 @@
 -- What a relocatable BPF object says of its sections: symbols, functions and relocations, in the
 -- order of the file.
-use Rattle.std.specs.Prelude.{◌+◌, ◌≤◌, slice_range, ℕ, zero, suc, ◌/◌, ◌<◌, ◌==◌, ◌&&◌, Bool, true, false, List, [], ◌∷◌, ◌++◌, length, if◌then◌else◌}
+use Rattle.std.specs.Prelude.{◌+◌, ◌≤◌, slice_range, ℕ, zero, suc, ◌/◌, ◌<◌, ◌==◌, ◌&&◌, Bool, true}
+use Rattle.std.specs.Prelude.{false, List, [], ◌∷◌, ◌++◌, length, if◌then◌else◌}
 use Rattle.elf.specs.declared.section.Section.{Section}
 use Rattle.elf.specs.declared.section.SectionKind.{SectionKind}
 use Rattle.elf.specs.declared.section.SectionKind.TheVariants as kinds
@@ -87,7 +88,8 @@ relocations_among table i (suc k) = relocations_among table i k
 -- all relocations of section i, if it changes this section
 abbrev pub relocations_from : List ℕ → ℕ → ℕ → List LinkedRelocation
 relocations_from bytes section i = if changes (section_at bytes i) section
-    then relocations_among (contents_of bytes i) (section_at bytes i).link (length (contents_of bytes i) / 16)
+    then relocations_among (contents_of bytes i) (section_at bytes i).link
+    (length (contents_of bytes i) / 16)
     else []
 
 -- those of the first n sections

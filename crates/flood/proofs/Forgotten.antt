@@ -14,7 +14,8 @@ use Rattle.flood.specs.declared.event.Event.TheVariants as event
 use Rattle.flood.specs.Occurrences.{brings_answers, occurrence_of, words_of}
 use Rattle.flood.specs.declared.book.entry.JournalEntry.{JournalEntry}
 use Rattle.flood.specs.Bytes.{bytes_of, with_event}
-use Rattle.flood.specs.Replay.{IsInstalledLast, IsLightened, Replays, entry_occurrence, forgotten_at}
+use Rattle.flood.specs.Replay.{IsInstalledLast, IsLightened, Replays, entry_occurrence}
+use Rattle.flood.specs.Replay.{forgotten_at}
 use Rattle.flood.specs.Replay.{step_occurrence}
 use Rattle.flood.specs.Replay.{without_answers}
 use Rattle.router_runs.proofs.Unheeded.{told}

@@ -22,9 +22,12 @@ use Rattle.packet.specs.declared.model.PacketBody.{PacketBody}
 use Rattle.packet.specs.declared.model.PacketBody.TheVariants as body
 use Rattle.packet.specs.Reading.{are_lsas, body_of, is_filled, key_at, least_length, lsas_of}
 use Rattle.packet.specs.Reading.{router_id_at}
-use Rattle.packet.specs.Text.{IsBody, IsDescription, IsHello, IsKey, IsRouterId, IsUnread, Open, bit}
-use Rattle.packet.specs.Text.{body_text, description, flags, hello, key_text, router_id_text, type_of}
-use Rattle.packet.proofs.Records.{key-reads_back, key-wide, router_id-reads_back, router_id-wide, value}
+use Rattle.packet.specs.Text.{IsBody, IsDescription, IsHello, IsKey, IsRouterId, IsUnread, Open}
+use Rattle.packet.specs.Text.{bit}
+use Rattle.packet.specs.Text.{body_text, description, flags, hello, key_text, router_id_text}
+use Rattle.packet.specs.Text.{type_of}
+use Rattle.packet.proofs.Records.{key-reads_back, key-wide, router_id-reads_back, router_id-wide}
+use Rattle.packet.proofs.Records.{value}
 use Rattle.packet.proofs.Bodies.{take-size}
 use Rattle.packet.proofs.Firsts.{is_equal}
 

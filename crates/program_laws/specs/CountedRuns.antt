@@ -72,7 +72,8 @@ pub record Leaves (setting : Setting) (heads : List ℕ) (s : State) (most : ℕ
 
 -- The outcome for a run of the counted code with these accesses and this word, in terms of the code
 -- that begins at this state.
-abbrev pub IsRunWith : Setting → List ℕ → State → (answer most : ℕ) → List Label → (word : ℕ) → Type 0
+abbrev pub IsRunWith : Setting → List ℕ → State → (answer most : ℕ) → List Label → (word : ℕ)
+    → Type 0
 IsRunWith setting heads s answer most found word =
     Answers setting heads s most found word
     ⊎ (((word ≡ answer) × Turns setting heads s (most + 1) found)

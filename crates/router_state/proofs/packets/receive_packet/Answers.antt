@@ -1,6 +1,7 @@
 use Rattle.std.proofs.Common.{sym, ap, ◌∙◌}
 use Rattle.router_state.specs.Received.{counts_before_exchange}
-use Rattle.router_state.proofs.Heard.{acknowledges, came_in_exchange, describes, greets, is_discarded}
+use Rattle.router_state.proofs.Heard.{acknowledges, came_in_exchange, describes, greets}
+use Rattle.router_state.proofs.Heard.{is_discarded}
 use Rattle.router_state.proofs.Heard.{requests, updates}
 use Rattle.router_state.proofs.Making.{done}
 use Rattle.router_state.proofs.packets.receive_packet.Goals as goal
