@@ -40,6 +40,7 @@ use Rattle.event_rules.specs.Packets.{receive_hello_on, with_neighbor}
 use Rattle.event_rules.specs.Ticks.{acknowledgments_on, again, hello_sent_on, run_out}
 use Rattle.event_rules.specs.Ticks.{send_acknowledgments}
 use Rattle.event_rules.specs.Ticks.{send_hellos, sends_of, with_hello_sent, without_acknowledgments}
+use Rattle.flood_laws.proofs.Flooding.{flooding_so}
 use Rattle.flood_laws.proofs.Leaving.{each_kept_at, numbered_kept, stepped_kept}
 use Rattle.flood_laws.proofs.Lists.{later_is, of_cons, of_empty}
 use Rattle.flood_laws.proofs.Taken.{named_first}
@@ -148,7 +149,7 @@ module _ (f : Stepping) where
 flood_other : (moment : ℕ) (from : Bool) (lsa : Lsa) (m : Neighbor)
     → AreOther (flooding moment from lsa m).sends
 flood_other moment from lsa m =
-    neighbor_steps.flooding_so (λ (s : Step). AreOther s.sends) moment m from lsa
+    flooding_so (λ (s : Step). AreOther s.sends) moment m from lsa
     (one_other (Updates lsa) tt) none_sent none_sent
 
 -- ---- the parts

@@ -35,6 +35,7 @@ use Rattle.adjacency.specs.Retransmissions.{request_again, send_again, update_ag
 use Rattle.adjacency.proofs.Kept.{chosen}
 use Rattle.received.specs.Holds.{Holds}
 use Rattle.event_rules.specs.Hellos.{is_foreign}
+use Rattle.flood_laws.proofs.Flooding.{flooding_so}
 use Rattle.flood_laws.proofs.Lists.{of_cons, of_empty}
 use Rattle.agreement_laws.specs.Exchanged.{Conversation, conversation_with}
 use Rattle.agreement_laws.specs.HeldWasTold.{is_exchange_done}
@@ -226,7 +227,7 @@ module _ (own : ℕ) (Acc : Description → Type 0) (Began : Conversation → Ty
   flooded moment from lsa S m h =
       let w : Neighbor = without_met_request moment lsa m in
       let so : Sound S w = neighbor_steps.met (Sound S) moment lsa m h h in
-      neighbor_steps.flooding_so (OfStep S) moment m from lsa
+      flooding_so (OfStep S) moment m from lsa
       (quiet S (Updates lsa ∷ []) (one_other (Updates lsa) tt) w so) (nothing S w so)
       (nothing S m h)
 

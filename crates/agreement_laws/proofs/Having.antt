@@ -3,7 +3,7 @@
 use Rattle.std.proofs.Common.{◌≡◌, ℕ, Bool, true, false, List, [], Option, None, Some}
 use Rattle.std.proofs.Common.{refl, sym, ap, subst, ◌∙◌}
 use Rattle.std.specs.FinMap as finite
-use Rattle.std.specs.List.{Contains, fold}
+use Rattle.std.specs.List.{fold}
 use Rattle.words.specs.declared.key.Key.{Key}
 use Rattle.lsa.specs.declared.body.LsaBody.{LsaBody}
 use Rattle.lsdb.specs.Copies.{Database, DatabaseCopy, age_out, copy_now}
@@ -12,16 +12,15 @@ use Rattle.lsdb.specs.Headers.{Lsa, lsa_key}
 use Rattle.lsdb.specs.Keys.{ByKey, same_key}
 use Rattle.lsdb.specs.Order.{age_at}
 use Rattle.lsdb.specs.declared.order.Instance.{Instance}
-use Rattle.packet.specs.declared.model.Packet.{Packet}
 use Rattle.received.specs.Outcomes.{Outcome, Send, marked_database, on_database}
 use Rattle.event_rules.specs.Endings.{start_event, stays}
 use Rattle.event_rules.specs.EventState.{EventState}
 use Rattle.event_rules.specs.Originations.{new_instance}
 use Rattle.event_rules.specs.Routers.{Occurrence, Router}
 use Rattle.event_rules.proofs.Walk.{Invariant}
-use Rattle.flood_laws.specs.NewInstances.{BringsLsa, lsas_brought}
+use Rattle.flood_laws.specs.NewInstances.{BringsLsa}
 use Rattle.flood_laws.proofs.Acknowledged.{in_order}
-use Rattle.flood_laws.proofs.EventWalk.{IsHeard, IsKeptToo, Lately}
+use Rattle.flood_laws.proofs.EventWalk.{IsKeptToo, Lately, came}
 use Rattle.flood_laws.proofs.Limits.{tied_key}
 use Rattle.agreement_laws.specs.CopiesClimb.{HasHad}
 use Rattle.agreement_laws.proofs.Describing.{held, instance_at}
@@ -168,20 +167,9 @@ module _ (old : Router) (event : Occurrence) (moment : ℕ) where
   abbrev start : EventState
   start = start_event moment old
 
-  came : (place : ℕ) (packet : Packet) → IsHeard start event place packet → (lsa : Lsa)
-      → Contains (lsas_brought packet.body) lsa → BringsLsa event lsa
-  came place packet heard lsa among = record {
-    number = place;
-    bytes = heard.bytes;
-    packet = packet;
-    is = heard.is;
-    text = heard.text;
-    among = among;
-  }
-
   pub whole_kept : IsKeptToo (in_order old.id) (λ o t. Whole o.area.database) (λ o t. Unit {0})
       start moment event
   whole_kept =
       kept_too old moment event Whole whole
       (λ place packet heard lsa among db newer h. whole_installed lsa db
-      (came place packet heard lsa among) h)
+      (came heard lsa among) h)

@@ -43,6 +43,7 @@ use Rattle.event_rules.specs.Endings.{loading_done_on}
 use Rattle.event_rules.specs.LsaInstances.{LsaInstance, instance_of_header, instance_of_lsa}
 use Rattle.event_rules.specs.Routers.{Router}
 use Rattle.event_rules.specs.Ticks.{settled_exchange}
+use Rattle.flood_laws.proofs.Flooding.{flooding_so}
 use Rattle.flood_laws.proofs.Known.{each_all}
 use Rattle.flood_laws.proofs.Retransmitted.{if_so}
 use Rattle.agreement_laws.specs.SaidIsHeld.{IsToDescribe, Waits, young}
@@ -377,7 +378,7 @@ module _ (old : Router) where
         → T (lsa_key lsa) (instance_of lsa.header) → OfNeighbor T number n
         → OfStep (flooding moment from lsa n)
     flooded_so moment from lsa n so h =
-        steps.flooding_so OfStep moment n from lsa
+        flooding_so OfStep moment n from lsa
         (record { neighbor = record { summary = met.summary; last = met.last }; sends = (so, tt) })
         (quiet_step (remove_retransmission (lsa_key lsa) (without_met_request moment lsa n))
         (record { summary = met.summary; last = met.last })) (quiet_step n h)

@@ -17,7 +17,7 @@ use Rattle.adjacency.specs.Adjacencies.{loading_done_in, mismatch_step, requests
 use Rattle.adjacency.specs.Adjacencies.{two_way_received_in, with_hello_heard}
 use Rattle.adjacency.specs.Contents.{Requests, Step, Updates, no_sends}
 use Rattle.adjacency.specs.Descriptions.{is_over_for, repeat, without_old_description}
-use Rattle.adjacency.specs.Floods.{flooded_in_exchange, flooding, meets, passes, request_of}
+use Rattle.adjacency.specs.Floods.{flooding, meets, request_of}
 use Rattle.adjacency.specs.Floods.{without_met_request}
 use Rattle.adjacency.specs.Neighbors.{Neighbor, fresh, is_exchange_or_later}
 use Rattle.adjacency.specs.Requests.{may_request, next_request, request_next, still_outstanding}
@@ -29,28 +29,11 @@ use Rattle.adjacency.specs.Retransmissions.{repeats_description, request_again, 
 use Rattle.adjacency.specs.Retransmissions.{update_again}
 use Rattle.adjacency.proofs.Kept.{chosen}
 use Rattle.received.specs.Holds.{Holds}
+use Rattle.flood_laws.proofs.Flooding.{flooding_so}
 
 -- ---- a step, by its cases
 
 module _ (Q : Step → Type 0) (moment : ℕ) (m : Neighbor) where
-  pub flooding_so : (from : Bool) (lsa : Lsa)
-      → Q (record {
-        neighbor = add_retransmission moment lsa.header (without_met_request moment lsa m);
-        sends = Updates lsa ∷ [];
-      })
-      → Q (no_sends (remove_retransmission (lsa_key lsa) (without_met_request moment lsa m)))
-      → Q (no_sends m) → Q (flooding moment from lsa m)
-  flooding_so from lsa added removed h =
-      let w : Neighbor = without_met_request moment lsa m in
-      let got : Step = record {
-        neighbor = add_retransmission moment lsa.header w;
-        sends = Updates lsa ∷ [];
-      } in
-      let not_got : Step = no_sends (remove_retransmission (lsa_key lsa) w) in
-      chosen Q (is_exchange_or_later m.state) (flooded_in_exchange moment from lsa m) (no_sends m)
-      (λ part. chosen Q (not from && passes moment lsa (request_of m lsa)) got not_got
-      (λ e. added) (λ e. removed)) (λ before. h)
-
   pub request_so : Q (record {
     neighbor = record m { outstanding = set.from_list (next_request m); requested_at = moment };
     sends = Requests (next_request m) ∷ [];

@@ -54,7 +54,7 @@ use Rattle.event_rules.specs.Ticks.{send_acknowledgments, after_tick, send_hello
 use Rattle.event_rules.specs.Ticks.{send_all_again}
 use Rattle.event_rules.proofs.Walk.{Brings, IfRead, Invariant, IsKeptByParts, MayGrow, OfBrought}
 use Rattle.event_rules.proofs.Walk.{OfBytes, OfEvent, OfOutcome, outcome}
-use Rattle.flood_laws.specs.NewInstances.{lsas_brought}
+use Rattle.flood_laws.specs.NewInstances.{BringsLsa, lsas_brought}
 use Rattle.flood_laws.proofs.Lists.{later_is}
 use Rattle.flood_laws.proofs.Taken.{named_first}
 
@@ -66,6 +66,19 @@ pub record IsHeard (start : EventState) (event : Occurrence) (number : ℕ) (pac
     pub text : PacketText bytes packet
     pub from : is_hello packet.body ≡ false
         → is_from packet.router (neighbor_at number start.router.area.links) ≡ true
+
+-- an LSA of a packet that was heard comes with the event
+pub came : {start : EventState} {event : Occurrence} {number : ℕ} {packet : Packet}
+    → IsHeard start event number packet → (lsa : Lsa) → Contains (lsas_brought packet.body) lsa
+    → BringsLsa event lsa
+came {start} {event} {number} {packet} heard lsa among = record {
+  number = number;
+  bytes = heard.bytes;
+  packet = packet;
+  is = heard.is;
+  text = heard.text;
+  among = among;
+}
 
 -- the property of the links, the database, what was sent and what was originated recently
 abbrev pub Lately : Type 1

@@ -15,6 +15,7 @@ pub mod Limits
 pub mod Retransmitted
 pub mod OwnLsas
 pub mod EventWalk
+pub mod Flooding
 pub mod Owing
 pub mod Leaving
 pub mod Acknowledged

@@ -60,7 +60,7 @@ use Rattle.flood_laws.specs.NewInstances.{BringsLsa, IsLastCopy, IsNewInstance, 
 use Rattle.flood_laws.specs.NewInstances.{lsas_brought}
 use Rattle.flood_laws.specs.Worlds.{instances_stored}
 use Rattle.flood_laws.proofs.Acknowledged.{in_order, order_begun, order_brings, order_kept}
-use Rattle.flood_laws.proofs.EventWalk.{IsHeard, IsKeptToo, event_kept_too}
+use Rattle.flood_laws.proofs.EventWalk.{IsHeard, IsKeptToo, came, event_kept_too}
 use Rattle.flood_laws.proofs.Known.{IsExplained, each_all, held_named, named_by, named_held}
 use Rattle.flood_laws.proofs.Known.{of_members}
 use Rattle.flood_laws.proofs.Leaving.{itself, kept_time, no_time}
@@ -356,16 +356,6 @@ module _ (old : Router) (moment : ℕ) (event : Occurrence) where
     received (body.Update lsas) lsa c = mapped instance_of_lsa (filter_map lsa_in lsas) lsa c
     received (body.Acknowledgment headers) lsa c = absurd (of_empty lsa c)
 
-    came : (lsa : Lsa) → Contains (lsas_brought packet.body) lsa → BringsLsa event lsa
-    came lsa among = record {
-      number = place;
-      bytes = heard.bytes;
-      packet = packet;
-      is = heard.is;
-      text = heard.text;
-      among = among;
-    }
-
     install_last : (lsa : Lsa) (o : Outcome) (t : ByKey ℕ) → Contains (lsas_brought packet.body) lsa
         → AllLast t o.area.database → AllLast t (install moment place lsa o).area.database
     install_last lsa o t among h =
@@ -375,7 +365,7 @@ module _ (old : Router) (moment : ℕ) (event : Occurrence) where
       where
         by_key : (q : Key) (b : Bool) → same_key q (lsa_key lsa) ≡ b
             → Last t q (next_sequence (finite.get (install_flooded moment lsa o.area.database) q))
-        by_key q true same = Came lsa (came lsa among) (sym (tied_key q (lsa_key lsa) same))
+        by_key q true same = Came lsa (came heard lsa among) (sym (tied_key q (lsa_key lsa) same))
             (ap next_sequence (put_same o.area.database (lsa_key lsa) q (installed_copy moment lsa)
             same))
         by_key q false other =

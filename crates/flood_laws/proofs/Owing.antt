@@ -42,6 +42,7 @@ use Rattle.adjacency.proofs.Kept.{chosen}
 use Rattle.received.specs.Holds.{Holds}
 use Rattle.event_rules.specs.LsaInstances.{LsaInstance, instance_of_header}
 use Rattle.flood_laws.specs.TakenOff.{listed_instance, owes}
+use Rattle.flood_laws.proofs.Flooding.{flooding_so}
 use Rattle.flood_laws.proofs.Limits.{tied_key}
 use Rattle.flood_laws.proofs.Lists.{later_is}
 use Rattle.flood_laws.proofs.Taken.{named_first, same_name}
@@ -118,17 +119,9 @@ module _ (key : Key) (name : LsaInstance) (Asked : Type 0) where
       → same_key key (lsa_key lsa) ≡ false → Owing m → Owing (flooding moment from lsa m).neighbor
   flooded_other moment from lsa m other h =
       let w : Neighbor = without_met_request moment lsa m in
-      let got : Step = record {
-        neighbor = add_retransmission moment lsa.header w;
-        sends = Updates lsa ∷ [];
-      } in
-      let not_got : Step = no_sends (remove_retransmission (lsa_key lsa) w) in
-      chosen OfStep (is_exchange_or_later m.state) (flooded_in_exchange moment from lsa m)
-      (no_sends m)
-      (λ part. chosen OfStep (not from && passes moment lsa (request_of m lsa)) got not_got
-      (λ e. added_other moment lsa.header w other (met_where moment lsa m h))
-      (λ e. released_other (lsa_key lsa) w other (met_where moment lsa m h)))
-      (λ before. h)
+      flooding_so OfStep moment m from lsa
+      (added_other moment lsa.header w other (met_where moment lsa m h))
+      (released_other (lsa_key lsa) w other (met_where moment lsa m h)) h
 
   is_requested : (moment : ℕ) (lsa : Lsa) (m : Neighbor)
       → passes moment lsa (request_of m lsa) ≡ false
