@@ -21,8 +21,7 @@ use std::thread;
 use std::thread::{JoinHandle, Scope, Threads};
 use std::time::Clock;
 use worker::{
-    Book, Closed, Core, Hub, Port, Setup, Signal, Site, Sockets, SystemSeconds, close_hub,
-    open_hub,
+    Book, Closed, Core, Hub, Port, Setup, Signal, Site, Sockets, SystemSeconds, close_hub, open_hub,
 };
 
 /// Lets each worker run on a thread with a port of its own, and the operator on this thread at port

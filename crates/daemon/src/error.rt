@@ -6,9 +6,9 @@ ghost use Rattle.daemon.specs.declared.error.RouteError.TheVariants.{Memory};
 
 use console::ConfigurationError;
 use hooks::HookError;
-use worker::SocketError;
 use std::alloc::{AllocError, AllocFailed};
 use thiserror::Error;
+use worker::SocketError;
 
 /// Why a router doesn't run. The text is the line that is printed.
 #[derive(Debug, Drop, Error)]

@@ -54,7 +54,7 @@ fn keep(
 /// # Errors
 /// `Full` if the router exceeds a limit, `Memory` if an allocation is refused. The routes are
 /// unchanged then.
-pub fn finish(
+pub fn pack_and_update_routes(
     router: &Router,
     routes: &mut AreaRoutes,
     alloc: Global,

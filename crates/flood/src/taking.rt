@@ -11,7 +11,7 @@ ghost use Rattle.flood.specs.Occurrences.{occurrence_of};
 ghost use Rattle.flood.specs.Offers.{AreKeptNow, WalksOnlyThen};
 
 use crate::event::Event;
-use crate::keeping::finish;
+use crate::keeping::pack_and_update_routes;
 use crate::making::make_part;
 use crate::part::read_part;
 use area_routes::AreaRoutes;
@@ -98,5 +98,5 @@ pub fn take(
     make_part(router, alloc, moment, part)?;
     end_event(router, alloc, moment, &full)?;
     let drafts = router.take_drafts(alloc)?;
-    finish(router, routes, alloc, own, before, event, drafts)
+    pack_and_update_routes(router, routes, alloc, own, before, event, drafts)
 }

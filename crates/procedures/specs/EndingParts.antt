@@ -1,4 +1,5 @@
--- The first parts of an event's end: with `finish` of `router_state` they make up `end_event`.
+-- The first parts of an event's end: with `request_and_remove_aged` of `router_state` they make
+-- up `end_event`.
 use Rattle.std.specs.Prelude.{List}
 use Rattle.words.specs.Numbers.{Moment}
 use Rattle.event_rules.specs.received.Links.{Link}
@@ -6,9 +7,9 @@ use Rattle.event_rules.specs.Endings.{loading_done, originate_router_lsa, put_of
 use Rattle.event_rules.specs.EventState.{EventState}
 
 -- from Loading to Full, and the router-LSA is originated if the links have changed since `before`
-abbrev pub fill : List Link → Moment → EventState → EventState
-fill before moment p = originate_router_lsa before moment (loading_done p)
+abbrev pub loading_done_then_originate : List Link → Moment → EventState → EventState
+loading_done_then_originate before moment p = originate_router_lsa before moment (loading_done p)
 
 -- from Loading to Full once more, and what that changes waits for a Tick
-abbrev pub refill : EventState → EventState
-refill p = put_off_router_lsa p.router.area.links (loading_done p)
+abbrev pub loading_done_then_put_off : EventState → EventState
+loading_done_then_put_off p = put_off_router_lsa p.router.area.links (loading_done p)

@@ -3,7 +3,7 @@ ghost use Rattle.std.specs.Prelude.{◌≡◌, List, length};
 ghost use Rattle.event_rules.specs.received.Links.{Link};
 ghost use Rattle.event_rules.specs.Endings.{end_event, originate_router_lsa, put_off_router_lsa};
 ghost use Rattle.procedures.specs.Full.{full_routers};
-ghost use Rattle.procedures.specs.EndingParts.{fill, refill};
+ghost use Rattle.procedures.specs.EndingParts.{loading_done_then_originate, loading_done_then_put_off};
 ghost use Rattle.procedures.specs.Making.{Does, interfaces_of};
 
 use crate::telling::{full_routers, has_changed, is_untold};
@@ -54,7 +54,7 @@ fn put_off_router_lsa(
 
 // LoadingDone for each neighbor whose request list is empty, and the router-LSA is originated if
 // this event has changed its body.
-fn fill(
+fn loading_done_then_originate(
     router: &mut Router,
     alloc: Global,
     moment: Second,
@@ -64,7 +64,7 @@ fn fill(
     ensures { (old : List Link)
         → interfaces_of old ≡ interfaces_of router.old.present.area.links
         → full_routers old ≡ before.now
-        → Does (fill old moment) router.old router.new result }
+        → Does (loading_done_then_originate old moment) router.old router.new result }
 {
     router.end_loading();
     originate_router_lsa(router, alloc, moment, before)
@@ -72,8 +72,8 @@ fn fill(
 
 // LoadingDone once more, since flooding the router-LSA may have satisfied requests; what that
 // changes waits for a Tick.
-fn refill(router: &mut Router, alloc: Global) -> Result<(), AllocError>
-    ensures { Does refill router.old router.new result }
+fn loading_done_then_put_off(router: &mut Router, alloc: Global) -> Result<(), AllocError>
+    ensures { Does loading_done_then_put_off router.old router.new result }
 {
     let before = full_routers(router, alloc)?;
     router.end_loading();
@@ -98,7 +98,7 @@ pub fn end_event(
         ≡ interfaces_of router.old.settled.area.links }
     ensures { Does (end_event router.old.settled moment) router.old router.new result }
 {
-    fill(router, alloc, moment, before)?;
-    refill(router, alloc)?;
-    router.finish(alloc, moment)
+    loading_done_then_originate(router, alloc, moment, before)?;
+    loading_done_then_put_off(router, alloc)?;
+    router.request_and_remove_aged(alloc, moment)
 }

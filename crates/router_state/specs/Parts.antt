@@ -22,6 +22,6 @@ abbrev pub at_moment : Moment → Router → Router
 at_moment moment r = record r { moment = moment }
 
 -- what is requested, and removed, at the end of each event, whose moment is noted
-abbrev pub finish : Moment → EventState → EventState
-finish moment p =
+abbrev pub request_and_remove_aged : Moment → EventState → EventState
+request_and_remove_aged moment p =
     on_router (at_moment moment) (on_area (λ o. remove_aged moment (request_all moment o)) p)

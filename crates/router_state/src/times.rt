@@ -7,7 +7,7 @@ ghost use Rattle.event_rules.specs.EventState.{on_area};
 ghost use Rattle.event_rules.specs.Endings.{loading_done, with_ages};
 ghost use Rattle.event_rules.specs.Ticks.{run_out};
 ghost use Rattle.router_state.specs.Making.{Does, Makes};
-ghost use Rattle.router_state.specs.Parts.{finish, send_what_is_due};
+ghost use Rattle.router_state.specs.Parts.{request_and_remove_aged, send_what_is_due};
 
 use crate::aging::{remove_aged, with_ages};
 use crate::router::Router;
@@ -67,8 +67,12 @@ impl Router {
     /// Loading (section 14), and the moment is noted.
     ///
     /// Errors with `AllocError` if an allocation is refused.
-    pub fn finish(&mut self, alloc: Global, moment: Second) -> Result<(), AllocError>
-        ensures { Does (finish moment) self.old self.new result }
+    pub fn request_and_remove_aged(
+        &mut self,
+        alloc: Global,
+        moment: Second,
+    ) -> Result<(), AllocError>
+        ensures { Does (request_and_remove_aged moment) self.old self.new result }
     {
         let requests = NextRequest { moment };
         self.area.step_links(alloc, moment, &requests)?;

@@ -38,8 +38,9 @@ end_event-requires-clause-interfaces c =
     c.in_ok-make_part.ensures.makes.interfaces ∙ c.in_ok-age.ensures.makes.interfaces
     ∙ ap (λ (r : Router). interfaces_of r.area.links) (sym kept)
 
-pub finish-requires-clause-drafts : goal.finish-requires-clause-drafts
-finish-requires-clause-drafts c =
+pub pack_and_update_routes-requires-clause-drafts :
+    goal.pack_and_update_routes-requires-clause-drafts
+pack_and_update_routes-requires-clause-drafts c =
     let old = c.args.router.now in
     let event = occurrence_of c.args.event.now in
     let whole = made_whole old c.age.new.self c.make_part.new.router c.end_event.new.router
@@ -54,8 +55,8 @@ finish-requires-clause-drafts c =
     let sends = (made_state old.present c.args.moment c.in_ok-part.part).sends in
     (old.present.area.links, sends, are)
 
-pub finish-requires-clause-few : goal.finish-requires-clause-few
-finish-requires-clause-few c =
+pub pack_and_update_routes-requires-clause-few : goal.pack_and_update_routes-requires-clause-few
+pack_and_update_routes-requires-clause-few c =
     let old = c.args.router.now in
     let event = occurrence_of c.args.event.now in
     let whole = made_whole old c.age.new.self c.make_part.new.router c.end_event.new.router
@@ -70,8 +71,8 @@ finish-requires-clause-few c =
     let sends = (made_state old.present c.args.moment c.in_ok-part.part).sends in
     few_drafts old.present.area.links sends _ are c.requires.roomy.few
 
-pub finish-requires-clause-order : goal.finish-requires-clause-order
-finish-requires-clause-order c =
+pub pack_and_update_routes-requires-clause-order : goal.pack_and_update_routes-requires-clause-order
+pack_and_update_routes-requires-clause-order c =
     let old = c.args.router.now in
     let event = occurrence_of c.args.event.now in
     let whole = made_whole old c.age.new.self c.make_part.new.router c.end_event.new.router
@@ -90,8 +91,8 @@ finish-requires-clause-order c =
     let now : new.moment ≡ c.args.moment = ap (λ (r : Router). r.moment) at in
     omega (arith, first, low, now)
 
-pub finish-requires-clause-kept : goal.finish-requires-clause-kept
-finish-requires-clause-kept c =
+pub pack_and_update_routes-requires-clause-kept : goal.pack_and_update_routes-requires-clause-kept
+pack_and_update_routes-requires-clause-kept c =
     let old = c.args.router.now in
     let event = occurrence_of c.args.event.now in
     let whole = made_whole old c.age.new.self c.make_part.new.router c.end_event.new.router
@@ -115,8 +116,9 @@ finish-requires-clause-kept c =
     (subst (λ x. AreKept x old.present.area old.present.moment old.present.answers kept) (sym same)
     c.requires.kept))
 
-pub finish-requires-clause-answers : goal.finish-requires-clause-answers
-finish-requires-clause-answers c none =
+pub pack_and_update_routes-requires-clause-answers :
+    goal.pack_and_update_routes-requires-clause-answers
+pack_and_update_routes-requires-clause-answers c none =
     let old = c.args.router.now in
     let event = occurrence_of c.args.event.now in
     let whole = made_whole old c.age.new.self c.make_part.new.router c.end_event.new.router
@@ -147,13 +149,13 @@ returns-clause-ok c =
     let are = made_drafts old c.end_event.new.router new c.in_ok-drafts.drafts.items c.args.moment
     c.in_ok-part.part whole c.requires.drafted is c.in_ok-drafts.ensures.drafts room in
     let sends = (made_state old.present c.args.moment c.in_ok-part.part).sends in
-    if_ok c.finish.result
+    if_ok c.pack_and_update_routes.result
     (λ outs sent. made_happens old.present c.args.moment event c.in_ok-part.part
     c.in_ok-part.ensures.part outs.items new
     (made_sent old c.end_event.new.router new c.in_ok-drafts.drafts.items c.args.moment
     c.in_ok-part.part whole c.requires.drafted is c.in_ok-drafts.ensures.drafts c.id-own.result
     outs.items c.id-own.ensures sent))
-    (c.finish.ensures.outs old.present.area.links sends are)
+    (c.pack_and_update_routes.ensures.outs old.present.area.links sends are)
 
 pub returns-clause-keeps : goal.returns-clause-keeps
 returns-clause-keeps c =
@@ -169,7 +171,7 @@ returns-clause-keeps c =
     let are = made_drafts old c.end_event.new.router new c.in_ok-drafts.drafts.items c.args.moment
     c.in_ok-part.part whole c.requires.drafted is c.in_ok-drafts.ensures.drafts room in
     let sends = (made_state old.present c.args.moment c.in_ok-part.part).sends in
-    if_ok_with c.finish.result
+    if_ok_with c.pack_and_update_routes.result
     (λ outs sent texts.
     made_keeps old.present c.args.moment event c.in_ok-part.part c.in_ok-part.ensures.part
     outs.items new
@@ -178,8 +180,8 @@ returns-clause-keeps c =
     outs.items c.id-own.ensures sent)
     c.read_part.ensures.address c.requires.order c.requires.holds
     (subst (λ own. AreTexts own old.present.area.links sends) c.id-own.ensures texts))
-    (c.finish.ensures.outs old.present.area.links sends are)
-    (c.finish.ensures.texts old.present.area.links sends are)
+    (c.pack_and_update_routes.ensures.outs old.present.area.links sends are)
+    (c.pack_and_update_routes.ensures.texts old.present.area.links sends are)
 
 pub returns-clause-order : goal.returns-clause-order
 returns-clause-order c =
@@ -195,14 +197,14 @@ returns-clause-order c =
     let are = made_drafts old c.end_event.new.router new c.in_ok-drafts.drafts.items c.args.moment
     c.in_ok-part.part whole c.requires.drafted is c.in_ok-drafts.ensures.drafts room in
     let sends = (made_state old.present c.args.moment c.in_ok-part.part).sends in
-    ok_if c.finish.result
+    ok_if c.pack_and_update_routes.result
     (λ outs sent. made_order old.present c.args.moment event c.in_ok-part.part
     c.in_ok-part.ensures.part outs.items new
     (made_sent old c.end_event.new.router new c.in_ok-drafts.drafts.items c.args.moment
     c.in_ok-part.part whole c.requires.drafted is c.in_ok-drafts.ensures.drafts c.id-own.result
     outs.items c.id-own.ensures sent)
     c.requires.order)
-    (c.finish.ensures.outs old.present.area.links sends are)
+    (c.pack_and_update_routes.ensures.outs old.present.area.links sends are)
 
 pub returns-clause-holds : goal.returns-clause-holds
 returns-clause-holds c =
@@ -218,7 +220,7 @@ returns-clause-holds c =
     let are = made_drafts old c.end_event.new.router new c.in_ok-drafts.drafts.items c.args.moment
     c.in_ok-part.part whole c.requires.drafted is c.in_ok-drafts.ensures.drafts room in
     let sends = (made_state old.present c.args.moment c.in_ok-part.part).sends in
-    ok_if c.finish.result
+    ok_if c.pack_and_update_routes.result
     (λ outs sent.
     made_holds old.present c.args.moment event c.in_ok-part.part c.in_ok-part.ensures.part
     outs.items new
@@ -226,7 +228,7 @@ returns-clause-holds c =
     c.in_ok-part.part whole c.requires.drafted is c.in_ok-drafts.ensures.drafts c.id-own.result
     outs.items c.id-own.ensures sent)
     c.read_part.ensures.address c.requires.order c.requires.holds)
-    (c.finish.ensures.outs old.present.area.links sends are)
+    (c.pack_and_update_routes.ensures.outs old.present.area.links sends are)
 
 pub returns-clause-refused : goal.returns-clause-refused
 returns-clause-refused c =
@@ -242,12 +244,14 @@ returns-clause-refused c =
     let none : early_refusal old.present c.args.moment event ≡ None =
     sym c.refuses.ensures ∙ c.in_default.is in
     event_answers _ old.present c.args.moment event none c.in_ok-part.part c.in_ok-part.ensures.part
-    c.in_ok-part.ensures.tells c.finish.result
-    (subst (λ (r : Router). TellsLimit r c.finish.result) at c.finish.ensures.limit)
+    c.in_ok-part.ensures.tells c.pack_and_update_routes.result
+    (subst (λ (r : Router). TellsLimit r c.pack_and_update_routes.result) at
+    c.pack_and_update_routes.ensures.limit)
 
 pub returns-clause-limit : goal.returns-clause-limit
 returns-clause-limit c =
-    stays_within c.finish.result c.take_drafts.new.self.present c.finish.ensures.limit
+    stays_within c.pack_and_update_routes.result c.take_drafts.new.self.present
+    c.pack_and_update_routes.ensures.limit
 
 pub returns-clause-settled : goal.returns-clause-settled
 returns-clause-settled c =
@@ -255,7 +259,7 @@ returns-clause-settled c =
     ∙ c.in_ok-make_part.ensures.settled ∙ c.in_ok-age.ensures.settled
 
 pub returns-clause-kept : goal.returns-clause-kept
-returns-clause-kept c = c.finish.ensures.kept
+returns-clause-kept c = c.pack_and_update_routes.ensures.kept
 
 pub returns-clause-walks : goal.returns-clause-walks
 returns-clause-walks c =
@@ -264,15 +268,15 @@ returns-clause-walks c =
     let settled = c.in_ok-drafts.ensures.settled ∙ c.in_ok-end_event.ensures.settled
     ∙ c.in_ok-make_part.ensures.settled ∙ c.in_ok-age.ensures.settled
     ∙ c.requires.settled in
-    on_ok c.finish.result
+    on_ok c.pack_and_update_routes.result
     (λ walks. subst (λ m. ServesOnlyThen m new.moment new.id c.args.router.now.present.area
-    new.area old c.finish.new.routes) c.moment-before.ensures
+    new.area old c.pack_and_update_routes.new.routes) c.moment-before.ensures
     (subst (λ (s : Router). ServesOnlyThen c.moment-before.result new.moment new.id s.area new.area
-    old c.finish.new.routes) settled walks))
-    c.finish.ensures.walks
+    old c.pack_and_update_routes.new.routes) settled walks))
+    c.pack_and_update_routes.ensures.walks
 
 pub returns-clause-err : goal.returns-clause-err
-returns-clause-err c = c.finish.ensures.err
+returns-clause-err c = c.pack_and_update_routes.ensures.err
 
 pub read_part-requires : goal.read_part-requires
 read_part-requires c =

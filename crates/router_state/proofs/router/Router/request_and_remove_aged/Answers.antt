@@ -13,7 +13,7 @@ use Rattle.router_state.proofs.Leaves.{appends_removal, appends_requests, keeps_
 use Rattle.router_state.proofs.Leaves.{keeps_requests}
 use Rattle.router_state.proofs.Making.{done, makes_then, refused}
 use Rattle.router_state.proofs.Stepped.{all_are}
-use Rattle.router_state.proofs.router.Router.finish.Goals as goal
+use Rattle.router_state.proofs.router.Router.request_and_remove_aged.Goals as goal
 
 pub returns-in_err-step_links : goal.returns-in_err-step_links
 returns-in_err-step_links c =

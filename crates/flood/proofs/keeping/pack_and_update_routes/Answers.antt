@@ -2,7 +2,7 @@ use Rattle.std.proofs.Common.{sym, ap, ◌∙◌}
 use Rattle.flood_laws.specs.lsdb.Kept.{RouterDatabase}
 use Rattle.flood_laws.specs.lsdb.Limits.{exceeds as database_exceeds}
 use Rattle.area_routes.specs.flooding.Kept.{RouterArea}
-use Rattle.flood.proofs.keeping.finish.Goals as goal
+use Rattle.flood.proofs.keeping.pack_and_update_routes.Goals as goal
 
 pub returns-then-exceeds-clause-limit : goal.returns-then-exceeds-clause-limit
 returns-then-exceeds-clause-limit c =

@@ -1,7 +1,7 @@
 use Rattle.std.proofs.Common.{sym, ◌∙◌}
 use Rattle.event_rules.specs.Endings.{loading_done, originate_router_lsa}
 use Rattle.procedures.proofs.Making.{as_many_links, then_does}
-use Rattle.procedures.proofs.ending.fill.Goals as goal
+use Rattle.procedures.proofs.ending.loading_done_then_originate.Goals as goal
 
 pub originate_router_lsa-requires : goal.originate_router_lsa-requires
 originate_router_lsa-requires c = record {
