@@ -12,9 +12,9 @@ ghost use Rattle.flood.specs.Parts.{TellsLimit};
 
 use crate::event::Event;
 use crate::sending::outs;
+use adjacency::Draft;
 use area_routes::AreaRoutes;
 use event_rules::{CoreError, Out};
-use flood_laws::Draft;
 use procedures::Router;
 use std::alloc::{AllocError, Global};
 use words::{RouterId, Second};

@@ -25,6 +25,7 @@ mod sending;
 mod start;
 mod taking;
 
+pub use adjacency::{Interface, NeighborState};
 pub use area_routes::Offered;
 pub use book::entry::JournalEntry;
 pub use book::error::BookError;
@@ -32,5 +33,4 @@ pub use book::origin::Origin;
 pub use book::{Book, JOURNAL, TAKEN};
 pub use event::Event;
 pub use event_rules::{Config, ConfigError, CoreError, Out};
-pub use flood_laws::{Interface, NeighborState};
 pub use router_core::Core;

@@ -3,8 +3,8 @@ ghost use Rattle.std.specs.Prelude.{◌≡◌, ◌==◌, ◌<◌, ◌^◌};
 ghost use Rattle.std.specs.List.{list_all, list_any};
 ghost use Rattle.event_rules.specs.Routers.{are_distinct, in_profile, is_lawful};
 
+use adjacency::Interface;
 use event_rules::Config;
-use flood_laws::Interface;
 use words::{Address, MAX_AGE};
 
 fn is_lawful(i: Interface) -> bool

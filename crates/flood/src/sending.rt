@@ -6,8 +6,8 @@ ghost use Rattle.event_rules.specs.Packing.{outs_of};
 ghost use Rattle.flood_laws.specs.Keeping.{AreTexts};
 ghost use Rattle.flood.specs.Drafts.{AreDrafts};
 
+use adjacency::Draft;
 use event_rules::Out;
-use flood_laws::Draft;
 use packing::put_outs;
 use std::alloc::{AllocError, Global};
 use words::RouterId;

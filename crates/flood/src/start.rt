@@ -4,9 +4,9 @@ ghost use Rattle.event_rules.specs.Events.{initial};
 ghost use Rattle.event_rules.specs.Routers.{in_profile, unannounced_router};
 ghost use Rattle.flood.specs.Starts.{fresh_kept};
 
+use adjacency::Interface;
 use area_routes::Link;
 use event_rules::Config;
-use flood_laws::Interface;
 use procedures::{Router, originate_or_put_off};
 use std::alloc::{AllocError, Global};
 use words::router_key;

@@ -128,6 +128,3 @@ pub fn another_acknowledgment_takes_nothing_off()
 pub fn acknowledged_was_received()
     ensures { AcknowledgedWasReceived }
 {}
-// Names from the crates below that crates above use.
-pub use adjacency::{Draft, Interface, NeighborState};
-pub use lsdb::Lsdb;
