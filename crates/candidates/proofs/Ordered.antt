@@ -2,7 +2,7 @@
 use Rattle.std.proofs.Common.{◌≡◌, ℕ, ◌+◌, ◌<◌, ◌≤◌, inl, inr, Bool, true, false, List, [], ◌∷◌}
 use Rattle.std.proofs.Common.{◌++◌, take, set, Some, None, length, get_or, arith, refl, sym, ◌∙◌}
 use Rattle.std.proofs.Common.{ap, subst}
-use Rattle.std.specs.Cmp.{IsTotalOrder, nat_cmp_is, nat_cmp_total}
+use Rattle.std.specs.Cmp.{nat_cmp_is}
 use Rattle.std.specs.List.{Contains, HoldsAt}
 use Rattle.std.specs.List.Sorted.{IsNonDecreasingBy, IsPartitionPoint}
 use Rattle.std.specs.Ordering.{is_lt, nat_cmp, ordering_index, ordering_then}
@@ -12,29 +12,18 @@ use Rattle.std.proofs.lemmas.Bool.{cases_eq, cases_lt}
 use Rattle.std.proofs.lemmas.List.{get_or-set_other, get_or_past, take_more}
 use Rattle.std.proofs.lemmas.Grind.{get_or-set_at}
 use Rattle.std.proofs.lemmas.List.Elements.{Contains-push_cases}
-use Rattle.std.proofs.lemmas.Cmp.{on_total, then_total}
 use Rattle.std.proofs.lemmas.List.Sorted.{searchable_from_sorted}
-use Rattle.std.proofs.lemmas.Map.Lookups.{exact_pairs, exact_unsigned}
 use Rattle.words.specs.Orders.{network_cmp}
 use Rattle.words.specs.Prefixes.{IsUnder, Network, network_address}
 use Rattle.words.specs.declared.route.Route.{Route}
 use Rattle.routes.specs.Routes.{IsBefore}
 use Rattle.routes.specs.Routes.IsBefore.{ByAddress, ByLength}
 use Rattle.routes.proofs.Listed.{other_default}
+use Rattle.routes.proofs.Networks.{networks_exact, networks_total}
 use Rattle.routes.proofs.OneMore.{never_itself}
 use Rattle.std.specs.Prelude.{slice_index_or}
 use Rattle.candidates.specs.Borders.{Ascend, HasLengths, IsFound, IsMatch, IsLongest}
 use Rattle.candidates.specs.Gathering.{IsJust}
-
-pub networks_total : IsTotalOrder network_cmp
-networks_total = then_total (on_total (λ (n : Network). n.address) nat_cmp_total)
-    (on_total (λ (n : Network). n.length) nat_cmp_total)
-
-pub networks_exact : (a b : Network) → network_cmp a b ≡ Equal → a ≡ b
-networks_exact a b e =
-    let same = exact_pairs nat_cmp nat_cmp exact_unsigned exact_unsigned (a.address, a.length)
-    (b.address, b.length) e in
-    λ i. record { address = (same i).0; length = (same i).1 }
 
 pub network_itself : (a b : Network) → a ≡ b → network_cmp a b ≡ Equal
 network_itself a b e =

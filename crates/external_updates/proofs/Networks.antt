@@ -8,8 +8,9 @@ use Rattle.std.specs.List.Sorted.{IsPartitionPoint}
 use Rattle.std.specs.Ordering.{nat_cmp, ordering_then}
 use Rattle.std.specs.declared.cmp.Ordering.TheVariants.{Equal, Greater, Less}
 use Rattle.std.proofs.lemmas.Bool.{and_parts, cases_eq, cases_lt}
-use Rattle.candidates.proofs.Ordered.{network_itself, networks_exact}
+use Rattle.candidates.proofs.Ordered.{network_itself}
 use Rattle.routes.proofs.Lists.{first_is, later_is, of_cons, of_empty}
+use Rattle.routes.proofs.Networks.{networks_exact}
 use Rattle.routes.specs.Routes.{IsBefore}
 use Rattle.routes.specs.Routes.IsBefore.{ByAddress, ByLength}
 use Rattle.words.specs.Orders.{network_cmp}

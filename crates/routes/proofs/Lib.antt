@@ -10,3 +10,4 @@ pub mod OneMore
 pub mod Listed
 pub mod Carried
 pub mod Prefixes
+pub mod Networks

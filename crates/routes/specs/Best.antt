@@ -3,9 +3,8 @@
 use Rattle.std.specs.Prelude.{◌≡◌, bit_or}
 use Rattle.std.specs.Ordering.{nat_cmp, ordering_then}
 use Rattle.std.specs.declared.cmp.Ordering.{Ordering}
-use Rattle.words.specs.Prefixes.{Network}
+use Rattle.words.specs.Orders.{network_cmp, rank}
 use Rattle.words.specs.declared.route.Route.{Route}
-use Rattle.routes.specs.Routes.{rank}
 use Rattle.routes.specs.declared.offer.Offer.{Offer}
 
 abbrev pub tag_cmp : Offer → Offer → Ordering
@@ -23,12 +22,9 @@ cost_cmp a b = ordering_then (nat_cmp a.cost b.cost) (distance_cmp a b)
 abbrev pub kind_cmp : Offer → Offer → Ordering
 kind_cmp a b = ordering_then (nat_cmp (rank a.kind) (rank b.kind)) (cost_cmp a b)
 
-abbrev pub prefix_cmp : Network → Network → Ordering
-prefix_cmp a b = ordering_then (nat_cmp a.address b.address) (nat_cmp a.length b.length)
-
 -- by prefix, then better before worse, then by originator and tag
 abbrev pub offer_cmp : Offer → Offer → Ordering
-offer_cmp a b = ordering_then (prefix_cmp a.prefix b.prefix) (kind_cmp a b)
+offer_cmp a b = ordering_then (network_cmp a.prefix b.prefix) (kind_cmp a b)
 
 abbrev pub route_of : Offer → Route
 route_of o =

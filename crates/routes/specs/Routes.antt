@@ -3,20 +3,13 @@
 use Rattle.std.specs.Prelude.{◌≡◌, ℕ, suc, ◌<◌, ◌≤◌, ◌↔◌, IsTrue, List}
 use Rattle.std.specs.List.{AllPairs, Contains}
 use Rattle.words.specs.Interfaces.{has_interface}
+pub use Rattle.words.specs.Orders.{rank}
 use Rattle.words.specs.Prefixes.{IsUnder, Network}
 use Rattle.words.specs.declared.route.Route.{Route}
-use Rattle.words.specs.declared.route.RouteKind.{RouteKind}
-use Rattle.words.specs.declared.route.RouteKind.TheVariants.{External1, External2, Inter, Intra}
 use Rattle.routes.specs.Paths.{Way}
 use Rattle.routes.specs.declared.offer.Offer.{Offer}
 
 -- ---- the best offers
-
-abbrev pub rank : RouteKind → ℕ
-rank Intra = 0
-rank Inter = 1
-rank External1 = 2
-rank External2 = 3
 
 -- by kind, then cost, then distance: a is at least as good as b
 pub data IsNoWorse (a b : Offer) : Type 0 where

@@ -1,5 +1,5 @@
 -- The order of answers is total, and distinguishes all answers.
-use Rattle.std.proofs.Common.{◌≡◌, ℕ, zero, suc, false, List, refl, sym, ◌∙◌, ap}
+use Rattle.std.proofs.Common.{◌≡◌, ℕ, false, List, refl}
 use Rattle.std.specs.Cmp.{IsTotalOrder, nat_cmp_total}
 use Rattle.std.specs.List.Sorted.{IsSorted, IsSortedBy}
 use Rattle.std.specs.Ordering.{is_lt, nat_cmp, ordering_then}
@@ -11,14 +11,13 @@ use Rattle.words.specs.Orders.{kind_cmp, network_cmp, rank}
 use Rattle.words.specs.Prefixes.{Network}
 use Rattle.words.specs.declared.route.Route.{Route}
 use Rattle.words.specs.declared.route.RouteKind.{RouteKind}
-use Rattle.words.specs.declared.route.RouteKind.TheVariants.{External1, External2, Inter, Intra}
+use Rattle.routes.proofs.Determined.{same_kind}
+use Rattle.routes.proofs.Networks.{networks_exact, networks_total}
 use Rattle.tables.specs.Orders.{answer_cmp, route_cmp}
 
 pub routes_total : IsTotalOrder route_cmp
 routes_total =
-    then_total
-    (then_total (on_total (λ (r : Route). r.prefix.address) nat_cmp_total)
-    (on_total (λ (r : Route). r.prefix.length) nat_cmp_total))
+    then_total (on_total (λ (r : Route). r.prefix) networks_total)
     (then_total (on_total (λ (r : Route). rank r.kind) nat_cmp_total)
     (then_total (on_total (λ (r : Route). r.cost) nat_cmp_total)
     (then_total (on_total (λ (r : Route). r.distance) nat_cmp_total)
@@ -31,27 +30,8 @@ answers_total = then_total (on_total (λ (a : Route × ℕ). a.0) routes_total)
 
 -- ---- nothing else compares equal
 
-kind_at : ℕ → RouteKind
-kind_at zero = Intra
-kind_at (suc zero) = Inter
-kind_at (suc (suc zero)) = External1
-kind_at (suc (suc (suc n))) = External2
-
-ranked : (k : RouteKind) → k ≡ kind_at (rank k)
-unfolding kind_at
-ranked Intra = refl
-ranked Inter = refl
-ranked External1 = refl
-ranked External2 = refl
-
 kinds_exact : (a b : RouteKind) → kind_cmp a b ≡ Equal → a ≡ b
-kinds_exact a b e = ranked a ∙ ap kind_at (exact_unsigned (rank a) (rank b) e) ∙ sym (ranked b)
-
-networks_exact : (a b : Network) → network_cmp a b ≡ Equal → a ≡ b
-networks_exact a b e =
-    let same = exact_pairs nat_cmp nat_cmp exact_unsigned exact_unsigned (a.address, a.length)
-    (b.address, b.length) e in
-    λ i. record { address = (same i).0; length = (same i).1 }
+kinds_exact a b e = same_kind a b (exact_unsigned (rank a) (rank b) e)
 
 abbrev Parts : Type 0
 Parts = Network × (RouteKind × (ℕ × (ℕ × (ℕ × ℕ))))
