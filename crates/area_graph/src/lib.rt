@@ -16,4 +16,4 @@ pub use advertised::NETWORK_LSA;
 pub use links::add_exits;
 pub use nodes::{is_before, nodes_of};
 pub use slots::Slots;
-pub use vertices::graph_of;
+pub use vertices::{graph_of, kind_of};

@@ -105,7 +105,8 @@ fn vertex_of(
     Ok(Vertex { kind, links })
 }
 
-fn kind_of(node: &Node) -> VertexKind
+/// The kind of a node's vertex.
+pub fn kind_of(node: &Node) -> VertexKind
     ensures { result ≡ kind_of node.now }
 {
     match node {

@@ -4,7 +4,7 @@ ghost use Rattle.std.specs.Prelude.{MatchOption};
 ghost use Rattle.std.specs.List.{All, Contains};
 ghost use Rattle.area_graph.specs.Entries.{IsListedAt};
 ghost use Rattle.area_graph.specs.Graphs.{Adds, AreLinksFrom, CostFits, IsVertexOf, OfEach};
-ghost use Rattle.area_graph.specs.Graphs.{StandsAt, kind_of};
+ghost use Rattle.area_graph.specs.Graphs.{StandsAt};
 ghost use Rattle.area_graph.specs.Nodes.{AreNodes};
 ghost use Rattle.area_routes.specs.GraphLinks.{IsAttached, IsNeighbor, IsToEnd, IsToNeighbor};
 ghost use Rattle.area_routes.specs.GraphLinks.{IsToNetwork, IsToNetworkAt};
@@ -13,10 +13,10 @@ ghost use Rattle.routes.specs.Said.{said_at};
 ghost use Rattle.routes.specs.declared.node.Node.TheVariants.{ANetwork};
 
 use crate::surroundings::{Surroundings, has_link_to, network_lsa, places_of, router_lsa};
-use area_graph::add_exits;
+use area_graph::{add_exits, kind_of};
 use candidates::find;
 use lsa::{LinkKind, NetworkLsa, RouterLink as ToldLink, RouterLsa};
-use routes::{Node, Root, Vertex, VertexKind, VertexLink};
+use routes::{Node, Root, Vertex, VertexLink};
 use std::alloc::{AllocError, Global};
 use words::{LinkStateId, RouterId};
 
@@ -280,15 +280,6 @@ fn links_of(
         }
     }
     Ok(links)
-}
-
-fn kind_of(node: &Node) -> VertexKind
-    ensures { result ≡ kind_of node.now }
-{
-    match node {
-        Node::ARouter(_) => VertexKind::Router,
-        Node::ANetwork(..) => VertexKind::Network,
-    }
 }
 
 /// The vertex of a node. It takes the time of two lookups for each of its links, and for a
