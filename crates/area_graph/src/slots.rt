@@ -1,4 +1,4 @@
-//! The expected indices of the nodes.
+//! The expected indices of nodes, and of others that have a number.
 ghost use Rattle.std.specs.Prelude.{◌≡◌, ◌<◌, ◌≤◌, ℕ, Some, length, slice_get};
 ghost use Rattle.std.specs.declared.cmp.Ordering.TheVariants.{Less};
 ghost use Rattle.area_graph.specs.Nodes.{Ascend, node_cmp};
@@ -8,9 +8,9 @@ use crate::nodes::place_near;
 use routes::Node;
 use std::alloc::{AllocError, Global};
 
-/// The indices of some nodes, each in a slot that its Router ID or Link State ID gives. If two
-/// nodes share a slot, it has the later one. Only the time of a lookup depends on the slots: those
-/// of other nodes give the same results, but seldom the right index.
+/// The indices of some nodes or routers, each in a slot that its Router ID or Link State ID gives.
+/// If two of them share a slot, it has the later one. Only the time of a lookup depends on the
+/// slots: those of other nodes give the same results, but seldom the right index.
 #[derive(Debug, Drop)]
 pub struct Slots {
     places: Vec<u16>,
@@ -22,11 +22,32 @@ impl Slots {
     /// # Errors
     /// `AllocError` if an allocation is refused.
     pub fn of_nodes(alloc: Global, nodes: &[Node]) -> Result<Self, AllocError> {
-        let places = places_of(alloc, nodes)?;
+        let mut slots = Slots::with_room(alloc, nodes.len())?;
+        for at in 0..nodes.len() {
+            slots.put(number_of(&nodes[at]), at);
+        }
+        Ok(slots)
+    }
+
+    /// Four slots for each of this many, all with index 0.
+    ///
+    /// # Errors
+    /// `AllocError` if an allocation is refused.
+    pub fn with_room(alloc: Global, count: usize) -> Result<Self, AllocError> {
+        let mut places = Vec::new(alloc);
+        places.resize(count.saturating_mul(4), 0)?;
         Ok(Slots { places })
     }
 
-    /// No slots, so that each node is expected at index 0. Allocates nothing.
+    /// Puts an index into the slot of this number.
+    pub fn put(&mut self, number: u32, at: usize) {
+        let slot = slot_of(number, self.places.len());
+        if let Some(place) = self.places.get_mut(slot) {
+            *place = u16::try_from(at).unwrap_or(0);
+        }
+    }
+
+    /// No slots, so that each is expected at index 0. Allocates nothing.
     pub fn none(alloc: Global) -> Self {
         let places = Vec::new(alloc);
         Slots { places }
@@ -51,14 +72,15 @@ impl Slots {
         ensures beyond { (k : ℕ) (other : NodeValue) → slice_get nodes.now k ≡ Some other
             → result ≤ k → node_cmp other node.now ≡ Less → ⊥ }
     {
-        place_near(nodes, expected_at(&self.places, node), node)
+        place_near(nodes, self.expected_at(number_of(node)), node)
     }
-}
 
-fn expected_at(places: &[u16], node: &Node) -> usize {
-    match places.get(slot_of(number_of(node), places.len())) {
-        None => 0,
-        Some(place) => usize::from(*place),
+    /// The index in the slot of this number, at which the search begins.
+    pub fn expected_at(&self, number: u32) -> usize {
+        match self.places.get(slot_of(number, self.places.len())) {
+            None => 0,
+            Some(place) => usize::from(*place),
+        }
     }
 }
 
@@ -71,24 +93,11 @@ fn number_of(node: &Node) -> u32 {
 }
 
 // 2^32 divided by the golden ratio: its products with consecutive numbers lie far apart, so that
-// few nodes share a slot.
+// few share a slot.
 const SPREAD: u32 = 2_654_435_769;
 
 // The slot of a number among `slots` slots.
 fn slot_of(number: u32, slots: usize) -> usize {
     let mixed = number.wrapping_mul(SPREAD) as usize;
     mixed.wrapping_mul(slots) / 4_294_967_296
-}
-
-// The indices of the nodes, with four slots for each.
-fn places_of(alloc: Global, nodes: &[Node]) -> Result<Vec<u16>, AllocError> {
-    let mut places = Vec::new(alloc);
-    places.resize(nodes.len().saturating_mul(4), 0)?;
-    for at in 0..nodes.len() {
-        let slot = slot_of(number_of(&nodes[at]), places.len());
-        if let Some(place) = places.get_mut(slot) {
-            *place = u16::try_from(at).unwrap_or(0);
-        }
-    }
-    Ok(places)
 }

@@ -16,7 +16,6 @@ use crate::borders::boundary_way;
 use crate::flagged::Flagged;
 use crate::gathering::network_of;
 use crate::offer::{external, way_by};
-use crate::places::expected_at;
 use crate::search::longest_match;
 use lsa::LsaBody;
 use routes::{Offer, Root, Way};
@@ -95,11 +94,11 @@ fn outward_way(
 }
 
 /// The offer of an AS-external-LSA that advertises this. The search for its originator begins at
-/// its index in `places`.
+/// index `place`.
 pub fn offer_told(
     root: &Root,
     inner: &Inner<'_>,
-    places: &[u16],
+    place: usize,
     told: &ExternalAdvertisement,
 ) -> Option<Offer>
     requires flagged { AscendByRouter inner.now.flagged.now × AreCloseBy inner.now.flagged.now }
@@ -112,7 +111,6 @@ pub fn offer_told(
     if told.metric >= LS_INFINITY || told.originator == root.router {
         return None;
     }
-    let place = expected_at(places, told.originator);
     let way = outward_way(inner, place, told.originator, told.forwarding)?;
     Some(external(told, way))
 }
@@ -127,5 +125,5 @@ pub fn external_offer(root: &Root, inner: &Inner<'_>, key: &Key, body: &LsaBody)
         inner.now.networks.now (key.now, body.now)) result }
 {
     let told = told_external(key, body)?;
-    offer_told(root, inner, &[], &told)
+    offer_told(root, inner, 0, &told)
 }

@@ -16,6 +16,7 @@ ghost use Rattle.candidates.specs.Ways.{AreNear};
 ghost use Rattle.routes.specs.Said.{Said};
 
 use crate::ways::Ways;
+use area_graph::Slots;
 use lsa::LsaBody;
 use lsdb::KeyedBody;
 use routes::{Node, Way};
@@ -82,6 +83,18 @@ pub fn flagged_routers<W: Ways>(
         }
     }
     Ok(routers)
+}
+
+/// The indices of these routers, each in the slot of its Router ID.
+///
+/// # Errors
+/// `AllocError` if an allocation is refused.
+pub fn slots_of(alloc: Global, routers: &[Flagged]) -> Result<Slots, AllocError> {
+    let mut slots = Slots::with_room(alloc, routers.len())?;
+    for at in 0..routers.len() {
+        slots.put(routers[at].router.number(), at);
+    }
+    Ok(slots)
 }
 
 fn compare(listed: &Flagged, router: RouterId) -> Ordering

@@ -15,7 +15,6 @@ pub mod laws;
 mod offer;
 mod order;
 mod passes;
-mod places;
 mod reached;
 mod root_alone;
 mod search;

@@ -17,10 +17,9 @@ ghost use Rattle.candidates.specs.Ways.{AreNear};
 use crate::area::push_inner;
 use crate::borders::told_offer;
 use crate::externals::{ExternalAdvertisement, Inner, offer_told, told_external};
-use crate::flagged::Flagged;
+use crate::flagged::{Flagged, slots_of};
 use crate::gathering::push_offer;
 use crate::order::routes_of_offers;
-use crate::places::places_of;
 use crate::ways::Ways;
 use lsdb::KeyedBody;
 use routes::{Offer, Root};
@@ -119,9 +118,10 @@ pub fn push_externals(
         (OfEach (OfTold root.now inner.now.flagged.now inner.now.routers.now
         inner.now.networks.now) externals.now)) }
 {
-    let places = places_of(alloc, inner.flagged)?;
+    let slots = slots_of(alloc, inner.flagged)?;
     for told in externals {
-        push_offer(offers, offer_told(root, inner, &places, told))?;
+        let place = slots.expected_at(told.originator.number());
+        push_offer(offers, offer_told(root, inner, place, told))?;
     }
     Ok(())
 }
