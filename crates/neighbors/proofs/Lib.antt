@@ -1,3 +1,4 @@
 pub mod Exchanges
 pub mod Judged
 pub mod Intersections
+pub mod Doing

@@ -1,12 +1,10 @@
 //! A neighbor that isn't Down.
-ghost use Rattle.std.specs.Prelude.{◌≡◌, ℕ, not, ◌&&◌, if◌then◌else◌, [], ◌∷◌, IfOk, OnOk};
+ghost use Rattle.std.specs.Prelude.{◌≡◌, not, ◌&&◌, if◌then◌else◌, IfOk};
 ghost use Rattle.std.specs.Prelude.{option_copied};
 ghost use Rattle.lsa.specs.Headers.{key_of};
 ghost use Rattle.adjacency.specs.lsdb.Copies.{lsa_now};
 ghost use Rattle.adjacency.specs.Adjacencies.{next_dd_sequence_start, initial_description};
 ghost use Rattle.adjacency.specs.Adjacencies.{enter_exstart};
-ghost use Rattle.adjacency.specs.Contents.{Step};
-ghost use Rattle.adjacency.specs.Drafts.{drafting};
 ghost use Rattle.adjacency.specs.Exchanges.{standing_of};
 ghost use Rattle.adjacency.specs.Floods.{flood_step, flooded_in_exchange, is_any, meets, passes};
 ghost use Rattle.adjacency.specs.Floods.{request_of, without_met_request};
@@ -15,6 +13,7 @@ ghost use Rattle.adjacency.specs.Requests.{without_request};
 ghost use Rattle.adjacency.specs.Retransmissions.{acknowledged_neighbor, after_acknowledgment};
 ghost use Rattle.adjacency.specs.Retransmissions.{is_entry};
 ghost use Rattle.adjacency.specs.Retransmissions.{add_retransmission, remove_retransmission};
+ghost use Rattle.neighbors.specs.Doing.{Does, NeighborUpdates};
 
 mod copying;
 mod descriptions;
@@ -267,9 +266,7 @@ impl Neighbor {
 
     // Removes this key from the request list.
     fn withdraw(&mut self, header: &Header) -> Result<(), AllocError>
-        ensures ok { OnOk result (self.new.present
-            ≡ without_request (key_of header.now) self.old.present) }
-        ensures settled { self.new.settled ≡ self.old.settled }
+        ensures { Does (without_request (key_of header.now)) self.old self.new result }
     {
         self.requests.remove(&header.key())?;
         self.outstanding.remove(&header.key())
@@ -279,18 +276,14 @@ impl Neighbor {
     ///
     /// Errors with `AllocError` if an allocation is refused; the caller then rolls back.
     pub fn remove_retransmission(&mut self, header: &Header) -> Result<(), AllocError>
-        ensures ok { OnOk result (self.new.present
-            ≡ remove_retransmission (key_of header.now) self.old.present) }
-        ensures settled { self.new.settled ≡ self.old.settled }
+        ensures { Does (remove_retransmission (key_of header.now)) self.old self.new result }
     {
         self.retransmissions.remove(&header.key())
     }
 
     // Adds the instance to the retransmission list.
     fn add_retransmission(&mut self, moment: Second, header: &Header) -> Result<(), AllocError>
-        ensures ok { OnOk result (self.new.present
-            ≡ add_retransmission moment header.now self.old.present) }
-        ensures settled { self.new.settled ≡ self.old.settled }
+        ensures { Does (add_retransmission moment header.now) self.old self.new result }
     {
         self.retransmissions.remove(&header.key())?;
         let first = self.retransmissions.is_empty();
@@ -305,11 +298,10 @@ impl Neighbor {
     // Removes the request that the copy satisfies. Returns whether the copy may be sent: nothing
     // newer or equal is requested.
     fn meet(&mut self, moment: Second, copy: &DatabaseCopy<'_>) -> Result<bool, AllocError>
-        ensures ok { IfOk result (λ _. self.new.present
-            ≡ without_met_request moment (lsa_now moment copy.now) self.old.present) }
+        ensures does { Does (without_met_request moment (lsa_now moment copy.now)) self.old self.new
+            result }
         ensures passes { IfOk result (λ p. p ≡ passes moment (lsa_now moment copy.now)
             (request_of self.old.present (lsa_now moment copy.now))) }
-        ensures settled { self.new.settled ≡ self.old.settled }
     {
         let listed = self.requested(moment, copy);
         let passes = passes(moment, copy, &listed);
@@ -330,16 +322,11 @@ impl Neighbor {
         delay: u16,
         draft: &mut Draft,
     ) -> Result<bool, AllocError>
-        ensures ok { IfOk result (λ _. self.new.present
-            ≡ (flooded_in_exchange moment from (lsa_now moment copy.now)
-            self.old.present).neighbor) }
-        ensures draft { IfOk result (λ _. draft.new
-            ≡ drafting delay (flooded_in_exchange moment from (lsa_now moment copy.now)
-            self.old.present).sends draft.old) }
+        ensures does { NeighborUpdates delay (flooded_in_exchange moment from
+            (lsa_now moment copy.now)) self.old self.new draft.old draft.new result }
         ensures sent { IfOk result (λ sent. sent
             ≡ is_any (flooded_in_exchange moment from (lsa_now moment copy.now)
             self.old.present).sends) }
-        ensures settled { self.new.settled ≡ self.old.settled }
     {
         let header = copy.header(moment);
         let passes = self.meet(moment, copy)?;
@@ -367,14 +354,10 @@ impl Neighbor {
         delay: u16,
         draft: &mut Draft,
     ) -> Result<bool, AllocError>
-        ensures ok { IfOk result (λ _. self.new.present
-            ≡ (flood_step moment from (lsa_now moment copy.now) self.old.present).neighbor) }
-        ensures draft { IfOk result (λ _. draft.new
-            ≡ drafting delay (flood_step moment from (lsa_now moment copy.now)
-            self.old.present).sends draft.old) }
+        ensures does { NeighborUpdates delay (flood_step moment from (lsa_now moment copy.now))
+            self.old self.new draft.old draft.new result }
         ensures sent { IfOk result (λ sent. sent
             ≡ is_any (flood_step moment from (lsa_now moment copy.now) self.old.present).sends) }
-        ensures settled { self.new.settled ≡ self.old.settled }
     {
         let floods = self.standing().state.is_exchange_or_later();
         if floods {
@@ -385,9 +368,7 @@ impl Neighbor {
 
     // Removes the instance from the retransmission list if it is the same.
     fn remove_acknowledged(&mut self, moment: Second, header: &Header) -> Result<(), AllocError>
-        ensures ok { OnOk result (self.new.present
-            ≡ acknowledged_neighbor moment self.old.present header.now) }
-        ensures settled { self.new.settled ≡ self.old.settled }
+        ensures { Does (λ n. acknowledged_neighbor moment n header.now) self.old self.new result }
     {
         let key = header.key();
         let same = is_entry(moment, header, self.retransmissions.get(&key));
@@ -406,9 +387,7 @@ impl Neighbor {
         moment: Second,
         headers: &[Header],
     ) -> Result<(), AllocError>
-        ensures ok { OnOk result (self.new.present
-            ≡ after_acknowledgment moment headers.now self.old.present) }
-        ensures settled { self.new.settled ≡ self.old.settled }
+        ensures { Does (after_acknowledgment moment headers.now) self.old self.new result }
     {
         for header in headers {
             self.remove_acknowledged(moment, header)?;

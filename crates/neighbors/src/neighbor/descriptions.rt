@@ -1,5 +1,5 @@
 //! The database exchange (RFC 2328, sections 10.6, 10.8 and 10.3).
-ghost use Rattle.std.specs.Prelude.{◌≡◌, ℕ, ◌+◌, ◌%◌, ◌^◌, false, true, if◌then◌else◌, []};
+ghost use Rattle.std.specs.Prelude.{◌≡◌, ◌+◌, ◌%◌, ◌^◌, false, true, if◌then◌else◌, []};
 ghost use Rattle.std.specs.Prelude.{◌∷◌, ◌++◌, take, IfOk, OnOk};
 ghost use Rattle.std.specs.FinMap as finite;
 ghost use Rattle.std.specs.List.{filter_map, fold};
@@ -16,9 +16,9 @@ ghost use Rattle.adjacency.specs.Descriptions.{
   slave_replies,
   with_request,
 };
-ghost use Rattle.adjacency.specs.Drafts.{drafting};
 ghost use Rattle.adjacency.specs.Exchanges.{accept_description, entry_header};
 ghost use Rattle.adjacency.specs.Exchanges.{proceeding, verdict_of};
+ghost use Rattle.neighbors.specs.Doing.{ListDoes, NeighborSends};
 ghost use Rattle.words.specs.Constants.{most_headers_described};
 
 use super::Neighbor;
@@ -68,9 +68,8 @@ fn want(
     requests: &mut KeyedMap<ListEntry>,
     header: &Header,
 ) -> Result<(), AllocError>
-    ensures ok { OnOk result (requests.new.present
-        ≡ with_request moment database.now.present requests.old.present header.now) }
-    ensures settled { requests.new.settled ≡ requests.old.settled }
+    ensures { ListDoes (λ l. with_request moment database.now.present l header.now) requests.old
+        requests.new result }
 {
     let wanted = is_wanted(moment, database, header);
     if wanted {
@@ -90,9 +89,8 @@ fn want_all(
     requests: &mut KeyedMap<ListEntry>,
     headers: &[Header],
 ) -> Result<(), AllocError>
-    ensures ok { OnOk result (requests.new.present
-        ≡ fold (with_request moment database.now.present) requests.old.present headers.now) }
-    ensures settled { requests.new.settled ≡ requests.old.settled }
+    ensures { ListDoes (λ l. fold (with_request moment database.now.present) l headers.now)
+        requests.old requests.new result }
 {
     for header in headers {
         want(moment, database, requests, header)?;
@@ -162,10 +160,7 @@ impl Neighbor {
     ///
     /// Errors with `AllocError` if an allocation is refused; the caller then rolls back.
     pub fn repeat(&mut self, moment: Second, draft: &mut Draft) -> Result<(), AllocError>
-        ensures ok { OnOk result (self.new.present ≡ (repeat moment self.old.present).neighbor) }
-        ensures draft { OnOk result ((delay : ℕ) → draft.new
-            ≡ drafting delay (repeat moment self.old.present).sends draft.old) }
-        ensures settled { self.new.settled ≡ self.old.settled }
+        ensures { NeighborSends (repeat moment) self.old self.new draft.old draft.new result }
     {
         let Some(kept) = self.described.get() else {
             return Ok(());
@@ -235,11 +230,8 @@ impl Neighbor {
         moment: Second,
         draft: &mut Draft,
     ) -> Result<(), AllocError>
-        ensures ok { OnOk result (self.new.present
-            ≡ (send_description moment self.old.present).neighbor) }
-        ensures draft { OnOk result ((delay : ℕ) → draft.new
-            ≡ drafting delay (send_description moment self.old.present).sends draft.old) }
-        ensures settled { self.new.settled ≡ self.old.settled }
+        ensures { NeighborSends (send_description moment) self.old self.new draft.old draft.new
+            result }
     {
         let keys = self.summary.first(alloc, MOST_HEADERS_DESCRIBED)?;
         let next = self.next_description(alloc, moment, &keys)?;
@@ -268,12 +260,8 @@ impl Neighbor {
         description: &Description,
         draft: &mut Draft,
     ) -> Result<(), AllocError>
-        ensures ok { OnOk result (self.new.present
-            ≡ (master_goes_on moment description.now self.old.present).neighbor) }
-        ensures draft { OnOk result ((delay : ℕ) → draft.new
-            ≡ drafting delay (master_goes_on moment description.now self.old.present).sends
-            draft.old) }
-        ensures settled { self.new.settled ≡ self.old.settled }
+        ensures { NeighborSends (master_goes_on moment description.now) self.old self.new draft.old
+            draft.new result }
     {
         let announced = self.announced_more();
         let more = either(announced, description.more);
@@ -296,12 +284,8 @@ impl Neighbor {
         description: &Description,
         draft: &mut Draft,
     ) -> Result<(), AllocError>
-        ensures ok { OnOk result (self.new.present
-            ≡ (slave_replies moment description.now self.old.present).neighbor) }
-        ensures draft { OnOk result ((delay : ℕ) → draft.new
-            ≡ drafting delay (slave_replies moment description.now self.old.present).sends
-            draft.old) }
-        ensures settled { self.new.settled ≡ self.old.settled }
+        ensures { NeighborSends (slave_replies moment description.now) self.old self.new draft.old
+            draft.new result }
     {
         self.count_on(description.sequence);
         self.send_description(alloc, moment, draft)?;
@@ -323,13 +307,8 @@ impl Neighbor {
         description: &Description,
         draft: &mut Draft,
     ) -> Result<(), AllocError>
-        ensures ok { OnOk result (self.new.present
-            ≡ (accept_description moment database.now.present description.now
-            self.old.present).neighbor) }
-        ensures draft { OnOk result ((delay : ℕ) → draft.new
-            ≡ drafting delay (accept_description moment database.now.present description.now
-            self.old.present).sends draft.old) }
-        ensures settled { self.new.settled ≡ self.old.settled }
+        ensures { NeighborSends (accept_description moment database.now.present description.now)
+            self.old self.new draft.old draft.new result }
     {
         let received = as_received(description);
         self.standing.received = Some(received);
@@ -355,15 +334,9 @@ impl Neighbor {
         description: &Description,
         draft: &mut Draft,
     ) -> Result<(), AllocError>
-        ensures ok { OnOk result (self.new.present
-            ≡ (accept_description moment database.now.present description.now
-            (negotiated_neighbor false description.now.sequence moment database.now.present
-            self.old.present)).neighbor) }
-        ensures draft { OnOk result ((delay : ℕ) → draft.new
-            ≡ drafting delay (accept_description moment database.now.present description.now
-            (negotiated_neighbor false description.now.sequence moment database.now.present
-            self.old.present)).sends draft.old) }
-        ensures settled { self.new.settled ≡ self.old.settled }
+        ensures { NeighborSends (λ n. accept_description moment database.now.present description.now
+            (negotiated_neighbor false description.now.sequence moment database.now.present n))
+            self.old self.new draft.old draft.new result }
     {
         self.negotiate(alloc, false, description.sequence, moment, database)?;
         self.accept(alloc, moment, database, description, draft)
@@ -378,15 +351,9 @@ impl Neighbor {
         description: &Description,
         draft: &mut Draft,
     ) -> Result<(), AllocError>
-        ensures ok { OnOk result (self.new.present
-            ≡ (accept_description moment database.now.present description.now
-            (negotiated_neighbor true self.old.present.sequence moment database.now.present
-            self.old.present)).neighbor) }
-        ensures draft { OnOk result ((delay : ℕ) → draft.new
-            ≡ drafting delay (accept_description moment database.now.present description.now
-            (negotiated_neighbor true self.old.present.sequence moment database.now.present
-            self.old.present)).sends draft.old) }
-        ensures settled { self.new.settled ≡ self.old.settled }
+        ensures { NeighborSends (λ n. accept_description moment database.now.present description.now
+            (negotiated_neighbor true n.sequence moment database.now.present n))
+            self.old self.new draft.old draft.new result }
     {
         let sequence = self.sequence();
         self.negotiate(alloc, true, sequence, moment, database)?;
@@ -406,13 +373,9 @@ impl Neighbor {
         description: &Description,
         draft: &mut Draft,
     ) -> Result<(), AllocError>
-        ensures ok { OnOk result (self.new.present
-            ≡ (proceeding (verdict_of verdict) moment database.now.present description.now
-            self.old.present).neighbor) }
-        ensures draft { OnOk result ((delay : ℕ) → draft.new
-            ≡ drafting delay (proceeding (verdict_of verdict) moment database.now.present
-            description.now self.old.present).sends draft.old) }
-        ensures settled { self.new.settled ≡ self.old.settled }
+        ensures { NeighborSends
+            (proceeding (verdict_of verdict) moment database.now.present description.now)
+            self.old self.new draft.old draft.new result }
     {
         match verdict {
             Verdict::Discarded => Ok(()),

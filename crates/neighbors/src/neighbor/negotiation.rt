@@ -1,10 +1,11 @@
 //! The lists after the negotiation (RFC 2328, section 10.3, NegotiationDone).
-ghost use Rattle.std.specs.Prelude.{◌≡◌, OnOk};
+ghost use Rattle.std.specs.Prelude.{◌≡◌};
 ghost use Rattle.std.specs.FinMap as finite;
 ghost use Rattle.std.specs.List.{fold};
 ghost use Rattle.adjacency.specs.lsdb.Copies.{is_aged_out};
 ghost use Rattle.adjacency.specs.Descriptions.{aged_copies, negotiated_neighbor, young_copies};
 ghost use Rattle.adjacency.specs.Exchanges.{is_young, with_key};
+ghost use Rattle.neighbors.specs.Doing.{Does, ListDoes};
 
 use super::Neighbor;
 use adjacency::{ListEntry, Lsdb, NeighborState};
@@ -14,8 +15,7 @@ use words::{Key, Second};
 
 // Removes these keys from the list.
 pub fn remove_keys(list: &mut KeyedMap<ListEntry>, keys: &[Key]) -> Result<(), AllocError>
-    ensures ok { OnOk result (list.new.present ≡ fold finite.remove list.old.present keys.now) }
-    ensures settled { list.new.settled ≡ list.old.settled }
+    ensures { ListDoes (λ l. fold finite.remove l keys.now) list.old list.new result }
 {
     for key in keys {
         list.remove(key)?;
@@ -25,8 +25,7 @@ pub fn remove_keys(list: &mut KeyedMap<ListEntry>, keys: &[Key]) -> Result<(), A
 
 // Removes all keys from the list.
 fn clear(alloc: Global, list: &mut KeyedMap<ListEntry>) -> Result<(), AllocError>
-    ensures ok { OnOk result (list.new.present ≡ finite.empty) }
-    ensures settled { list.new.settled ≡ list.old.settled }
+    ensures { ListDoes (λ _. finite.empty) list.old list.new result }
 {
     let keys = list.first(alloc, list.len())?;
     remove_keys(list, &keys)
@@ -41,12 +40,12 @@ fn list_copy(
     young: &mut KeyedMap<ListEntry>,
     aged: &mut KeyedMap<ListEntry>,
 ) -> Result<(), AllocError>
-    ensures young { OnOk result (young.new.present
-        ≡ with_key (is_young moment) moment database.now.present young.old.present key) }
-    ensures aged { OnOk result (aged.new.present
-        ≡ with_key (is_aged_out moment) moment database.now.present aged.old.present key) }
-    ensures young_settled { young.new.settled ≡ young.old.settled }
-    ensures aged_settled { aged.new.settled ≡ aged.old.settled }
+    ensures young { ListDoes
+        (λ l. with_key (is_young moment) moment database.now.present l key) young.old young.new
+        result }
+    ensures aged { ListDoes
+        (λ l. with_key (is_aged_out moment) moment database.now.present l key) aged.old aged.new
+        result }
 {
     let Some(copy) = database.get(&key) else {
         return Ok(());
@@ -71,10 +70,10 @@ fn list_copies(
 ) -> Result<(), AllocError>
     requires young { young.old.present ≡ finite.empty }
     requires aged { aged.old.present ≡ finite.empty }
-    ensures young { OnOk result (young.new.present ≡ young_copies moment database.now.present) }
-    ensures aged { OnOk result (aged.new.present ≡ aged_copies moment database.now.present) }
-    ensures young_settled { young.new.settled ≡ young.old.settled }
-    ensures aged_settled { aged.new.settled ≡ aged.old.settled }
+    ensures young { ListDoes (λ _. young_copies moment database.now.present) young.old young.new
+        result }
+    ensures aged { ListDoes (λ _. aged_copies moment database.now.present) aged.old aged.new
+        result }
 {
     for key in database.keys() {
         list_copy(moment, database, key, young, aged)?;
@@ -90,11 +89,10 @@ impl Neighbor {
         moment: Second,
         database: &Lsdb,
     ) -> Result<(), AllocError>
-        ensures ok { OnOk result (self.new.present ≡ record self.old.present {
+        ensures { Does (λ n. record n {
           summary = young_copies moment database.now.present;
           retransmissions = aged_copies moment database.now.present;
-        }) }
-        ensures settled { self.new.settled ≡ self.old.settled }
+        }) self.old self.new result }
     {
         clear(alloc, &mut self.summary)?;
         clear(alloc, &mut self.retransmissions)?;
@@ -135,9 +133,8 @@ impl Neighbor {
         moment: Second,
         database: &Lsdb,
     ) -> Result<(), AllocError>
-        ensures ok { OnOk result (self.new.present
-            ≡ negotiated_neighbor is_master sequence moment database.now.present self.old.present) }
-        ensures settled { self.new.settled ≡ self.old.settled }
+        ensures { Does (negotiated_neighbor is_master sequence moment database.now.present) self.old
+            self.new result }
     {
         self.enter_exchange(moment, is_master, sequence);
         self.list_database(alloc, moment, database)

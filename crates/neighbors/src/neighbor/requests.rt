@@ -1,11 +1,11 @@
 //! Link State Requests (RFC 2328, sections 10.7 and 10.9).
-ghost use Rattle.std.specs.Prelude.{◌≡◌, ℕ, not, ◌&&◌, [], ◌∷◌, OnOk};
+ghost use Rattle.std.specs.Prelude.{◌≡◌, not, ◌&&◌, [], ◌∷◌, OnOk};
 ghost use Rattle.std.specs.FinMap as finite;
 ghost use Rattle.std.specs.FinSet as set;
 ghost use Rattle.adjacency.specs.Contents.{Requests};
-ghost use Rattle.adjacency.specs.Drafts.{drafting};
 ghost use Rattle.adjacency.specs.Requests.{may_request, next_request, request_next};
 ghost use Rattle.adjacency.specs.Views.{keys_of};
+ghost use Rattle.neighbors.specs.Doing.{NeighborSends, Sends};
 
 use super::{Neighbor, is_exchange_or_loading};
 use adjacency::Draft;
@@ -54,13 +54,10 @@ impl Neighbor {
         draft: &mut Draft,
     ) -> Result<(), AllocError>
         requires { self.old.present.outstanding ≡ set.empty }
-        ensures ok { OnOk result (self.new.present ≡ record self.old.present {
-          outstanding = set.from_list (next_request self.old.present);
+        ensures { Sends (λ n. record n {
+          outstanding = set.from_list (next_request n);
           requested_at = moment;
-        }) }
-        ensures draft { OnOk result ((delay : ℕ) → draft.new
-            ≡ drafting delay (Requests (next_request self.old.present) ∷ []) draft.old) }
-        ensures settled { self.new.settled ≡ self.old.settled }
+        }) (λ n. Requests (next_request n) ∷ []) self.old self.new draft.old draft.new result }
     {
         let keys = self.requests.first(alloc, MOST_KEYS_REQUESTED)?;
         put_keys(&mut self.outstanding, &keys)?;
@@ -78,11 +75,7 @@ impl Neighbor {
         moment: Second,
         draft: &mut Draft,
     ) -> Result<(), AllocError>
-        ensures ok { OnOk result (self.new.present
-            ≡ (request_next moment self.old.present).neighbor) }
-        ensures draft { OnOk result ((delay : ℕ) → draft.new
-            ≡ drafting delay (request_next moment self.old.present).sends draft.old) }
-        ensures settled { self.new.settled ≡ self.old.settled }
+        ensures { NeighborSends (request_next moment) self.old self.new draft.old draft.new result }
     {
         let may = self.may_request();
         if may {

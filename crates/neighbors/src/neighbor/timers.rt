@@ -1,6 +1,6 @@
 //! Timers that a Tick finds expired, and retransmission (RFC 2328, sections 10.3, 10.8, 10.9 and
 //! 13.6).
-ghost use Rattle.std.specs.Prelude.{◌≡◌, ◌==◌, ℕ, not, ◌&&◌, List, [], ◌∷◌, map, IfOk, OnOk};
+ghost use Rattle.std.specs.Prelude.{◌≡◌, List, [], ◌∷◌, map, IfOk, OnOk};
 ghost use Rattle.std.specs.FinMap as finite;
 ghost use Rattle.std.specs.FinSet as set;
 ghost use Rattle.words.specs.declared.key.Key.{Key};
@@ -17,6 +17,7 @@ ghost use Rattle.adjacency.specs.Retransmissions.{that_fit, update_again};
 ghost use Rattle.adjacency.specs.Steps.{lsas_of};
 ghost use Rattle.adjacency.specs.Timers.{full_where, description_is_due, request_is_due};
 ghost use Rattle.adjacency.specs.Timers.{retransmission_is_due, that_fit_after};
+ghost use Rattle.neighbors.specs.Doing.{NeighborSends, NeighborUpdates, Sends, SendsUpdates};
 
 use super::Neighbor;
 use crate::connectives::both;
@@ -226,11 +227,8 @@ impl Neighbor {
         interval: u16,
         draft: &mut Draft,
     ) -> Result<(), AllocError>
-        ensures ok { OnOk result (self.new.present
-            ≡ (describe_again moment interval self.old.present).neighbor) }
-        ensures draft { OnOk result ((delay : ℕ) → draft.new
-            ≡ drafting delay (describe_again moment interval self.old.present).sends draft.old) }
-        ensures settled { self.new.settled ≡ self.old.settled }
+        ensures { NeighborSends (describe_again moment interval) self.old self.new draft.old
+            draft.new result }
     {
         let due = self.description_is_due(moment, interval);
         if due {
@@ -256,11 +254,9 @@ impl Neighbor {
         moment: Second,
         draft: &mut Draft,
     ) -> Result<(), AllocError>
-        ensures ok { OnOk result (self.new.present
-            ≡ record self.old.present { requested_at = moment }) }
-        ensures draft { OnOk result ((delay : ℕ) → draft.new
-            ≡ drafting delay (Requests (still_outstanding self.old.present) ∷ []) draft.old) }
-        ensures settled { self.new.settled ≡ self.old.settled }
+        ensures { Sends (λ n. record n { requested_at = moment })
+            (λ n. Requests (still_outstanding n) ∷ []) self.old self.new draft.old draft.new
+            result }
     {
         let keys = self.still_outstanding(alloc)?;
         self.standing.requested_at = moment;
@@ -275,11 +271,8 @@ impl Neighbor {
         interval: u16,
         draft: &mut Draft,
     ) -> Result<(), AllocError>
-        ensures ok { OnOk result (self.new.present
-            ≡ (request_again moment interval self.old.present).neighbor) }
-        ensures draft { OnOk result ((delay : ℕ) → draft.new
-            ≡ drafting delay (request_again moment interval self.old.present).sends draft.old) }
-        ensures settled { self.new.settled ≡ self.old.settled }
+        ensures { NeighborSends (request_again moment interval) self.old self.new draft.old
+            draft.new result }
     {
         let due = self.request_is_due(moment, interval);
         if due {
@@ -297,12 +290,9 @@ impl Neighbor {
         delay: u16,
         draft: &mut Draft,
     ) -> Result<(), AllocError>
-        ensures ok { OnOk result (self.new.present
-            ≡ record self.old.present { retransmitted_at = moment }) }
-        ensures draft { OnOk result (draft.new
-            ≡ drafting delay (map Updates (next_retransmissions moment database.now.present
-            self.old.present)) draft.old) }
-        ensures settled { self.new.settled ≡ self.old.settled }
+        ensures { SendsUpdates delay (λ n. record n { retransmitted_at = moment })
+            (λ n. map Updates (next_retransmissions moment database.now.present n))
+            self.old self.new draft.old draft.new result }
     {
         self.standing.retransmitted_at = moment;
         send_that_fit(alloc, moment, delay, database, &self.retransmissions, draft)
@@ -319,12 +309,8 @@ impl Neighbor {
         delay: u16,
         draft: &mut Draft,
     ) -> Result<(), AllocError>
-        ensures ok { OnOk result (self.new.present
-            ≡ (update_again moment interval database.now.present self.old.present).neighbor) }
-        ensures draft { OnOk result (draft.new
-            ≡ drafting delay (update_again moment interval database.now.present
-            self.old.present).sends draft.old) }
-        ensures settled { self.new.settled ≡ self.old.settled }
+        ensures { NeighborUpdates delay (update_again moment interval database.now.present) self.old
+            self.new draft.old draft.new result }
     {
         let due = self.retransmission_is_due(moment, interval);
         if due {
@@ -348,12 +334,8 @@ impl Neighbor {
         delay: u16,
         draft: &mut Draft,
     ) -> Result<(), AllocError>
-        ensures ok { OnOk result (self.new.present
-            ≡ (send_again moment interval database.now.present self.old.present).neighbor) }
-        ensures draft { OnOk result (draft.new
-            ≡ drafting delay (send_again moment interval database.now.present
-            self.old.present).sends draft.old) }
-        ensures settled { self.new.settled ≡ self.old.settled }
+        ensures { NeighborUpdates delay (send_again moment interval database.now.present) self.old
+            self.new draft.old draft.new result }
     {
         self.describe_again(moment, interval, draft)?;
         self.request_again(alloc, moment, interval, draft)?;

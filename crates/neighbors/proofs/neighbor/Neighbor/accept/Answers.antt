@@ -1,16 +1,15 @@
-use Rattle.std.proofs.Common.{Some, ap, sym, ◌∙◌}
+use Rattle.std.proofs.Common.{Some, ap, sym, ◌∙◌, rules}
 use Rattle.std.specs.List.{fold}
-use Rattle.keyed_map.proofs.Helds.{on_ok}
 use Rattle.adjacency.specs.Descriptions.{as_received, master_goes_on, slave_replies, with_request}
 use Rattle.adjacency.specs.Descriptions.{with_requests}
-use Rattle.adjacency.specs.Drafts.{drafting}
 use Rattle.adjacency.specs.Views.{neighbor_of}
 use Rattle.neighbors.proofs.Exchanges.{accepts_following, accepts_leading, is_master_now, receives}
 use Rattle.neighbors.proofs.Exchanges.{wants}
+use Rattle.neighbors.proofs.Doing.{sends_after}
 use Rattle.neighbors.proofs.neighbor.Neighbor.accept.Goals as goal
 
-pub returns-then-leads-clause-ok : goal.returns-then-leads-clause-ok
-returns-then-leads-clause-ok c =
+pub returns-then-leads : goal.returns-then-leads
+returns-then-leads c =
     let s = c.self.inside.standing in
     let des = c.self.inside.described.present in
     let sum = c.self.inside.summary.present in
@@ -32,40 +31,11 @@ returns-then-leads-clause-ok c =
     ∙ ap (with_requests moment db d.headers) noted in
     let is = ap (λ h. h.present.is_master) (sym c.self.view_is)
     ∙ sym (is_master_now s des sum req out retr) ∙ c.if-leads.true in
-    on_ok c.master_goes_on.result (λ made.
-    made ∙ ap (λ m. (master_goes_on moment d m).neighbor) now
-    ∙ ap (λ t. t.neighbor) (accepts_leading moment db d n is)) c.master_goes_on.ensures.ok
+    sends_after c.master_goes_on.result (search rules)
+    (ap (master_goes_on moment d) now ∙ accepts_leading moment db d n is) c.master_goes_on.ensures
 
-pub returns-then-leads-clause-draft : goal.returns-then-leads-clause-draft
-returns-then-leads-clause-draft c =
-    let s = c.self.inside.standing in
-    let des = c.self.inside.described.present in
-    let sum = c.self.inside.summary.present in
-    let req = c.self.inside.requests.present in
-    let out = c.self.inside.outstanding.present in
-    let retr = c.self.inside.retransmissions.present in
-    let moment = c.args.moment in
-    let db = c.args.database.now.present in
-    let d = c.args.description.now in
-    let n = c.args.self.now.present in
-    let got = Some c.as_received-received.result in
-    let noted = receives s des sum req out retr got
-    ∙ ap (λ r. record (neighbor_of s des sum req out retr) { received = Some r })
-    c.as_received-received.ensures
-    ∙ ap (λ h. record h.present { received = Some (as_received d) }) c.self.view_is in
-    let now = ap (λ r. neighbor_of (record s { received = got }) des sum r out retr)
-    (c.in_ok-want_all.ensures.ok ∙ ap (fold (with_request moment db) req) c.as_slice.ensures)
-    ∙ wants (record s { received = got }) des sum req out retr moment db d.headers
-    ∙ ap (with_requests moment db d.headers) noted in
-    let is = ap (λ h. h.present.is_master) (sym c.self.view_is)
-    ∙ sym (is_master_now s des sum req out retr) ∙ c.if-leads.true in
-    on_ok c.master_goes_on.result (λ made delay.
-    made delay ∙ ap (λ m. drafting delay (master_goes_on moment d m).sends c.args.draft.now) now
-    ∙ ap (λ t. drafting delay t.sends c.args.draft.now) (accepts_leading moment db d n is))
-    c.master_goes_on.ensures.draft
-
-pub returns-clause-ok : goal.returns-clause-ok
-returns-clause-ok c =
+pub returns : goal.returns
+returns c =
     let s = c.self.inside.standing in
     let des = c.self.inside.described.present in
     let sum = c.self.inside.summary.present in
@@ -87,34 +57,5 @@ returns-clause-ok c =
     ∙ ap (with_requests moment db d.headers) noted in
     let is = ap (λ h. h.present.is_master) (sym c.self.view_is)
     ∙ sym (is_master_now s des sum req out retr) ∙ c.if-leads.false in
-    on_ok c.slave_replies.result (λ made.
-    made ∙ ap (λ m. (slave_replies moment d m).neighbor) now
-    ∙ ap (λ t. t.neighbor) (accepts_following moment db d n is)) c.slave_replies.ensures.ok
-
-pub returns-clause-draft : goal.returns-clause-draft
-returns-clause-draft c =
-    let s = c.self.inside.standing in
-    let des = c.self.inside.described.present in
-    let sum = c.self.inside.summary.present in
-    let req = c.self.inside.requests.present in
-    let out = c.self.inside.outstanding.present in
-    let retr = c.self.inside.retransmissions.present in
-    let moment = c.args.moment in
-    let db = c.args.database.now.present in
-    let d = c.args.description.now in
-    let n = c.args.self.now.present in
-    let got = Some c.as_received-received.result in
-    let noted = receives s des sum req out retr got
-    ∙ ap (λ r. record (neighbor_of s des sum req out retr) { received = Some r })
-    c.as_received-received.ensures
-    ∙ ap (λ h. record h.present { received = Some (as_received d) }) c.self.view_is in
-    let now = ap (λ r. neighbor_of (record s { received = got }) des sum r out retr)
-    (c.in_ok-want_all.ensures.ok ∙ ap (fold (with_request moment db) req) c.as_slice.ensures)
-    ∙ wants (record s { received = got }) des sum req out retr moment db d.headers
-    ∙ ap (with_requests moment db d.headers) noted in
-    let is = ap (λ h. h.present.is_master) (sym c.self.view_is)
-    ∙ sym (is_master_now s des sum req out retr) ∙ c.if-leads.false in
-    on_ok c.slave_replies.result (λ made delay.
-    made delay ∙ ap (λ m. drafting delay (slave_replies moment d m).sends c.args.draft.now) now
-    ∙ ap (λ t. drafting delay t.sends c.args.draft.now) (accepts_following moment db d n is))
-    c.slave_replies.ensures.draft
+    sends_after c.slave_replies.result (search rules)
+    (ap (slave_replies moment d) now ∙ accepts_following moment db d n is) c.slave_replies.ensures

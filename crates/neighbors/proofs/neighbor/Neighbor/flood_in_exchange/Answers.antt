@@ -9,8 +9,8 @@ use Rattle.adjacency.specs.Floods.{is_any}
 use Rattle.adjacency.proofs.Floods.{drafting-none}
 use Rattle.neighbors.proofs.neighbor.Neighbor.flood_in_exchange.Goals as goal
 
-pub returns-then-gets-clause-ok : goal.returns-then-gets-clause-ok
-returns-then-gets-clause-ok c =
+pub returns-then-gets-clause-does : goal.returns-then-gets-clause-does
+returns-then-gets-clause-does c =
     let n = c.args.self.now.present in
     let lsa = lsa_now c.args.moment c.args.copy.now in
     let m = without_met_request c.args.moment lsa n in
@@ -19,26 +19,17 @@ returns-then-gets-clause-ok c =
       sends = Updates lsa ∷ [];
     } in
     let B : Step = no_sends (remove_retransmission (lsa_key lsa) m) in
-    let is = c.gets-gets.ensures ∙ ap (λ b. not c.args.from && b) c.in_ok-passes.ensures.passes in
-    c.in_ok-add_retransmission.ensures.ok
-    ∙ ap (λ h. add_retransmission c.args.moment h c.meet.new.self.present)
-    c.header-header.ensures ∙ ap (add_retransmission c.args.moment lsa.header)
-    c.in_ok-passes.ensures.ok
-    ∙ ap (λ b. (cond b A B).neighbor) (sym c.if-gets.true ∙ is)
-
-pub returns-then-gets-clause-draft : goal.returns-then-gets-clause-draft
-returns-then-gets-clause-draft c =
-    let n = c.args.self.now.present in
-    let lsa = lsa_now c.args.moment c.args.copy.now in
-    let m = without_met_request c.args.moment lsa n in
-    let A : Step = record {
-      neighbor = add_retransmission c.args.moment lsa.header m;
-      sends = Updates lsa ∷ [];
-    } in
-    let B : Step = no_sends (remove_retransmission (lsa_key lsa) m) in
-    let is = c.gets-gets.ensures ∙ ap (λ b. not c.args.from && b) c.in_ok-passes.ensures.passes in
-    c.in_ok-add_update.ensures ∙ ap (λ b. drafting c.args.delay (cond b A B).sends c.args.draft.now)
-    (sym c.if-gets.true ∙ is)
+    let is = ap (λ b. cond b A B) (sym c.if-gets.true ∙ c.gets-gets.ensures
+    ∙ ap (λ b. not c.args.from && b) c.in_ok-passes.ensures.passes) in
+    record {
+      ok = c.in_ok-add_retransmission.ensures.ok
+          ∙ ap (λ h. add_retransmission c.args.moment h c.meet.new.self.present)
+          c.header-header.ensures ∙ ap (add_retransmission c.args.moment lsa.header)
+          c.in_ok-passes.ensures.does.ok ∙ ap (λ s. s.neighbor) is;
+      draft = c.in_ok-add_update.ensures
+          ∙ ap (λ s. drafting c.args.delay s.sends c.args.draft.now) is;
+      settled = c.add_retransmission.ensures.settled ∙ c.meet.ensures.does.settled;
+    }
 
 pub returns-then-gets-clause-sent : goal.returns-then-gets-clause-sent
 returns-then-gets-clause-sent c =
@@ -50,11 +41,11 @@ returns-then-gets-clause-sent c =
       sends = Updates lsa ∷ [];
     } in
     let B : Step = no_sends (remove_retransmission (lsa_key lsa) m) in
-    let is = c.gets-gets.ensures ∙ ap (λ b. not c.args.from && b) c.in_ok-passes.ensures.passes in
-    ap (λ b. is_any (cond b A B).sends) (sym c.if-gets.true ∙ is)
+    ap (λ b. is_any (cond b A B).sends) (sym c.if-gets.true ∙ c.gets-gets.ensures
+    ∙ ap (λ b. not c.args.from && b) c.in_ok-passes.ensures.passes)
 
-pub returns-clause-ok : goal.returns-clause-ok
-returns-clause-ok c =
+pub returns-clause-does : goal.returns-clause-does
+returns-clause-does c =
     let n = c.args.self.now.present in
     let lsa = lsa_now c.args.moment c.args.copy.now in
     let m = without_met_request c.args.moment lsa n in
@@ -63,26 +54,17 @@ returns-clause-ok c =
       sends = Updates lsa ∷ [];
     } in
     let B : Step = no_sends (remove_retransmission (lsa_key lsa) m) in
-    let is = c.gets-gets.ensures ∙ ap (λ b. not c.args.from && b) c.in_ok-passes.ensures.passes in
-    c.in_ok-remove_retransmission.ensures.ok
-    ∙ ap (λ h. remove_retransmission (key_of h) c.meet.new.self.present)
-    c.header-header.ensures ∙ ap (remove_retransmission (lsa_key lsa)) c.in_ok-passes.ensures.ok
-    ∙ ap (λ b. (cond b A B).neighbor) (sym c.if-gets.false ∙ is)
-
-pub returns-clause-draft : goal.returns-clause-draft
-returns-clause-draft c =
-    let n = c.args.self.now.present in
-    let lsa = lsa_now c.args.moment c.args.copy.now in
-    let m = without_met_request c.args.moment lsa n in
-    let A : Step = record {
-      neighbor = add_retransmission c.args.moment lsa.header m;
-      sends = Updates lsa ∷ [];
-    } in
-    let B : Step = no_sends (remove_retransmission (lsa_key lsa) m) in
-    let is = c.gets-gets.ensures ∙ ap (λ b. not c.args.from && b) c.in_ok-passes.ensures.passes in
-    drafting-none c.args.delay c.args.draft.now
-    ∙ ap (λ b. drafting c.args.delay (cond b A B).sends c.args.draft.now)
-    (sym c.if-gets.false ∙ is)
+    let is = ap (λ b. cond b A B) (sym c.if-gets.false ∙ c.gets-gets.ensures
+    ∙ ap (λ b. not c.args.from && b) c.in_ok-passes.ensures.passes) in
+    record {
+      ok = c.in_ok-remove_retransmission.ensures.ok
+          ∙ ap (λ h. remove_retransmission (key_of h) c.meet.new.self.present)
+          c.header-header.ensures ∙ ap (remove_retransmission (lsa_key lsa))
+          c.in_ok-passes.ensures.does.ok ∙ ap (λ s. s.neighbor) is;
+      draft = drafting-none c.args.delay c.args.draft.now
+          ∙ ap (λ s. drafting c.args.delay s.sends c.args.draft.now) is;
+      settled = c.remove_retransmission.ensures.settled ∙ c.meet.ensures.does.settled;
+    }
 
 pub returns-clause-sent : goal.returns-clause-sent
 returns-clause-sent c =
@@ -94,5 +76,5 @@ returns-clause-sent c =
       sends = Updates lsa ∷ [];
     } in
     let B : Step = no_sends (remove_retransmission (lsa_key lsa) m) in
-    let is = c.gets-gets.ensures ∙ ap (λ b. not c.args.from && b) c.in_ok-passes.ensures.passes in
-    ap (λ b. is_any (cond b A B).sends) (sym c.if-gets.false ∙ is)
+    ap (λ b. is_any (cond b A B).sends) (sym c.if-gets.false ∙ c.gets-gets.ensures
+    ∙ ap (λ b. not c.args.from && b) c.in_ok-passes.ensures.passes)

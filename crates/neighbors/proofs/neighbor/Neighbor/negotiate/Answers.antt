@@ -3,13 +3,16 @@ use Rattle.keyed_map.proofs.Helds.{on_ok}
 use Rattle.adjacency.specs.Descriptions.{aged_copies, young_copies}
 use Rattle.neighbors.proofs.neighbor.Neighbor.negotiate.Goals as goal
 
-pub returns-clause-ok : goal.returns-clause-ok
-returns-clause-ok c =
-    on_ok c.list_database.result (λ is.
-    is ∙ ap (λ h. record h.present {
-      summary =
-          young_copies c.args.moment c.args.database.now.present;
-      retransmissions =
-          aged_copies c.args.moment c.args.database.now.present;
-    }) c.enter_exchange.ensures)
-    c.list_database.ensures.ok
+pub returns : goal.returns
+returns c =
+    record {
+      ok = on_ok c.list_database.result (λ is.
+          is ∙ ap (λ h. record h.present {
+            summary =
+                young_copies c.args.moment c.args.database.now.present;
+            retransmissions =
+                aged_copies c.args.moment c.args.database.now.present;
+          }) c.enter_exchange.ensures)
+          c.list_database.ensures.ok;
+      settled = c.list_database.ensures.settled ∙ ap (λ h. h.settled) c.enter_exchange.ensures;
+    }

@@ -1,4 +1,4 @@
-use Rattle.std.proofs.Common.{cond, ap, sym, ◌∙◌}
+use Rattle.std.proofs.Common.{cond, ap, sym, ◌∙◌, rules, refl}
 use Rattle.std.specs.FinMap as finite
 use Rattle.adjacency.specs.lsdb.Headers.{key_of}
 use Rattle.keyed_map.proofs.Helds.{on_ok}
@@ -7,8 +7,8 @@ use Rattle.adjacency.specs.Views.{neighbor_of}
 use Rattle.adjacency.proofs.Neighbors.{lists_now, releases}
 use Rattle.neighbors.proofs.neighbor.Neighbor.remove_acknowledged.Goals as goal
 
-pub returns-then-same-clause-ok : goal.returns-then-same-clause-ok
-returns-then-same-clause-ok c =
+pub returns-then-same : goal.returns-then-same
+returns-then-same c =
     let s = c.self.inside.standing in
     let des = c.self.inside.described.present in
     let sum = c.self.inside.summary.present in
@@ -20,15 +20,18 @@ returns-then-same-clause-ok c =
     let is = c.is_entry-same.ensures ∙ ap (is_entry c.args.moment c.args.header.now)
     (c.get.ensures ∙ ap (finite.get retr) c.key-key.ensures ∙ lists_now s des sum req out retr key
     ∙ ap (λ h. finite.get h.present.retransmissions key) c.self.view_is) in
-    on_ok c.remove.result (λ gone.
-    ap (neighbor_of s des sum req out) (gone ∙ ap (finite.remove retr) c.key-key.ensures)
-    ∙ releases s des sum req out retr key
-    ∙ ap (λ h. remove_retransmission key h.present) c.self.view_is
-    ∙ ap (λ b. cond b (remove_retransmission key n) n) (sym c.if-same.true ∙ is))
-    c.remove.ensures.ok
+    record {
+      ok = on_ok c.remove.result (λ gone.
+          ap (neighbor_of s des sum req out) (gone ∙ ap (finite.remove retr) c.key-key.ensures)
+          ∙ releases s des sum req out retr key
+          ∙ ap (λ h. remove_retransmission key h.present) c.self.view_is
+          ∙ ap (λ b. cond b (remove_retransmission key n) n) (sym c.if-same.true ∙ is))
+          c.remove.ensures.ok;
+      settled = search rules;
+    }
 
-pub returns-clause-ok : goal.returns-clause-ok
-returns-clause-ok c =
+pub returns : goal.returns
+returns c =
     let retr = c.self.inside.retransmissions.present in
     let n = c.args.self.now.present in
     let key = key_of c.args.header.now in
@@ -37,4 +40,7 @@ returns-clause-ok c =
     ∙ lists_now c.self.inside.standing c.self.inside.described.present c.self.inside.summary.present
     c.self.inside.requests.present c.self.inside.outstanding.present retr key
     ∙ ap (λ h. finite.get h.present.retransmissions key) c.self.view_is) in
-    ap (λ b. cond b (remove_retransmission key n) n) (sym c.if-same.false ∙ is)
+    record {
+      ok = ap (λ b. cond b (remove_retransmission key n) n) (sym c.if-same.false ∙ is);
+      settled = refl;
+    }

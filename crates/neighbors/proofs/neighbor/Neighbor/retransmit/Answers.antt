@@ -8,22 +8,22 @@ use Rattle.adjacency.specs.Steps.{lsas_of}
 use Rattle.adjacency.proofs.Timers.{retransmissions_now, retransmits_at}
 use Rattle.neighbors.proofs.neighbor.Neighbor.retransmit.Goals as goal
 
-pub returns-clause-ok : goal.returns-clause-ok
-returns-clause-ok c =
-    on_ok c.send_that_fit.result (λ sent.
-    retransmits_at c.self.inside.standing c.self.inside.described.present
-    c.self.inside.summary.present c.self.inside.requests.present
-    c.self.inside.outstanding.present c.self.inside.retransmissions.present c.args.moment
-    ∙ ap (λ h. record h.present { retransmitted_at = c.args.moment }) c.self.view_is)
-    c.send_that_fit.ensures
-
-pub returns-clause-draft : goal.returns-clause-draft
-returns-clause-draft c =
-    on_ok c.send_that_fit.result (λ sent.
-    sent ∙ ap (λ m. drafting c.args.delay
-    (map Updates (that_fit 28 (lsas_of c.args.moment c.args.database.now.present
-    (finite.keys m)))) c.args.draft.now)
-    (retransmissions_now c.self.inside.standing c.self.inside.described.present
-    c.self.inside.summary.present c.self.inside.requests.present
-    c.self.inside.outstanding.present c.self.inside.retransmissions.present
-    ∙ ap (λ h. h.present.retransmissions) c.self.view_is)) c.send_that_fit.ensures
+pub returns : goal.returns
+returns c =
+    record {
+      ok = on_ok c.send_that_fit.result (λ sent.
+          retransmits_at c.self.inside.standing c.self.inside.described.present
+          c.self.inside.summary.present c.self.inside.requests.present
+          c.self.inside.outstanding.present c.self.inside.retransmissions.present c.args.moment
+          ∙ ap (λ h. record h.present { retransmitted_at = c.args.moment }) c.self.view_is)
+          c.send_that_fit.ensures;
+      draft = on_ok c.send_that_fit.result (λ sent.
+          sent ∙ ap (λ m. drafting c.args.delay
+          (map Updates (that_fit 28 (lsas_of c.args.moment c.args.database.now.present
+          (finite.keys m)))) c.args.draft.now)
+          (retransmissions_now c.self.inside.standing c.self.inside.described.present
+          c.self.inside.summary.present c.self.inside.requests.present
+          c.self.inside.outstanding.present c.self.inside.retransmissions.present
+          ∙ ap (λ h. h.present.retransmissions) c.self.view_is)) c.send_that_fit.ensures;
+      settled = ap (λ h. h.settled) c.self.view_is;
+    }

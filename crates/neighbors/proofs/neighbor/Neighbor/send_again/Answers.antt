@@ -5,8 +5,8 @@ use Rattle.adjacency.specs.Retransmissions.{describe_again, request_again, updat
 use Rattle.adjacency.proofs.Timers.{drafting-three}
 use Rattle.neighbors.proofs.neighbor.Neighbor.send_again.Goals as goal
 
-pub returns-clause-draft : goal.returns-clause-draft
-returns-clause-draft c =
+pub returns : goal.returns
+returns c =
     let moment = c.args.moment in
     let interval = c.args.interval in
     let db = c.args.database.now.present in
@@ -15,14 +15,22 @@ returns-clause-draft c =
     let s = describe_again moment interval c.args.self.now.present in
     let first = c.in_ok-describe_again.ensures in
     let second = c.in_ok-request_again.ensures in
-    on_ok c.update_again.result (λ sent.
-    sent
-    ∙ ap (λ n. drafting delay (update_again moment interval db n).sends c.request_again.new.draft)
-    (second.ok ∙ ap (λ n. (request_again moment interval n).neighbor) first.ok)
-    ∙ ap (drafting delay (update_again moment interval db
-    (request_again moment interval s.neighbor).neighbor).sends)
-    (second.draft delay ∙ ap (λ n. drafting delay (request_again moment interval n).sends
-    c.describe_again.new.draft) first.ok
-    ∙ ap (drafting delay (request_again moment interval s.neighbor).sends) (first.draft delay))
-    ∙ drafting-three delay s (request_again moment interval) (update_again moment interval db) d)
-    c.update_again.ensures.draft
+    let asked = second.ok ∙ ap (λ n. (request_again moment interval n).neighbor) first.ok in
+    record {
+      ok = on_ok c.update_again.result (λ made. made
+          ∙ ap (λ n. (update_again moment interval db n).neighbor) asked) c.update_again.ensures.ok;
+      draft = on_ok c.update_again.result (λ sent.
+          sent
+          ∙ ap (λ n. drafting delay (update_again moment interval db n).sends
+          c.request_again.new.draft) asked
+          ∙ ap (drafting delay (update_again moment interval db
+          (request_again moment interval s.neighbor).neighbor).sends)
+          (second.draft delay ∙ ap (λ n. drafting delay (request_again moment interval n).sends
+          c.describe_again.new.draft) first.ok
+          ∙ ap (drafting delay (request_again moment interval s.neighbor).sends)
+          (first.draft delay))
+          ∙ drafting-three delay s (request_again moment interval)
+          (update_again moment interval db) d) c.update_again.ensures.draft;
+      settled = c.update_again.ensures.settled ∙ c.request_again.ensures.settled
+          ∙ c.describe_again.ensures.settled;
+    }

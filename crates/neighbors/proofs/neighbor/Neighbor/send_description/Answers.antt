@@ -1,4 +1,4 @@
-use Rattle.std.proofs.Common.{[], ◌∷◌, Some, drop, take, ap, ◌∙◌}
+use Rattle.std.proofs.Common.{[], ◌∷◌, Some, drop, take, ap, ◌∙◌, rules}
 use Rattle.std.specs.FinMap as finite
 use Rattle.std.specs.List.{fold}
 use Rattle.keyed_map.proofs.Helds.{on_ok}
@@ -20,8 +20,8 @@ next_description-requires c =
     c.self.inside.outstanding.present c.self.inside.retransmissions.present
     ∙ ap (λ h. h.present.summary) c.self.view_is)
 
-pub returns-clause-ok : goal.returns-clause-ok
-returns-clause-ok c =
+pub returns : goal.returns
+returns c =
     let s = c.self.inside.standing in
     let des = c.self.inside.described.present in
     let sum = c.self.inside.summary.present in
@@ -35,16 +35,17 @@ returns-clause-ok c =
     ∙ left_without 408 sum in
     let kept = ap (λ k. k.present) c.set.ensures
     ∙ ap (λ d. Some d) (c.in_ok-kept.ensures ∙ c.in_ok-next.ensures) in
-    on_ok c.add_description.result (λ sent.
-    (λ i. neighbor_of (record s { described_at = moment }) (kept i) (left i) req out retr)
-    ∙ keeps s des (finite.from_entries (drop 408 (finite.entries sum))) req out retr moment next
-    ∙ ap (λ (n : Neighbor). record n { described = Some next; described_at = moment })
-    (shortens s des sum req out retr
-    ∙ ap (λ h. record h.present { summary = left_to_describe h.present }) c.self.view_is))
-    c.add_description.ensures
-
-pub returns-clause-draft : goal.returns-clause-draft
-returns-clause-draft c =
-    on_ok c.add_description.result (λ sent delay. sent delay
-    ∙ ap (λ d. drafting delay (Describes d ∷ []) c.args.draft.now) c.in_ok-next.ensures)
-    c.add_description.ensures
+    record {
+      ok = on_ok c.add_description.result (λ sent.
+          (λ i. neighbor_of (record s { described_at = moment }) (kept i) (left i) req out retr)
+          ∙ keeps s des (finite.from_entries (drop 408 (finite.entries sum))) req out retr moment
+          next
+          ∙ ap (λ (n : Neighbor). record n { described = Some next; described_at = moment })
+          (shortens s des sum req out retr
+          ∙ ap (λ h. record h.present { summary = left_to_describe h.present }) c.self.view_is))
+          c.add_description.ensures;
+      draft = on_ok c.add_description.result (λ sent delay. sent delay
+          ∙ ap (λ d. drafting delay (Describes d ∷ []) c.args.draft.now) c.in_ok-next.ensures)
+          c.add_description.ensures;
+      settled = search rules;
+    }

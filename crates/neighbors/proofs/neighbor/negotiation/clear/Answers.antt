@@ -5,9 +5,12 @@ use Rattle.keyed_map.proofs.Helds.{on_ok}
 use Rattle.adjacency.proofs.Lists.{left_none}
 use Rattle.neighbors.proofs.neighbor.negotiation.clear.Goals as goal
 
-pub returns-clause-ok : goal.returns-clause-ok
-returns-clause-ok c =
+pub returns : goal.returns
+returns c =
     let m = c.args.list.now.present in
-    on_ok c.remove_keys.result (λ is. is
-    ∙ ap (fold finite.remove m) (c.deref.ensures.value ∙ c.in_ok-keys.ensures)
-    ∙ left_none c.len.result m c.len.ensures) c.remove_keys.ensures.ok
+    record {
+      ok = on_ok c.remove_keys.result (λ is. is
+          ∙ ap (fold finite.remove m) (c.deref.ensures.value ∙ c.in_ok-keys.ensures)
+          ∙ left_none c.len.result m c.len.ensures) c.remove_keys.ensures.ok;
+      settled = c.remove_keys.ensures.settled;
+    }

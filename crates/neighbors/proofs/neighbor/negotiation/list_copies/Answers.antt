@@ -8,13 +8,21 @@ use Rattle.neighbors.proofs.neighbor.negotiation.list_copies.Goals as goal
 pub returns-clause-young : goal.returns-clause-young
 returns-clause-young c =
     let db = c.args.database.now.present in
-    ap (fold (with_key (is_young c.args.moment) c.args.moment db) c.loop-key.young.present)
-    (sym c.in-None.ensures.steps.0)
-    ∙ c.loop-key.invariant.young ∙ filled_where (is_young c.args.moment) c.args.moment db
+    record {
+      ok =
+          ap (fold (with_key (is_young c.args.moment) c.args.moment db) c.loop-key.young.present)
+          (sym c.in-None.ensures.steps.0)
+          ∙ c.loop-key.invariant.young ∙ filled_where (is_young c.args.moment) c.args.moment db;
+      settled = c.loop-key.invariant.young_settled;
+    }
 
 pub returns-clause-aged : goal.returns-clause-aged
 returns-clause-aged c =
     let db = c.args.database.now.present in
-    ap (fold (with_key (is_aged_out c.args.moment) c.args.moment db) c.loop-key.aged.present)
-    (sym c.in-None.ensures.steps.0)
-    ∙ c.loop-key.invariant.aged ∙ filled_where (is_aged_out c.args.moment) c.args.moment db
+    record {
+      ok =
+          ap (fold (with_key (is_aged_out c.args.moment) c.args.moment db) c.loop-key.aged.present)
+          (sym c.in-None.ensures.steps.0)
+          ∙ c.loop-key.invariant.aged ∙ filled_where (is_aged_out c.args.moment) c.args.moment db;
+      settled = c.loop-key.invariant.aged_settled;
+    }
