@@ -4,15 +4,12 @@ use mathlib.Core.Bool.{true≢false}
 use Rattle.keyed_map.proofs.Helds.{on_ok}
 use Rattle.received.specs.Links.{Area}
 use Rattle.received.specs.Outcomes.{Outcome}
+pub use Rattle.neighbors.proofs.Doing.{always}
 use Rattle.flooding.specs.Doing.{AreaDoes}
 use Rattle.flooding.specs.Drafted.{drafts_with}
 use Rattle.flooding.specs.Kept.{RouterArea}
 use Rattle.flooding.specs.Links.{start}
 use Rattle.flooding.proofs.Sends.{drafted_none}
-
-pub always : {A E P : Type 0} (r : Result A E) → P → OnOk r P
-always (Ok a) p = p
-always (Err e) p = tt
 
 -- nothing is said of a call that errs
 pub on_err : {A E : Type 0} (r : Result A E) (P : Type 0) → IsErr r → OnOk r P

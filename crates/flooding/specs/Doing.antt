@@ -1,16 +1,33 @@
--- What a call does in an event to a link, to several links, and to links and database.
+-- What a call does in an event to a neighbor that may be Down, to a link, to several links, and to
+-- links and database.
 --
 -- It errors only if an allocation is refused, and may have done a part of its work then: the caller
 -- rolls the router back, which drops what was drafted, too. Whatever it answers, what was settled
 -- stays the same.
-use Rattle.std.specs.Prelude.{◌≡◌, List, map, OnOk, Result}
-use Rattle.adjacency.specs.Contents.{Content}
-use Rattle.adjacency.specs.Drafts.{drafting}
+use Rattle.std.specs.Prelude.{◌≡◌, ℕ, List, map, Option, OnOk, Result}
+use Rattle.adjacency.specs.lsdb.Copies.{Database}
+use Rattle.adjacency.specs.lsdb.Kept.{RouterDatabase}
+use Rattle.adjacency.specs.Contents.{Content, Step, sent_on, step_on}
+use Rattle.adjacency.specs.Drafts.{Drafted, drafting}
+use Rattle.adjacency.specs.Kept.{Kept}
+use Rattle.adjacency.specs.Neighbors.{Neighbor}
+use Rattle.neighbors.specs.Doing.{Sends, SendsUpdates}
 use Rattle.received.specs.Links.{Area, Link}
 use Rattle.received.specs.Outcomes.{Outcome, Send}
 use Rattle.flooding.specs.Drafted.{drafts_with}
 use Rattle.flooding.specs.Kept.{KeptLink, RouterArea}
 use Rattle.flooding.specs.Links.{draft_of, present, settled_link}
+
+-- the neighbor, if there is one, takes the step
+abbrev pub PlaceSends : {X E : Type 0} → (Neighbor → Step) → Kept (Option Neighbor)
+    → Kept (Option Neighbor) → Drafted → Drafted → Result X E → Type 0
+PlaceSends f old new before drafted result =
+    Sends (step_on f) (sent_on f) old new before drafted result
+
+abbrev pub PlaceUpdates : {X E : Type 0} → ℕ → (Neighbor → Step) → Kept (Option Neighbor)
+    → Kept (Option Neighbor) → Drafted → Drafted → Result X E → Type 0
+PlaceUpdates delay f old new before drafted result =
+    SendsUpdates delay (step_on f) (sent_on f) old new before drafted result
 
 -- the link becomes what `after` says, and what it sends is drafted for its interface
 pub record LinkDoes {X E : Type 0} (after : Link → Link) (sends : Link → List Content)
@@ -27,6 +44,13 @@ pub record LinksDo {X E : Type 0} (after : List Link → List Link) (sends : Lis
   pub drafts : OnOk result (map draft_of new
       ≡ drafts_with (sends (map present old)) (map present old) (map draft_of old))
   pub settled : map settled_link new ≡ map settled_link old
+
+-- the database becomes what `after` says
+pub record DatabaseDoes {X E : Type 0} (after : Database → Database) (old new : RouterDatabase)
+    (result : Result X E) : Type 0 where
+  pub ok : OnOk result (new.present ≡ after old.present)
+  pub settled : new.settled ≡ old.settled
+  pub router : new.router ≡ old.router
 
 -- links and database become what `f` says of the area, and what that sends is drafted
 pub record AreaDoes {X E : Type 0} (f : Area → Outcome) (old new : RouterArea)

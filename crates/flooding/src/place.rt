@@ -1,10 +1,10 @@
 //! The neighbor on a link, which may be Down.
-ghost use Rattle.std.specs.Prelude.{◌≡◌, ℕ, IfOk, OnOk, None, Some};
+ghost use Rattle.std.specs.Prelude.{◌≡◌, IfOk, None, Some};
 ghost use Rattle.adjacency.specs.Adjacencies.{enter_exstart};
-ghost use Rattle.adjacency.specs.Contents.{sent_on, step_on};
-ghost use Rattle.adjacency.specs.Drafts.{drafting};
 ghost use Rattle.adjacency.specs.Steps.{any_exchange_or_later};
 ghost use Rattle.adjacency.specs.Views.{begun, present_of};
+ghost use Rattle.neighbors.specs.Doing.{Sends};
+ghost use Rattle.flooding.specs.Doing.{PlaceSends};
 
 mod descriptions;
 mod requests;
@@ -96,11 +96,9 @@ impl Place {
         names: bool,
         draft: &mut Draft,
     ) -> Result<(), AllocError>
-        ensures ok { OnOk result (self.new.present
-            ≡ Some (begun moment router dd_sequence_start names).neighbor) }
-        ensures draft { OnOk result ((delay : ℕ) → draft.new
-            ≡ drafting delay (begun moment router dd_sequence_start names).sends draft.old) }
-        ensures settled { self.new.settled ≡ self.old.settled }
+        ensures { Sends (λ _. Some (begun moment router dd_sequence_start names).neighbor)
+            (λ _. (begun moment router dd_sequence_start names).sends) self.old self.new draft.old
+            draft.new result }
     {
         if names {
             let number = next_dd_sequence_start(moment, dd_sequence_start);
@@ -124,11 +122,7 @@ impl Place {
         moment: Second,
         draft: &mut Draft,
     ) -> Result<(), AllocError>
-        ensures ok { OnOk result (self.new.present
-            ≡ step_on (enter_exstart moment) self.old.present) }
-        ensures draft { OnOk result ((delay : ℕ) → draft.new
-            ≡ drafting delay (sent_on (enter_exstart moment) self.old.present) draft.old) }
-        ensures settled { self.new.settled ≡ self.old.settled }
+        ensures { PlaceSends (enter_exstart moment) self.old self.new draft.old draft.new result }
     {
         let Some(neighbor) = &self.neighbor else {
             return Ok(());

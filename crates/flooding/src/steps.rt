@@ -1,7 +1,7 @@
 //! Changes of links, and steps in which links may send.
-ghost use Rattle.std.specs.Prelude.{◌≡◌, ◌≤◌, IfOk, OnOk, drop, length, map};
+ghost use Rattle.std.specs.Prelude.{◌≡◌, ◌≤◌, IfOk, drop, length, map};
 ghost use Rattle.received.specs.Links.{change_link};
-ghost use Rattle.flooding.specs.Doing.{AreaDoes, LinksDo};
+ghost use Rattle.flooding.specs.Doing.{AreaDoes, DatabaseDoes, LinksDo};
 ghost use Rattle.flooding.specs.Links.{draft_of, start, without_acknowledged, without_neighbor};
 ghost use Rattle.flooding.specs.Steps.{all_links, key_of_update, keys_behind, mark_each, one_link};
 ghost use Rattle.flooding.specs.Steps.{sends_of, update_count_on};
@@ -76,10 +76,9 @@ fn mark_behind(
     updates: &[Update],
     database: &mut Lsdb,
 ) -> Result<(), AllocError>
-    ensures ok { OnOk result (database.new.present
-        ≡ mark_each moment database.old.present (map key_of_update (drop count updates.now))) }
-    ensures settled { database.new.settled ≡ database.old.settled }
-    ensures router { database.new.router ≡ database.old.router }
+    ensures { DatabaseDoes
+        (λ d. mark_each moment d (map key_of_update (drop count updates.now)))
+        database.old database.new result }
 {
     for i in count..updates.len() {
         database.mark_sent(moment, &updates[i].key)?;
@@ -95,11 +94,9 @@ fn mark_all(
     database: &mut Lsdb,
 ) -> Result<(), AllocError>
     requires { length counts.now ≡ length links.now }
-    ensures ok { OnOk result (database.new.present
-        ≡ mark_each moment database.old.present
-        (keys_behind counts.now (map draft_of links.now))) }
-    ensures settled { database.new.settled ≡ database.old.settled }
-    ensures router { database.new.router ≡ database.old.router }
+    ensures { DatabaseDoes
+        (λ d. mark_each moment d (keys_behind counts.now (map draft_of links.now)))
+        database.old database.new result }
 {
     for i in 0..links.len() {
         mark_behind(moment, counts[i], links[i].updates(), database)?;

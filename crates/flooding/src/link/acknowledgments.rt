@@ -4,6 +4,7 @@ ghost use Rattle.std.specs.List.{fold};
 ghost use Rattle.std.specs.FinMap as finite;
 ghost use Rattle.adjacency.specs.Contents.{Acknowledges};
 ghost use Rattle.adjacency.specs.Drafts.{drafting};
+ghost use Rattle.neighbors.specs.Doing.{ListDoes};
 ghost use Rattle.flooding.specs.Doing.{LinkDoes};
 
 use super::Link;
@@ -26,9 +27,7 @@ fn draft_headers(headers: &KeyedMap<Header>, draft: &mut Draft) -> Result<(), Al
 
 // Removes these keys.
 fn remove_headers(keys: &[Key], headers: &mut KeyedMap<Header>) -> Result<(), AllocError>
-    ensures ok { OnOk result (headers.new.present
-        ≡ fold finite.remove headers.old.present keys.now) }
-    ensures settled { headers.new.settled ≡ headers.old.settled }
+    ensures { ListDoes (λ l. fold finite.remove l keys.now) headers.old headers.new result }
 {
     for i in 0..keys.len() {
         headers.remove(&keys[i])?;

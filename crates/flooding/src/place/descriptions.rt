@@ -1,11 +1,10 @@
 //! Received Database Descriptions (RFC 2328, section 10.6).
-ghost use Rattle.std.specs.Prelude.{◌≡◌, ℕ, nat_lt, OnOk};
+ghost use Rattle.std.specs.Prelude.{◌≡◌, nat_lt};
 ghost use Rattle.words.specs.Constants.{largest_packet};
 ghost use Rattle.adjacency.specs.Adjacencies.{two_way_received};
-ghost use Rattle.adjacency.specs.Contents.{sent_on, step_on};
 ghost use Rattle.adjacency.specs.Descriptions.{after_description};
-ghost use Rattle.adjacency.specs.Drafts.{drafting};
 ghost use Rattle.adjacency.specs.Exchanges.{any_init, is_init, judging};
+ghost use Rattle.flooding.specs.Doing.{PlaceSends};
 
 use super::Place;
 use adjacency::descriptions::starts_over;
@@ -54,11 +53,8 @@ impl Place {
         moment: Second,
         draft: &mut Draft,
     ) -> Result<(), AllocError>
-        ensures ok { OnOk result (self.new.present
-            ≡ step_on (two_way_received moment) self.old.present) }
-        ensures draft { OnOk result ((delay : ℕ) → draft.new
-            ≡ drafting delay (sent_on (two_way_received moment) self.old.present) draft.old) }
-        ensures settled { self.new.settled ≡ self.old.settled }
+        ensures { PlaceSends (two_way_received moment) self.old self.new draft.old draft.new
+            result }
     {
         let init = self.is_init();
         if init {
@@ -78,12 +74,8 @@ impl Place {
         description: &Description,
         draft: &mut Draft,
     ) -> Result<(), AllocError>
-        ensures ok { OnOk result (self.new.present
-            ≡ step_on (judging own moment database.now.present description.now) self.old.present) }
-        ensures draft { OnOk result ((delay : ℕ) → draft.new
-            ≡ drafting delay (sent_on (judging own moment database.now.present description.now)
-            self.old.present) draft.old) }
-        ensures settled { self.new.settled ≡ self.old.settled }
+        ensures { PlaceSends (judging own moment database.now.present description.now) self.old
+            self.new draft.old draft.new result }
     {
         let Some(neighbor) = &mut self.neighbor else {
             return Ok(());
@@ -116,13 +108,8 @@ impl Place {
         description: &Description,
         draft: &mut Draft,
     ) -> Result<(), AllocError>
-        ensures ok { OnOk result (self.new.present
-            ≡ step_on (after_description own moment database.now.present description.now)
-            self.old.present) }
-        ensures draft { OnOk result ((delay : ℕ) → draft.new
-            ≡ drafting delay (sent_on (after_description own moment database.now.present
-            description.now) self.old.present) draft.old) }
-        ensures settled { self.new.settled ≡ self.old.settled }
+        ensures { PlaceSends (after_description own moment database.now.present description.now)
+            self.old self.new draft.old draft.new result }
     {
         let too_large = is_too_large(description);
         if too_large {

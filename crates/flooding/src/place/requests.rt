@@ -1,9 +1,10 @@
 //! Received Link State Requests (RFC 2328, section 10.7).
-ghost use Rattle.std.specs.Prelude.{◌≡◌, ℕ, [], ◌∷◌, map, OnOk};
+ghost use Rattle.std.specs.Prelude.{◌≡◌, [], ◌∷◌, map, OnOk};
 ghost use Rattle.std.specs.List.{list_all};
-ghost use Rattle.adjacency.specs.Contents.{Updates, sent_on, step_on};
+ghost use Rattle.adjacency.specs.Contents.{Updates};
 ghost use Rattle.adjacency.specs.Drafts.{drafting};
 ghost use Rattle.adjacency.specs.Steps.{after_request, is_there, lsas_of};
+ghost use Rattle.flooding.specs.Doing.{PlaceUpdates};
 
 use super::Place;
 use adjacency::{Draft, Lsdb};
@@ -83,12 +84,8 @@ impl Place {
         keys: &[Key],
         draft: &mut Draft,
     ) -> Result<(), AllocError>
-        ensures ok { OnOk result (self.new.present
-            ≡ step_on (after_request moment database.now.present keys.now) self.old.present) }
-        ensures draft { OnOk result (draft.new
-            ≡ drafting delay (sent_on (after_request moment database.now.present keys.now)
-            self.old.present) draft.old) }
-        ensures settled { self.new.settled ≡ self.old.settled }
+        ensures { PlaceUpdates delay (after_request moment database.now.present keys.now) self.old
+            self.new draft.old draft.new result }
     {
         let exchanging = self.is_exchange_or_later();
         if exchanging {

@@ -37,9 +37,13 @@ loop-i-preserved c =
       router = c.in_ok-mark_behind.ensures.router ∙ c.loop-i.invariant.router;
     }
 
-pub returns-clause-ok : goal.returns-clause-ok
-returns-clause-ok c =
-    ap (mark_each c.args.moment c.loop-i.database.present)
-    (sym (behind_end c.args.counts.now (map draft_of c.args.links.now) c.loop-i.i
-    (omega (arith, c.loop-i-test.false, c.loop-i.auto.i-end, c.requires))))
-    ∙ c.loop-i.invariant.marks
+pub returns : goal.returns
+returns c = record {
+  ok =
+      ap (mark_each c.args.moment c.loop-i.database.present)
+      (sym (behind_end c.args.counts.now (map draft_of c.args.links.now) c.loop-i.i
+      (omega (arith, c.loop-i-test.false, c.loop-i.auto.i-end, c.requires))))
+      ∙ c.loop-i.invariant.marks;
+  settled = c.loop-i.invariant.settled;
+  router = c.loop-i.invariant.router;
+}

@@ -20,8 +20,12 @@ loop-i-preserved c =
       router = c.in_ok-mark_sent.ensures.router ∙ c.loop-i.invariant.router;
     }
 
-pub returns-clause-ok : goal.returns-clause-ok
-returns-clause-ok c =
-    ap (λ xs. mark_each c.args.moment c.loop-i.database.present (map key_of_update xs))
-    (sym (drop_end c.loop-i.i c.args.updates.now (omega (arith, c.loop-i-test.false))))
-    ∙ c.loop-i.invariant.marks
+pub returns : goal.returns
+returns c = record {
+  ok =
+      ap (λ xs. mark_each c.args.moment c.loop-i.database.present (map key_of_update xs))
+      (sym (drop_end c.loop-i.i c.args.updates.now (omega (arith, c.loop-i-test.false))))
+      ∙ c.loop-i.invariant.marks;
+  settled = c.loop-i.invariant.settled;
+  router = c.loop-i.invariant.router;
+}

@@ -1,15 +1,12 @@
-use Rattle.std.proofs.Common.{ap, sym, ◌∙◌}
+use Rattle.std.proofs.Common.{refl, ap, sym, ◌∙◌}
 use Rattle.adjacency.specs.Adjacencies.{enter_exstart}
-use Rattle.adjacency.specs.Contents.{sent_on}
-use Rattle.adjacency.specs.Drafts.{drafting}
+use Rattle.adjacency.specs.Contents.{sent_on, step_on}
 use Rattle.adjacency.specs.Views.{present_of}
-use Rattle.adjacency.proofs.Floods.{drafting-none}
+use Rattle.neighbors.proofs.Doing.{nothing_sent}
 use Rattle.flooding.proofs.place.Place.attempt.Goals as goal
 
-pub returns-in_default-clause-draft : goal.returns-in_default-clause-draft
-returns-in_default-clause-draft c delay =
-    drafting-none delay c.args.draft.now
-    ∙ ap (λ o. drafting delay (sent_on (enter_exstart c.args.moment) (present_of o))
-    c.args.draft.now) (sym c.in_default.is)
-    ∙ ap (λ h. drafting delay (sent_on (enter_exstart c.args.moment) h.present) c.args.draft.now)
-    c.self.view_is
+pub returns-in_default : goal.returns-in_default
+returns-in_default c =
+    let F = enter_exstart c.args.moment in
+    let none = ap present_of (sym c.in_default.is) ∙ ap (λ h. h.present) c.self.view_is in
+    nothing_sent _ refl (sym none ∙ ap (step_on F) none) (ap (sent_on F) none)
