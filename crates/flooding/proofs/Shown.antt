@@ -15,13 +15,13 @@ abbrev pub shown : Inside → KeptLink
 shown a = record {
   present = record {
     interface = a.interface;
-    neighbor = a.place.present;
+    neighbor = a.slot.present;
     acknowledgments = a.acknowledgments.present;
     last_hello_sent = a.last_hello_sent.present;
   };
   settled = record {
     interface = a.interface;
-    neighbor = a.place.settled;
+    neighbor = a.slot.settled;
     acknowledgments = a.acknowledgments.settled;
     last_hello_sent = a.last_hello_sent.settled;
   };

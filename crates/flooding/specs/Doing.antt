@@ -19,14 +19,14 @@ use Rattle.flooding.specs.Kept.{KeptLink, RouterArea}
 use Rattle.flooding.specs.Links.{draft_of, present, settled_link}
 
 -- the neighbor, if there is one, takes the step
-abbrev pub PlaceSends : {X E : Type 0} → (Neighbor → Step) → Kept (Option Neighbor)
+abbrev pub SlotSends : {X E : Type 0} → (Neighbor → Step) → Kept (Option Neighbor)
     → Kept (Option Neighbor) → Drafted → Drafted → Result X E → Type 0
-PlaceSends f old new before drafted result =
+SlotSends f old new before drafted result =
     Sends (step_on f) (sent_on f) old new before drafted result
 
-abbrev pub PlaceUpdates : {X E : Type 0} → ℕ → (Neighbor → Step) → Kept (Option Neighbor)
+abbrev pub SlotUpdates : {X E : Type 0} → ℕ → (Neighbor → Step) → Kept (Option Neighbor)
     → Kept (Option Neighbor) → Drafted → Drafted → Result X E → Type 0
-PlaceUpdates delay f old new before drafted result =
+SlotUpdates delay f old new before drafted result =
     SendsUpdates delay (step_on f) (sent_on f) old new before drafted result
 
 -- the link becomes what `after` says, and what it sends is drafted for its interface

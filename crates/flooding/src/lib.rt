@@ -6,8 +6,8 @@ mod area;
 mod cases;
 mod flood;
 mod link;
+mod neighbor_slot;
 mod on_links;
-mod place;
 mod receiving;
 mod steps;
 

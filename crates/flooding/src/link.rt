@@ -18,7 +18,7 @@ mod hellos;
 pub mod packets;
 pub mod timers;
 
-use crate::place::Place;
+use crate::neighbor_slot::NeighborSlot;
 use adjacency::{DatabaseCopy, Draft, Interface, Saved, Update};
 use keyed_map::KeyedMap;
 use lsa::Header;
@@ -33,7 +33,7 @@ use words::Second;
 #[derive(Drop)]
 pub struct Link {
     interface: Interface,
-    place: Place,
+    slot: NeighborSlot,
     // the latest one for each key
     acknowledgments: KeyedMap<Header>,
     last_hello_sent: Saved<Option<Second>>,
@@ -54,13 +54,13 @@ impl Model for Link {
     ghost view = { λ a. record {
       present = record {
         interface = a.interface;
-        neighbor = a.place.present;
+        neighbor = a.slot.present;
         acknowledgments = a.acknowledgments.present;
         last_hello_sent = a.last_hello_sent.present;
       };
       settled = record {
         interface = a.interface;
-        neighbor = a.place.settled;
+        neighbor = a.slot.settled;
         acknowledgments = a.acknowledgments.settled;
         last_hello_sent = a.last_hello_sent.settled;
       };
@@ -79,7 +79,7 @@ impl Link {
     {
         Link {
             interface,
-            place: Place::down(),
+            slot: NeighborSlot::down(),
             acknowledgments: KeyedMap::new(alloc),
             last_hello_sent: Saved::new(None),
             draft: Draft::new(alloc),
@@ -120,7 +120,7 @@ impl Link {
             self.old.present.neighbor)) }
     {
         let delay = self.interface.delay;
-        let Some(neighbor) = &mut self.place.neighbor else {
+        let Some(neighbor) = &mut self.slot.neighbor else {
             return Ok(false);
         };
         neighbor.flood(alloc, moment, from, copy, delay, &mut self.draft)
@@ -152,9 +152,9 @@ impl Link {
             (neighbor_sends (mismatch_step moment))
             self.old self.new result }
     {
-        let exchanging = self.place.is_exchange_or_later();
+        let exchanging = self.slot.is_exchange_or_later();
         if exchanging {
-            return self.place.attempt(alloc, moment, &mut self.draft);
+            return self.slot.attempt(alloc, moment, &mut self.draft);
         }
         Ok(())
     }
@@ -168,7 +168,7 @@ impl Link {
             (λ link. [])
             self.old self.new result }
     {
-        match &mut self.place.neighbor {
+        match &mut self.slot.neighbor {
             None => Ok(()),
             Some(neighbor) => neighbor.remove_retransmission(header),
         }
@@ -192,7 +192,7 @@ impl Link {
           drafted = nothing_drafted;
         } }
     {
-        self.place.settle();
+        self.slot.settle();
         self.acknowledgments.settle();
         self.last_hello_sent.settle();
         self.draft.clear();
@@ -206,7 +206,7 @@ impl Link {
           drafted = nothing_drafted;
         } }
     {
-        self.place.roll_back();
+        self.slot.roll_back();
         self.acknowledgments.roll_back();
         self.last_hello_sent.roll_back();
         self.draft.clear();

@@ -16,7 +16,7 @@ impl Link {
     pub fn neighbor(&self) -> Option<(RouterId, NeighborState)>
         ensures { result ≡ named_neighbor self.now.present.neighbor }
     {
-        let Some(neighbor) = &self.place.neighbor else {
+        let Some(neighbor) = &self.slot.neighbor else {
             return None;
         };
         let standing = neighbor.standing();
@@ -27,7 +27,7 @@ impl Link {
     pub fn is_exchange_or_loading(&self) -> bool
         ensures { result ≡ any_exchange_or_loading self.now.present.neighbor }
     {
-        match &self.place.neighbor {
+        match &self.slot.neighbor {
             None => false,
             Some(neighbor) => is_exchange_or_loading(neighbor.standing().state),
         }
@@ -37,7 +37,7 @@ impl Link {
     pub fn was_requested(&self, key: &Key) -> bool
         ensures { result ≡ was_requested key.now self.now.present.neighbor }
     {
-        match &self.place.neighbor {
+        match &self.slot.neighbor {
             None => false,
             Some(neighbor) => neighbor.requests().contains(key),
         }
@@ -47,7 +47,7 @@ impl Link {
     pub fn has_retransmission(&self, key: &Key) -> bool
         ensures { result ≡ has_retransmission key.now self.now.present.neighbor }
     {
-        match &self.place.neighbor {
+        match &self.slot.neighbor {
             None => false,
             Some(neighbor) => neighbor.retransmissions().contains(key),
         }
@@ -58,7 +58,7 @@ impl Link {
     pub fn has_instance(&self, moment: Second, header: &Header) -> bool
         ensures { result ≡ has_instance moment header.now self.now.present.neighbor }
     {
-        let Some(neighbor) = &self.place.neighbor else {
+        let Some(neighbor) = &self.slot.neighbor else {
             return false;
         };
         let listed = neighbor.retransmissions().get(&header.key());
@@ -69,7 +69,7 @@ impl Link {
     pub fn owes(&self) -> usize
         ensures { result ≡ owed_on self.now.present.neighbor }
     {
-        match &self.place.neighbor {
+        match &self.slot.neighbor {
             None => 0,
             Some(neighbor) => {
                 let retransmissions = neighbor.retransmissions().len();

@@ -15,12 +15,12 @@ impl Link {
         ensures settled { IfOk result (λ made. made.settled ≡ self.now.present) }
         ensures draft { IfOk result (λ made. made.drafted ≡ nothing_drafted) }
     {
-        let place = self.place.copy(alloc)?;
+        let slot = self.slot.copy(alloc)?;
         let acknowledgments = self.acknowledgments.copied(alloc)?;
         let last = self.last_hello_sent();
         Ok(Link {
             interface: self.interface,
-            place,
+            slot,
             acknowledgments,
             last_hello_sent: Saved::new(last),
             draft: Draft::new(alloc),

@@ -50,9 +50,9 @@ impl Link {
             (λ link. (after_hello moment from names link.neighbor).sends)
             self.old self.new result }
     {
-        let Some(neighbor) = &mut self.place.neighbor else {
+        let Some(neighbor) = &mut self.slot.neighbor else {
             return self
-                .place
+                .slot
                 .begin(alloc, moment, from, None, names, &mut self.draft);
         };
         let standing = neighbor.standing();
@@ -61,7 +61,7 @@ impl Link {
             let router = standing.router;
             let start = standing.dd_sequence_start;
             return self
-                .place
+                .slot
                 .begin(alloc, moment, router, start, names, &mut self.draft);
         }
         neighbor.restart_inactivity_timer(moment);
@@ -70,7 +70,7 @@ impl Link {
 }
 
 /// A Database Description from the neighbor to the router with the Router ID `own` (RFC 2328,
-/// section 10.6), as in `Place::receive_description`.
+/// section 10.6), as in `NeighborSlot::receive_description`.
 #[derive(Drop)]
 pub struct ReceivingDescription<'a> {
     pub own: RouterId,
@@ -89,7 +89,7 @@ impl<'a> LinkStep for ReceivingDescription<'a> {
         neighbor_sends (after_description a.own a.moment database a.description.now) };
 
     fn take(&self, alloc: Global, database: &Lsdb, link: &mut Link) -> Result<(), AllocError> {
-        link.place.receive_description(
+        link.slot.receive_description(
             alloc,
             self.own,
             self.moment,
@@ -101,7 +101,7 @@ impl<'a> LinkStep for ReceivingDescription<'a> {
 }
 
 /// A Link State Request for these keys from the neighbor (RFC 2328, section 10.7), as in
-/// `Place::receive_request`.
+/// `NeighborSlot::receive_request`.
 #[derive(Drop)]
 pub struct ReceivingRequest<'a> {
     pub moment: Second,
@@ -118,7 +118,7 @@ impl<'a> LinkStep for ReceivingRequest<'a> {
 
     fn take(&self, alloc: Global, database: &Lsdb, link: &mut Link) -> Result<(), AllocError> {
         let delay = link.interface.delay;
-        link.place.receive_request(
+        link.slot.receive_request(
             alloc,
             self.moment,
             delay,
@@ -149,7 +149,7 @@ impl<'a> LinkStep for ReceivingAcknowledgment<'a> {
         neighbor_sends (λ n. no_sends (after_acknowledgment a.moment a.headers.now n)) };
 
     fn take(&self, _alloc: Global, _database: &Lsdb, link: &mut Link) -> Result<(), AllocError> {
-        let Some(neighbor) = &mut link.place.neighbor else {
+        let Some(neighbor) = &mut link.slot.neighbor else {
             return Ok(());
         };
         neighbor.receive_acknowledgment(self.moment, self.headers)

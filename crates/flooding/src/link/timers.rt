@@ -15,11 +15,11 @@ impl Link {
           present = record self.old.present { neighbor = None };
         } }
     {
-        self.place.replace(None);
+        self.slot.replace(None);
     }
 }
 
-/// The timers that a Tick finds expired, as in `Place::run_out`, with the interface's
+/// The timers that a Tick finds expired, as in `NeighborSlot::run_out`, with the interface's
 /// RouterDeadInterval.
 #[derive(Drop)]
 pub struct RunOut {
@@ -34,8 +34,7 @@ impl LinkChange for RunOut {
         (run_out a.moment link.interface.dead_interval link.neighbor) link };
 
     fn change(&self, link: &mut Link) {
-        link.place
-            .run_out(self.moment, link.interface.dead_interval);
+        link.slot.run_out(self.moment, link.interface.dead_interval);
     }
 }
 
@@ -52,7 +51,7 @@ impl LinkChange for EndLoading {
         (step_on (λ n. no_sends (loading_done n)) link.neighbor) link };
 
     fn change(&self, link: &mut Link) {
-        if let Some(neighbor) = &mut link.place.neighbor {
+        if let Some(neighbor) = &mut link.slot.neighbor {
             neighbor.end_loading();
         }
     }
@@ -73,7 +72,7 @@ impl LinkStep for NextRequest {
     ghost sends = { λ a database. neighbor_sends (request_next a.moment) };
 
     fn take(&self, alloc: Global, _database: &Lsdb, link: &mut Link) -> Result<(), AllocError> {
-        let Some(neighbor) = &mut link.place.neighbor else {
+        let Some(neighbor) = &mut link.slot.neighbor else {
             return Ok(());
         };
         neighbor.request(alloc, self.moment, &mut link.draft)
@@ -97,7 +96,7 @@ impl LinkStep for SendingAgain {
     fn take(&self, alloc: Global, database: &Lsdb, link: &mut Link) -> Result<(), AllocError> {
         let interval = link.interface.retransmit_interval;
         let delay = link.interface.delay;
-        let Some(neighbor) = &mut link.place.neighbor else {
+        let Some(neighbor) = &mut link.slot.neighbor else {
             return Ok(());
         };
         neighbor.send_again(

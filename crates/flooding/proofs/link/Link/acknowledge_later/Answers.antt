@@ -13,13 +13,13 @@ returns c =
     let inside = c.self.inside in
     let base : Link = record {
       interface = inside.interface;
-      neighbor = inside.place.present;
+      neighbor = inside.slot.present;
       acknowledgments = inside.acknowledgments.present;
       last_hello_sent = inside.last_hello_sent.present;
     } in
     let before : Link = record {
       interface = inside.interface;
-      neighbor = inside.place.settled;
+      neighbor = inside.slot.settled;
       acknowledgments = inside.acknowledgments.settled;
       last_hello_sent = inside.last_hello_sent.settled;
     } in

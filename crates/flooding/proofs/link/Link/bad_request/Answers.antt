@@ -15,7 +15,7 @@ pub returns-then-exchanging : goal.returns-then-exchanging
 returns-then-exchanging c =
     let m = c.args.moment in
     let F = mismatch_step m in
-    let o = c.self.inside.place.present in
+    let o = c.self.inside.slot.present in
     let delay = c.self.inside.interface.delay in
     let is = sym c.is_exchange_or_later-exchanging.ensures ∙ c.if-exchanging.true in
     place_becomes (step_on F) (sent_on F) _ c.args.self.now c.attempt.new.self.present
@@ -35,7 +35,7 @@ pub returns : goal.returns
 returns c =
     let m = c.args.moment in
     let F = mismatch_step m in
-    let o = c.self.inside.place.present in
+    let o = c.self.inside.slot.present in
     let base : Link = record {
       interface = c.self.inside.interface;
       neighbor = o;

@@ -33,7 +33,7 @@ returns-in_default c =
     ((ap (λ v. v.draft) c.self-inside.view_is ∙ ap (λ (k : KeptLink). k.drafted) c.self.view_is)
     i)))
     c.begin.ensures.draft)
-    (c.begin.ensures.settled ∙ ap (λ v. v.place.settled) c.self-inside.view_is
+    (c.begin.ensures.settled ∙ ap (λ v. v.slot.settled) c.self-inside.view_is
     ∙ ap (λ (k : KeptLink). k.settled.neighbor) c.self.view_is)
 
 pub returns-then-begins : goal.returns-then-begins
@@ -68,7 +68,7 @@ returns-then-begins c =
     c.begin-then-begins.ensures.draft)
     (c.begin-then-begins.ensures.settled
     ∙ ap (settled_among c.self-inside.inside.0.1.0.before) (sym c.in-Some.is)
-    ∙ ap (λ v. v.place.settled) c.self-inside.view_is
+    ∙ ap (λ v. v.slot.settled) c.self-inside.view_is
     ∙ ap (λ (k : KeptLink). k.settled.neighbor) c.self.view_is)
 
 pub returns : goal.returns

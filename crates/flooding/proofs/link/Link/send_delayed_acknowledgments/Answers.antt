@@ -14,13 +14,13 @@ returns c =
     let m = inside.acknowledgments.present in
     let base : Link = record {
       interface = inside.interface;
-      neighbor = inside.place.present;
+      neighbor = inside.slot.present;
       acknowledgments = m;
       last_hello_sent = inside.last_hello_sent.present;
     } in
     let before : Link = record {
       interface = inside.interface;
-      neighbor = inside.place.settled;
+      neighbor = inside.slot.settled;
       acknowledgments = inside.acknowledgments.settled;
       last_hello_sent = inside.last_hello_sent.settled;
     } in

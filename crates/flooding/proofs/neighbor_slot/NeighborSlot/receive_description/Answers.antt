@@ -5,7 +5,7 @@ use Rattle.adjacency.specs.Drafts.{drafting}
 use Rattle.adjacency.specs.Exchanges.{judging}
 use Rattle.neighbors.proofs.Doing.{nothing_sent}
 use Rattle.flooding.proofs.Judging.{discarded_on, discarded_sent, judged_after, sent_after}
-use Rattle.flooding.proofs.place.Place.receive_description.Goals as goal
+use Rattle.flooding.proofs.neighbor_slot.NeighborSlot.receive_description.Goals as goal
 
 pub returns-then-too_large : goal.returns-then-too_large
 returns-then-too_large c =

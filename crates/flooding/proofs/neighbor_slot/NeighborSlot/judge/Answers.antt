@@ -7,7 +7,7 @@ use Rattle.adjacency.specs.Exchanges.{judging, verdict_of}
 use Rattle.adjacency.specs.Views.{present_of}
 use Rattle.neighbors.proofs.Doing.{nothing_sent, sent_after}
 use Rattle.flooding.proofs.Judging.{goes_on_on, goes_on_sent, over_on, over_sent}
-use Rattle.flooding.proofs.place.Place.judge.Goals as goal
+use Rattle.flooding.proofs.neighbor_slot.NeighborSlot.judge.Goals as goal
 
 pub returns-in_default : goal.returns-in_default
 returns-in_default c =

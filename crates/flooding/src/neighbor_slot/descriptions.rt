@@ -4,9 +4,9 @@ ghost use Rattle.words.specs.Constants.{largest_packet};
 ghost use Rattle.adjacency.specs.Adjacencies.{two_way_received};
 ghost use Rattle.adjacency.specs.Descriptions.{after_description};
 ghost use Rattle.adjacency.specs.Exchanges.{any_init, is_init, judging};
-ghost use Rattle.flooding.specs.Doing.{PlaceSends};
+ghost use Rattle.flooding.specs.Doing.{SlotSends};
 
-use super::Place;
+use super::NeighborSlot;
 use adjacency::descriptions::starts_over;
 use adjacency::{Draft, Lsdb, NeighborState};
 use packet::Description;
@@ -32,7 +32,7 @@ fn is_init(state: NeighborState) -> bool
     }
 }
 
-impl Place {
+impl NeighborSlot {
     // Whether there is a neighbor in Init.
     fn is_init(&self) -> bool
         ensures { result ≡ any_init self.now.present }
@@ -53,7 +53,7 @@ impl Place {
         moment: Second,
         draft: &mut Draft,
     ) -> Result<(), AllocError>
-        ensures { PlaceSends (two_way_received moment) self.old self.new draft.old draft.new
+        ensures { SlotSends (two_way_received moment) self.old self.new draft.old draft.new
             result }
     {
         let init = self.is_init();
@@ -74,7 +74,7 @@ impl Place {
         description: &Description,
         draft: &mut Draft,
     ) -> Result<(), AllocError>
-        ensures { PlaceSends (judging own moment database.now.present description.now) self.old
+        ensures { SlotSends (judging own moment database.now.present description.now) self.old
             self.new draft.old draft.new result }
     {
         let Some(neighbor) = &mut self.neighbor else {
@@ -108,7 +108,7 @@ impl Place {
         description: &Description,
         draft: &mut Draft,
     ) -> Result<(), AllocError>
-        ensures { PlaceSends (after_description own moment database.now.present description.now)
+        ensures { SlotSends (after_description own moment database.now.present description.now)
             self.old self.new draft.old draft.new result }
     {
         let too_large = is_too_large(description);

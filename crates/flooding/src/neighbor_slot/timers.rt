@@ -2,11 +2,11 @@
 ghost use Rattle.std.specs.Prelude.{◌≡◌};
 ghost use Rattle.adjacency.specs.Timers.{run_out};
 
-use super::Place;
+use super::NeighborSlot;
 use neighbors::has_passed;
 use words::Second;
 
-impl Place {
+impl NeighborSlot {
     /// The timers that a Tick finds expired (RFC 2328, sections 10.3 and 10.8): a neighbor from
     /// which no Hello was received for RouterDeadInterval (`dead`, in seconds) goes Down
     /// (InactivityTimer), and the last Database Description is discarded that long after the

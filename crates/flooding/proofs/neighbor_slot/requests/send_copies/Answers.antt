@@ -4,7 +4,7 @@ use Rattle.adjacency.specs.Drafts.{drafting}
 use Rattle.adjacency.specs.Steps.{lsas_of}
 use Rattle.adjacency.proofs.Floods.{drafting-none}
 use Rattle.adjacency.proofs.Sends.{sent_more}
-use Rattle.flooding.proofs.place.requests.send_copies.Goals as goal
+use Rattle.flooding.proofs.neighbor_slot.requests.send_copies.Goals as goal
 
 pub loop-key-init : goal.loop-key-init
 loop-key-init c = drafting-none c.args.delay c.args.draft.now

@@ -4,9 +4,9 @@ ghost use Rattle.std.specs.List.{list_all};
 ghost use Rattle.adjacency.specs.Contents.{Updates};
 ghost use Rattle.adjacency.specs.Drafts.{drafting};
 ghost use Rattle.adjacency.specs.Steps.{after_request, is_there, lsas_of};
-ghost use Rattle.flooding.specs.Doing.{PlaceUpdates};
+ghost use Rattle.flooding.specs.Doing.{SlotUpdates};
 
-use super::Place;
+use super::NeighborSlot;
 use adjacency::{Draft, Lsdb};
 use std::alloc::{AllocError, Global};
 use words::{Key, Second};
@@ -68,7 +68,7 @@ fn send_copies(
     Ok(())
 }
 
-impl Place {
+impl NeighborSlot {
     /// A Link State Request for these keys from the neighbor (RFC 2328, section 10.7), which is
     /// ignored before Exchange. The copies are sent in Link State Updates, their ages incremented
     /// by InfTransDelay (`delay`) seconds, without being put on the retransmission list. If the
@@ -84,7 +84,7 @@ impl Place {
         keys: &[Key],
         draft: &mut Draft,
     ) -> Result<(), AllocError>
-        ensures { PlaceUpdates delay (after_request moment database.now.present keys.now) self.old
+        ensures { SlotUpdates delay (after_request moment database.now.present keys.now) self.old
             self.new draft.old draft.new result }
     {
         let exchanging = self.is_exchange_or_later();

@@ -4,7 +4,7 @@ use Rattle.adjacency.specs.Contents.{Describes}
 use Rattle.adjacency.specs.Drafts.{drafting}
 use Rattle.adjacency.proofs.Neighbors.{begun_named, begun_unnamed}
 use Rattle.neighbors.proofs.Doing.{nothing_sent}
-use Rattle.flooding.proofs.place.Place.begin.Goals as goal
+use Rattle.flooding.proofs.neighbor_slot.NeighborSlot.begin.Goals as goal
 
 pub returns-then-names : goal.returns-then-names
 returns-then-names c =

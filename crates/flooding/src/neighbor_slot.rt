@@ -4,7 +4,7 @@ ghost use Rattle.adjacency.specs.Adjacencies.{enter_exstart};
 ghost use Rattle.adjacency.specs.Steps.{any_exchange_or_later};
 ghost use Rattle.adjacency.specs.Views.{begun, present_of};
 ghost use Rattle.neighbors.specs.Doing.{Sends};
-ghost use Rattle.flooding.specs.Doing.{PlaceSends};
+ghost use Rattle.flooding.specs.Doing.{SlotSends};
 
 mod descriptions;
 mod requests;
@@ -18,13 +18,13 @@ use words::{RouterId, Second};
 
 /// The neighbor unless it is Down, and the one that this event replaced, if it did.
 #[derive(Drop)]
-pub struct Place {
+pub struct NeighborSlot {
     pub(crate) neighbor: Option<Neighbor>,
     // the neighbor before this event, once it was replaced; `Some(None)` if it was Down then
     before: Option<Option<Neighbor>>,
 }
 
-impl Model for Place {
+impl Model for NeighborSlot {
     ghost use Rattle.std.specs.Prelude.{Option};
     ghost use Rattle.adjacency.specs.Neighbors.{Neighbor as Conversation};
     ghost use Rattle.std.specs.Coded.{codes};
@@ -43,17 +43,17 @@ impl Model for Place {
     } };
 }
 
-impl Place {
+impl NeighborSlot {
     pub fn down() -> Self
         ensures { result ≡ record { present = None; settled = None } }
     {
-        Place {
+        NeighborSlot {
             neighbor: None,
             before: None,
         }
     }
 
-    /// A copy of the place, settled.
+    /// A copy of the slot, settled.
     ///
     /// Errors with `AllocError` if an allocation is refused.
     pub fn copy(&self, alloc: Global) -> Result<Self, AllocError>
@@ -61,10 +61,10 @@ impl Place {
         ensures settled { IfOk result (λ made. made.settled ≡ self.now.present) }
     {
         match &self.neighbor {
-            None => Ok(Place::down()),
+            None => Ok(NeighborSlot::down()),
             Some(neighbor) => {
                 let neighbor = neighbor.copy(alloc)?;
-                Ok(Place {
+                Ok(NeighborSlot {
                     neighbor: Some(neighbor),
                     before: None,
                 })
@@ -122,7 +122,7 @@ impl Place {
         moment: Second,
         draft: &mut Draft,
     ) -> Result<(), AllocError>
-        ensures { PlaceSends (enter_exstart moment) self.old self.new draft.old draft.new result }
+        ensures { SlotSends (enter_exstart moment) self.old self.new draft.old draft.new result }
     {
         let Some(neighbor) = &self.neighbor else {
             return Ok(());

@@ -4,7 +4,7 @@ use Rattle.adjacency.specs.Drafts.{drafting}
 use Rattle.neighbors.proofs.Doing.{nothing_updated}
 use Rattle.flooding.proofs.Answered.{answers_on, answers_sent, fails_on, fails_sent}
 use Rattle.flooding.proofs.Answered.{rests_on, rests_sent}
-use Rattle.flooding.proofs.place.Place.receive_request.Goals as goal
+use Rattle.flooding.proofs.neighbor_slot.NeighborSlot.receive_request.Goals as goal
 
 pub returns-then-there : goal.returns-then-there
 returns-then-there c =

@@ -2,7 +2,7 @@ use Rattle.std.proofs.Common.{sym, ap, ◌∙◌}
 use Rattle.adjacency.specs.Neighbors.{is_exchange_or_later}
 use Rattle.adjacency.specs.Steps.{any_exchange_or_later}
 use Rattle.adjacency.specs.Views.{present_of}
-use Rattle.flooding.proofs.place.Place.is_exchange_or_later.Goals as goal
+use Rattle.flooding.proofs.neighbor_slot.NeighborSlot.is_exchange_or_later.Goals as goal
 
 pub returns-in-Some : goal.returns-in-Some
 returns-in-Some c =
