@@ -1,9 +1,9 @@
 -- What the checks of a slot's jumps and statements show.
 use Rattle.std.proofs.Common.{◌≡◌, ℕ, ◌+◌, ◌<◌, ◌≤◌, true, List, Option, Some, None, ◌⊎◌, inl}
-use Rattle.std.proofs.Common.{⊎_elim, refl, subst, length, arith}
-use Rattle.std.specs.Prelude.{IfSome, IsSome, IsSomeAnd, slice_get}
+use Rattle.std.proofs.Common.{⊎_elim, refl, sym, subst, ◌∙◌, length, arith}
+use Rattle.std.specs.Prelude.{IfSome, IsSome, IsSomeAnd}
 use Rattle.std.proofs.lemmas.Bool.{cases_lt}
-use Rattle.std.proofs.lemmas.Option.{slice_get_past}
+use Rattle.std.proofs.lemmas.Option.{none-some, slice_get_past}
 use Rattle.object.specs.Statements.{StatementParts}
 use Rattle.isa.specs.declared.code.Slot.{Slot}
 use Rattle.isa.specs.declared.code.Slot.TheVariants.{Start}
@@ -16,7 +16,7 @@ use Rattle.segments.specs.Refusals.{JumpsNowhere, IsStray, IsBadTarget, FallsOff
 use Rattle.segments.specs.Refusals.{IsUnreached, IsUnstated}
 use Rattle.segments.proofs.Targets.{unstated_of, stated_of}
 
-some_and : {A : Type 0} {P : A → Type 0} (o : Option A) → IsSomeAnd o P
+pub some_and : {A : Type 0} {P : A → Type 0} (o : Option A) → IsSomeAnd o P
     → (x : A) × (o ≡ Some x) × P x
 some_and None p = absurd p
 some_and (Some x) p = (x, refl, p)
@@ -25,12 +25,10 @@ if_some : {A : Type 0} (P : A → Type 0) (o : Option A) (x : A) → IfSome o P 
 if_some P None x p some = cc
 if_some P (Some y) x p some = let same : y ≡ x = cc in subst P same p
 
-none_is_some : {A : Type 0} {x : A} (o : Option A) → o ≡ None → o ≡ Some x → ⊥
-none_is_some o none some = cc
-
-same_instruction : (slot : Option Slot) (i j : Instruction) → slot ≡ Some (Start i)
-    → slot ≡ Some (Start j) → j ≡ i
-same_instruction slot i j a b = cc
+-- at most one instruction begins at a slot
+pub same_instruction : {slot : Option Slot} (i j : Instruction) → slot ≡ Some (Start i)
+    → slot ≡ Some (Start j) → i ≡ j
+same_instruction i j first second = cc
 
 -- a slot where an instruction begins is in the code
 pub inside_code : (code : List Slot) (slot : ℕ) → Begins code slot → slot < length code
@@ -38,14 +36,14 @@ inside_code code slot begins =
     ⊎_elim
     (λ (inside : slot < length code). inside)
     (λ (past : length code ≤ slot). absurd
-    (none_is_some (slice_get code slot) (slice_get_past code slot past) begins.1))
+    (none-some _ (sym (slice_get_past code slot past) ∙ begins.1)))
     (cases_lt slot (length code))
 
 module _ (code : List Slot) (slot : ℕ) (i : Instruction) (here : BeginsAt i code slot) where
   jump_of_one : (j : Instruction) (to : ℕ) → BeginsAt j code slot → jump_target slot j ≡ Some to
       → jump_target slot i ≡ Some to
   jump_of_one j to at jumps = subst (λ k. jump_target slot k ≡ Some to)
-      (same_instruction (slice_get code slot) i j here at) jumps
+      (same_instruction j i at here) jumps
 
   pub met_target : (statements : List StatementParts) → IfSome (jump_target slot i) (Begins code)
       → IsBadTarget code statements slot → ⊥
@@ -64,7 +62,7 @@ module _ (code : List Slot) (slot : ℕ) (i : Instruction) (here : BeginsAt i co
 
   pub met_ends : (goes_on i ≡ true → Begins code (slot + size i)) → FallsOff code slot → ⊥
   met_ends on off =
-      let same = same_instruction (slice_get code slot) i off.instruction here off.at in
+      let same = same_instruction off.instruction i off.at here in
       let last : slot_after slot i ≡ length code =
       subst (λ k. slot_after slot k ≡ length code) same off.last in
       let goes : goes_on i ≡ true = subst (λ k. goes_on k ≡ true) same off.on in

@@ -3,7 +3,9 @@ use Rattle.std.proofs.Common.{◌≡◌, ℕ, ◌<◌, Bool, true, false, List, 
 use Rattle.std.proofs.Common.{⊎_elim, refl, sym, subst, ◌∙◌, length, arith}
 use Rattle.std.specs.Prelude.{IfErr, Result, Ok, Err, nat_le}
 use Rattle.std.specs.Result.{IsErrAnd}
+use Rattle.std.proofs.lemmas.Bool.{false≢true}
 use Rattle.std.proofs.lemmas.Bool.Decides.{nat_tests}
+use Rattle.std.proofs.lemmas.Option.{none-some}
 use Rattle.isa.specs.declared.hook.Hook.{Hook}
 use Rattle.isa.specs.declared.instruction.Instruction.{Instruction}
 use Rattle.isa.specs.declared.instruction.Instruction.TheVariants as instructions
@@ -46,17 +48,11 @@ asks_more contains filled more kinds.Empty grows asks = tt
 asks_more contains filled more (kinds.Number value) grows asks = (asks.0, grows asks.1)
 asks_more contains filled more (kinds.Pointer place) grows asks = absurd asks
 
-none_is_some : {A : Type 0} {x : A} (o : Option A) → o ≡ None → o ≡ Some x → ⊥
-none_is_some o none some = cc
-
 -- ---- refusals
 
 -- a call that is refused, and yet isn't
 pub never : {A : Type 0} → false ≡ true → A
-never wrong = absurd (false_is_true wrong)
-  where
-    false_is_true : false ≡ true → ⊥
-    false_is_true wrong = cc
+never wrong = absurd (false≢true wrong)
 
 -- what a `?` passes on
 pub hands_on : {A T : Type 0} (result : Result A T) (error : T) (P : T → Type 0)
@@ -71,7 +67,7 @@ pub beside : {D : Type 0} (i : Instruction) (state : AbstractState D) → regist
     → (r : ℕ) → IsFilledBehind i state r → IsFilled state r
 beside i state none r = ⊎_elim (λ (filled : IsFilled state r). filled)
     (λ (written : register_written i ≡ Some r). absurd
-    (none_is_some (register_written i) none written))
+    (none-some r (sym none ∙ written)))
 
 module _ {D : Type 0} (contains : D → ℕ → Type 0) (targets : List (Option (SegmentStart D)))
     (segment : SegmentStart D) where
@@ -116,7 +112,7 @@ pub kept_beside : {D : Type 0} (i : Instruction) (state after : AbstractState D)
     → KeepsFilled i state after
 kept_beside i state after none ten kept = record {
   ten = kept.long ∙ ten;
-  written = λ r written. absurd (none_is_some (register_written i) none written);
+  written = λ r written. absurd (none-some r (sym none ∙ written));
   others = kept.others;
 }
 
@@ -149,10 +145,7 @@ pub no_frame : (hook : Hook) (i : Instruction) (rule : Rule) → rule ≡ rules.
     → MayName hook i rule → writes_frame i ≡ false → ⊥
 no_frame hook i rule is named free =
     let writes : MayName hook i rules.Frame = subst (λ r. MayName hook i r) is named in
-    true_is_false (writes_frame i) writes free
-  where
-    true_is_false : (b : Bool) → b ≡ true → b ≡ false → ⊥
-    true_is_false b on off = cc
+    false≢true (sym free ∙ writes)
 
 pub plain_step : (i : Instruction) → IsPlainInstruction i → IsStraight i → IsPlainStep i
 plain_step (instructions.Arithmetic width operation target source) plain on = tt

@@ -5,6 +5,7 @@ use Rattle.std.proofs.Common.{length, arith, get_or-set_other, get_or-set_same, 
 use Rattle.std.specs.Prelude.{IsSome, IsSomeAnd, nat_eq}
 use Rattle.std.proofs.lemmas.Bool.{cases_eq}
 use Rattle.std.proofs.lemmas.Bool.Decides.{nat_tests}
+use Rattle.std.proofs.lemmas.Option.{none-some, same_Some}
 use Rattle.object.specs.Statements.{StatementParts}
 use Rattle.object.specs.Objects.{AreStatements}
 use Rattle.machine.specs.declared.state.State.{State as Machine}
@@ -24,10 +25,7 @@ pushed_default (x ∷ xs) d (suc r) = pushed_default xs d r
 
 -- ---- what the list says at one slot
 
-none_is_some : {A : Type 0} {x : A} (o : Option A) → o ≡ None → o ≡ Some x → ⊥
-none_is_some o none some = cc
-
-none_isn't_some : {A : Type 0} (o : Option A) → o ≡ None → IsSome o → ⊥
+pub none_isn't_some : {A : Type 0} (o : Option A) → o ≡ None → IsSome o → ⊥
 none_isn't_some None none some = cc
 none_isn't_some (Some x) none some = cc
 
@@ -154,7 +152,7 @@ none_found contains gives statements size targets long none ordered = record {
   least = 0;
   ordered = ordered;
   unfilled = λ slot _. none slot;
-  meet = λ slot target is. absurd (none_is_some (target_at targets slot) (none slot) is);
+  meet = λ slot target is. absurd (none-some target (sym (none slot) ∙ is));
 }
 
 agrees_at_end : {D : Type 0} (contains : D → ℕ → Type 0) (whole : Option StatementParts)
@@ -183,9 +181,6 @@ stated_later : (s : StatementParts) (ss : List StatementParts) (slot : ℕ) → 
     → statement_at (s ∷ ss) slot ≡ statement_at ss slot
 stated_later s ss slot other = let apart : nat_eq s.slot slot ≡ false = grind (arith, nat_tests) in
     rw apart refl
-
-some_is_one : {A : Type 0} {x y : A} (o : Option A) → o ≡ Some x → o ≡ Some y → x ≡ y
-some_is_one o first second = cc
 
 module _ {D : Type 0} (contains : D → ℕ → Type 0) (gives : GivesStated D)
     (statements : List StatementParts) (s : StatementParts) (ss : List StatementParts) (size : ℕ)
@@ -233,8 +228,8 @@ module _ {D : Type 0} (contains : D → ℕ → Type 0) (gives : GivesStated D)
       let inside : s.slot < length targets = omega (arith, so_far.long, so_far.ordered.2) in
       let there : target_at (set targets s.slot (Some target)) s.slot ≡ Some other =
       subst (λ at. target_at (set targets s.slot (Some target)) at ≡ Some other) same stated in
-      let one : target ≡ other = some_is_one _
-      (get_or-set_same targets s.slot (Some target) None inside) there in
+      let one : target ≡ other = same_Some _ _
+      (sym (get_or-set_same targets s.slot (Some target) None inside) ∙ there) in
       subst (λ t. (machine : Machine) → TargetHolds contains t machine
       → MeetsStatement contains gives t.statement.now machine) one
       (λ machine holds. rw is.same (meets machine holds)))

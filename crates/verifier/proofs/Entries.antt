@@ -1,8 +1,9 @@
 -- The start of a run is as the entry says.
 use Rattle.std.proofs.Common.{◌≡◌, ℕ, zero, suc, ◌<◌, ◌≤◌, Bool, true, false, List, [], ◌∷◌, Option}
-use Rattle.std.proofs.Common.{Some, refl, subst, get_or, length, arith, ⊎_elim}
+use Rattle.std.proofs.Common.{Some, refl, sym, subst, ◌∙◌, get_or, length, arith, ⊎_elim}
 use Rattle.std.proofs.lemmas.List.{get_or-replicate, length-replicate}
-use Rattle.std.proofs.lemmas.Bool.{cases_lt}
+use Rattle.std.proofs.lemmas.Bool.{cases_lt, false≢true}
+use Rattle.std.proofs.lemmas.Option.{same_Some}
 use Rattle.object.specs.Sets.{has_byte, no_bytes}
 use Rattle.machine.specs.declared.state.Pointer.TheVariants as pointers
 use Rattle.machine.specs.declared.state.StackByte.TheVariants as stack_bytes
@@ -26,21 +27,17 @@ entry_kind contains zero = tt
 entry_kind contains (suc zero) = (pointers.Context 0, refl, refl)
 entry_kind contains (suc (suc r)) = tt
 
-true_is_false : (b : Bool) → b ≡ false → b ≡ true → ⊥
-true_is_false b no_byte byte = cc
-
 past_end : (xs : List Bool) (i : ℕ) → length xs ≤ i → get_or xs i false ≡ false
 past_end [] i past = refl
 past_end (x ∷ xs) zero past = absurd (omega (arith, past))
 past_end (x ∷ xs) (suc i) past = past_end xs i (omega (arith, past))
 
 none_stated : (at : ℕ) → has_byte no_bytes at ≡ true → ⊥
-none_stated at =
+none_stated at stated =
     ⊎_elim
-    (λ (low : at < 512). true_is_false (has_byte no_bytes at)
-    (get_or-replicate 512 at false false low))
-    (λ (high : 512 ≤ at). true_is_false (has_byte no_bytes at)
-    (past_end no_bytes at (omega (arith, high, length-replicate 512 false))))
+    (λ (low : at < 512). false≢true (sym (get_or-replicate 512 at false false low) ∙ stated))
+    (λ (high : 512 ≤ at). false≢true
+    (sym (past_end no_bytes at (omega (arith, high, length-replicate 512 false))) ∙ stated))
     (cases_lt at 512)
 
 pub entry_holds : {D : Type 0} (contains : D → ℕ → Type 0) (entry : SegmentStart D)
@@ -55,9 +52,6 @@ entry_holds contains entry stack kinds = record {
   stack = λ at stated. absurd (none_stated at (rw stack at stated));
 }
 
-some_is_one : {A : Type 0} {x y : A} (o : Option A) → o ≡ Some x → o ≡ Some y → x ≡ y
-some_is_one o first second = cc
-
 -- the statement that is found is the one that is there
 pub edge_of : {D : Type 0} (contains : D → ℕ → Type 0) (targets : List (Option (SegmentStart D)))
     (entry found target : SegmentStart D) → target_at targets 0 ≡ Some found
@@ -68,4 +62,4 @@ pub edge_of : {D : Type 0} (contains : D → ℕ → Type 0) (targets : List (Op
     → Enters contains false entry target machine machine
 edge_of {D} contains targets entry found target is_found stated enters machine holds =
     subst (λ (t : SegmentStart D). Enters contains false entry t machine machine)
-    (some_is_one (target_at targets 0) is_found stated) (enters machine holds)
+    (same_Some found target (sym is_found ∙ stated)) (enters machine holds)

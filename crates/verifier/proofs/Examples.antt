@@ -7,6 +7,7 @@ use Rattle.std.specs.List.{AllByRecursion}
 use Rattle.std.proofs.lemmas.Bool.{cases_eq}
 use Rattle.std.proofs.lemmas.Bool.Decides.{nat_tests}
 use Rattle.std.proofs.lemmas.List.{get_or-replicate}
+use Rattle.std.proofs.lemmas.Option.{none-some, same_Some}
 use Rattle.isa.specs.declared.code.Slot.TheVariants.{Start}
 use Rattle.isa.specs.declared.instruction.Instruction.{Instruction}
 use Rattle.isa.specs.declared.instruction.Instruction.TheVariants as instructions
@@ -23,24 +24,13 @@ use Rattle.segments.specs.Places.{goes_on}
 use Rattle.segments.specs.Plain.{LeadsTo}
 use Rattle.segments.specs.Refusals.{IsStray, IsWellMade, JumpsNowhere}
 use Rattle.segments.specs.Stated.{statement_at}
+use Rattle.segments.proofs.Made.{same_instruction}
 use Rattle.segments.proofs.Plain.{never}
 use Rattle.verifier.specs.Examples.{then_exit, endless_code, move_of, only_seven, says, says_byte}
 use Rattle.verifier.specs.Examples.{says_term, seven, test_on, tested_code}
 use Rattle.verifier.specs.Plain.{IsFilledAt, is_stated, is_written, IsNumberIn, IsPlain}
 use Rattle.verifier.specs.Plain.{IsPlainStatement, at_entry, at_statement, said_of}
 use Rattle.verifier.proofs.Plain.{nothing_filled}
-
-none_is_some : {A : Type 0} {x : A} → None ≡ Some x → ⊥
-none_is_some is = cc
-
-some_is_none : {A : Type 0} {x : A} → Some x ≡ None → ⊥
-some_is_none is = cc
-
-some_is_one : {A : Type 0} {x y : A} → Some x ≡ Some y → x ≡ y
-some_is_one is = cc
-
-started : (i j : Instruction) → Some (Start i) ≡ Some (Start j) → i ≡ j
-started i j is = cc
 
 -- ---- `r0 = 7; if r0 == 0 goto L; L: exit`
 
@@ -49,11 +39,11 @@ stated_at_exit = says 2 any_number 0 ∷ []
 
 each : (P : ℕ → Instruction → Type 0) → P 0 seven → P 1 test_on → P 2 instructions.Exit
     → (slot : ℕ) (i : Instruction) → BeginsAt i tested_code slot → P slot i
-each P first second third zero i at = subst (λ k. P 0 k) (started seven i at) first
-each P first second third (suc zero) i at = subst (λ k. P 1 k) (started test_on i at) second
+each P first second third zero i at = subst (λ k. P 0 k) (same_instruction seven i refl at) first
+each P first second third (suc zero) i at = subst (λ k. P 1 k) (same_instruction test_on i refl at) second
 each P first second third (suc (suc zero)) i at =
-    subst (λ k. P 2 k) (started instructions.Exit i at) third
-each P first second third (suc (suc (suc slot))) i at = absurd (none_is_some at)
+    subst (λ k. P 2 k) (same_instruction instructions.Exit i refl at) third
+each P first second third (suc (suc (suc slot))) i at = absurd (none-some _ at)
 
 unstated_elsewhere : (slot : ℕ) → slot ≢ 2 → statement_at stated_at_exit slot ≡ None
 unstated_elsewhere slot other =
@@ -67,23 +57,23 @@ found slot s is =
     (λ (same : slot ≡ 2).
     let there : statement_at stated_at_exit 2 ≡ Some s =
     subst (λ n. statement_at stated_at_exit n ≡ Some s) same is in
-    (same, sym (some_is_one there)))
-    (λ (other : slot ≢ 2). absurd (none_is_some (sym (unstated_elsewhere slot other) ∙ is)))
+    (same, sym (same_Some _ _ there)))
+    (λ (other : slot ≢ 2). absurd (none-some _ (sym (unstated_elsewhere slot other) ∙ is)))
     (cases_eq slot 2)
 
 jumps_to : (slot : ℕ) (i : Instruction) → BeginsAt i tested_code slot → (to : ℕ)
     → jump_target slot i ≡ Some to → to ≡ 2
 jumps_to = each (λ slot i. (to : ℕ) → jump_target slot i ≡ Some to → to ≡ 2)
-    (λ to is. absurd (none_is_some is)) (λ to is. sym (some_is_one is))
-    (λ to is. absurd (none_is_some is))
+    (λ to is. absurd (none-some _ is)) (λ to is. sym (same_Some _ _ is))
+    (λ to is. absurd (none-some _ is))
 
 leads_from : (slot : ℕ) (i : Instruction) → BeginsAt i tested_code slot → LeadsTo slot i 2
     → slot ≡ 1
 leads_from = each (λ slot i. LeadsTo slot i 2 → slot ≡ 1)
-    (⊎_elim (λ (jumps : None ≡ Some 2). absurd (none_is_some jumps))
+    (⊎_elim (λ (jumps : None ≡ Some 2). absurd (none-some _ jumps))
     (λ (on : (true ≡ true) × (1 ≡ 2)). absurd (omega (arith, on.1))))
     (λ leads. refl)
-    (⊎_elim (λ (jumps : None ≡ Some 2). absurd (none_is_some jumps))
+    (⊎_elim (λ (jumps : None ≡ Some 2). absurd (none-some _ jumps))
     (λ (on : (false ≡ true) × (3 ≡ 2)). never on.0))
 
 empty_is_number : (said : StatedKind) (numbers : Numbers) → said ≡ kinds.Empty
@@ -103,7 +93,7 @@ number_is_r0 (suc r) number =
     number.says)
 
 third_is_none : Begins tested_code 3 → ⊥
-third_is_none begins = none_is_some begins.1
+third_is_none begins = none-some _ begins.1
 
 filled_at_test : IsFilledAt tested_code stated_at_exit 1 0
 filled_at_test = is_written 0 seven refl refl refl refl
@@ -142,7 +132,7 @@ well_made slot = record {
       unreached.cut_off.behind unreached.cut_off.leaves unreached.begins;
   stated = λ unstated.
       let to = jumps_to slot unstated.instruction unstated.at unstated.to unstated.jumps in
-      some_is_none (subst (λ n. statement_at stated_at_exit n ≡ None) to unstated.unstated);
+      none-some _ (sym (subst (λ n. statement_at stated_at_exit n ≡ None) to unstated.unstated));
 }
 
 pub tested_is_plain : IsPlain tested_code 0 stated_at_exit
@@ -168,8 +158,8 @@ tested_is_plain = record {
       let there = found to s edge.stated in
       let from = leads_from slot i edge.at (subst (λ n. LeadsTo slot i n) there.0 edge.leads) in
       rw (there.0, there.1, from) (omega arith);
-  entry_filled = λ s is r number. none_is_some is;
-  entry_falls = λ s is. absurd (none_is_some is);
+  entry_filled = λ s is r number. none-some _ is;
+  entry_falls = λ s is. absurd (none-some _ is);
 }
 
 -- ---- programs that aren't plain
@@ -226,7 +216,7 @@ is_unreached plain = (plain.made 2).reached (record {
 pub is_stray : IsPlain (then_exit seven) 0 (says 5 kinds.Empty 0 ∷ []) → ⊥
 is_stray plain = (plain.made 5).target (inr (record {
   stated = refl;
-  nowhere = λ begins. none_is_some begins.1;
+  nowhere = λ begins. none-some _ begins.1;
 }))
 
 only_is_empty : only_seven ≡ kinds.Empty → ⊥
@@ -250,7 +240,7 @@ says_a_byte plain =
     never (sym same)
 
 pub says_a_term : IsPlain (then_exit seven) 0 (says_term ∷ []) → ⊥
-says_a_term plain = some_is_none (plain.states 1 says_term refl).rank.first
+says_a_term plain = none-some _ (sym (plain.states 1 says_term refl).rank.first)
 
 -- ---- edges that aren't plain
 
@@ -268,7 +258,7 @@ asks_unfilled plain =
     ⊎_elim
     (λ (filled : IsFilledAt code (says 1 any_number 0 ∷ []) 0 0). nothing_filled code
     (says 1 any_number 0 ∷ []) refl 0 0 refl filled)
-    (λ (written : Some 1 ≡ Some 0). let one = some_is_one written in omega (arith, one))
+    (λ (written : Some 1 ≡ Some 0). let one = same_Some _ _ written in omega (arith, one))
     (plain.filled 0 (move_of 1 (Immediate (pos 7))) 1 (says 1 any_number 0) (record {
       at = refl;
       leads = inr (refl, refl);

@@ -2,13 +2,13 @@
 use Rattle.std.proofs.Common.{◌≡◌, ℕ, ◌+◌, ◌<◌, ◌≤◌, Bool, true, false, List, [], ◌∷◌, Option, Some}
 use Rattle.std.proofs.Common.{None, ◌⊎◌, inl, inr, ⊎_elim, refl, sym, ap, subst, ◌∙◌, length}
 use Rattle.std.proofs.Common.{get_or, arith}
-use Rattle.std.specs.Prelude.{nat_le, slice_get, MatchOption, unwrap_or}
+use Rattle.std.specs.Prelude.{nat_le, MatchOption, unwrap_or}
 use Rattle.std.specs.List.{AllByRecursion}
 use Rattle.std.proofs.Math.ListN.{get_or-eq_default}
 use Rattle.std.proofs.lemmas.Bool.{cases_lt}
 use Rattle.std.proofs.lemmas.List.{get_or-replicate, length-replicate}
+use Rattle.std.proofs.lemmas.Option.{none-some, same_Some}
 use Rattle.isa.specs.declared.code.Slot.{Slot}
-use Rattle.isa.specs.declared.code.Slot.TheVariants.{Start}
 use Rattle.isa.specs.declared.instruction.Instruction.{Instruction}
 use Rattle.isa.specs.Code.{IsCode}
 use Rattle.isa.specs.Flow.{BeginsAt, register_written, registers_read, size}
@@ -35,6 +35,7 @@ use Rattle.segments.specs.Places.{segment_of, target_at}
 use Rattle.segments.specs.Plain.{AsksAtMost, IsFilledBehind, IsPlainEdge, MayEnter}
 use Rattle.segments.specs.Refusals.{IsPlaceRefusal, IsWellMade}
 use Rattle.segments.specs.Stated.{IsTargetOf, statement_at}
+use Rattle.segments.proofs.Made.{same_instruction}
 use Rattle.segments.proofs.Targets.{stated_of, target_of_statement, unstated_of}
 use Rattle.verifier.specs.Plain.{IsEdge, IsFilledAfter, IsFilledAt, is_stated, stays, is_written}
 use Rattle.verifier.specs.Plain.{IsNumberIn, IsPlainStatement, at_entry, at_statement, goes_behind}
@@ -44,16 +45,6 @@ use Rattle.verifier.specs.Pass.{KnowsPlain}
 use Rattle.verifier.proofs.SegmentLemmas.{size_some}
 
 -- ---- small facts
-
-none_is_some : {A : Type 0} {x : A} (o : Option A) → o ≡ None → o ≡ Some x → ⊥
-none_is_some o none some = cc
-
-some_is_one : {A : Type 0} {x y : A} (o : Option A) → o ≡ Some x → o ≡ Some y → x ≡ y
-some_is_one o first second = cc
-
-same_instruction : (slot : Option Slot) (i j : Instruction) → slot ≡ Some (Start i)
-    → slot ≡ Some (Start j) → j ≡ i
-same_instruction slot i j a b = cc
 
 all_map : {X : Type 0} (P Q : X → Type 0) → ((x : X) → P x → Q x) → (xs : List X)
     → AllByRecursion P xs → AllByRecursion Q xs
@@ -153,7 +144,7 @@ pub nothing_filled : (code : List Slot) (statements : List StatementParts)
     → statement_at statements 0 ≡ None → (slot r : ℕ) → slot ≡ 0 → IsFilledAt code statements slot r
     → ⊥
 nothing_filled code statements none slot r zeroth (is_stated s is number) =
-    none_is_some (statement_at statements slot) (rw zeroth none) is
+    none-some s (sym (rw zeroth none) ∙ is)
 nothing_filled code statements none slot r zeroth (stays before i unstated at behind filled) =
     let some = size_some i in omega (arith, behind, zeroth, some)
 nothing_filled code statements none slot r zeroth (is_written before i unstated at behind writes) =
@@ -197,7 +188,7 @@ module _ {D : Type 0} (contains : D → ℕ → Type 0) (code : List Slot) (entr
       → (r : ℕ) → IsFilledAt code statements slot r → IsFilled state r
   filled_stated slot target state there same r (is_stated s is number) =
       let found = target_of_statement contains statements targets slot target program.are there in
-      let one : found.0 ≡ s = some_is_one (statement_at statements slot) found.1 is in
+      let one : found.0 ≡ s = same_Some _ _ (sym found.1 ∙ is) in
       let read : IsTargetOf contains s target =
       subst (λ x. IsTargetOf contains x target) one found.2 in
       record {
@@ -217,7 +208,7 @@ module _ {D : Type 0} (contains : D → ℕ → Type 0) (code : List Slot) (entr
       → (next : ℕ) → slot + size i ≡ next → statement_at statements next ≡ None → (r : ℕ)
       → IsFilledAt code statements next r → IsFilledAfter code statements slot i r
   filled_after one is_code slot i here next there none r (is_stated s is number) =
-      absurd (none_is_some (statement_at statements next) none is)
+      absurd (none-some s (sym none ∙ is))
   filled_after one is_code slot i here next there none r
       (stays before j unstated at behind filled) =
       let same : before ≡ slot = one code before slot j i is_code at here (behind ∙ sym there) in
@@ -226,7 +217,7 @@ module _ {D : Type 0} (contains : D → ℕ → Type 0) (code : List Slot) (entr
       (is_written before j unstated at behind writes) =
       let same : before ≡ slot = one code before slot j i is_code at here (behind ∙ sym there) in
       let begins : BeginsAt j code slot = subst (λ k. BeginsAt j code k) same at in
-      let one_instruction : j ≡ i = same_instruction (slice_get code slot) i j here begins in
+      let one_instruction : j ≡ i = same_instruction j i begins here in
       inr (subst (λ k. register_written k ≡ Some r) one_instruction writes)
 
   filled_known : (slot : ℕ) (i : Instruction) (segment : SegmentStart D) (known : Known D)

@@ -3,7 +3,7 @@ use Rattle.std.proofs.Common.{◌≡◌, ℕ, ◌+◌, ◌*◌, ◌∙◌, ◌<�
 use Rattle.std.proofs.Common.{Some, None, inr, ⊎_elim, refl, sym, ap, subst, arith}
 use Rattle.std.specs.Prelude.{IfErr, IsSome, Result, Ok, Err, slice_get}
 use Rattle.std.specs.Result.{IsErrAnd}
-use Rattle.std.proofs.lemmas.Bool.{cases_lt}
+use Rattle.std.proofs.lemmas.Bool.{cases_lt, false≢true}
 use Rattle.object.specs.Statements.{StatementParts}
 use Rattle.isa.specs.declared.code.Slot.{Slot}
 use Rattle.isa.specs.declared.code.Slot.TheVariants.{Start}
@@ -22,7 +22,8 @@ use Rattle.segments.specs.Stated.{statement_at, AreTargets}
 use Rattle.segments.specs.Refusals.{JumpsNowhere, IsStray, LacksHelperAt, IsWellMade, IsFirst}
 use Rattle.segments.specs.Refusals.{IsFirstHere, IsPassedTo, IsPlaceRefusal, IsOfEdge, MayFollow}
 use Rattle.segments.specs.Refusals.{MayRefuse}
-use Rattle.segments.proofs.Targets.{stated_of, unstated_of}
+use Rattle.segments.proofs.Made.{same_instruction}
+use Rattle.segments.proofs.Targets.{none_isn't_some, stated_of, unstated_of}
 use Rattle.verifier.proofs.SegmentLemmas.{none_between, size_some, sizes}
 
 -- what a `?` passes on
@@ -172,13 +173,6 @@ pub passed_to_start : (code : List Slot) → IsPassedTo true code 0
 passed_to_start code cut = let some = size_some cut.instruction in
     absurd (omega (arith, cut.behind, some))
 
-true_is_false : (b : Bool) → b ≡ true → b ≡ false → ⊥
-true_is_false b on off = cc
-
-same_instruction : (slot : Option Slot) (i j : Instruction) → slot ≡ Some (Start i)
-    → slot ≡ Some (Start j) → j ≡ i
-same_instruction slot i j a b = cc
-
 pub passed_behind : OneEndsAtASlot → (code : List Slot) → IsCode code → (slot : ℕ) (i : Instruction)
     → BeginsAt i code slot → (on : Bool) → goes_on i ≡ on → IsPassedTo on code (slot + size i)
 passed_behind one code is_code slot i here true is = λ cut.
@@ -186,9 +180,8 @@ passed_behind one code is_code slot i here true is = λ cut.
     cut.behind in
     let there : slice_get code slot ≡ Some (Start cut.instruction) =
     subst (λ k. slice_get code k ≡ Some (Start cut.instruction)) at cut.at in
-    let same : cut.instruction ≡ i = same_instruction (slice_get code slot) i cut.instruction here
-    there in
-    true_is_false (goes_on i) is (subst (λ j. goes_on j ≡ false) same cut.leaves)
+    let same : cut.instruction ≡ i = same_instruction cut.instruction i there here in
+    false≢true (sym (subst (λ j. goes_on j ≡ false) same cut.leaves) ∙ is)
 passed_behind one code is_code slot i here false is = record {
   before = slot;
   instruction = i;
@@ -202,10 +195,6 @@ passed_behind one code is_code slot i here false is = record {
 is_some_or_none : {A : Type 0} (o : Option A) → (o ≡ None → ⊥) → IsSome o
 is_some_or_none None some = absurd (some refl)
 is_some_or_none (Some x) some = refl
-
-none_isn't_some : {A : Type 0} (o : Option A) → o ≡ None → IsSome o → ⊥
-none_isn't_some None none some = cc
-none_isn't_some (Some x) none some = cc
 
 -- a second half without a statement
 made_inside : (code : List Slot) (statements : List StatementParts) (slot : ℕ)
@@ -262,7 +251,7 @@ module _ {D : Type 0} (contains : D → ℕ → Type 0) (second : WideHasSecondH
   split_refused hook entry_rank split =
       ⊎_elim
       (λ (one : (size i ≡ 1) × (is_wide i ≡ false)). absurd
-      (true_is_false (is_wide i) split.0 one.1))
+      (false≢true (sym one.1 ∙ split.0)))
       (λ (two : (size i ≡ 2) × (is_wide i ≡ true)).
       inr (record {
         stated = is_some_or_none (statement_at statements (slot + 1))

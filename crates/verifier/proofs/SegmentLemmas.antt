@@ -9,6 +9,7 @@ use Rattle.isa.specs.declared.instruction.Instruction.{Instruction}
 use Rattle.isa.specs.Code.{IsCode, is_wide, slots_of}
 use Rattle.std.specs.List.{flat_map}
 use Rattle.std.proofs.lemmas.Bool.{cases_lt}
+use Rattle.std.proofs.lemmas.Option.{none-some, same_Some}
 use Rattle.isa.specs.Flow.{Begins, size}
 use Rattle.isa.specs.Laws.{OneEndsAtASlot, WideHasSecondHalf}
 use Rattle.machine.specs.declared.state.State.{State as Machine}
@@ -21,17 +22,7 @@ use Rattle.segments.specs.Places.{segment_of, target_at}
 use Rattle.segments.specs.Segments.{Visits, at_entry, at_target, falls, Enters, EntersNext, LeadsOn}
 use Rattle.segments.specs.Segments.{IsFine, Knows, FallsThrough, IsFollowed, IsCurrent}
 use Rattle.segments.specs.Segments.{IsCurrentUnlessStated}
-
--- no statement, and yet one
-none_is_some : {A : Type 0} {x : A} (o : Option A) → o ≡ None → o ≡ Some x → ⊥
-none_is_some o none some = cc
-
-some_is_one : {A : Type 0} {x y : A} (o : Option A) → o ≡ Some x → o ≡ Some y → x ≡ y
-some_is_one o first second = cc
-
-same_instruction : (slot : Option Slot) (i j : Instruction) → slot ≡ Some (Start i)
-    → slot ≡ Some (Start j) → i ≡ j
-same_instruction slot i j a b = cc
+use Rattle.segments.proofs.Made.{same_instruction}
 
 -- an instruction takes one slot or two
 pub sizes : (wide : Bool) (i : Instruction) → is_wide i ≡ wide
@@ -81,12 +72,13 @@ module _ {D : Type 0} (contains : D → ℕ → Type 0) (code : List Slot) (hook
       → target_at targets now.slot ≡ Some target
       → Visits contains (setting_of code hook input) targets entry other start now
       → (target ≡ other) × TargetHolds contains target start × (start ≡ now)
-  stated_visit stated (at_entry first unstated holds) = absurd (none_is_some _ unstated stated)
+  stated_visit stated (at_entry first unstated holds) =
+      absurd (none-some _ (sym unstated ∙ stated))
   stated_visit {target} {other} {input} {start} stated (at_target other_stated holds) =
-      let same = some_is_one _ stated other_stated in
+      let same = same_Some target other (sym stated ∙ other_stated) in
       (same, subst (λ t. TargetHolds contains t start) (sym same) holds, refl)
   stated_visit stated (falls now label i visit is_at does behind unstated) =
-      absurd (none_is_some _ unstated stated)
+      absurd (none-some _ (sym unstated ∙ stated))
 
   -- what is known of a segment's first state
   known_at_start : {segment : SegmentStart D} {known : Known D} {start now : Machine}
@@ -132,7 +124,7 @@ module _ {D : Type 0} (contains : D → ℕ → Type 0) (code : List Slot) (hook
         (passed found.1.live).free input start now fault there found.1.is_known.holds stuck;
     leads_on = λ input other start now next label j visit there is_at does.
         let found = current.visits input other start now visit there in
-        let same : j ≡ i = same_instruction (slice_get code now.slot) j i is_at (rw there here) in
+        let same : j ≡ i = same_instruction j i is_at (rw there here) in
         let did : Does i (setting_of code hook input) now label next =
         subst (λ k. Does k (setting_of code hook input) now label next) same does in
         let goes = (passed found.1.live).goes_on input start now next label there found.1.is_known
@@ -170,12 +162,12 @@ module _ {D : Type 0} (contains : D → ℕ → Type 0) (code : List Slot) (hook
   next_visit {slot} {segment} {other} {input} {start} known after i one is_code here unstated
       current passed (at_target stated holds) there =
       let still : target_at targets start.slot ≡ None = rw there unstated in
-      absurd (none_is_some _ still stated)
+      absurd (none-some _ (sym still ∙ stated))
   next_visit {slot} {segment} {other} {input} {start} {next} known after i one is_code here unstated
       current passed (falls now label j visit is_at does behind still) there =
       let at : now.slot ≡ slot = one code now.slot slot j i is_code is_at here (sym behind ∙ there)
       in
-      let same : j ≡ i = same_instruction (slice_get code now.slot) j i is_at (rw at here) in
+      let same : j ≡ i = same_instruction j i is_at (rw at here) in
       let did : Does i (setting_of code hook input) now label next =
       subst (λ k. Does k (setting_of code hook input) now label next) same does in
       let found = current.visits input other start now visit at in
@@ -201,7 +193,7 @@ module _ {D : Type 0} (contains : D → ℕ → Type 0) (code : List Slot) (hook
   entry_visit unstated (at_entry first still holds) there = (refl, holds, refl)
   entry_visit {other} {input} {start} unstated (at_target stated holds) there =
       let still : target_at targets start.slot ≡ None = rw there unstated in
-      absurd (none_is_some _ still stated)
+      absurd (none-some _ (sym still ∙ stated))
   entry_visit unstated (falls now label i visit is_at does behind still) there = let some =
       size_some i in absurd (omega (arith, behind, there, some))
 

@@ -1,10 +1,11 @@
 -- A program whose slots are all fine is safe, and its loads and stores access the recorded regions.
 use Rattle.std.proofs.Common.{◌≡◌, ℕ, suc, ◌+◌, ◌-◌, ◌*◌, ◌<◌, ◌≤◌, true, false, List, [], ◌∷◌}
-use Rattle.std.proofs.Common.{Option, Some, None, ⊎_elim, refl, subst, length, arith}
-use Rattle.std.specs.Prelude.{IsSomeAnd, nat_le, if◌then◌else◌}
+use Rattle.std.proofs.Common.{Option, Some, None, ⊎_elim, refl, sym, subst, ◌∙◌, length, arith}
+use Rattle.std.specs.Prelude.{nat_le, if◌then◌else◌}
 use Rattle.std.proofs.Math.Nat.{mul-le-mul_left}
 use Rattle.std.proofs.lemmas.Bool.{cases_lt}
 use Rattle.std.proofs.lemmas.Bool.Decides.{nat_tests}
+use Rattle.std.proofs.lemmas.Option.{none-some, same_Some}
 use Rattle.isa.specs.declared.code.Slot.{Slot}
 use Rattle.isa.specs.declared.hook.Hook.{Hook}
 use Rattle.isa.specs.Flow.{Begins, size}
@@ -25,9 +26,9 @@ use Rattle.regions.specs.Regions.{AreKeptRegions, IsKeptAt}
 use Rattle.transfer.specs.Given.{Given, setting_of}
 use Rattle.segments.specs.Places.{target_at}
 use Rattle.segments.specs.Segments.{Visits, at_entry, at_target, falls, Enters, EntersNext, IsFine}
-use Rattle.segments.specs.Stated.{AreTargets, MeetStatements, statement_at}
+use Rattle.segments.specs.Stated.{AreTargets, MeetStatements}
 use Rattle.segments.proofs.Targets.{target_stated}
-use Rattle.segments.proofs.Made.{inside_code}
+use Rattle.segments.proofs.Made.{inside_code, some_and}
 use Rattle.verifier.specs.Kept.{IsKept}
 use Rattle.verifier.specs.Stated.{RunsMeetStatements}
 use Rattle.verifier.proofs.SegmentLemmas.{size_some}
@@ -65,17 +66,6 @@ left_jump slots rank rank' slot to inside inside' below =
     left_back slots rank rank' slot to inside less)
     (cases_lt slot to)
 
-some_and : {A : Type 0} {P : A → Type 0} (o : Option A) → IsSomeAnd o P
-    → (x : A) × (o ≡ Some x) × P x
-some_and None p = absurd p
-some_and (Some x) p = (x, refl, p)
-
-none_is_some : {A : Type 0} {x : A} (o : Option A) → o ≡ None → o ≡ Some x → ⊥
-none_is_some o none some = cc
-
-some_is_one : {A : Type 0} {x y : A} (o : Option A) → o ≡ Some x → o ≡ Some y → x ≡ y
-some_is_one o first second = cc
-
 -- a visit of a slot with a statement is as stated there
 visited_as_stated : {D : Type 0} (contains : D → ℕ → Type 0) (setting : Setting)
     (targets : List (Option (SegmentStart D))) (entry segment target : SegmentStart D)
@@ -83,13 +73,13 @@ visited_as_stated : {D : Type 0} (contains : D → ℕ → Type 0) (setting : Se
     → target_at targets now.slot ≡ Some target → TargetHolds contains target now
 visited_as_stated contains setting targets entry segment target begin now
     (at_entry zeroth unstated holds) stated =
-    absurd (none_is_some (target_at targets begin.slot) unstated stated)
+    absurd (none-some target (sym unstated ∙ stated))
 visited_as_stated contains setting targets entry segment target begin now (at_target is holds)
     stated = subst (λ t. TargetHolds contains t begin)
-    (some_is_one (target_at targets begin.slot) is stated) holds
+    (same_Some segment target (sym is ∙ stated)) holds
 visited_as_stated contains setting targets entry segment target begin now
     (falls before label i visit at does behind unstated) stated =
-    absurd (none_is_some (target_at targets now.slot) unstated stated)
+    absurd (none-some target (sym unstated ∙ stated))
 
 module _ {D : Type 0} (contains : D → ℕ → Type 0) (code : List Slot) (hook : Hook)
     (targets : List (Option (SegmentStart D))) (entry : SegmentStart D) (limit : ℕ) (input : Given)

@@ -1,5 +1,5 @@
-use Rattle.std.proofs.Common.{◌≡◌, Some, refl}
-use Rattle.ranks.specs.declared.line.LinearBound.{LinearBound}
+use Rattle.std.proofs.Common.{◌≡◌, refl}
+use Rattle.std.proofs.lemmas.Option.{same_Some}
 use Rattle.ranks.specs.Lines.{IsConstant, flat}
 use Rattle.segments.proofs.edge.enter.Goals as goal
 
@@ -21,13 +21,10 @@ returns-then-falls-clause-enters g c = λ start now known.
       rank = rw (← c.rank.ensures.value) (c.if-falls.ensures.holds refl start _ known.begins line);
     }
 
-some_same : (a b : LinearBound) → Some a ≡ Some b → a ≡ b
-some_same a b same = cc
-
 pub returns-else-falls-clause-plain : goal.returns-else-falls-clause-plain
 returns-else-falls-clause-plain g c = λ edge.
     let constant : IsConstant c.rank.result = rw c.rank.ensures.value edge.constant in
     let line : c.in-Some.line ≡ flat c.rank.result.constant =
-    some_same c.in-Some.line (flat c.rank.result.constant) (c.in-Some.ensures.plain constant) in
+    same_Some c.in-Some.line (flat c.rank.result.constant) (c.in-Some.ensures.plain constant) in
     c.if-falls.ensures.plain edge.own c.rank.result.constant line
     (rw c.rank.ensures.value edge.falls)
