@@ -14,7 +14,7 @@ ghost use Rattle.interp.specs.Classes.{fault_of_load, fault_of_base_load, LoadsI
 
 use crate::{contents, pieces, registers};
 use isa::{LoadSize, Map, Register};
-use machine::{Content, Fault, Input, Pointer, State, map_length};
+use machine::{Content, Fault, Input, Pointer, State, load_length, map_length};
 use maps::{Seat, Shared};
 
 fn load_context(
@@ -31,15 +31,15 @@ fn load_context(
         ≡ Some fault) }
     ensures still { OnErr result (state.new ≡ state.old) }
 {
-    let length = word_machine::load_length(size);
-    if at > 64 - length as u64 {
+    let length = load_length(size);
+    if at > 64 - length {
         return Err(Fault::Bounds);
     }
     if target.index() == 10 {
         return Err(Fault::Frame);
     }
     let start = at as usize;
-    let number = word_machine::number_of(&input.context[start..start + length]);
+    let number = word_machine::number_of(&input.context[start..start + length as usize]);
     let content = Content::Number(word_machine::loaded(size, number));
     registers::fill(state, target, content);
     Ok(())
@@ -52,12 +52,12 @@ fn stack_content(state: &State, size: LoadSize, at: u64) -> Result<Content, Faul
     ensures err { IfErr result (λ fault. (target : ℕ)
         → fault_of_load state.now size (pointers.Stack at) target ≡ Some fault) }
 {
-    let length = word_machine::load_length(size);
-    if at > 512 - length as u64 {
+    let length = load_length(size);
+    if at > 512 - length {
         return Err(Fault::Bounds);
     }
     let start = at as usize;
-    let found = &state.stack[start..start + length];
+    let found = &state.stack[start..start + length as usize];
     if let Some(number) = pieces::number_in(found) {
         return Ok(Content::Number(word_machine::loaded(size, number)));
     }
@@ -107,7 +107,7 @@ fn load_map(
     ensures still { OnErr result (state.new ≡ state.old) }
     ensures unchanged { OnErr result (seat.new ≡ seat.old) }
 {
-    if at > map_length(map) - word_machine::load_length(size) as u64 {
+    if at > map_length(map) - load_length(size) {
         return Err(Fault::Bounds);
     }
     let is_word = matches!(size, LoadSize::Unsigned64);

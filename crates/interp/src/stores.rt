@@ -11,7 +11,7 @@ ghost use Rattle.interp.specs.Classes.{fault_of_store, fault_of_base_store, Stor
 
 use crate::{contents, pieces, registers};
 use isa::{Map, Register, Source, StoreSize};
-use machine::{Content, Fault, Pointer, State, map_length};
+use machine::{Content, Fault, Pointer, State, map_length, store_length};
 use maps::{Seat, Shared};
 
 /// A store of a number on the stack.
@@ -23,12 +23,12 @@ fn store_bytes(state: &mut State, size: StoreSize, at: u64, number: u64) -> Resu
         ≡ Some fault) }
     ensures still { OnErr result (state.new ≡ state.old) }
 {
-    let length = word_machine::store_length(size);
-    if at > 512 - length as u64 {
+    let length = store_length(size);
+    if at > 512 - length {
         return Err(Fault::Bounds);
     }
     let bytes = pieces::bytes_of(number);
-    pieces::overwrite(&mut state.stack, at as usize, &bytes[..length]);
+    pieces::overwrite(&mut state.stack, at as usize, &bytes[..length as usize]);
     registers::move_on(state);
     Ok(())
 }
@@ -71,7 +71,7 @@ fn store_cell(
     ensures still { OnErr result (state.new ≡ state.old) }
     ensures unchanged { OnErr result (seat.new ≡ seat.old) }
 {
-    if at > map_length(Map::Cells) - word_machine::store_length(size) as u64 {
+    if at > map_length(Map::Cells) - store_length(size) {
         return Err(Fault::Bounds);
     }
     let is_word = matches!(size, StoreSize::Bits64);
