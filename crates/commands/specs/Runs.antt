@@ -6,8 +6,8 @@ use Rattle.maps.specs.Words.{SeatView, fresh}
 use Rattle.interp.specs.Run.{Run}
 use Rattle.interp.specs.declared.trap.Trap.{Trap}
 use Rattle.interp.specs.Outcome.{trap_number}
-use Rattle.object_runs.specs.ObjectRuns.{RunsObject}
-use Rattle.object_runs.specs.declared.limit.Limit.TheVariants.{Own}
+use Rattle.interp.specs.ObjectRuns.{RunsObject}
+use Rattle.interp.specs.declared.limit.Limit.TheVariants.{Own}
 use Rattle.commands.specs.declared.report.CommandOutput.{CommandOutput}
 
 -- the line that is printed

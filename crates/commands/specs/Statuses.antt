@@ -11,8 +11,8 @@ use Rattle.isa.specs.Refusals.{fault_number}
 use Rattle.object.specs.declared.error.ObjectError.{ObjectError}
 use Rattle.object.specs.declared.error.ObjectError.TheVariants as reading
 use Rattle.object.specs.Refusals.{error_number}
-use Rattle.object_runs.specs.declared.error.RunError.{RunError}
-use Rattle.object_runs.specs.declared.error.RunError.TheVariants as running
+use Rattle.interp.specs.declared.error.RunError.{RunError}
+use Rattle.interp.specs.declared.error.RunError.TheVariants as running
 use Rattle.asm.specs.declared.error.AsmError.{AsmError}
 use Rattle.asm.specs.declared.error.AsmFault.{AsmFault}
 use Rattle.asm.specs.declared.error.AsmFault.TheVariants as texts

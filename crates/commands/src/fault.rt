@@ -5,10 +5,10 @@ ghost use Rattle.commands.specs.declared.fault.CommandError.TheVariants.{Memory}
 
 use asm::{AsmError, AsmFault};
 use clap::error::ErrorKind;
+use interp::RunError;
 use isa::DecodeError;
 use maps::MapsError;
 use object::ObjectError;
-use object_runs::RunError;
 use std::alloc::{AllocError, AllocFailed};
 use thiserror::Error;
 

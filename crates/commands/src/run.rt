@@ -8,10 +8,9 @@ ghost use Rattle.commands.specs.Runs.{IsRun, Ran, outcome_line};
 use crate::fault::CommandError;
 use crate::files;
 use crate::report::CommandOutput;
-use interp::{Run, Trap};
+use interp::{Limit, Run, Trap, run_object};
 use machine::Input;
 use maps::Shared;
-use object_runs::{Limit, run_object};
 use std::alloc::{AllocError, Global};
 use std::rt::Files;
 

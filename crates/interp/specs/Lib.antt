@@ -3,5 +3,7 @@ pub use Rattle.word_machine.specs.declared.ending.Run
 pub use Rattle.word_machine.specs.Ends
 pub mod Classes
 pub mod Halts
+pub mod Limits
+pub mod ObjectRuns
 pub mod Outcome
 pub mod Performs

@@ -6,8 +6,8 @@ use Rattle.maps.specs.Access.{adds_to, last_stored}
 use Rattle.maps.specs.Words.{SeatView, fresh}
 use Rattle.object.specs.Objects.{ObjectParts}
 use Rattle.object.specs.Spelling.{Spells}
-use Rattle.object_runs.specs.ObjectRuns.{HaltsObject, Refuses, RunsObject}
-use Rattle.object_runs.specs.declared.limit.Limit.TheVariants.{Own}
+use Rattle.interp.specs.ObjectRuns.{HaltsObject, Refuses, RunsObject}
+use Rattle.interp.specs.declared.limit.Limit.TheVariants.{Own}
 use Rattle.hooktool_line.specs.Contexts.{asked_context}
 use Rattle.hooktool_line.specs.declared.requests.Question.{Question}
 use Rattle.object_trials.specs.Settings.{IsSetUp}

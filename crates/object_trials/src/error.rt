@@ -1,9 +1,9 @@
 //! Why there is no run.
 ghost use Rattle.std.specs.Prelude.{◌≡◌};
 
+use interp::RunError;
 use maps::MapsError;
 use object::ObjectError;
-use object_runs::RunError;
 use std::alloc::AllocFailed;
 
 /// Why there is no run.
@@ -26,7 +26,7 @@ impl From<RunError> for TrialError {
 }
 
 impl From<ObjectError> for TrialError {
-    ghost use Rattle.object_runs.specs.declared.error.RunError.TheVariants.{Object};
+    ghost use Rattle.interp.specs.declared.error.RunError.TheVariants.{Object};
     ghost use Rattle.object_trials.specs.declared.error.TrialError.TheVariants.{Program};
 
     ghost from_gives = { λ error trial. trial ≡ Program (Object error) };

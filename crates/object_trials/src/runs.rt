@@ -5,10 +5,9 @@ ghost use Rattle.maps.specs.Words.{IsOf};
 ghost use Rattle.object_trials.specs.Runs.{IsRefusal, RunsInARow, RunsOnce};
 
 use crate::error::TrialError;
-use interp::{Run, Trap};
+use interp::{Limit, Run, Trap, run_object_to_halt};
 use machine::{Content, Input};
 use maps::{Seat, Shared};
-use object_runs::{Limit, run_object_to_halt};
 use std::alloc::Global;
 
 /// How a run ended, and where the machine then stood: at EXIT, at the instruction by which it is

@@ -1,6 +1,6 @@
 //! How many instructions a program may run.
 ghost use Rattle.std.specs.Prelude.{◌≡◌};
-ghost use Rattle.object_runs.specs.Limits.{own_limit, limit_of};
+ghost use Rattle.interp.specs.Limits.{own_limit, limit_of};
 
 use object::Object;
 use verifier::BUDGET;

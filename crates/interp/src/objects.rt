@@ -1,16 +1,18 @@
-//! One run of an object file.
+//! Runs of object files: from the bytes of a file and an input to what the machine answers.
 ghost use Rattle.std.specs.Prelude.{◌≡◌, IfOk, IfErr, OnErr};
 ghost use Rattle.machine.specs.Given.{given_by};
 ghost use Rattle.maps.specs.Words.{IsOf};
-ghost use Rattle.object_runs.specs.ObjectRuns.{HaltsObject, RunsObject, Refuses};
+ghost use Rattle.interp.specs.ObjectRuns.{HaltsObject, RunsObject, Refuses};
 
+use crate::checked::{Halt, run_to_halt};
 use crate::error::RunError;
 use crate::limit::Limit;
-use interp::{Halt, Run, Trap, run_to_halt};
+use crate::trap::Trap;
 use isa::decode;
 use machine::Input;
 use maps::{Seat, Shared};
 use std::alloc::Global;
+use word_machine::Run;
 
 /// Runs the program of the object file in `bytes` once, at its hook and on this input, for at most
 /// `limit` instructions. The answer is the outcome of the machine's run of its code, and the seat
