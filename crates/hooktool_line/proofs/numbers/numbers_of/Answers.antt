@@ -42,3 +42,18 @@ returns-then-interface-next_hops-gt64-clause-read c = λ numbers has.
     let count = same_number rows (codes "next-hops") 1 1 64 c.in-Some-number_of-6.next_hops
     numbers.next_hops (lit< tt) c.in-Some-number_of-6.ensures.read has.next_hops in
     omega (arith, first, count, has.room, c.if-interface-next_hops-gt64.true)
+
+pub returns-clause-read : goal.returns-clause-read
+returns-clause-read c = record {
+  metric = c.in-Some.ensures.read;
+  tag = c.in-Some-number_of.ensures.read;
+  cost = c.in-Some-number_of-2.ensures.read;
+  distance = c.in-Some-number_of-3.ensures.read;
+  moment = c.in-Some-number_of-4.ensures.read;
+  interface = c.in-Some-number_of-5.ensures.read;
+  next_hops = c.in-Some-number_of-6.ensures.read;
+  room = omega (arith, c.if-interface-next_hops-gt64.false);
+}
+
+pub returns-clause-room : goal.returns-clause-room
+returns-clause-room c = omega (arith, c.if-interface-next_hops-gt64.false)
