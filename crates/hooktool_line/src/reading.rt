@@ -2,13 +2,15 @@
 
 ghost use Rattle.std.specs.Prelude.{◌≡◌, ◌⊎◌, map, MatchResult};
 ghost use Rattle.std.specs.IoError.{error_kind};
+ghost use Rattle.clap.specs.Simple.{app_of};
 ghost use Rattle.clap.specs.Values.{kind_of};
+ghost use Rattle.hooktool_line.specs.CommandLine as command_line;
 ghost use Rattle.hooktool_line.specs.Requests.{Asks, IsRefusal};
 
 use crate::arguments;
 use crate::requests::{self, HooktoolRequest};
-use clap::Error;
 use clap::error::ErrorKind;
+use clap::{Command, Error};
 use std::alloc::{AllocError, Global};
 use std::io::{self, ErrorKind as IoKind};
 
@@ -25,6 +27,22 @@ pub fn unread(alloc: Global, error: &io::Error) -> Error
     }
 }
 
+// The same, by the command line.
+fn parse_by<'a>(
+    alloc: Global,
+    line: Command<'a>,
+    words: &'a [&'a str],
+) -> Result<HooktoolRequest<'a>, Error>
+    requires { app_of line ≡ command_line.line }
+    ensures { MatchResult result (Asks (map (λ w. w.now) words.entry.now))
+        (IsRefusal (map (λ w. w.now) words.entry.now)) }
+{
+    match line.try_get_matches_from(words) {
+        Ok(matches) => requests::request_of(alloc, &matches),
+        Err(error) => Err(error),
+    }
+}
+
 /// Reads the words of a command line, of which the first is the program's name.
 ///
 /// `Ok` is exactly what the words ask for. `Err` has the text for the user: a mistake in the words,
@@ -35,10 +53,7 @@ pub fn parse<'a>(alloc: Global, words: &'a [&'a str]) -> Result<HooktoolRequest<
         (IsRefusal (map (λ w. w.now) words.entry.now)) }
 {
     match arguments::whole(alloc) {
-        Ok(line) => match line.try_get_matches_from(words) {
-            Ok(matches) => requests::request_of(alloc, &matches),
-            Err(error) => Err(error),
-        },
+        Ok(line) => parse_by(alloc, line, words),
         Err(error) => Err(Error::from(error)),
     }
 }
