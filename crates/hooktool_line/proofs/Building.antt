@@ -1,8 +1,9 @@
 -- How commands are built, word by word.
 use Rattle.std.proofs.Common.{◌≡◌, ◌∙◌, ◌||◌, ◌+◌, ◌<◌, ◌≤◌, ap, ap₂, refl, sym, false, ℕ}
-use Rattle.std.proofs.Common.{List, [], ◌∷◌, ◌++◌, get_or, length, take}
+use Rattle.std.proofs.Common.{List, [], ◌∷◌, ◌++◌, Err, Ok, get_or, length, take}
 use Rattle.std.proofs.lemmas.List.{take_all, take_more}
 use Rattle.std.specs.Borrow.{Bor}
+use Rattle.std.specs.Prelude.{IfOk, Result}
 use Rattle.clap.specs.Built.{AddsArg, AddsSubcommand}
 use Rattle.clap.specs.Simple.{App, app_of, new_app, with_rule, with_subcommand}
 use Rattle.clap.specs.Walk.{Text, rule_of}
@@ -55,15 +56,21 @@ form_more [] form app = refl
 form_more (first ∷ forms) form app =
     form_more forms form (with_subcommand app (shape_for first.now))
 
+-- a command is added, if memory allows
+pub each_added : {E : Type 0} (between command : Command) (form : Form) → IsLeaf form command
+    → (r : Result Command E) → IfOk r (AddsSubcommand between command)
+    → IfOk r (λ (c : Command). app_of c ≡ with_subcommand (app_of between) (shape_for form))
+each_added {E} between command form leaf (Ok after) adds =
+    adds.shape leaf.local ∙ ap (λ (a : App). with_subcommand (app_of between) a.top) leaf.app
+each_added {E} between command form leaf (Err e) adds = tt
+
 -- a command was added
-pub command_more : (app : App) (between command after : Command) (forms : List (Bor Form)) (i : ℕ)
-    (d : Bor Form) → i < length forms → IsLeaf (get_or forms i d).now command
-    → app_of between ≡ with_forms app (take i forms) → AddsSubcommand between command after
+pub command_more : (app : App) (between after : Command) (forms : List (Bor Form)) (i : ℕ)
+    (d : Bor Form) → i < length forms → app_of between ≡ with_forms app (take i forms)
+    → app_of after ≡ with_subcommand (app_of between) (shape_for (get_or forms i d).now)
     → app_of after ≡ with_forms app (take (i + 1) forms)
-command_more app between command after forms i d lt leaf so_far adds =
-    adds.shape leaf.local
-    ∙ ap (λ (a : App). with_subcommand (app_of between) a.top) leaf.app
-    ∙ ap (λ (a : App). with_subcommand a (shape_for (get_or forms i d).now)) so_far
+command_more app between after forms i d lt so_far adds =
+    adds ∙ ap (λ (a : App). with_subcommand a (shape_for (get_or forms i d).now)) so_far
     ∙ sym (form_more (take i forms) (get_or forms i d) app)
     ∙ ap (λ (fs : List (Bor Form)). with_forms app fs) (sym (take_more forms i d lt))
 

@@ -1,9 +1,10 @@
 //! The commands, the words that each may have, and their help.
 
 ghost use Rattle.std.specs.Prelude.{◌≡◌, ◌⊎◌, IfOk};
-ghost use Rattle.clap.specs.Simple.{app_of};
+ghost use Rattle.clap.specs.Simple.{app_of, with_subcommand};
 ghost use Rattle.clap.specs.Values.{kind_of};
-ghost use Rattle.hooktool_line.specs.Building.{IsArgument, IsLeaf, with_forms, without_commands};
+ghost use Rattle.hooktool_line.specs.Building.{IsArgument, IsLeaf, shape_for, with_forms};
+ghost use Rattle.hooktool_line.specs.Building.{without_commands};
 ghost use Rattle.hooktool_line.specs.CommandLine as line;
 
 use clap::error::ErrorKind;
@@ -211,12 +212,23 @@ pub(crate) struct Word {
     pub help: &'static str,
 }
 
-/// A command: its name, its help, what stands behind that, and its words.
+/// What is told of a command, or of all.
+#[derive(Clone, Copy)]
+pub(crate) enum Topic {
+    Commands,
+    Annotate,
+    Build,
+    Explain,
+    Try,
+    Test,
+    Ask,
+}
+
+/// A command: its name, its help, and its words.
 #[derive(Clone, Copy)]
 pub(crate) struct Form {
     pub name: &'static str,
-    pub about: &'static str,
-    pub more: &'static str,
+    pub help: Topic,
     pub words: &'static [Word],
 }
 
@@ -449,46 +461,54 @@ const ASK_WORDS: [Word; 15] = [
 
 const ANNOTATE: Form = Form {
     name: "annotate",
-    about: ANNOTATE_ABOUT,
-    more: ANNOTATE_MORE,
+    help: Topic::Annotate,
     words: &ANNOTATE_WORDS,
 };
 
 const BUILD: Form = Form {
     name: "build",
-    about: BUILD_ABOUT,
-    more: BUILD_MORE,
+    help: Topic::Build,
     words: &BUILD_WORDS,
 };
 
 const EXPLAIN: Form = Form {
     name: "explain",
-    about: EXPLAIN_ABOUT,
-    more: EXPLAIN_MORE,
+    help: Topic::Explain,
     words: &EXPLAIN_WORDS,
 };
 
 const TRY: Form = Form {
     name: "try",
-    about: TRY_ABOUT,
-    more: TRY_MORE,
+    help: Topic::Try,
     words: &TRY_WORDS,
 };
 
 const TEST: Form = Form {
     name: "test",
-    about: TEST_ABOUT,
-    more: TEST_MORE,
+    help: Topic::Test,
     words: &TEST_WORDS,
 };
 
 /// The line of a test that asks a question.
 pub(crate) const ASK: Form = Form {
     name: "ask",
-    about: "Asks a question in a test",
-    more: "",
+    help: Topic::Ask,
     words: &ASK_WORDS,
 };
+
+// What is told on this: in a line, and behind the words. The long texts stand in this function
+// alone, since a proof writes out a text for each state of a function that names it.
+fn help_on(topic: Topic) -> (&'static str, &'static str) {
+    match topic {
+        Topic::Commands => (ABOUT, WORKED),
+        Topic::Annotate => (ANNOTATE_ABOUT, ANNOTATE_MORE),
+        Topic::Build => (BUILD_ABOUT, BUILD_MORE),
+        Topic::Explain => (EXPLAIN_ABOUT, EXPLAIN_MORE),
+        Topic::Try => (TRY_ABOUT, TRY_MORE),
+        Topic::Test => (TEST_ABOUT, TEST_MORE),
+        Topic::Ask => ("Asks a question in a test", ""),
+    }
+}
 
 // A word, as an argument of a command.
 fn argument<'a>(alloc: Global, word: &Word) -> Arg<'a>
@@ -508,9 +528,8 @@ fn argument<'a>(alloc: Global, word: &Word) -> Arg<'a>
 pub(crate) fn command_of<'a>(alloc: Global, form: &Form) -> Result<Command<'a>, AllocError>
     ensures { IfOk result (IsLeaf form.now) }
 {
-    let mut command = Command::new(alloc, form.name)
-        .about(form.about)
-        .after_help(form.more);
+    let (about, more) = help_on(form.help);
+    let mut command = Command::new(alloc, form.name).about(about).after_help(more);
     for word in form.words {
         match command.arg(argument(alloc, word)) {
             Ok(more) => command = more,
@@ -524,11 +543,27 @@ pub(crate) fn command_of<'a>(alloc: Global, form: &Form) -> Result<Command<'a>, 
 fn without_commands<'a>(alloc: Global) -> Command<'a>
     ensures { app_of result ≡ without_commands }
 {
+    let (about, more) = help_on(Topic::Commands);
     Command::new(alloc, "hooktool")
-        .about(ABOUT)
-        .after_help(WORKED)
+        .about(about)
+        .after_help(more)
         .subcommand_required(true)
         .arg_required_else_help(true)
+}
+
+// The line with the command of this form too.
+fn with_command<'a>(
+    alloc: Global,
+    line: Command<'a>,
+    form: &Form,
+) -> Result<Command<'a>, AllocError>
+    ensures { IfOk result (λ c. app_of c ≡ with_subcommand (app_of line.entry)
+        (shape_for form.now)) }
+{
+    match command_of(alloc, form) {
+        Ok(command) => line.subcommand(command),
+        Err(error) => Err(error),
+    }
 }
 
 // The command line with the commands of these forms, in their order.
@@ -537,11 +572,8 @@ fn line_of<'a>(alloc: Global, forms: &[&Form]) -> Result<Command<'a>, AllocError
 {
     let mut line = without_commands(alloc);
     for form in forms {
-        match command_of(alloc, form) {
-            Ok(command) => match line.subcommand(command) {
-                Ok(more) => line = more,
-                Err(error) => return Err(error),
-            },
+        match with_command(alloc, line, form) {
+            Ok(more) => line = more,
             Err(error) => return Err(error),
         }
     }

@@ -5,9 +5,8 @@ use Rattle.hooktool_line.specs.Building.{without_commands}
 
 pub loop-form-preserved : goal.loop-form-preserved
 loop-form-preserved c =
-    command_more without_commands c.loop-form.line c.in-Ok.command _ c.args.forms.now
-    c.loop-form.form-index _ (omega (arith, c.loop-form-test.true)) c.in-Ok.ensures
-    c.loop-form.invariant c.in-Ok-subcommand.ensures
+    command_more without_commands c.loop-form.line _ c.args.forms.now c.loop-form.form-index _
+    (omega (arith, c.loop-form-test.true)) c.loop-form.invariant c.in-Ok.ensures
 
 pub returns : goal.returns
 returns c =
