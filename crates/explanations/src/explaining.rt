@@ -7,7 +7,7 @@ use crate::edges::Ways;
 use crate::lines::instruction_lines;
 use crate::page::Page;
 use crate::phrases::Value;
-use crate::rules::{HINTS, NAMES, row_of};
+use crate::rules::{hint_of, name_of};
 use crate::text::Text;
 use crate::walk::{Here, Program, push_pass};
 use inference::entry_state;
@@ -52,7 +52,7 @@ fn accepted(alloc: Global, bound: u64) -> Result<String, AllocError>
 /// The rest of a refusal's text: the rule by its name, the reasons, and a hint. If the bound is too
 /// great, the reasons are how it is computed.
 fn push_refusal(out: &mut Text, object: &Object, rule: Rule, reasons: &str) {
-    out.line(" ", row_of(&NAMES, rule));
+    out.line(" ", name_of(rule));
     if matches!(rule, Rule::Budget) {
         let rank = object.entry_rank();
         let slots = object.slots() as u64;
@@ -64,7 +64,7 @@ fn push_refusal(out: &mut Text, object: &Object, rule: Rule, reasons: &str) {
     } else {
         out.push(reasons)
     }
-    out.line("  hint: ", row_of(&HINTS, rule))
+    out.line("  hint: ", hint_of(rule))
 }
 
 /// The refusal in words: the slot and the rule, and then `more`.

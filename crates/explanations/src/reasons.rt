@@ -2,7 +2,7 @@
 ghost use Rattle.std.specs.Prelude.{◌<◌};
 
 use crate::phrases::{Value, end_of, known_at, push_place, push_register};
-use crate::rules::{WORDS, row_of};
+use crate::rules::words_of;
 use crate::text::Text;
 use absdom::Domain;
 use inference::liveness::{has, reads};
@@ -157,7 +157,7 @@ fn allowed(hook: Hook, instruction: &Instruction, rule: Rule) -> &'static str {
         (Rule::Kind, _) => allowed_kinds(instruction),
         (Rule::Helper, Hook::Count) => "\n  allowed: 1 add, 2 read, 3 packet byte\n",
         (Rule::Helper, _) => "\n  allowed: 1 add, 2 read, 4 table cost\n",
-        _ => row_of(&WORDS, rule),
+        _ => words_of(rule),
     }
 }
 

@@ -6,28 +6,27 @@ use isa::Code;
 use machine::{Content, Pointer};
 use object_trials::RunEnding;
 
-// The traps in the order of their numbers, which begin with 1: the faults' names are those of
-// docs/reference/MACHINE.md.
-const TRAPS: [&str; 11] = [
-    "trap {} Outside at slot {}: ",
-    "trap {} HalfWide at slot {}: ",
-    "trap {} Empty at slot {}: ",
-    "trap {} Kind at slot {}: ",
-    "trap {} Bounds at slot {}: ",
-    "trap {} Align at slot {}: ",
-    "trap {} Helper at slot {}: ",
-    "trap {} Argument at slot {}: ",
-    "trap {} Frame at slot {}: ",
-    "trap {} ExitKind at slot {}: ",
-    "trap {}: all instructions were used, at slot {}: ",
-];
+/// What the trap of this number is: the faults' names are those of docs/reference/MACHINE.md.
+fn sentence_of(number: u8) -> &'static str {
+    match number {
+        1 => "trap {} Outside at slot {}: ",
+        2 => "trap {} HalfWide at slot {}: ",
+        3 => "trap {} Empty at slot {}: ",
+        4 => "trap {} Kind at slot {}: ",
+        5 => "trap {} Bounds at slot {}: ",
+        6 => "trap {} Align at slot {}: ",
+        7 => "trap {} Helper at slot {}: ",
+        8 => "trap {} Argument at slot {}: ",
+        9 => "trap {} Frame at slot {}: ",
+        10 => "trap {} ExitKind at slot {}: ",
+        _ => "trap {}: all instructions were used, at slot {}: ",
+    }
+}
 
 /// The trap's number, what it is, and the slot at which it is.
 fn push_name(out: &mut Text, trap: Trap, slot: u64) {
     let number = trap.number();
-    let place = usize::from(number).saturating_sub(1);
-    let sentence = TRAPS.get(place).copied().unwrap_or("");
-    out.fill(sentence, &[u128::from(number), u128::from(slot)])
+    out.fill(sentence_of(number), &[u128::from(number), u128::from(slot)])
 }
 
 /// A line for the register, unless it is empty.
