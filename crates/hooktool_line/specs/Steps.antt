@@ -10,6 +10,8 @@ use Rattle.clap.specs.Walk.{Text}
 use Rattle.hooktool_line.specs.CommandLine.{ask}
 use Rattle.hooktool_line.specs.Questions.{HasQuestion}
 use Rattle.hooktool_line.specs.declared.requests.Question.{Question}
+use Rattle.hooktool_line.specs.declared.steps.Expected.{Expected}
+use Rattle.hooktool_line.specs.declared.steps.Expected.TheVariants as expected
 use Rattle.hooktool_line.specs.declared.steps.ExpectedAnswer.{ExpectedAnswer}
 use Rattle.hooktool_line.specs.declared.steps.ExpectedAnswer.TheVariants as answers
 use Rattle.hooktool_line.specs.declared.steps.TestLine.{TestLine}
@@ -34,6 +36,14 @@ SaysAnswer words answers.Withheld = words ≡ codes "withheld" ∷ []
 SaysAnswer words (answers.Tag n) = (words ≡ codes "tag" ∷ decimal n ∷ []) × (n ≤ 4294967295)
 SaysAnswer words answers.Installed = words ≡ codes "installed" ∷ []
 SaysAnswer words answers.NotInstalled = words ≡ codes "not" ∷ codes "installed" ∷ []
+
+-- The words say this of an answer, a counter or a cell.
+abbrev pub SaysExpected : List Text → Expected → Type 0
+SaysExpected words (expected.Answer answer) = SaysAnswer words answer
+SaysExpected words (expected.Counter index number) =
+    (words ≡ codes "counter" ∷ decimal index ∷ decimal number ∷ []) × (index ≤ 255)
+SaysExpected words (expected.Cell index number) =
+    (words ≡ codes "cell" ∷ decimal index ∷ decimal number ∷ []) × (index ≤ 63)
 
 -- the first word is this one
 abbrev pub BeginsWith : Text → List Text → Type 0

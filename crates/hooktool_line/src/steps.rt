@@ -1,14 +1,15 @@
 //! The lines of a test.
 
-ghost use Rattle.std.specs.Prelude.{◌≡◌, [], ◌∷◌, codes, false, IfErr, IfOk, IfSome, IsTrue, OnOk};
+ghost use Rattle.std.specs.Prelude.{◌≡◌, List, [], ◌∷◌, codes, false, IfErr, IfOk, IfSome, IsTrue};
+ghost use Rattle.std.specs.Prelude.{OnOk};
 ghost use Rattle.clap.specs.Faults.{fault_of};
 ghost use Rattle.clap.specs.Matches.{found_of};
 ghost use Rattle.clap.specs.Simple.{matches_of};
-ghost use Rattle.clap.specs.Walk.{rows_of};
+ghost use Rattle.clap.specs.Walk.{Text, rows_of};
 ghost use Rattle.hooktool_line.specs.CommandLine.{ask};
 ghost use Rattle.hooktool_line.specs.Questions.{HasQuestion};
 ghost use Rattle.hooktool_line.specs.Steps.{AddsLine, AreLines, BeginsWith, Says};
-ghost use Rattle.hooktool_line.specs.Steps.{IsWrong, SaysAnswer, is_blank, is_mark};
+ghost use Rattle.hooktool_line.specs.Steps.{IsWrong, SaysExpected, is_blank, is_mark};
 ghost use Rattle.hooktool_line.specs.Steps.{views, words_of};
 
 use crate::arguments::{ASK, command_of};
@@ -71,24 +72,36 @@ const KNOWN: &str = "a line is empty, a comment behind #, program OBJECT, ask OP
     CAPTURE interface I (up to 63), or what is expected: metric N (below 16777215), withheld, tag \
     N, installed, not installed, answer N, counter K N (K up to 255), cell J N (J up to 63)";
 
+/// What a line says that is expected. It is smaller than a step, which may hold a question.
+#[derive(Clone, Copy)]
+enum Expected {
+    Answer(ExpectedAnswer),
+    Counter { index: u8, number: u64 },
+    Cell { index: u8, number: u64 },
+}
+
 /// What a name and a number say that is answered.
-fn answer_of(name: &str, number: &str) -> Option<ExpectedAnswer>
-    ensures { IfSome result (SaysAnswer (name.now ∷ number.now ∷ [])) }
+fn answer_of(name: &str, number: &str) -> Option<Expected>
+    ensures { IfSome result (SaysExpected (name.now ∷ number.now ∷ [])) }
 {
     let Some(number) = read_within(number, 0, u64::MAX) else {
         return None;
     };
     match name {
-        "metric" if number <= 16_777_214 => Some(ExpectedAnswer::Metric(number as u32)),
-        "tag" if number <= 4_294_967_295 => Some(ExpectedAnswer::Tag(number as u32)),
-        "answer" => Some(ExpectedAnswer::Number(number)),
+        "metric" if number <= 16_777_214 => {
+            Some(Expected::Answer(ExpectedAnswer::Metric(number as u32)))
+        }
+        "tag" if number <= 4_294_967_295 => {
+            Some(Expected::Answer(ExpectedAnswer::Tag(number as u32)))
+        }
+        "answer" => Some(Expected::Answer(ExpectedAnswer::Number(number))),
         _ => None,
     }
 }
 
 /// What a name and two numbers say.
-fn of_three<'a>(name: &'a str, index: &'a str, number: &'a str) -> Option<Step<'a>>
-    ensures { IfSome result (Says (name.entry.now ∷ index.entry.now ∷ number.entry.now ∷ [])) }
+fn of_three(name: &str, index: &str, number: &str) -> Option<Expected>
+    ensures { IfSome result (SaysExpected (name.now ∷ index.now ∷ number.now ∷ [])) }
 {
     let Some(index) = read_within(index, 0, 255) else {
         return None;
@@ -97,15 +110,28 @@ fn of_three<'a>(name: &'a str, index: &'a str, number: &'a str) -> Option<Step<'
         return None;
     };
     match name {
-        "counter" => Some(Step::Counter {
+        "counter" => Some(Expected::Counter {
             index: index as u8,
             number,
         }),
-        "cell" if index <= 63 => Some(Step::Cell {
+        "cell" if index <= 63 => Some(Expected::Cell {
             index: index as u8,
             number,
         }),
         _ => None,
+    }
+}
+
+/// The step of a line that says this.
+fn step_for<'a>(expected: Option<Expected>) -> Option<Step<'a>>
+    ensures { (words : List Text) → IfSome expected (SaysExpected words)
+        → IfSome result (Says words) }
+{
+    match expected {
+        Some(Expected::Answer(answer)) => Some(Step::Answers(answer)),
+        Some(Expected::Counter { index, number }) => Some(Step::Counter { index, number }),
+        Some(Expected::Cell { index, number }) => Some(Step::Cell { index, number }),
+        None => None,
     }
 }
 
@@ -132,11 +158,8 @@ fn told_by<'a>(words: &[&'a str]) -> Option<Step<'a>>
         ["installed"] => Some(Step::Answers(ExpectedAnswer::Installed)),
         ["program", path] => Some(Step::Program(path)),
         ["not", "installed"] => Some(Step::Answers(ExpectedAnswer::NotInstalled)),
-        [name, number] => match answer_of(name, number) {
-            Some(answer) => Some(Step::Answers(answer)),
-            None => None,
-        },
-        [name, index, number] => of_three(name, index, number),
+        [name, number] => step_for(answer_of(name, number)),
+        [name, index, number] => step_for(of_three(name, index, number)),
         ["packets", path, "interface", number] => packets_of(path, number),
         _ => None,
     }
