@@ -10,11 +10,13 @@ import os
 import socket
 import struct
 import sys
+import time
 from array import array
 from collections.abc import Callable, Iterable, Iterator
 from dataclasses import dataclass
 from enum import Flag, auto
 from ipaddress import IPv4Interface, IPv4Network
+from itertools import count
 from typing import NamedTuple
 
 SECONDS = 5.0
@@ -407,6 +409,8 @@ class Kernel:
             raise CannotAsk(f"no netlink socket: {error.strerror}") from error
         self._socket.settimeout(SECONDS)
         self._sequence = 0
+        self.patience = 0.0
+        """Seconds for which a list that changes each time is asked for again, after `TRIES`."""
 
     @property
     def port(self) -> int:
@@ -478,8 +482,9 @@ class Kernel:
 
     def _list(self, kind: int, head: bytes) -> list[bytes]:
         """The bodies of all messages of a list, which is asked for again if it changed in the
-        meantime."""
-        for _ in range(TRIES):
+        meantime. If it does so each time it's refused: it may lack what is there."""
+        until = time.monotonic() + self.patience
+        for tried in count(1):
             self._sequence += 1
             length = HEADER.size + len(head)
             asked = HEADER.pack(length, kind, REQUEST | DUMP, self._sequence, 0)
@@ -487,6 +492,8 @@ class Kernel:
             bodies, is_whole = self._listed()
             if is_whole:
                 break
+            if tried >= TRIES and time.monotonic() >= until:
+                raise CannotAsk("the kernel's list changes each time that it's asked for")
         return bodies
 
     def _listed(self) -> tuple[list[bytes], bool]:

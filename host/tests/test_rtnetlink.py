@@ -220,6 +220,29 @@ class Kernels(unittest.TestCase):
                 kernel.routes()
             self.assertEqual(raised.exception.number, number)
 
+    def test_a_list_that_changes_while_it_is_given(self) -> None:
+        """By NLM_F_DUMP_INTR, on its last message alone: it's asked for again, and is refused if it
+        is so each time, since it may lack what is there."""
+        for marked in (1, rtnetlink.TRIES - 1, rtnetlink.TRIES):
+            asked: list[bytes] = []
+
+            def answer(data: bytes) -> list[bytes]:
+                asked.append(data)
+                first, end = listing(NEXT_HOPS)(data)
+                is_marked = len(asked) <= marked
+                return [first, end[:6] + bytes([0x12]) + end[7:] if is_marked else end]
+
+            with self.subTest(marked=marked):
+                kernel = self.kernel(answer)
+                if marked < rtnetlink.TRIES:
+                    self.assertEqual(len(kernel.next_hops()), 2)
+                    continue
+                with self.assertRaisesRegex(CannotAsk, "the kernel's list changes each time"):
+                    kernel.next_hops()
+                kernel.patience, asked[:] = 5.0, []
+                self.assertEqual(len(kernel.next_hops()), 2)
+                self.assertEqual(len(asked), marked + 1)
+
     def test_a_vrf(self) -> None:
         """Of <linux/if_link.h>: a VRF device, and an interface that is enslaved to it."""
         head = bytes.fromhex(LINK_DOWN)[16:32]
