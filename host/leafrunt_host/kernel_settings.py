@@ -37,6 +37,11 @@ class KernelSettings:
         return FIRST_ID if self.table == MAIN else FIRST_ID + SPAN * (1 + self.table % RANGES)
 
     @property
+    def ids(self) -> range:
+        """The numbers that its next hop objects may have."""
+        return range(self.first_id, self.first_id + SPAN)
+
+    @property
     def claims(self) -> list[str]:
         """What no other box of this network namespace may have."""
         table = "" if self.table == MAIN else f" {self.table}"

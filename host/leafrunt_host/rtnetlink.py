@@ -12,7 +12,7 @@ import struct
 import sys
 import time
 from array import array
-from collections.abc import Callable, Iterable, Iterator
+from collections.abc import Callable, Container, Iterable, Iterator
 from dataclasses import dataclass
 from enum import Flag, auto
 from ipaddress import IPv4Interface, IPv4Network
@@ -64,6 +64,7 @@ LINK = struct.Struct("=BxHiII")
 ADDRESS = struct.Struct("=BBBBi")
 ROUTE = struct.Struct("=BBBBBBBBI")
 NEXT_HOP = struct.Struct("=BBBxI")
+ID = struct.Struct("=2xHI")
 MEMBER = struct.Struct("=IBxH")
 PATH = struct.Struct("=HBBi")
 ATTRIBUTE = struct.Struct("=HH")
@@ -304,6 +305,16 @@ def next_hop_of(body: bytes) -> NextHop:
     return NextHop(identity, index, gateway, members, is_discard)
 
 
+def id_of(body: bytes) -> int:
+    """The number of a next hop object, from the body of a message of it: the kernel says it
+    first."""
+    if len(body) >= NEXT_HOP.size + ID.size:
+        kind, it = ID.unpack_from(body, NEXT_HOP.size)
+        if kind == NHA_ID:
+            return int(it)
+    return next_hop_of(body).id
+
+
 def next_hop_body(it: NextHop, protocol: int) -> bytes:
     """`onlink`: a neighbor may have an address out of the interface's network on a point-to-point
     link."""
@@ -448,11 +459,13 @@ class Kernel:
     def own_routes(self) -> list[Route]:
         return [each for each in self.routes(self.protocol) if each.metric == self.metric]
 
-    def next_hops(self, is_own: bool = True) -> list[NextHop]:
-        """The next hop objects, by default those of the own protocol number."""
+    def next_hops(self, is_own: bool = True, also: Container[int] = ()) -> list[NextHop]:
+        """The next hop objects, by default those of the own protocol number, and those that have
+        these numbers."""
         bodies = self._list(GET_NEXT_HOP, NEXT_HOP.pack(0, 0, 0, 0))
-        own = (each for each in bodies if not is_own or each[2] == self.protocol)
-        return [next_hop_of(each) for each in own]
+        is_all, own = not is_own, self.protocol
+        found = (each for each in bodies if is_all or each[2] == own or id_of(each) in also)
+        return [next_hop_of(each) for each in found]
 
     def change(self, changes: list[Change]) -> list[Refusal | None]:
         """Makes the changes in their order; to each why it was refused. A refused one keeps none
@@ -531,7 +544,11 @@ class Kernel:
 # -- notices
 
 LOAD_WORD, LOAD_HALF, LOAD_BYTE, IF_EQUAL, RETURN = 0x20, 0x28, 0x30, 0x15, 0x06
-LOAD_NUMBER, LOAD_INDEX, INDEX, LOAD_WORD_AT = 0x00, 0x01, 0x07, 0x40
+LOAD_NUMBER, LOAD_INDEX, INDEX, LOAD_WORD_AT, LOAD_BYTE_AT = 0x00, 0x01, 0x07, 0x40, 0x50
+HIGHEST_BYTE = 3 if sys.byteorder == "little" else 0
+"""Of a number of four bytes, where it's in a message."""
+NO_IDS = range(1)
+"""No next hop object has the number 0."""
 ATTRIBUTE_AT = 0xFFFF_F00C
 """The place of the first attribute of the kind in the index register, from the place in the
 accumulator on; 0 if there is none (SKF_AD_NLATTR)."""
@@ -543,33 +560,40 @@ def swapped(value: int, width: int) -> int:
 
 
 def filter_of_others(
-    port: int, protocol: int, table: int = MAIN, metric: int = 0
+    port: int, protocol: int, table: int = MAIN, metric: int = 0, ids: range = NO_IDS
 ) -> list[tuple[int, int, int, int]]:
     """A classic BPF program for a socket of notices: it takes none of the port's own changes; of
     the table's routes those of the protocol number or of the metric, as another program's with that
-    may have taken the place of one; and of next hops those of the protocol number alone."""
+    may have taken the place of one; and of next hops those of these numbers, whatever their
+    protocol, as whoever replaces one gives it another, and some beside them: a number's highest
+    byte is looked at."""
     kinds = [NEW_ROUTE, DELETE_ROUTE, NEW_NEXT_HOP, DELETE_NEXT_HOP]
     new_route, delete_route, new_next_hop, delete_next_hop = (swapped(each, 2) for each in kinds)
     return [
         (LOAD_WORD, 0, 0, 12),
-        (IF_EQUAL, 18, 0, swapped(port, 4)),
+        (IF_EQUAL, 23, 0, swapped(port, 4)),
         (LOAD_HALF, 0, 0, 4),
         (IF_EQUAL, 3, 0, new_route),
         (IF_EQUAL, 2, 0, delete_route),
         (IF_EQUAL, 11, 0, new_next_hop),
-        (IF_EQUAL, 10, 12, delete_next_hop),
+        (IF_EQUAL, 10, 17, delete_next_hop),
         (LOAD_BYTE, 0, 0, HEADER.size + 4),
-        (IF_EQUAL, 0, 11, noticed_table(table)),
+        (IF_EQUAL, 0, 16, noticed_table(table)),
         (LOAD_BYTE, 0, 0, HEADER.size + 5),
-        (IF_EQUAL, 8, 0, protocol),
+        (IF_EQUAL, 13, 0, protocol),
         (LOAD_NUMBER, 0, 0, HEADER.size + ROUTE.size),
         (LOAD_INDEX, 0, 0, RTA_PRIORITY),
         (LOAD_WORD, 0, 0, ATTRIBUTE_AT),
         (INDEX, 0, 0, 0),
         (LOAD_WORD_AT, 0, 0, ATTRIBUTE.size),
-        (IF_EQUAL, 2, 3, swapped(metric, 4)),
-        (LOAD_BYTE, 0, 0, HEADER.size + 2),
-        (IF_EQUAL, 0, 1, protocol),
+        (IF_EQUAL, 7, 8, swapped(metric, 4)),
+        (LOAD_NUMBER, 0, 0, HEADER.size + NEXT_HOP.size),
+        (LOAD_INDEX, 0, 0, NHA_ID),
+        (LOAD_WORD, 0, 0, ATTRIBUTE_AT),
+        (INDEX, 0, 0, 0),
+        (LOAD_BYTE_AT, 0, 0, ATTRIBUTE.size + HIGHEST_BYTE),
+        (IF_EQUAL, 1, 0, ids[0] >> 24),
+        (IF_EQUAL, 0, 1, ids[-1] >> 24),
         (RETURN, 0, 0, 0xFFFF_FFFF),
         (RETURN, 0, 0, 0),
     ]
@@ -615,7 +639,7 @@ OF_KIND = {
 
 class Notices:
     """What others than this port change of links and addresses, of a table's routes of the protocol
-    number or the metric, and of next hops of the protocol number."""
+    number or the metric, and of next hops of these numbers."""
 
     def __init__(
         self,
@@ -625,12 +649,13 @@ class Notices:
         groups: int = OF_ALL,
         table: int = MAIN,
         metric: int = 0,
+        ids: range = NO_IDS,
     ) -> None:
-        self._port = port or -1
+        self._port, self._ids = port or -1, ids
 
         def others(new: socket.socket) -> None:
             if groups != OF_LINKS:
-                attach_filter(new, filter_of_others(port, protocol, table, metric))
+                attach_filter(new, filter_of_others(port, protocol, table, metric, ids))
 
         self._socket = one or notice_socket(groups, others)
         self._socket.setblocking(False)
@@ -652,7 +677,13 @@ class Notices:
                 continue
             for message in messages(data):
                 if message.port != self._port:
-                    news |= OF_KIND.get(message.kind, News.NOTHING)
+                    news |= self._news_of(message)
+        return news
+
+    def _news_of(self, message: Message) -> News:
+        news = OF_KIND.get(message.kind, News.NOTHING)
+        if news is News.NEXT_HOPS and id_of(message.body) not in self._ids:
+            return News.NOTHING
         return news
 
     def close(self) -> None:

@@ -4,7 +4,7 @@ from __future__ import annotations
 
 import os
 import socket
-from collections.abc import Callable
+from collections.abc import Callable, Container
 
 from leafrunt_host.rtnetlink import (
     AddRoute,
@@ -33,6 +33,8 @@ class FakeKernel(Kernel):
         self.protocol = self.metric = 89
         self.up = {name: True for name in names}
         self.objects: dict[int, NextHop] = {}
+        self.of_others: set[int] = set()
+        """The numbers of those that have another program's protocol number."""
         self.table: dict[bytes, int] = {}
         self.others: set[bytes] = set()
         """Prefixes that another program has a route to, with our metric."""
@@ -66,8 +68,9 @@ class FakeKernel(Kernel):
         self.reads += 1
         return [Route(prefix, 89, 89, group, ()) for prefix, group in self.table.items()]
 
-    def next_hops(self, is_own: bool = True) -> list[NextHop]:
-        return list(self.objects.values())
+    def next_hops(self, is_own: bool = True, also: Container[int] = ()) -> list[NextHop]:
+        objects = self.objects.values()
+        return [each for each in objects if each.id not in self.of_others or each.id in also]
 
     def change(self, changes: list[Change]) -> list[Refusal | None]:
         self.given += changes
@@ -105,6 +108,7 @@ class FakeKernel(Kernel):
         if any(each not in self.objects for each in it.members):
             return INVALID
         self.objects[it.id] = it
+        self.of_others.discard(it.id)
         return 0
 
     def _name(self, index: int) -> str:
@@ -114,6 +118,7 @@ class FakeKernel(Kernel):
         """With the last member goes the group, and with that its routes."""
         if self.objects.pop(identity, None) is None:
             return NO_ENTRY
+        self.of_others.discard(identity)
         self.table = {each: group for each, group in self.table.items() if group != identity}
         for each in list(self.objects.values()):
             if identity in each.members:
@@ -135,6 +140,16 @@ class FakeKernel(Kernel):
         """Another program removes a route."""
         del self.table[prefix]
         self.news |= News.ROUTES
+
+    def replaced(self, it: NextHop) -> None:
+        """Another program's `ip nexthop replace`: the object gets its protocol number."""
+        self.objects[it.id], self.news = it, self.news | News.NEXT_HOPS
+        self.of_others.add(it.id)
+
+    def removed(self, identity: int) -> None:
+        """Another program's `ip nexthop del`: the routes go without a word."""
+        self._remove(identity)
+        self.news |= News.NEXT_HOPS
 
     def forwards(self) -> dict[str, list[str]]:
         """By each prefix the gateways that packets go by."""

@@ -4,6 +4,7 @@ import sys
 import time
 import tomllib
 import unittest
+from collections.abc import Container
 from ipaddress import IPv4Interface, IPv4Network
 from pathlib import Path
 from unittest import mock
@@ -118,7 +119,7 @@ class MadeUpKernel(Kernel):
         self.asked.append(protocol)
         return [each for each in self.bodies if protocol in (0, each[5])]
 
-    def next_hops(self, is_own: bool = True) -> list[NextHop]:
+    def next_hops(self, is_own: bool = True, also: Container[int] = ()) -> list[NextHop]:
         return self.objects
 
     def close(self) -> None:

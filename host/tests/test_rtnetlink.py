@@ -29,6 +29,7 @@ from leafrunt_host.rtnetlink import (
     SetNextHop,
     attribute,
     filter_of_others,
+    id_of,
     link_of,
     messages,
     number,
@@ -255,10 +256,16 @@ class Kernels(unittest.TestCase):
         self.assertEqual(link_of(bridge)[4:], (0, 0))
 
     def test_next_hops(self) -> None:
-        self.assertEqual(
-            self.kernel(listing(NEXT_HOPS)).next_hops(),
-            [NextHop(90, 3, bytes([10, 0, 1, 3])), NextHop(91, members=(90,))],
-        )
+        both = [NextHop(90, 3, bytes([10, 0, 1, 3])), NextHop(91, members=(90,))]
+        self.assertEqual(self.kernel(listing(NEXT_HOPS)).next_hops(), both)
+        of_another = NEXT_HOPS.replace("02fd5900", "02fd0b00")
+        kernel = self.kernel(listing(of_another))
+        self.assertEqual(kernel.next_hops(), both[1:])
+        self.assertEqual(kernel.next_hops(also={91}), both[1:])
+        self.assertEqual(kernel.next_hops(also={90}), both)
+        self.assertEqual(kernel.next_hops(is_own=False), both)
+        body = next(messages(bytes.fromhex(NEXT_HOPS))).body
+        self.assertEqual([id_of(body), id_of(body[:8] + body[16:] + body[8:16])], [90, 90])
 
     def test_changes_are_iproute2s(self) -> None:
         for change, flags, body in IPROUTE2:
@@ -332,8 +339,9 @@ def runs(program: list[tuple[int, int, int, int]], data: bytes) -> bool:
             index = value if code == 0x07 else number
         elif number == 0xFFFFF00C:
             value = place_of(index, data, value)
-        elif code == 0x40:
-            value = int.from_bytes(data[index + number : index + number + 4], "big")
+        elif code in (0x40, 0x50):
+            width = {0x40: 4, 0x50: 1}[code]
+            value = int.from_bytes(data[index + number : index + number + width], "big")
         else:
             width = {0x20: 4, 0x28: 2, 0x30: 1}[code]
             value = int.from_bytes(data[number : number + width], "big")
@@ -349,13 +357,36 @@ class Noticed(unittest.TestCase):
             (deleted, 1, True),
             (deleted, port, False),
             (of_bgp, 1, False),
-            (next_hop, 1, True),
-            (next_hop[:18] + b"\xba" + next_hop[19:], 1, False),
+            (next_hop, 1, False),
             (bytes.fromhex(LINK_DOWN), port, True),
             (bytes.fromhex(ADDRESSES)[:76], 1, True),
         ):
             with self.subTest(data.hex()):
-                self.assertEqual(runs(filter_of_others(own, 89), data), is_taken)
+                program = filter_of_others(own, 89, ids=range(89_000_000, 90_000_000))
+                self.assertEqual(runs(program, data), is_taken)
+
+    def test_next_hops_by_their_numbers(self) -> None:
+        """Whatever their protocol: `ip nexthop replace` gives one of the box's another. The filter
+        goes by the highest byte, and what it lets through is looked at."""
+        ids = range(0x05FF_FFF0, 0x0600_0010)
+        for first, is_let, news in (
+            (0x05FF_FFEF, True, News.NOTHING),
+            (0x05FF_FFF0, True, News.NEXT_HOPS),
+            (0x0600_000F, True, News.NEXT_HOPS),
+            (0x0600_0010, True, News.NOTHING),
+            (0x0005_0606, False, None),
+            (0x0700_0000, False, None),
+        ):
+            body = struct.pack("=BBBxI", 2, 0, 4, 0) + number(5, 3) + number(1, first)
+            for kind in (104, 105):
+                data = struct.pack("=IHHII", 16 + len(body), kind, 0, 1, 9) + body
+                taken = [runs(filter_of_others(own, 89, ids=ids), data) for own in (1, 9)]
+                self.assertEqual(taken, [is_let, False], hex(first))
+                if news is not None:
+                    one, kernel = socket.socketpair(socket.AF_UNIX, socket.SOCK_SEQPACKET)
+                    with contextlib.closing(Notices(1, 89, one, ids=ids)) as notices, kernel:
+                        kernel.send(data)
+                        self.assertEqual(notices.read(), news, hex(first))
 
     def test_a_socket_that_cannot_be_prepared_is_closed(self) -> None:
         def refused(one: socket.socket) -> None:
