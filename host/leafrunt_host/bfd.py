@@ -51,6 +51,7 @@ MOST_MESSAGES = 256
 CUT_SECONDS = 5.0
 """For so long after a loss there is no next hop while `routerd` hasn't said that it knows."""
 SECONDS_TO_END = 2.0
+ADD, CHANGE = "add", "change"
 
 
 class CannotHold(Exception):
@@ -89,6 +90,8 @@ class Held:
     """The moment of its last change, in seconds since 1970."""
     error: str | None = None
     tried: float = 0.0
+    untold: str = ""
+    """What the process had no room to be told of it, `ADD` or `CHANGE`; empty if it's told all."""
 
     def close(self) -> None:
         for each in self.sockets:
@@ -205,8 +208,9 @@ class Helper:
         return f"killed by signal {-status}" if status < 0 else f"status {status}"
 
     def quit(self) -> None:
-        """Ends it in order: it tells the neighbors."""
+        """Ends it in order: it tells the neighbors. One that is behind may take its time."""
         try:
+            self.own.settimeout(SECONDS_TO_END)
             self.say({"do": "end"})
         except OSError:
             pass  # it has ended
@@ -231,6 +235,8 @@ class Sessions:
         self._bridge, self._lost, self._clock = bridge, lost, clock
         self._lock = RLock()
         self._held: dict[int, Held] = {}
+        self._removed: set[int] = set()
+        """The slots of sessions that have ended, and that the process had no room to be told of."""
         self._cut: dict[int, float] = {}
         self._helper: Helper | None = None
         self._standby: Helper | None = None
@@ -252,7 +258,7 @@ class Sessions:
                 self._remove(number)
                 held = None
             if held is None and neighbor and is_two_way and number in self.settings:
-                slots = {each.slot for each in self._held.values()}
+                slots = {each.slot for each in self._held.values()} | self._removed
                 free = next(each for each in itertools.count(1) if each not in slots)
                 self._held[number] = Held(neighbor, free)
                 self._add(number)
@@ -285,22 +291,41 @@ class Sessions:
             for number in differ:
                 self._change(number)
 
+    def _say(self, said: Json, files: Iterable[socket.socket] = ()) -> bool:
+        """Tells the process, if there is one. False if it has no room now, or has ended: that is
+        seen where its messages are read, and the next one is told all."""
+        try:
+            if self._helper:
+                self._helper.say(said, files)
+        except OSError:
+            return False
+        return True
+
+    def _say_again(self) -> None:
+        """Tells it what it had no room for, as far as it has some now."""
+        for slot in list(self._removed):
+            if not self._say({"do": "remove", "number": slot}):
+                return
+            self._removed.discard(slot)
+        for number, held in self._held.items():
+            if held.untold:
+                (self._add if held.untold == ADD else self._change)(number)
+                if held.untold:
+                    return
+
     def _change(self, number: int) -> None:
         held = self._held[number]
-        said = {"do": "change", "number": held.slot, **message_of(self.settings[number])}
-        try:
-            if self._helper and held.sockets:
-                self._helper.say(said)
-        except OSError:
-            pass  # its end is seen where its messages are read, and the next one is told all
+        if held.sockets and held.untold != ADD:
+            said = {"do": CHANGE, "number": held.slot, **message_of(self.settings[number])}
+            held.untold = "" if self._say(said) else CHANGE
 
     def _add(self, number: int) -> None:
         """Gives a session to the process: one that has its sockets goes on."""
-        held, helper = self._held[number], self._helper
-        if helper is None:
+        held = self._held[number]
+        if self._helper is None:
             return
         resumes = bool(held.sockets)
-        held.tried, held.error = self._clock(), None
+        held.tried, held.error, held.untold = self._clock(), None, ""
         try:
             self._open(number, held)
         except OSError as error:
@@ -308,17 +333,15 @@ class Sessions:
             self._tell(number, held.error, logging.ERROR)
             return
         said = {
-            "do": "add",
+            "do": ADD,
             "number": held.slot,
             "neighbor": str(held.neighbor.address),
             "discriminator": held.discriminator,
             "resumes": resumes,
             **message_of(self.settings[number]),
         }
-        try:
-            helper.say(said, held.sockets)
-        except OSError as error:
-            held.error = f"its process can't be told: {error.strerror}"
+        if not self._say(said, held.sockets):
+            held.untold, held.error = ADD, "its process can't be told of it now"
 
     def _open(self, number: int, held: Held) -> None:
         """Opens the sockets of a session that has none. `OSError` if they can't be had."""
@@ -335,12 +358,11 @@ class Sessions:
 
     def _remove(self, number: int) -> None:
         held = self._held.pop(number)
+        if not self._say({"do": "remove", "number": held.slot}):
+            self._say_farewell(number, held)
+            if held.untold != ADD:
+                self._removed.add(held.slot)
         held.close()
-        if self._helper:
-            try:
-                self._helper.say({"do": "remove", "number": held.slot})
-            except OSError:
-                pass  # its end is seen where its messages are read
 
     # -- the neighbor's loss
 
@@ -367,6 +389,7 @@ class Sessions:
             # (once it's a user of its own, which the second one isn't to be)
             if now >= self._stands_by_again:
                 self._have_standby(now)
+        self._say_again()
         for number, held in self._held.items():
             if held.error and now - held.tried >= OPENED_AGAIN:
                 self._add(number)
@@ -446,6 +469,7 @@ class Sessions:
                 if helper is None or (said := helper.heard()) is None:
                     break
                 self._take(said)
+            self._say_again()
         except CannotHold as why:
             if helper:
                 self._ended(helper, str(why))
@@ -456,6 +480,7 @@ class Sessions:
         self._bridge.leave(helper.own)
         helper.own.close()
         self._helper, self.error, now = None, f"its process has ended ({how})", self._clock()
+        self._removed.clear()
         self._ends = [each for each in self._ends if now - each < ENDS_WITHIN] + [now]
         more = len(self._ends) - MOST_ENDS
         if more < 0:

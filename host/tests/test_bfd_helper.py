@@ -1,15 +1,17 @@
 """The process of BFD's sessions, and how a box holds it: by sockets of the loopback interface."""
 from __future__ import annotations
 
+import contextlib
 import json
 import logging
 import os
 import select
 import signal
 import socket
+import threading
 import time
 import unittest
-from collections.abc import Callable
+from collections.abc import Callable, Iterator
 from dataclasses import dataclass, replace
 from ipaddress import IPv4Address, IPv4Interface
 from typing import Any
@@ -496,6 +498,93 @@ class AsAProcess(unittest.TestCase):
         self.assertIsNone(self.state())
         self.sessions.follow(1, Neighbor(IPv4Address(THERE), 1), is_two_way=True)
         self.assertIsNone(self.state())
+
+    @contextlib.contextmanager
+    def behind(self) -> Iterator[None]:
+        """The process stands still meanwhile, and its socket has no room."""
+        helper = self.sessions._helper
+        assert helper
+        os.kill(helper._ran.pid, signal.SIGSTOP)
+        try:
+            with self.assertRaises(BlockingIOError):
+                while True:
+                    helper.say({"do": "remove", "number": 99})
+            yield
+        finally:
+            os.kill(helper._ran.pid, signal.SIGCONT)
+
+    def heard(self, seconds: float = 2.5) -> list[ControlPacket]:
+        """What the neighbor hears in that time."""
+        found, end = list[ControlPacket](), time.monotonic() + seconds
+        while (left := end - time.monotonic()) > 0:
+            if select.select([self.neighbor], [], [], left)[0]:
+                found.append(decode(self.neighbor.recv(100))[0])
+        return found
+
+    def test_other_settings_of_a_process_that_is_behind(self) -> None:
+        """It's told of them once it goes on, and so is one that is begun for another neighbor."""
+        mine, places = self.come_up(), self.sessions._places
+        with self.behind():
+            for multiplier in (150, 200):
+                self.sessions.take_over({1: Settings(600_000, 600_000, multiplier)}, places)
+                self.sessions.tick()
+        self.until(lambda: decode(self.neighbor.recv(100))[0].detect_mult == 200)
+        self.assertEqual((self.state(), self.sessions._held[1].discriminator), ("Up", mine))
+        with self.behind():
+            self.sessions.follow(1, Neighbor(IPv4Address(STRANGER), 1), is_two_way=True)
+            self.sessions.tick()
+        self.until(lambda: self.state() == "Down", 8)
+        said = self.sessions.report(1)
+        assert said
+        self.assertEqual((said["neighbor"], said["error"], self.lost), (STRANGER, None, []))
+
+    def test_what_a_process_that_is_behind_is_to_end(self) -> None:
+        """It ends it once it goes on; the neighbor is told of that at once."""
+        mine, places = self.come_up(), self.sessions._places
+        with self.behind():
+            self.sessions.take_over({}, places)
+            self.sessions.tick()
+            while decode(self.neighbor.recv(100))[0].state != State.ADMIN_DOWN:
+                pass
+            self.sessions.take_over({1: Settings()}, places)
+            self.sessions.follow(1, Neighbor(IPv4Address(THERE), 1), is_two_way=True)
+        self.until(lambda: self.state() == "Down", 8)
+        others = [each for each in self.heard() if each.state != State.ADMIN_DOWN]
+        self.assertNotEqual(others[-1].my_discriminator, mine, others)
+        self.assertEqual(self.lost, [])
+
+    def test_the_end_of_a_process_that_is_behind(self) -> None:
+        self.come_up()
+        self.addCleanup(lambda: setattr(self.sessions, "_memory", os.memfd_create("test")))
+        with self.behind():
+            ends = threading.Thread(target=self.sessions.close)
+            ends.start()
+            time.sleep(0.3)
+        ends.join()
+        self.assertIn(State.ADMIN_DOWN, [each.state for each in self.heard()])
+
+    def test_a_process_that_ends_before_it_is_told(self) -> None:
+        """The next one has the settings of now, and nothing of a session that has ended."""
+        mine, places = self.come_up(), self.sessions._places
+        standby, settings = self.standing_by(), {1: Settings(600_000, 600_000, 200)}
+        with self.behind():
+            helper = self.sessions._helper
+            assert helper
+            os.kill(helper._ran.pid, signal.SIGKILL)
+            self.sessions.take_over(settings, places)
+        self.until(lambda: self.sessions._helper is standby)
+        self.until(lambda: decode(self.neighbor.recv(100))[0].detect_mult == 200)
+        self.assertEqual(self.sessions._held[1].discriminator, mine)
+        self.neighbor.sendto(said_by_neighbor(State.UP, mine), (HERE, CONTROL_PORT))
+        standby = self.standing_by()
+        with self.behind():
+            helper = self.sessions._helper
+            assert helper
+            os.kill(helper._ran.pid, signal.SIGKILL)
+            self.sessions.take_over({}, places)
+        self.until(lambda: self.sessions._helper is standby)
+        self.assertEqual(self.heard()[-1].state, State.ADMIN_DOWN)
+        self.assertEqual((self.sessions.report(1), self.lost), (None, []))
 
     def test_another_number(self) -> None:
         """As after a reload with an interface less before it: a session goes on, and its neighbor
