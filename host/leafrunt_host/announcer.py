@@ -70,7 +70,7 @@ class Announcer:
             try:
                 pause = self._turn()
             except RouterGone:
-                return
+                pause = TRIED_AGAIN  # (the box ends, or another one takes its place)
             except Exception as error:  # told, and tried again
                 log.error("%s", where_it_failed(error))
                 pause = TRIED_AGAIN

@@ -4,8 +4,10 @@ from __future__ import annotations
 
 import logging
 import threading
-from collections.abc import Callable
+from collections.abc import Callable, Iterator
+from contextlib import contextmanager
 from dataclasses import dataclass, replace
+from functools import partial
 from ipaddress import IPv4Network
 
 from leafrunt_host import bfd_session
@@ -14,6 +16,7 @@ from leafrunt_host.bridge import CannotOpen
 from leafrunt_host.configuration import Configuration
 from leafrunt_host.desk import ATTACHED, Desk
 from leafrunt_host.isolation import CannotIsolate
+from leafrunt_host.journal import where_it_failed
 from leafrunt_host.keeper import Keeper
 from leafrunt_host.link import Interface, Link
 from leafrunt_host.packets import Hello, Packet
@@ -28,6 +31,8 @@ from leafrunt_host.topology import Topology
 log = logging.getLogger("leafrunt.reload")
 SECONDS_TO_GIVE_AGAIN = 2.5
 """After the new one has taken over."""
+SECONDS_FOR_A_LOOK = 10.0
+"""How long the keeper's look at the old one is waited for; then that one is ended first."""
 
 
 def bfd_of(configuration: Configuration) -> dict[int, bfd_session.Settings]:
@@ -73,11 +78,14 @@ class Handover:
     ending: threading.Event
     quit: Callable[[Router], None]
     """Ends the old one."""
+    give_up: Callable[[str], None]
+    """Ends the box, and says why."""
 
     def run(self, new: Configuration, programs: Callable[[], dict[str, str]]) -> None:
         """`programs` says which are to be attached, by their hooks; nobody else attaches any
         meanwhile. `Stopped` if the new one can't be had, or doesn't come to where the old one is:
-        then nothing is changed."""
+        then nothing is changed. Once it serves the wire there is no way back: what fails then ends
+        the box."""
         with self.desk.changing:
             self._run(new, programs())
 
@@ -97,14 +105,44 @@ class Handover:
             fresh.close()
             raise Stopped(str(why)) from why
         except BaseException:
-            fresh.close()
+            if self.parts.router is old:
+                fresh.close()
+            else:
+                self.quit(old)
             raise
         # it has taken over
-        self.keeper.serve(fresh.router, lambda: self._know(fresh, new, prepared, stopped))
-        self.desk.serve(fresh.router)
-        self.announcements.started_anew(prepared.given)
+        know = partial(self._know, fresh, new, prepared, stopped)
+        with self._no_way_back():
+            is_kept = self._is_kept(fresh.router, know)
+            self.desk.serve(fresh.router)
+            # (with the old one ends who waits for an answer of it)
+            self.quit(old)
+            if not is_kept:
+                self.keeper.serve(fresh.router, know)
+            self.announcements.started_anew(prepared.given)
         log.info("routerd is process %d now", fresh.router.pid)
-        self.quit(old)
+
+    def _is_kept(self, router: Router, know: Callable[[], None]) -> bool:
+        """Has the keeper look at the new one; whether the look at the old one ended in time."""
+        try:
+            self.keeper.serve(router, know, SECONDS_FOR_A_LOOK)
+        except Stopped:
+            return False
+        return True
+
+    @contextmanager
+    def _no_way_back(self) -> Iterator[None]:
+        """What fails here leaves neither `routerd` served whole, so the box ends, if it isn't about
+        to; but for `CannotOpen`, with which the bridge has changed nothing."""
+        try:
+            yield
+        except CannotOpen:
+            raise
+        except Exception as error:
+            if not self.ending.is_set():
+                why = str(error) if isinstance(error, Stopped) else where_it_failed(error)
+                self.give_up(f"another routerd has taken over in part ({why})")
+            raise
 
     def _taken_over(self, fresh: Fresh, new: Configuration, programs: dict[str, str]) -> Prepared:
         """Once it has come to where the old one is."""
@@ -184,6 +222,8 @@ class Handover:
     ) -> None:
         """In the bridge's thread. A neighbor that was lost meanwhile is lost to the new one too."""
         full = self._hellos(kept, new).keys()
+        if fresh.router.status() is not None:
+            raise Stopped("the new routerd has ended meanwhile")
         if full - rehearsal.numbers:
             raise Stopped("a neighbor has become Full meanwhile: try again")
         interfaces = {
@@ -201,15 +241,16 @@ class Handover:
             (each.link, interfaces[each.after]) for each in kept
         ]
         rehearsal.catch_up()
-        self.parts.bridge.hand_over(pairs, list(made.values()), fresh.udp, fresh.listed)
-        follow_numbers(self.known, new)
-        for each in self.parts.sinks.values():
-            each.close()
-        self.parts.router, self.parts.links = fresh.router, links | made
-        self.parts.sinks, self.parts.ports = fresh.sinks, fresh.ports
-        self.parts.bridge.send_of_router(rehearsal.last_packets)
-        for number in rehearsal.numbers - full:
-            self.parts.bridge.neighbor_lost(number)
+        with self._no_way_back():
+            self.parts.bridge.hand_over(pairs, list(made.values()), fresh.udp, fresh.listed)
+            for each in self.parts.sinks.values():
+                each.close()
+            self.parts.router, self.parts.links = fresh.router, links | made
+            self.parts.sinks, self.parts.ports = fresh.sinks, fresh.ports
+            follow_numbers(self.known, new)
+            self.parts.bridge.send_of_router(rehearsal.last_packets)
+            for number in rehearsal.numbers - full:
+                self.parts.bridge.neighbor_lost(number)
 
     def _know(
         self, fresh: Fresh, new: Configuration, prepared: Prepared, stopped: int

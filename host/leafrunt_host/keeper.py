@@ -173,27 +173,29 @@ class Keeper:
         it has."""
         return self._is_kept.wait(seconds)
 
-    def serve(self, router: Router, changed: Callable[[], None]) -> None:
-        """From now on it is another `routerd` that is asked; between two looks, which that is told."""
+    def serve(
+        self, router: Router, changed: Callable[[], None], seconds: float = SECONDS_TO_SERVE
+    ) -> None:
+        """From now on it is another `routerd` that is asked; between two looks, which that is told.
+        `Stopped` if none ends within so many seconds, and then nothing is changed."""
 
         def change() -> None:
             changed()
             self._router, self._neighbors, self._table = router, [], b""
             self._pace.woken(time.monotonic())
 
-        self._work.do(change, SECONDS_TO_SERVE)
+        self._work.do(change, seconds)
 
     def _keep(self) -> None:
         try:
-            while not self._ending.is_set() and self._kept_on():
-                pass
+            while not self._ending.is_set():
+                self._keep_on()
         finally:
             self._tell_holding(None)
             self._work.close()
 
-    def _kept_on(self) -> bool:
-        """Keeps one kernel's table, or none, until it is to be another; whether there is something
-        to keep still."""
+    def _keep_on(self) -> None:
+        """Keeps one kernel's table, or none, until it is to be another."""
         waiting, kernel = select.poll(), self._kernel
         for each in filter(None, (self._waker, self._work, kernel)):
             waiting.register(each.fileno(), select.POLLIN)
@@ -212,11 +214,11 @@ class Keeper:
                 break
             looked = time.monotonic()
             if not self._looked(looked):
-                return False
-        return True
+                # (the box is about to end, or another `routerd` to be served)
+                self._pace.looked(looked, 0.0, is_changed=False)
 
     def _looked(self, now: float) -> bool:
-        """Looks once; whether there is something to look at still."""
+        """Looks once; whether there is a `routerd` to look at still."""
         try:
             self._try_look(now)
             self._look_at_refusals(now)

@@ -30,7 +30,8 @@ class WorkQueue:
 
     def do(self, work: Callable[[], T], seconds: float = SECONDS) -> T:
         """Has it done by that thread, and what came of it, its error included. `Stopped` if that
-        thread has ended, or doesn't answer; then it isn't done any more, unless it was begun."""
+        thread has ended, or doesn't begin it in time; then it isn't done any more. What was begun
+        is waited for to its end: whoever gave it has to know what became of it."""
         future: Future[T] = Future()
         with self._lock:
             if self._is_over:
@@ -40,7 +41,8 @@ class WorkQueue:
         try:
             return future.result(seconds)
         except NotInTime:
-            future.cancel()
+            if not future.cancel():
+                return future.result()
             raise Stopped(f"no answer within {seconds:g} seconds: nothing more is done") from None
 
     def run(self) -> None:

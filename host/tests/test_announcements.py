@@ -309,9 +309,13 @@ class Threads(Cases, Waits):
         self.assertIn("a mistake in this program: KeyError", logged.output[0])
 
     def test_a_routerd_that_has_ended(self) -> None:
-        with mock.patch.object(Announcements, "give", side_effect=RouterGone("x")):
+        """Another one may take its place: that is waited for, or the box's end."""
+        with mock.patch.object(Announcements, "give", side_effect=RouterGone("x")) as give:
             it = self.announcer()
-            it._thread.join(60)
+            self.wait(lambda: give.called)
+            it._thread.join(0.3)
+            self.assertTrue(it._thread.is_alive())
+            it.stop()
         self.assertFalse(it._thread.is_alive())
 
     def test_by_hand_in_the_meantime(self) -> None:

@@ -26,7 +26,9 @@ from leafrunt_host.keeper import (
     Pace,
 )
 from leafrunt_host.packets import Packet, PacketType
+from leafrunt_host.router import RouterGone
 from leafrunt_host.status import neighbors_of
+from leafrunt_host.statuses import Stopped
 from tests.fake_kernel import FakeKernel, FakeNotices
 from tests.test_desk import TWO, interface, known
 from tests.waits import Waits
@@ -267,6 +269,32 @@ class Keeps(Waits):
             self.assertTrue(self.keeper.has_kept(60))
             self.assertEqual(len(other.forwards()), 1)
             self.keeper.stop()
+
+    def test_a_routerd_that_is_gone(self) -> None:
+        """The kernel keeps its routes, and no time is spent, until another one is served, also if
+        the keeper waited for an answer until then."""
+        other = StandInRouter()
+        other.table = [b"172.16.2.0/24 ext2 20 via 1"]
+        gone = mock.Mock(side_effect=RouterGone("routerd has ended"))
+        with mock.patch.object(FakeNotices, "fileno", lambda _: self.waker.fileno()):
+            self.keeper.start()
+            self.addCleanup(self.keeper.stop)
+            self.assertTrue(self.keeper.has_kept(60))
+            self.router.silence.clear()
+            self.router.is_asked.clear()
+            self.assertTrue(self.router.is_asked.wait(60))
+            with self.assertRaisesRegex(Stopped, "no answer"):
+                self.keeper.serve(other, lambda: None, 0.05)  # type: ignore[arg-type]
+            self.router.ask_list = gone  # type: ignore[method-assign]
+            self.router.ask_bytes = self.router.ask = gone  # type: ignore[method-assign]
+            self.router.silence.set()
+            self.wait(lambda: gone.call_count > 1)
+            count = gone.call_count
+            time.sleep(0.5)
+            self.assertLess(gone.call_count - count, 10)
+            self.assertEqual(self.kernel.forwards(), {"172.16.2.0/24": ["10.0.1.2", "10.0.2.2"]})
+            self.keeper.serve(other, lambda: None)  # type: ignore[arg-type]
+            self.wait(lambda: self.kernel.forwards() == {"172.16.2.0/24": ["10.0.1.2"]})
 
     def test_one_that_waits_for_an_answer(self) -> None:
         """The end doesn't wait for it for long, and says so."""

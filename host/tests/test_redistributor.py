@@ -21,6 +21,7 @@ from leafrunt_host.redistributor import (
     Redistributor,
     notices_filter,
 )
+from leafrunt_host.router import RouterGone
 from leafrunt_host.rtnetlink import (
     MAIN,
     OF_ALL,
@@ -370,6 +371,18 @@ class Following(Cases, Waits):
         self.wait(lambda: self.announced() == {str(NETWORK), "203.0.113.0/24"})
         self.announcer.redistribute(None)
         self.wait(lambda: again.close.called)
+
+    def test_a_routerd_that_is_gone(self) -> None:
+        """Another one that takes its place gets what is announced then."""
+        gone = mock.Mock(side_effect=RouterGone("routerd has ended"))
+        self.announcements._ask = gone
+        self.kernel.bodies = [body("192.0.2.0/24")]
+        self.announcer.start()
+        self.wait(lambda: gone.called)
+        time.sleep(0.3)
+        self.announcements._ask = self.router.ask
+        self.announcements.started_anew()
+        self.wait(lambda: self.announced() == {"192.0.2.0/24"})
 
     def test_it_follows_notices(self) -> None:
         self.kernel.bodies = [body("192.0.2.0/24")]

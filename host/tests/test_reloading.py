@@ -613,12 +613,12 @@ class Taking(unittest.TestCase):
         """What is told of them ends with it."""
         known = SimpleNamespace(stopped=("worker 1 stopped", "worker 2 stopped"))
         parts = SimpleNamespace(links={}, router=SimpleNamespace())
-        keeper = SimpleNamespace(serve=lambda _router, changed: changed())
+        keeper = SimpleNamespace(serve=lambda _router, changed, _seconds: changed())
         fresh = SimpleNamespace(router=SimpleNamespace(pid=7))
         handover = Handover(
             *(SimpleNamespace(begin_beside=lambda *_: fresh), parts, known, keeper),
             *(mock.Mock(), mock.Mock(changing=threading.Lock()), mock.Mock(left_out=0)),
-            *(threading.Event(), lambda _router: None),
+            *(threading.Event(), lambda _router: None, lambda _why: None),
         )  # type: ignore[arg-type]
 
         def taken_over(*_: object) -> Prepared:
@@ -717,6 +717,107 @@ class Taking(unittest.TestCase):
                 it.reloader.reload()
 
 
+class Handing(unittest.TestCase):
+    """The handover alone: whatever fails on the way, one `routerd` serves all, or the box ends and
+    says why."""
+
+    def setUp(self) -> None:
+        self.ended: list[object] = []
+        self.given_up: list[str] = []
+        self.old, self.new = (mock.Mock(**{"status.return_value": None}) for _ in range(2))
+        self.fresh = mock.Mock(router=self.new, udp={}, sinks={}, ports=[(1, 2), (3, 4)])
+        self.fresh.close = lambda: self.ended.append(self.new)
+        self.bridge = mock.Mock(work=SimpleNamespace(do=lambda act: act()))
+        self.parts = mock.Mock(router=self.old, bridge=self.bridge, links={}, sinks={}, ports=[])
+        self.known = mock.Mock(
+            configuration=configuration(), stopped=(), neighbors={}, announced={}, programs={}
+        )
+        self.keeper, self.desk = mock.Mock(), mock.Mock(changing=threading.Lock())
+        self.keeper.serve = mock.Mock(side_effect=self.serve)
+        self.is_stuck = lambda: False
+        self.announcements, self.ending = mock.Mock(), threading.Event()
+        self.handover = Handover(
+            *(mock.Mock(begin_beside=lambda *_: self.fresh), self.parts, self.known, self.keeper),
+            *(self.announcements, self.desk, mock.Mock(left_out=0), self.ending),
+            *(self.ended.append, self.given_up.append),
+        )
+
+    def serve(self, _router: object, changed: Callable[[], None], *_: float) -> None:
+        if self.is_stuck():
+            raise Stopped("no answer within 10 seconds: nothing more is done")
+        changed()
+
+    def run_it(self) -> None:
+        with mock.patch("leafrunt_host.handover.Rehearsal") as made:
+            made.return_value = mock.Mock(numbers=set())
+            self.handover.run(configuration(), dict)
+
+    def assert_complete(self) -> None:
+        """All go by the new one, and the old one has ended, once."""
+        self.assertEqual((self.ended, self.given_up), ([self.old], []))
+        self.assertIs(self.parts.router, self.new)
+        self.assertEqual(self.known.routerd, self.new.pid)
+        self.desk.serve.assert_called_once_with(self.new)
+        self.announcements.started_anew.assert_called_once_with({})
+
+    def test_all_of_it(self) -> None:
+        self.run_it()
+        self.keeper.serve.assert_called_once()
+        self.assert_complete()
+
+    def test_a_look_that_waits_for_the_old_one(self) -> None:
+        """That ends, and so does the look: the new one is served then."""
+        self.is_stuck = lambda: self.old not in self.ended
+        self.run_it()
+        self.assertEqual(self.keeper.serve.call_count, 2)
+        self.assert_complete()
+
+    def test_a_keeper_that_does_not_follow(self) -> None:
+        """The bridge serves the new one by then: there is no way back."""
+        self.is_stuck = lambda: True
+        for is_ending in (False, True):
+            self.setUp() if is_ending else None
+            self.is_stuck = lambda: True
+            if is_ending:
+                self.ending.set()
+            with self.assertRaises(Stopped):
+                self.run_it()
+            self.assertEqual(self.ended, [self.old])
+            self.assertEqual(len(self.given_up), 0 if is_ending else 1)
+        self.assertIs(self.parts.router, self.new)
+
+    def test_a_mistake_half_way(self) -> None:
+        for where in ("hand_over", "send_of_router", "sessions"):
+            with self.subTest(where):
+                self.setUp()
+                wrong = mock.Mock(side_effect=KeyError(7))
+                if where == "sessions":
+                    self.known.sessions.take_over = wrong
+                else:
+                    setattr(self.bridge, where, wrong)
+                with self.assertRaises(KeyError):
+                    self.run_it()
+                self.assertEqual(len(self.given_up), 1)
+                self.assertIn("KeyError: 7", self.given_up[0])
+                left = {self.old, self.new} - {self.parts.router}
+                self.assertEqual(set(self.ended), left)
+
+    def test_what_is_refused_before(self) -> None:
+        """The old one goes on as if nothing had been."""
+        for what in ("an interface", "a new one that has ended"):
+            with self.subTest(what):
+                self.setUp()
+                if what == "an interface":
+                    self.bridge.hand_over.side_effect = CannotOpen("eth1: no raw socket")
+                else:
+                    self.new.status.return_value = 1
+                with self.assertRaises(Stopped):
+                    self.run_it()
+                self.assertEqual((self.ended, self.given_up), ([self.new], []))
+                self.assertIs(self.parts.router, self.old)
+                self.keeper.serve.assert_not_called()
+
+
 class Queues(unittest.TestCase):
     def test_work(self) -> None:
         """Done by whoever runs it, with what came of it; not once it's over."""
@@ -738,6 +839,31 @@ class Queues(unittest.TestCase):
         for _ in range(2):
             with self.assertRaisesRegex(Stopped, "the box is ending"):
                 queue.do(lambda: 1)
+
+    def test_work_that_was_begun(self) -> None:
+        """It's waited for to its end, whatever that is."""
+        for come_of_it in (7, TimeoutError("of the work itself")):
+            queue, begun = WorkQueue(), threading.Event()
+
+            def takes_long() -> int:
+                begun.set()
+                time.sleep(0.3)
+                if isinstance(come_of_it, Exception):
+                    raise come_of_it
+                return come_of_it
+
+            def runs() -> None:
+                while not begun.is_set():
+                    queue.run()
+
+            thread = threading.Thread(target=runs)
+            thread.start()
+            if isinstance(come_of_it, Exception):
+                with self.assertRaisesRegex(TimeoutError, "of the work itself"):
+                    queue.do(takes_long, 0.1)
+            else:
+                self.assertEqual(queue.do(takes_long, 0.1), come_of_it)
+            thread.join()
 
     def test_nobody_runs_it(self) -> None:
         queue, done = WorkQueue(), []
