@@ -8,6 +8,7 @@ import signal
 import subprocess
 import sys
 import tempfile
+import threading
 import time
 import unittest
 from pathlib import Path
@@ -136,10 +137,17 @@ class Lanes(unittest.TestCase):
         def interrupted(*_: object) -> None:
             raise KeyboardInterrupt
 
+        def interrupt() -> None:
+            pid = self.folder / "endless.pid"
+            within(20, lambda: pid.exists() and pid.read_text())
+            os.kill(os.getpid(), signal.SIGALRM)
+
         of_terminal = signal.getsignal(signal.SIGINT)
         before = signal.signal(signal.SIGALRM, interrupted)
         self.addCleanup(signal.signal, signal.SIGALRM, before)
-        signal.setitimer(signal.ITIMER_REAL, 1.5)
+        waits = threading.Thread(target=interrupt)
+        self.addCleanup(waits.join)
+        waits.start()
         with self.assertRaises(KeyboardInterrupt):
             self.played(["endless", "a"], 2)
         self.assertTrue((self.folder / "endless.removed").exists())
