@@ -11,7 +11,7 @@ use isa::{Operation, Test, Width};
 ///
 /// Each result is narrowed: the first part lies in the range of the second, and if the first is a
 /// single number, so is the second, as far as the tests of the two domains can tell.
-#[derive(Clone, Copy, Debug, PartialEq, Eq)]
+#[derive(Clone, Copy)]
 pub struct Pair<A, B> {
     pub first: A,
     pub second: B,

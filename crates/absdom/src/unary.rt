@@ -2,7 +2,7 @@
 use isa::{ByteOrder, Extension, SwapWidth, Width};
 
 /// An arithmetic instruction on one number.
-#[derive(Clone, Copy, PartialEq, Eq, Debug)]
+#[derive(Clone, Copy)]
 pub enum UnaryOperation {
     /// NEG: the number whose sum with this one is 0, modulo the width's power of two.
     Negate(Width),

@@ -172,7 +172,7 @@ pub fn negotiation(follows: bool, leads: bool) -> Verdict
 }
 
 /// The tests in Exchange of a Database Description that is no duplicate.
-#[derive(Clone, Copy, Debug)]
+#[derive(Clone, Copy)]
 pub struct ExchangeTests {
     /// The MS-bits of both sides are the same.
     pub same_roles: bool,

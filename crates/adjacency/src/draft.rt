@@ -13,7 +13,7 @@ use words::{Key, MAX_AGE, Second, Sequence};
 
 /// One LSA for a Link State Update, which isn't the packet itself: its key, and its bytes with the
 /// age that it has there.
-#[derive(Debug, Drop)]
+#[derive(Drop)]
 pub struct Update {
     pub key: Key,
     pub text: Sequence<u8>,

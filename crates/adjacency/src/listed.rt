@@ -9,7 +9,7 @@ use words::Second;
 
 /// The header of an instance, and the moment at which it had the header's age. Clauses see the
 /// record of the definitions.
-#[derive(Clone, Copy, Debug)]
+#[derive(Clone, Copy)]
 pub struct ListEntry {
     pub header: Header,
     pub at: Second,

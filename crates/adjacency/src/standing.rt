@@ -8,7 +8,7 @@ use words::{RouterId, Second};
 
 /// What identifies a duplicate Database Description: its flags, Options and sequence number (RFC
 /// 2328, section 10.6).
-#[derive(Clone, Copy, Debug)]
+#[derive(Clone, Copy)]
 pub struct ReceivedDescription {
     pub options: u8,
     pub init: bool,
@@ -40,7 +40,7 @@ impl Model for ReceivedDescription {
 }
 
 /// A neighbor's Router ID, state, sequence numbers and timers.
-#[derive(Clone, Copy, Debug)]
+#[derive(Clone, Copy)]
 pub struct Standing {
     pub router: RouterId,
     pub state: NeighborState,

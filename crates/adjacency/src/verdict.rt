@@ -1,7 +1,7 @@
 //! The verdict on a received Database Description.
 
 /// The verdict on a received Database Description (RFC 2328, section 10.6).
-#[derive(Clone, Copy, Debug, PartialEq, Eq)]
+#[derive(Clone, Copy)]
 pub enum Verdict {
     /// It is ignored.
     Discarded,
@@ -19,7 +19,7 @@ pub enum Verdict {
 
 /// Why a Database Description leads to SeqNumberMismatch: the first of these tests that it fails
 /// (RFC 2328, section 10.6).
-#[derive(Clone, Copy, Debug, PartialEq, Eq)]
+#[derive(Clone, Copy)]
 pub enum Mismatch {
     /// The MS-bits of both sides are the same.
     Roles,

@@ -10,7 +10,7 @@ use std::cmp::Ordering;
 use words::{LinkStateId, RouterId};
 
 /// The kind of advertisement that the entry comes from.
-#[derive(Clone, Copy, Debug, PartialEq, Eq)]
+#[derive(Clone, Copy, PartialEq, Eq)]
 pub enum EntryKind {
     /// Its router-LSA has a link to another router.
     PointToPoint,
@@ -21,7 +21,7 @@ pub enum EntryKind {
 }
 
 /// What one link of its router-LSA, or the list of a network-LSA, advertises about a router.
-#[derive(Clone, Copy, Debug)]
+#[derive(Clone, Copy)]
 pub struct AdvertisedLink {
     pub router: RouterId,
     pub kind: EntryKind,

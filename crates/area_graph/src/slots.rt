@@ -11,7 +11,7 @@ use std::alloc::{AllocError, Global};
 /// The indices of some nodes or routers, each in a slot that its Router ID or Link State ID gives.
 /// If two of them share a slot, it has the later one. Only the time of a lookup depends on the
 /// slots: those of other nodes give the same results, but seldom the right index.
-#[derive(Debug, Drop)]
+#[derive(Drop)]
 pub struct Slots {
     places: Vec<u16>,
 }

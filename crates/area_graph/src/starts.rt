@@ -7,7 +7,7 @@ use std::alloc::{AllocError, Global};
 use words::{LinkStateId, RouterId};
 
 /// Where a router's entries begin: those of its links, and those of the lists of networks.
-#[derive(Clone, Copy, Debug)]
+#[derive(Clone, Copy)]
 pub struct Start {
     pub links: usize,
     pub lists: usize,

@@ -32,7 +32,7 @@ use tables::{is_stale, rows_of, table};
 use words::{Key, Route, RouterId, Second, TableRow};
 
 /// The candidates of a router, and the rows of its table, at one moment.
-#[derive(Debug, Drop)]
+#[derive(Drop)]
 pub struct Offered {
     pub candidates: Vec<Route>,
     pub rows: Vec<TableRow>,

@@ -6,7 +6,7 @@ use std::alloc::AllocError;
 use thiserror::Error;
 
 /// What is wrong with a line.
-#[derive(Clone, Copy, PartialEq, Eq, Debug, Error)]
+#[derive(Clone, Copy, Debug, Error)]
 pub enum AsmFault {
     /// The line has none of the forms, or may not stand where it does.
     #[error("the line is none of the forms, or stands where it may not")]
@@ -43,7 +43,7 @@ impl AsmFault {
 }
 
 /// The first bad line, counted from 1, and what is wrong with it. The line is 0 if memory ran out.
-#[derive(Clone, Copy, PartialEq, Eq, Debug, Error)]
+#[derive(Clone, Copy, Debug, Error)]
 #[error("line {line}: {kind}")]
 pub struct AsmError {
     pub line: usize,
@@ -64,7 +64,7 @@ impl From<AllocError> for AsmError {
 }
 
 /// Why an object has no listing.
-#[derive(Clone, Copy, PartialEq, Eq, Debug, Error)]
+#[derive(Clone, Copy, Debug, Error)]
 pub enum ListError {
     /// Its code doesn't decode.
     #[error("the code does not decode")]

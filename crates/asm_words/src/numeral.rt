@@ -4,7 +4,7 @@ ghost use Rattle.asm_words.specs.Numbers.{is_numeral, natural_of, negative_of, n
 ghost use Rattle.asm_words.specs.Numbers.{distance_of};
 
 /// A number as a text writes it.
-#[derive(Clone, Copy, PartialEq, Eq, Debug)]
+#[derive(Clone, Copy)]
 pub enum Numeral {
     /// From 0 to 2^64 - 1.
     Natural(u64),

@@ -36,7 +36,7 @@ pub struct Inner<'a> {
 }
 
 /// What an AS-external-LSA advertises about a destination (RFC 2328, section A.4.5).
-#[derive(Clone, Copy, Debug)]
+#[derive(Clone, Copy)]
 pub struct ExternalAdvertisement {
     pub prefix: Prefix,
     pub originator: RouterId,

@@ -25,7 +25,7 @@ use std::cmp::Ordering;
 use words::{Key, RouterId};
 
 /// A reachable router, with the flags of its router-LSA.
-#[derive(Clone, Copy, Debug)]
+#[derive(Clone, Copy)]
 pub struct Flagged {
     pub router: RouterId,
     pub flags: u8,

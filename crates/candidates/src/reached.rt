@@ -15,7 +15,7 @@ use words::RouterId;
 /// The nodes of a database, and the ways to those that walks from the root lead to, as `walk` found
 /// them. It doesn't refer to the database, so it is valid while the LSAs of types 1 and 2 say the
 /// same. Contracts see the lists of both, the nodes sorted.
-#[derive(Debug, Drop)]
+#[derive(Drop)]
 pub struct Reached {
     nodes: Vec<Node>,
     slots: Slots,

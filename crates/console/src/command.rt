@@ -13,7 +13,7 @@ use std::alloc::{AllocError, Global};
 use words::{External, ExternalType, Prefix};
 
 /// A command of the operator.
-#[derive(Clone, Copy, Debug, PartialEq, Eq)]
+#[derive(Clone, Copy, Debug)]
 pub enum Command<'a> {
     /// Attach the program in the object file at this path to its hook.
     Attach(&'a str),

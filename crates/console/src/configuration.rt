@@ -19,7 +19,7 @@ use thiserror::Error;
 use words::{Address, RouterId, Sequence};
 
 /// An interface from a line of a configuration.
-#[derive(Clone, Copy, Debug, PartialEq, Eq)]
+#[derive(Clone, Copy, Debug)]
 pub struct ConfiguredInterface {
     /// Its network and its parameters.
     pub interface: Interface,
@@ -38,7 +38,7 @@ pub struct Configured {
 }
 
 /// Why a text isn't a configuration. Displayed as the line that is printed.
-#[derive(Debug, Drop, PartialEq, Eq, Error)]
+#[derive(Debug, Drop, Error)]
 pub enum ConfigurationError {
     /// The number of the first wrong line, from 1, or the one after the last if an interface is
     /// missing.

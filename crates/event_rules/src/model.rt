@@ -13,7 +13,7 @@ use words::{RouterId, Second, Sequence};
 /// It is valid if the Router ID isn't 0.0.0.0, the start is below 2^62 seconds, there are 1 to 63
 /// interfaces, no two have the same address, and each interface's numbers are in the ranges that
 /// [`Interface`] gives.
-#[derive(Debug, Drop)]
+#[derive(Drop)]
 pub struct Config {
     /// The router's own Router ID.
     pub router: RouterId,
@@ -40,7 +40,7 @@ impl Config {
 }
 
 /// The bytes of a packet to be sent at the interface with this number.
-#[derive(Debug, Drop)]
+#[derive(Drop)]
 pub struct Out {
     pub interface: u16,
     pub bytes: Sequence<u8>,

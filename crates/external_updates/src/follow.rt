@@ -26,7 +26,7 @@ use words::{Key, Prefix, Route, Second};
 const FEW_CHANGED: usize = 64;
 
 /// The outcome for candidates that were to follow an event.
-#[derive(Clone, Copy, Debug)]
+#[derive(Clone, Copy)]
 pub enum Followed {
     /// Too many LSAs changed, or too many may advertise one destination: the candidates are
     /// useless.

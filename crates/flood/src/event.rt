@@ -7,7 +7,7 @@ use std::alloc::AllocError;
 use words::{Prefix, Sequence};
 
 /// What happens to a router at a moment.
-#[derive(Debug, Drop)]
+#[derive(Drop)]
 pub enum Event {
     /// These bytes were received at the interface with this number.
     Packet(u16, Sequence<u8>),

@@ -17,7 +17,7 @@ use words::{MAX_AGE, Second, SequenceNumber};
 
 /// The case of an LSA in a received Link State Update: the first of the table that applies (RFC
 /// 2328, section 13).
-#[derive(Clone, Copy, Debug)]
+#[derive(Clone, Copy)]
 pub enum Case {
     /// At MaxAge, without a database copy, and no neighbor is in Exchange or Loading: nothing to
     /// flush.
@@ -41,7 +41,7 @@ pub enum Case {
 }
 
 /// The tests that distinguish the cases, in order.
-#[derive(Clone, Copy, Debug)]
+#[derive(Clone, Copy)]
 pub struct Tests {
     nothing_to_flush: bool,
     too_soon: bool,

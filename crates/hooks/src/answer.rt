@@ -7,7 +7,7 @@ use words::{External, Route, Second};
 
 /// The answer of `tag` on an external destination at a moment: the word of a run of an accepted
 /// program, or the configured tag.
-#[derive(Clone, Copy, Debug, PartialEq, Eq)]
+#[derive(Clone, Copy)]
 pub struct TagAnswer {
     external: External,
     moment: Second,
@@ -75,7 +75,7 @@ impl TagAnswer {
 
 /// The answer of `price` on an external destination at a moment: the word of a run of an accepted
 /// program, or the configured metric.
-#[derive(Clone, Copy, Debug, PartialEq, Eq)]
+#[derive(Clone, Copy)]
 pub struct PriceAnswer {
     external: External,
     moment: Second,
@@ -135,7 +135,7 @@ impl PriceAnswer {
 }
 
 /// The answer of `veto` on a route at a moment: the word of a run of an accepted program, or 0.
-#[derive(Clone, Copy, Debug, PartialEq, Eq)]
+#[derive(Clone, Copy)]
 pub struct VetoAnswer {
     route: Route,
     moment: Second,

@@ -25,7 +25,7 @@ pub struct Asker {
 }
 
 /// The word of a run, or the default.
-#[derive(Clone, Copy, PartialEq, Eq, Debug)]
+#[derive(Clone, Copy)]
 pub struct HookAnswer {
     pub(crate) word: u64,
 }

@@ -3,7 +3,7 @@ use std::alloc::AllocError;
 use thiserror::Error;
 
 /// Why [`programs`](crate::programs) made no loader and no askers.
-#[derive(Debug, Clone, Copy, PartialEq, Eq, Error)]
+#[derive(Debug, Clone, Copy, Error)]
 pub enum HookError {
     /// The number of askers is 0, or more than [`ASKERS`](crate::ASKERS).
     #[error("a loader has 1 to 64 askers")]

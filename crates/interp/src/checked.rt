@@ -40,7 +40,7 @@ pub fn run_checked(
 }
 
 /// A checked run, and the state at its end.
-#[derive(Clone, Copy, Debug)]
+#[derive(Clone, Copy)]
 pub struct Halt {
     /// The answer, or why there is none.
     pub outcome: Result<Run, Trap>,

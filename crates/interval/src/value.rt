@@ -9,7 +9,7 @@ use crate::span::Span;
 ///
 /// A signed bound is stored biased, as the signed number plus 2^63, so that the order of biased
 /// numbers is the signed order: 0 stands for the least signed number, 2^63 for 0.
-#[derive(Clone, Copy, Debug, PartialEq, Eq)]
+#[derive(Clone, Copy)]
 pub struct Interval {
     pub(crate) unsigned: Span,
     pub(crate) signed: Span,

@@ -21,7 +21,7 @@ pub enum BuildError {
 }
 
 /// The instructions of a program so far, as their slots: 0 to 4096 of them.
-#[derive(Debug, Drop)]
+#[derive(Drop)]
 pub struct CodeBuilder {
     slots: Vec<Slot>,
 }

@@ -6,7 +6,7 @@ use std::marker::Model;
 pub const MOST_SLOTS: usize = 4096;
 
 /// Eight bytes of the code.
-#[derive(Clone, Copy, PartialEq, Eq, Debug)]
+#[derive(Clone, Copy, PartialEq, Eq)]
 pub enum Slot {
     /// The first, or only, slot of an instruction.
     Start(Instruction),
@@ -15,7 +15,7 @@ pub enum Slot {
 }
 
 /// A program's code: from 1 to 4096 slots, in which each wide instruction has its second half.
-#[derive(Debug, Drop)]
+#[derive(Drop)]
 pub struct Code {
     slots: Vec<Slot>,
 }

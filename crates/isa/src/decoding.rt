@@ -23,7 +23,7 @@ use std::alloc::Global;
 use thiserror::Error;
 
 /// Why bytes aren't code.
-#[derive(Clone, Copy, PartialEq, Eq, Debug, Error)]
+#[derive(Clone, Copy, Debug, Error)]
 pub enum DecodeFault {
     /// There are no bytes, or not whole slots of them.
     #[error("the code is not of whole slots")]
@@ -70,7 +70,7 @@ impl DecodeFault {
 
 /// The first fault and its slot. A fault in a wide instruction's second slot counts for its first
 /// one; `Length`, `TooLong` and `Memory` are reported at slot 0.
-#[derive(Clone, Copy, PartialEq, Eq, Debug, Error)]
+#[derive(Clone, Copy, Debug, Error)]
 #[error("slot {slot}: {kind}")]
 pub struct DecodeError {
     pub slot: usize,

@@ -2,7 +2,7 @@
 use std::alloc::AllocError;
 
 /// The fields of a slot, each as the number of its bits.
-#[derive(Clone, Copy, Debug)]
+#[derive(Clone, Copy)]
 pub struct Fields {
     pub opcode: u8,
     pub target: u8,

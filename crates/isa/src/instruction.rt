@@ -2,14 +2,14 @@
 use crate::register::Register;
 
 /// How many of a register's bits an instruction works on.
-#[derive(Clone, Copy, PartialEq, Eq, Debug)]
+#[derive(Clone, Copy, PartialEq, Eq)]
 pub enum Width {
     Bits32,
     Bits64,
 }
 
 /// What an arithmetic instruction does with its two operands.
-#[derive(Clone, Copy, PartialEq, Eq, Debug)]
+#[derive(Clone, Copy, PartialEq, Eq)]
 pub enum Operation {
     Add,
     Subtract,
@@ -28,7 +28,7 @@ pub enum Operation {
 }
 
 /// The comparison that a conditional jump makes.
-#[derive(Clone, Copy, PartialEq, Eq, Debug)]
+#[derive(Clone, Copy, PartialEq, Eq)]
 pub enum Test {
     Equal,
     Greater,
@@ -44,14 +44,14 @@ pub enum Test {
 }
 
 /// The second operand: a number in the instruction, or a register.
-#[derive(Clone, Copy, PartialEq, Eq, Debug)]
+#[derive(Clone, Copy, PartialEq, Eq)]
 pub enum Source {
     Immediate(i32),
     Register(Register),
 }
 
 /// A sign-extending move (MOVSX), from its size to that of the destination.
-#[derive(Clone, Copy, PartialEq, Eq, Debug)]
+#[derive(Clone, Copy, PartialEq, Eq)]
 pub enum Extension {
     Byte(Width),
     Half(Width),
@@ -59,7 +59,7 @@ pub enum Extension {
 }
 
 /// What an END instruction does with the low bytes of a register.
-#[derive(Clone, Copy, PartialEq, Eq, Debug)]
+#[derive(Clone, Copy, PartialEq, Eq)]
 pub enum ByteOrder {
     Little,
     Big,
@@ -67,7 +67,7 @@ pub enum ByteOrder {
 }
 
 /// How many bits an END instruction keeps.
-#[derive(Clone, Copy, PartialEq, Eq, Debug)]
+#[derive(Clone, Copy, PartialEq, Eq)]
 pub enum SwapWidth {
     Bits16,
     Bits32,
@@ -75,7 +75,7 @@ pub enum SwapWidth {
 }
 
 /// What a load reads, and how it fills the register.
-#[derive(Clone, Copy, PartialEq, Eq, Debug)]
+#[derive(Clone, Copy, PartialEq, Eq)]
 pub enum LoadSize {
     Unsigned8,
     Unsigned16,
@@ -87,7 +87,7 @@ pub enum LoadSize {
 }
 
 /// How many bits a store writes.
-#[derive(Clone, Copy, PartialEq, Eq, Debug)]
+#[derive(Clone, Copy, PartialEq, Eq)]
 pub enum StoreSize {
     Bits8,
     Bits16,
@@ -96,7 +96,7 @@ pub enum StoreSize {
 }
 
 /// One instruction. A jump's distance counts slots from the slot after the jump.
-#[derive(Clone, Copy, PartialEq, Eq, Debug)]
+#[derive(Clone, Copy, PartialEq, Eq)]
 pub enum Instruction {
     Arithmetic {
         width: Width,

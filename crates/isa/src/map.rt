@@ -4,7 +4,7 @@ ghost use Rattle.isa.specs.declared.map.Map.{Map};
 ghost use Rattle.isa.specs.Maps.{map_number};
 
 /// One of the two maps: counters that all seats share, or cells of the running seat's own.
-#[derive(Clone, Copy, PartialEq, Eq, Debug)]
+#[derive(Clone, Copy, PartialEq, Eq)]
 pub enum Map {
     /// 256 counters of 64 bits, summed over all seats. Programs only read them through this map.
     Counters,

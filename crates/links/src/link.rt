@@ -6,7 +6,7 @@ use std::alloc::Global;
 use words::{Second, Sequence};
 
 /// A link failed, for an unknown cause.
-#[derive(Clone, Copy, Debug, PartialEq, Eq)]
+#[derive(Clone, Copy, PartialEq, Eq)]
 pub struct LinkFault {}
 
 /// The links over which a worker receives and sends. It counts its faults: each call that failed,

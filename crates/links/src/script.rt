@@ -8,7 +8,7 @@ use std::sync::atomic::{AtomicBool, Ordering};
 use words::{Second, Sequence};
 
 /// The result of a call of the link.
-#[derive(Debug, Drop)]
+#[derive(Drop)]
 pub enum Answer {
     /// These bytes were received, or what was to be sent was sent.
     Datagram(Sequence<u8>),
@@ -19,7 +19,7 @@ pub enum Answer {
 }
 
 // An answer without its bytes, which are at this index.
-#[derive(Clone, Copy, Debug, PartialEq, Eq)]
+#[derive(Clone, Copy, PartialEq, Eq)]
 enum Played {
     Datagram(usize),
     Nothing,

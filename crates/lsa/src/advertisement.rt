@@ -19,7 +19,7 @@ use std::marker::Model;
 
 /// A link state advertisement: its header and its body. Its encoding is valid, and its checksum is
 /// correct. Clauses see the record of both.
-#[derive(Debug, Drop)]
+#[derive(Drop)]
 pub struct Lsa {
     header: Header,
     body: LsaBody,

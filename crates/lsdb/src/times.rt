@@ -2,7 +2,7 @@
 use words::Second;
 
 /// What may change for a copy while its LSA stays the same.
-#[derive(Clone, Copy, Debug)]
+#[derive(Clone, Copy)]
 pub struct CopyTimes {
     /// Its age at the moment `stored`, in seconds, at most 3600.
     pub age: u16,

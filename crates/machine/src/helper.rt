@@ -3,7 +3,7 @@ use isa::Hook;
 
 /// A function that programs may call (RFC 9669, section 4.3.1). It takes its arguments from r1 on
 /// and returns its answer in r0.
-#[derive(Clone, Copy, PartialEq, Eq, Debug)]
+#[derive(Clone, Copy, PartialEq, Eq)]
 pub enum Helper {
     /// 1, at every hook: adds an amount below 2^24 to a counter below 256. Returns 0, or 1 if the
     /// seat has used up its additions, in which case nothing is added.

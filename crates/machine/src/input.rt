@@ -6,7 +6,7 @@ use words::TableRow;
 ///
 /// It belongs to a hook if the first four bytes of the context, in little-endian order, are the
 /// hook's number.
-#[derive(Clone, Copy, Debug)]
+#[derive(Clone, Copy)]
 pub struct Input<'a> {
     /// The bytes that r1 points to at the start; programs can only read them.
     pub context: [u8; 64],

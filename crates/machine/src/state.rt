@@ -3,7 +3,7 @@ use isa::Map;
 
 /// A region and an offset in bytes. The offset may be out of bounds: only loads and stores are
 /// checked.
-#[derive(Clone, Copy, PartialEq, Eq, Debug)]
+#[derive(Clone, Copy)]
 pub enum Pointer {
     /// Into the 64 bytes of the context, which are read-only.
     Context(u64),
@@ -14,7 +14,7 @@ pub enum Pointer {
 }
 
 /// What a register holds.
-#[derive(Clone, Copy, PartialEq, Eq, Debug)]
+#[derive(Clone, Copy)]
 pub enum Content {
     /// Empty: not written yet, or cleared by a call.
     Nothing,
@@ -25,7 +25,7 @@ pub enum Content {
 }
 
 /// What a byte of the stack holds.
-#[derive(Clone, Copy, PartialEq, Eq, Debug)]
+#[derive(Clone, Copy)]
 pub enum StackByte {
     /// Empty: not written yet.
     Nothing,
@@ -36,7 +36,7 @@ pub enum StackByte {
 }
 
 /// The state of the machine between two instructions.
-#[derive(Clone, Copy, Debug)]
+#[derive(Clone, Copy)]
 pub struct State {
     /// The slot of the next instruction.
     pub slot: u64,

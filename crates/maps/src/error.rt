@@ -3,7 +3,7 @@ use std::alloc::{AllocError, AllocFailed};
 use thiserror::Error;
 
 /// Why [`Shared::new`](crate::Shared::new) made no table.
-#[derive(Debug, Clone, Copy, PartialEq, Eq, Error)]
+#[derive(Debug, Clone, Copy, Error)]
 pub enum MapsError {
     /// The number of seats is 0, or more than [`SEATS`](crate::SEATS).
     #[error("a table has 1 to 64 seats")]

@@ -9,7 +9,7 @@ use thiserror::Error;
 /// Why bytes are not an object file: the first test that fails. In order: `Short` for the header,
 /// `Magic`, `Version`, `Hook`, `Field` for the number of slots, `Short` for the rest, `Trailing`,
 /// and then `Order` and `Field` for each statement in turn.
-#[derive(Clone, Copy, Debug, PartialEq, Eq, Error)]
+#[derive(Clone, Copy, Debug, Error)]
 pub enum ObjectError {
     /// Fewer than 16 bytes, or fewer than the header announces.
     #[error("the file is too short")]

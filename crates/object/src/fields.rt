@@ -56,7 +56,7 @@ fn put_u64(out: &mut Vec<u8>, number: u64) -> Result<(), AllocError>
 }
 
 /// The numbers in a register's 40 bytes.
-#[derive(Clone, Copy, Debug)]
+#[derive(Clone, Copy)]
 pub struct RegisterFields {
     pub kind: u8,
     pub map: u8,
@@ -117,7 +117,7 @@ impl RegisterFields {
 }
 
 /// The numbers in the first 20 bytes of a statement.
-#[derive(Clone, Copy, Debug)]
+#[derive(Clone, Copy)]
 pub struct RankFields {
     pub slot: u32,
     pub constant: u32,
@@ -163,7 +163,7 @@ impl RankFields {
 }
 
 /// The numbers after the first four bytes of a header.
-#[derive(Clone, Copy, Debug)]
+#[derive(Clone, Copy)]
 pub struct HeaderFields {
     pub version: u8,
     pub hook: u8,

@@ -4,7 +4,7 @@ use crate::offset::{ContextOffset, StackOffset};
 use isa::Map;
 
 /// What a statement says that a register holds.
-#[derive(Clone, Copy, PartialEq, Eq, Debug)]
+#[derive(Clone, Copy, PartialEq, Eq)]
 pub enum StatedKind {
     /// Anything, or nothing: the program writes the register before it reads it.
     Empty,

@@ -6,7 +6,7 @@ use std::marker::Model;
 
 /// The numbers from `low` to `high` whose bits under `mask` are those of `value`. `low` is at most
 /// `high`, and `value` has no bit outside `mask`. Contracts see the record of all four.
-#[derive(Clone, Copy, PartialEq, Eq, Debug)]
+#[derive(Clone, Copy, PartialEq, Eq)]
 pub struct StatedNumber {
     low: u64,
     high: u64,

@@ -8,7 +8,7 @@ use std::marker::Model;
 
 /// A program as a file has it: 1 to 4096 slots of code, not decoded here, and statements at some of
 /// them in the order of their slots. Contracts see the record of its parts, the code as its bytes.
-#[derive(Debug, Drop)]
+#[derive(Drop)]
 pub struct Object {
     hook: Hook,
     entry_rank: u32,

@@ -4,7 +4,7 @@ ghost use Rattle.std.specs.Prelude.{◌≡◌, ◌≤◌, ◌↔◌, IfSome, IsS
 use std::marker::Model;
 
 /// A place in the context or at its end, 0 to 64. Contracts see the number.
-#[derive(Clone, Copy, PartialEq, Eq, Debug)]
+#[derive(Clone, Copy, PartialEq, Eq)]
 pub struct ContextOffset {
     place: u32,
 }
@@ -44,7 +44,7 @@ impl ContextOffset {
 }
 
 /// A place in the stack or at its end, 0 to 512. Contracts see the number.
-#[derive(Clone, Copy, PartialEq, Eq, Debug)]
+#[derive(Clone, Copy, PartialEq, Eq)]
 pub struct StackOffset {
     bytes: u32,
 }

@@ -5,7 +5,7 @@ ghost use Rattle.object.specs.Numbers.{Term, IsTerm};
 use std::marker::Model;
 
 /// The number in one of r0 to r9 times a coefficient above 0. Contracts see the record of both.
-#[derive(Clone, Copy, PartialEq, Eq, Debug)]
+#[derive(Clone, Copy, PartialEq, Eq)]
 pub struct RankTerm {
     register: u8,
     coefficient: u32,
@@ -62,7 +62,7 @@ impl RankTerm {
 }
 
 /// A constant and up to two terms, whose registers may be the same.
-#[derive(Clone, Copy, PartialEq, Eq, Debug)]
+#[derive(Clone, Copy, PartialEq, Eq)]
 pub struct Rank {
     pub constant: u32,
     pub first: Option<RankTerm>,

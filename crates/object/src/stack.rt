@@ -11,7 +11,7 @@ use std::marker::Model;
 pub const STACK_BYTES: usize = 512;
 
 /// A set of the stack's 512 bytes. Contracts see 512 truth values, that of byte 0 first.
-#[derive(Clone, Copy, PartialEq, Eq, Debug)]
+#[derive(Clone, Copy, PartialEq, Eq)]
 pub struct StackBytes {
     bytes: [bool; 512],
 }

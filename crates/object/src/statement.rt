@@ -11,7 +11,7 @@ use std::marker::Model;
 
 /// What is stated at a slot: what r0 to r9 hold, which stack bytes hold bytes of numbers, and the
 /// rank, over registers that are stated as numbers. Contracts see the record of all four.
-#[derive(Clone, Copy, PartialEq, Eq, Debug)]
+#[derive(Clone, Copy, PartialEq, Eq)]
 pub struct Statement {
     slot: u32,
     rank: Rank,

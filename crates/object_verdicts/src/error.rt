@@ -7,7 +7,7 @@ use thiserror::Error;
 use verifier::Refusal;
 
 /// Why bytes hold no accepted program. Each variant may be a refused allocation.
-#[derive(Clone, Copy, PartialEq, Eq, Debug, Error)]
+#[derive(Clone, Copy, Debug, Error)]
 pub enum VerifyError {
     /// They are not an object file.
     #[error("no object file: {0}")]

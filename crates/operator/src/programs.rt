@@ -42,7 +42,7 @@ impl<'a, R: Files + AllocGlobal> ReadsFiles for SystemFiles<'a, R> {
 }
 
 /// Why no program is attached.
-#[derive(Clone, Copy, Debug, PartialEq, Eq)]
+#[derive(Clone, Copy)]
 pub enum AttachError {
     /// The file can't be opened or read, or is longer than 16 MiB.
     Read,

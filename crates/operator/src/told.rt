@@ -8,7 +8,7 @@ use std::fmt;
 use worker::TurnError;
 
 /// What a line is answered. The text is what is printed.
-#[derive(Debug, Drop)]
+#[derive(Drop)]
 pub enum Told {
     /// A program was published at this hook, which makes at most this number of steps.
     Attached(Hook, u64),

@@ -20,7 +20,7 @@ use std::alloc::{AllocError, Global};
 use words::{External, MIN_LS_INTERVAL, RouterId, Second, external_key, router_key};
 
 /// What happens to a wanted self-originated LSA.
-#[derive(Debug, Drop)]
+#[derive(Drop)]
 pub enum Origination {
     /// The copy has MaxSequenceNumber and is to be flushed first.
     Flushes,

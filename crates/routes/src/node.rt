@@ -2,7 +2,7 @@
 use words::{LinkStateId, RouterId};
 
 /// A router, or a transit network (RFC 2328, section 16.1).
-#[derive(Clone, Copy, Debug, PartialEq, Eq, PartialOrd, Ord)]
+#[derive(Clone, Copy, PartialEq, Eq)]
 pub enum Node {
     /// By its Router ID.
     ARouter(RouterId),

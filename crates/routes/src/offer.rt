@@ -3,7 +3,7 @@ use words::{Hops, Prefix, RouteKind, RouterId};
 
 /// An offer of a path to a network (RFC 2328, sections 16.1 and 16.4). Ordered by prefix, then
 /// better before worse, then by originator and tag.
-#[derive(Clone, Copy, Debug, PartialEq, Eq, PartialOrd, Ord)]
+#[derive(Clone, Copy)]
 pub struct Offer {
     pub prefix: Prefix,
     pub kind: RouteKind,

@@ -3,7 +3,7 @@ use words::{Address, RouterId, Sequence};
 
 /// The router that calculates its table: its Router ID, and the addresses of its interfaces, that
 /// of interface n at index n - 1.
-#[derive(Debug, Drop)]
+#[derive(Drop)]
 pub struct Root {
     pub router: RouterId,
     pub addresses: Sequence<Address>,

@@ -9,7 +9,7 @@ use thiserror::Error;
 /// What a turn sends, and after it what the refresh sends that followed it, if one did.
 ///
 /// They stand apart: to join them could want memory when neither event can be undone any more.
-#[derive(Debug, Drop)]
+#[derive(Drop)]
 pub struct Turned {
     pub outs: Vec<Out>,
     pub refreshed: Option<Vec<Out>>,

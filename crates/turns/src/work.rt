@@ -2,7 +2,7 @@
 use words::{External, Prefix, Sequence};
 
 /// What a turn gives to the router: what came in, what an operator asks for, or the time.
-#[derive(Debug, Drop)]
+#[derive(Drop)]
 pub enum Work {
     /// These bytes came in at the interface of this number.
     Datagram(u16, Sequence<u8>),

@@ -3,7 +3,7 @@ use std::alloc::AllocError;
 use transfer::rule::Rule;
 
 /// The rule that a program breaks, and the slot at which it breaks it.
-#[derive(Clone, Copy, Debug, PartialEq, Eq)]
+#[derive(Clone, Copy, Debug)]
 pub struct Refusal {
     pub slot: usize,
     pub rule: Rule,

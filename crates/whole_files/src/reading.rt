@@ -9,7 +9,7 @@ use std::rt::Files;
 const MOST_BYTES: u64 = 16_777_216;
 
 /// Why a file wasn't read.
-#[derive(Clone, Copy, Debug, PartialEq, Eq)]
+#[derive(Clone, Copy)]
 pub enum ReadFault {
     /// It can't be opened or read, isn't a regular file, or is longer than 16 MiB.
     Unreadable,

@@ -8,7 +8,7 @@ use std::io::ErrorKind;
 use std::rt::Files;
 
 /// Why a file wasn't written.
-#[derive(Clone, Copy, Debug, PartialEq, Eq)]
+#[derive(Clone, Copy)]
 pub enum WriteFault {
     /// It can't be created, written or renamed.
     Unwritable,

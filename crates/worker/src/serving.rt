@@ -20,7 +20,7 @@ use turns::{
 use words::Second;
 
 /// How a worker ended.
-#[derive(Clone, Copy, Debug, PartialEq, Eq)]
+#[derive(Clone, Copy)]
 pub enum Ended {
     /// It was told to end.
     Quit,

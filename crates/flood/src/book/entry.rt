@@ -3,7 +3,7 @@ use crate::event::Event;
 use words::Second;
 
 /// An event and the moment at which it came.
-#[derive(Debug, Drop)]
+#[derive(Drop)]
 pub struct JournalEntry {
     pub moment: Second,
     pub event: Event,
