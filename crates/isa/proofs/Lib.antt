@@ -10,3 +10,4 @@ pub mod Recovered
 pub mod Unique
 pub mod Refused
 pub mod Halves
+pub mod Starts

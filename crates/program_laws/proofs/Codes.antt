@@ -15,6 +15,7 @@ use Rattle.isa.specs.declared.code.Slot.{Slot}
 use Rattle.isa.specs.declared.code.Slot.TheVariants.{Start, SecondHalf}
 use Rattle.isa.specs.Code.{slots_of, is_wide, IsInstruction, AreWhole}
 use Rattle.isa.specs.Flow.{jump_target, slot_at_distance}
+use Rattle.isa.proofs.Starts.{same_instruction}
 use Rattle.annotations.specs.CountedCode.{counted_code, place_of, distance_of, distance_between}
 use Rattle.annotations.specs.CountedCode.{with_distance_if_given, redirected_from, detour, detours}
 use Rattle.annotations.specs.CountedCode.{detour_at}
@@ -70,16 +71,15 @@ whole_of (i ∷ instructions) each =
 pub whole_code : (code : List Slot) → AreWhole code → Whole code
 whole_code code whole = subst Whole (sym whole.slots_are) (whole_of whole.instructions whole.each)
 
-same_start : (a b : Instruction) → Some (Start a) ≡ Some (Start b) → a ≡ b
-same_start a b e = cc
-
 -- the parts of each instruction fit
 pub fits_at : (code : List Slot) → Whole code → (n : ℕ) (i : Instruction) → slice_get code n
     ≡ Some (Start i) → IsInstruction i
 fits_at code End n i e = cc
-fits_at code (Short x fits w rest whole) zero i e = subst IsInstruction (same_start x i e) fits
+fits_at code (Short x fits w rest whole) zero i e =
+    subst IsInstruction (same_instruction x i refl e) fits
 fits_at code (Short x fits w rest whole) (suc n) i e = fits_at rest whole n i e
-fits_at code (Wide x fits w rest whole) zero i e = subst IsInstruction (same_start x i e) fits
+fits_at code (Wide x fits w rest whole) zero i e =
+    subst IsInstruction (same_instruction x i refl e) fits
 fits_at code (Wide x fits w rest whole) (suc zero) i e = cc
 fits_at code (Wide x fits w rest whole) (suc (suc n)) i e = fits_at rest whole n i e
 
@@ -136,7 +136,7 @@ module _ (slots : ℕ) (heads : List ℕ) where
   here x i first n none e =
       at_place x first (first + n) (omega arith)
       ∙ ap (λ (y : Instruction). Some (Start (redirected slots heads (first + n) y)))
-      (same_start x i e)
+      (same_instruction x i refl e)
 
   -- each instruction of the code is in the counted code, redirected
   pub stands_at : (code : List Slot) → Whole code → (first n : ℕ) (i : Instruction)

@@ -3,11 +3,11 @@ use Rattle.std.proofs.Common.{◌≡◌, ℕ, zero, suc, ◌<◌, Bool, true, fa
 use Rattle.std.proofs.Common.{Some, None, IsSome, inl, ⊎_elim, refl, sym, subst, eqb-true}
 use Rattle.std.proofs.Common.{arith}
 use Rattle.std.specs.Prelude.{◌==◌, ℤ, pos}
-use Rattle.isa.specs.declared.code.Slot.TheVariants.{Start}
 use Rattle.isa.specs.declared.hook.Hook.{Hook}
 use Rattle.isa.specs.declared.instruction.Instruction.{Instruction}
 use Rattle.isa.specs.declared.instruction.Instruction.TheVariants.{Call, Exit}
 use Rattle.isa.specs.Flow.{Begins, BeginsAt, jump_target, slot_after}
+use Rattle.isa.proofs.Starts.{same_instruction}
 use Rattle.machine.specs.Faults.{writes_frame}
 use Rattle.machine.specs.Helpers.{helper_of}
 use Rattle.transfer.specs.declared.rule.Rule.{Rule}
@@ -30,16 +30,13 @@ none_is_some is = cc
 some_is_one : {A : Type 0} {x y : A} → Some x ≡ Some y → x ≡ y
 some_is_one is = cc
 
-started : (i j : Instruction) → Some (Start i) ≡ Some (Start j) → i ≡ j
-started i j is = cc
-
 -- ---- `r0 = 7; exit`
 
 -- a property of its two instructions is one of each instruction that begins at a slot
 each : (P : ℕ → Instruction → Type 0) → P 0 seven → P 1 Exit → (slot : ℕ) (i : Instruction)
     → BeginsAt i (then_exit seven) slot → P slot i
-each P first second zero i at = subst (λ k. P 0 k) (started seven i at) first
-each P first second (suc zero) i at = subst (λ k. P 1 k) (started Exit i at) second
+each P first second zero i at = subst (λ k. P 0 k) (same_instruction seven i refl at) first
+each P first second (suc zero) i at = subst (λ k. P 1 k) (same_instruction Exit i refl at) second
 each P first second (suc (suc slot)) i at = absurd (none_is_some at)
 
 jumps_not : (slot : ℕ) (i : Instruction) → BeginsAt i (then_exit seven) slot → (to : ℕ)
@@ -108,13 +105,14 @@ named_of_straight hook slot rules.Memory may = may
 
 of_jumping : (P : ℕ → Instruction → Type 0) → P 0 seven → P 1 (test_by 1) → P 2 Exit → P 3 Exit
     → (slot : ℕ) (i : Instruction) → BeginsAt i jumping_code slot → P slot i
-of_jumping P first second third fourth zero i at = subst (λ k. P 0 k) (started seven i at) first
+of_jumping P first second third fourth zero i at =
+    subst (λ k. P 0 k) (same_instruction seven i refl at) first
 of_jumping P first second third fourth (suc zero) i at =
-    subst (λ k. P 1 k) (started (test_by 1) i at) second
+    subst (λ k. P 1 k) (same_instruction (test_by 1) i refl at) second
 of_jumping P first second third fourth (suc (suc zero)) i at =
-    subst (λ k. P 2 k) (started Exit i at) third
+    subst (λ k. P 2 k) (same_instruction Exit i refl at) third
 of_jumping P first second third fourth (suc (suc (suc zero))) i at =
-    subst (λ k. P 3 k) (started Exit i at) fourth
+    subst (λ k. P 3 k) (same_instruction Exit i refl at) fourth
 of_jumping P first second third fourth (suc (suc (suc (suc slot)))) i at = absurd (none_is_some at)
 
 jumps_to_third : (slot : ℕ) (i : Instruction) → BeginsAt i jumping_code slot → (to : ℕ)
@@ -224,8 +222,8 @@ named_of_sound = record { straight = named_of_straight; jumping = named_of_jumpi
 
 of_call : (P : Instruction → Type 0) → P (Call (pos 1)) → P Exit → (slot : ℕ) (i : Instruction)
     → BeginsAt i (then_exit (Call (pos 1))) slot → P i
-of_call P first second zero i at = subst P (started (Call (pos 1)) i at) first
-of_call P first second (suc zero) i at = subst P (started Exit i at) second
+of_call P first second zero i at = subst P (same_instruction (Call (pos 1)) i refl at) first
+of_call P first second (suc zero) i at = subst P (same_instruction Exit i refl at) second
 of_call P first second (suc (suc slot)) i at = absurd (none_is_some at)
 
 call_is : (a b : ℤ) → Call a ≡ Call b → a ≡ b
@@ -255,9 +253,12 @@ named_aptly = record {
 
 of_three : (P : ℕ → Instruction → Type 0) → P 0 seven → P 1 test_on → P 2 Exit
     → (slot : ℕ) (i : Instruction) → BeginsAt i unstated_code slot → P slot i
-of_three P first second third zero i at = subst (λ k. P 0 k) (started seven i at) first
-of_three P first second third (suc zero) i at = subst (λ k. P 1 k) (started test_on i at) second
-of_three P first second third (suc (suc zero)) i at = subst (λ k. P 2 k) (started Exit i at) third
+of_three P first second third zero i at =
+    subst (λ k. P 0 k) (same_instruction seven i refl at) first
+of_three P first second third (suc zero) i at =
+    subst (λ k. P 1 k) (same_instruction test_on i refl at) second
+of_three P first second third (suc (suc zero)) i at =
+    subst (λ k. P 2 k) (same_instruction Exit i refl at) third
 of_three P first second third (suc (suc (suc slot))) i at = absurd (none_is_some at)
 
 jumps_to : (slot : ℕ) (i : Instruction) → BeginsAt i unstated_code slot → (to : ℕ)

@@ -6,9 +6,9 @@ use Rattle.std.proofs.lemmas.Bool.{cases_lt}
 use Rattle.std.proofs.lemmas.Option.{none-some, slice_get_past}
 use Rattle.object.specs.Statements.{StatementParts}
 use Rattle.isa.specs.declared.code.Slot.{Slot}
-use Rattle.isa.specs.declared.code.Slot.TheVariants.{Start}
 use Rattle.isa.specs.declared.instruction.Instruction.{Instruction}
 use Rattle.isa.specs.Flow.{Begins, BeginsAt, size, jump_target, slot_after}
+use Rattle.isa.proofs.Starts.{same_instruction}
 use Rattle.kinds.specs.declared.statement.SegmentStart.{SegmentStart}
 use Rattle.segments.specs.Places.{goes_on, target_at}
 use Rattle.segments.specs.Stated.{statement_at, AreTargets}
@@ -24,11 +24,6 @@ some_and (Some x) p = (x, refl, p)
 if_some : {A : Type 0} (P : A → Type 0) (o : Option A) (x : A) → IfSome o P → o ≡ Some x → P x
 if_some P None x p some = cc
 if_some P (Some y) x p some = let same : y ≡ x = cc in subst P same p
-
--- at most one instruction begins at a slot
-pub same_instruction : {slot : Option Slot} (i j : Instruction) → slot ≡ Some (Start i)
-    → slot ≡ Some (Start j) → i ≡ j
-same_instruction i j first second = cc
 
 -- a slot where an instruction begins is in the code
 pub inside_code : (code : List Slot) (slot : ℕ) → Begins code slot → slot < length code

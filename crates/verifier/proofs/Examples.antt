@@ -24,7 +24,7 @@ use Rattle.segments.specs.Places.{goes_on}
 use Rattle.segments.specs.Plain.{LeadsTo}
 use Rattle.segments.specs.Refusals.{IsStray, IsWellMade, JumpsNowhere}
 use Rattle.segments.specs.Stated.{statement_at}
-use Rattle.segments.proofs.Made.{same_instruction}
+use Rattle.isa.proofs.Starts.{same_instruction}
 use Rattle.segments.proofs.Plain.{never}
 use Rattle.verifier.specs.Examples.{then_exit, endless_code, move_of, only_seven, says, says_byte}
 use Rattle.verifier.specs.Examples.{says_term, seven, test_on, tested_code}
@@ -40,7 +40,8 @@ stated_at_exit = says 2 any_number 0 ∷ []
 each : (P : ℕ → Instruction → Type 0) → P 0 seven → P 1 test_on → P 2 instructions.Exit
     → (slot : ℕ) (i : Instruction) → BeginsAt i tested_code slot → P slot i
 each P first second third zero i at = subst (λ k. P 0 k) (same_instruction seven i refl at) first
-each P first second third (suc zero) i at = subst (λ k. P 1 k) (same_instruction test_on i refl at) second
+each P first second third (suc zero) i at =
+    subst (λ k. P 1 k) (same_instruction test_on i refl at) second
 each P first second third (suc (suc zero)) i at =
     subst (λ k. P 2 k) (same_instruction instructions.Exit i refl at) third
 each P first second third (suc (suc (suc slot))) i at = absurd (none-some _ at)

@@ -35,7 +35,7 @@ use Rattle.segments.specs.Places.{segment_of, target_at}
 use Rattle.segments.specs.Plain.{AsksAtMost, IsFilledBehind, IsPlainEdge, MayEnter}
 use Rattle.segments.specs.Refusals.{IsPlaceRefusal, IsWellMade}
 use Rattle.segments.specs.Stated.{IsTargetOf, statement_at}
-use Rattle.segments.proofs.Made.{same_instruction}
+use Rattle.isa.proofs.Starts.{same_instruction}
 use Rattle.segments.proofs.Targets.{stated_of, target_of_statement, unstated_of}
 use Rattle.verifier.specs.Plain.{IsEdge, IsFilledAfter, IsFilledAt, is_stated, stays, is_written}
 use Rattle.verifier.specs.Plain.{IsNumberIn, IsPlainStatement, at_entry, at_statement, goes_behind}

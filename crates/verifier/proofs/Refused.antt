@@ -22,7 +22,7 @@ use Rattle.segments.specs.Stated.{statement_at, AreTargets}
 use Rattle.segments.specs.Refusals.{JumpsNowhere, IsStray, LacksHelperAt, IsWellMade, IsFirst}
 use Rattle.segments.specs.Refusals.{IsFirstHere, IsPassedTo, IsPlaceRefusal, IsOfEdge, MayFollow}
 use Rattle.segments.specs.Refusals.{MayRefuse}
-use Rattle.segments.proofs.Made.{same_instruction}
+use Rattle.isa.proofs.Starts.{same_instruction}
 use Rattle.segments.proofs.Targets.{none_isn't_some, stated_of, unstated_of}
 use Rattle.verifier.proofs.SegmentLemmas.{none_between, size_some, sizes}
 

@@ -22,7 +22,7 @@ use Rattle.segments.specs.Places.{segment_of, target_at}
 use Rattle.segments.specs.Segments.{Visits, at_entry, at_target, falls, Enters, EntersNext, LeadsOn}
 use Rattle.segments.specs.Segments.{IsFine, Knows, FallsThrough, IsFollowed, IsCurrent}
 use Rattle.segments.specs.Segments.{IsCurrentUnlessStated}
-use Rattle.segments.proofs.Made.{same_instruction}
+use Rattle.isa.proofs.Starts.{same_instruction}
 
 -- an instruction takes one slot or two
 pub sizes : (wide : Bool) (i : Instruction) → is_wide i ≡ wide
