@@ -7,7 +7,8 @@ ghost use Rattle.machine.specs.declared.state.Content.TheVariants.{Number, Addre
 ghost use Rattle.machine.specs.declared.state.Pointer.TheVariants as pointers;
 ghost use Rattle.machine.specs.State.{held, operand, with_register};
 ghost use Rattle.machine.specs.Label.{Silent};
-ghost use Rattle.machine.specs.Steps.{Fills, result_of, on_number, map_of};
+ghost use Rattle.isa.specs.Maps.{map_of};
+ghost use Rattle.machine.specs.Steps.{Fills, result_of, on_number};
 ghost use Rattle.machine.specs.Faults.{operation_reads};
 ghost use Rattle.interp.specs.Classes.{fault_of_fill, fault_of_change, fault_of_target};
 ghost use Rattle.interp.specs.Classes.{fault_of_map};
@@ -150,16 +151,6 @@ pub(crate) fn load_number(state: &mut State, target: Register, number: u64) -> R
     Ok(())
 }
 
-fn map_of(number: i32) -> Option<Map>
-    ensures { result ≡ map_of number }
-{
-    match number {
-        0 => Some(Map::Counters),
-        1 => Some(Map::Cells),
-        _ => None,
-    }
-}
-
 /// LDDW of a pointer into a map.
 pub(crate) fn load_map(
     state: &mut State,
@@ -174,7 +165,7 @@ pub(crate) fn load_map(
     ensures err { IfErr result (λ fault. fault_of_map (map_of map) target ≡ Some fault) }
     ensures still { OnErr result (state.new ≡ state.old) }
 {
-    let Some(map) = map_of(map) else {
+    let Some(map) = Map::from_immediate(map) else {
         return Err(Fault::Kind);
     };
     if target.index() == 10 {

@@ -1,7 +1,7 @@
 //! The two maps.
 ghost use Rattle.std.specs.Prelude.{◌≡◌, IfSome, Some};
 ghost use Rattle.isa.specs.declared.map.Map.{Map};
-ghost use Rattle.isa.specs.Maps.{map_number};
+ghost use Rattle.isa.specs.Maps.{map_number, map_of};
 
 /// One of the two maps: counters that all seats share, or cells of the running seat's own.
 #[derive(Clone, Copy, PartialEq, Eq)]
@@ -33,5 +33,16 @@ impl Map {
             1 => Some(Map::Cells),
             _ => None,
         }
+    }
+
+    /// The map with this number, which is an instruction's imm, if there is one.
+    pub fn from_immediate(number: i32) -> Option<Map>
+        ensures value { result ≡ map_of number }
+    {
+        Some(match number {
+            0 => Map::Counters,
+            1 => Map::Cells,
+            _ => return None,
+        })
     }
 }
