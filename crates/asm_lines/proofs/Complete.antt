@@ -32,7 +32,7 @@ use Rattle.asm_lines.specs.declared.line.RegisterContent.TheVariants as contents
 use Rattle.asm_words.specs.Numbers.{number_of, distance_of}
 use Rattle.asm_words.specs.Words.{hook_word, operation_word, test_word, load_word, store_word}
 use Rattle.asm_words.specs.Words.{reorder_word, register_word, register_table, register_of}
-use Rattle.asm_words.specs.Words.{extension_word, extension_width, Word}
+use Rattle.asm_words.specs.Words.{extension_word, Word}
 use Rattle.asm_lines.specs.Forms.{Exactly, Number, Definition, Matches, Spells, the_register}
 use Rattle.asm_lines.specs.Forms.{the_operand, the_target, the_slot, is_label, IsOperand}
 use Rattle.asm_words.specs.Names.{is_letter, is_name}
@@ -42,6 +42,7 @@ use Rattle.asm_lines.specs.Reading.{four, five, six, seven, eight, ten, range_of
 use Rattle.std.specs.Char.{is_ascii_digit}
 use Rattle.isa.specs.declared.instruction.Extension.TheVariants as extensions
 use Rattle.isa.specs.declared.instruction.LoadSize.TheVariants as loads
+use Rattle.isa.specs.Shapes.{extension_width}
 use Rattle.asm_words.proofs.Numbers.{both}
 use Rattle.asm_lines.proofs.Tokens.{hook_again, operation_again, test_again, load_again}
 use Rattle.asm_lines.proofs.Tokens.{store_again, register_again, not_equal, not_in_table}

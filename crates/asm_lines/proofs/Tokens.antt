@@ -22,10 +22,11 @@ use Rattle.isa.specs.declared.instruction.LoadSize.{LoadSize}
 use Rattle.isa.specs.declared.instruction.LoadSize.TheVariants as loads
 use Rattle.isa.specs.declared.instruction.StoreSize.{StoreSize}
 use Rattle.isa.specs.declared.instruction.StoreSize.TheVariants as stores
+use Rattle.isa.specs.Shapes.{extension_width}
 use Rattle.asm_words.specs.Words.{Word, first_match, hook_word, hook_of, operation_word}
 use Rattle.asm_words.specs.Words.{operation_of, test_word, test_of, load_word, load_of, store_word}
 use Rattle.asm_words.specs.Words.{store_of, reorder_word, reorder_of, register_word, register_of}
-use Rattle.asm_words.specs.Words.{extension_word, extension_of, extension_width}
+use Rattle.asm_words.specs.Words.{extension_word, extension_of}
 use Rattle.asm_words.proofs.Numbers.{both}
 
 pub operation_again : (x : Operation) → operation_of (operation_word x) ≡ Some x

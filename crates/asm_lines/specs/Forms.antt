@@ -3,6 +3,7 @@
 use Rattle.std.specs.Prelude.{◌≡◌, ℕ, Bool, true, false, ◌≤◌, List, [], ◌∷◌, ◌++◌, Some, codes}
 use Rattle.isa.specs.declared.instruction.Width.{Width}
 use Rattle.isa.specs.declared.instruction.Width.TheVariants.{Bits64}
+use Rattle.isa.specs.Shapes.{extension_width}
 use Rattle.asm_words.specs.declared.numeral.Numeral.{Numeral}
 use Rattle.asm_lines.specs.declared.line.AssemblyLine.{AssemblyLine}
 use Rattle.asm_lines.specs.declared.line.AssemblyLine.TheVariants as lines
@@ -19,7 +20,7 @@ use Rattle.asm_lines.specs.declared.line.RegisterContent.TheVariants as contents
 use Rattle.asm_words.specs.Numbers.{number_of, distance_of}
 use Rattle.asm_words.specs.Names.{is_name}
 use Rattle.asm_words.specs.Words.{Word, hook_word, operation_word, test_word, load_word, store_word}
-use Rattle.asm_words.specs.Words.{reorder_word, register_word, extension_word, extension_width}
+use Rattle.asm_words.specs.Words.{reorder_word, register_word, extension_word}
 
 -- ---- a part of a form
 

@@ -5,7 +5,8 @@ ghost use Rattle.asm_lines.specs.Forms.{Exactly, Number, Distance, Name, Definit
 ghost use Rattle.asm_lines.specs.Forms.{the_operand, the_target, the_slot, the_term, the_terms};
 ghost use Rattle.asm_lines.specs.Forms.{the_range, the_content, form_of, is_label, is_data};
 ghost use Rattle.asm_words.specs.Names.{is_name};
-ghost use Rattle.asm_words.specs.Words.{Word, extension_width, test_word, is_word};
+ghost use Rattle.asm_words.specs.Words.{Word, test_word, is_word};
+ghost use Rattle.isa.specs.Shapes.{extension_width};
 ghost use Rattle.asm_lines.specs.LineWords.{part, parts, IsWhole, AreWhole};
 ghost use Rattle.asm_lines.specs.Written.{Adds, Starts, AreLines, IsNamed, line_text};
 ghost use Rattle.asm_lines.specs.declared.line.AssemblyLine.{AssemblyLine};

@@ -178,11 +178,6 @@ extension_word (extensions.Byte width) = codes "s8"
 extension_word (extensions.Half width) = codes "s16"
 extension_word extensions.Word = codes "s32"
 
-abbrev pub extension_width : Extension → Width
-extension_width (extensions.Byte width) = width
-extension_width (extensions.Half width) = width
-extension_width extensions.Word = Bits64
-
 abbrev pub if_wide : {A : Type 0} → Width → A → Option A
 if_wide Bits64 x = Some x
 if_wide Bits32 x = None

@@ -3,7 +3,8 @@ ghost use Rattle.std.specs.Prelude.{◌≡◌, ◌≤◌, true, IfSome};
 ghost use Rattle.asm_words.specs.Words.{is_word, operation_word, operation_of, test_word, test_of};
 ghost use Rattle.asm_words.specs.Words.{hook_word, hook_of, load_word, load_of, store_word};
 ghost use Rattle.asm_words.specs.Words.{store_of, reorder_word, reorder_of, register_word};
-ghost use Rattle.asm_words.specs.Words.{register_of, extension_word, extension_width, extension_of};
+ghost use Rattle.asm_words.specs.Words.{register_of, extension_word, extension_of};
+ghost use Rattle.isa.specs.Shapes.{extension_width};
 
 use isa::{
     ByteOrder, Extension, Hook, LoadSize, Operation, Register, StoreSize, SwapWidth, Test, Width,
