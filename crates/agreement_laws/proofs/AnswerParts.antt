@@ -28,7 +28,7 @@ use Rattle.received.specs.Links.{Link, acknowledge_later, change_link, link_at, 
 use Rattle.received.specs.Links.{neighbor_on}
 use Rattle.received.specs.Outcomes.{Outcome, Send, Stepping, each_neighbor, on_database, on_links}
 use Rattle.received.specs.Outcomes.{one_neighbor, only_at, sending, sends_at, sent_on, step_on}
-use Rattle.received.specs.Outcomes.{stepped_links, stepping_sends}
+use Rattle.received.specs.Outcomes.{stepped_links, stepping_sends, sends_of}
 use Rattle.received.specs.Updates.{after_case, copy_of, send_copy}
 use Rattle.event_rules.specs.Commands.{taken_down}
 use Rattle.event_rules.specs.Endings.{link_loading_done, with_age}
@@ -39,7 +39,7 @@ use Rattle.event_rules.specs.Packets.{accept_hello, receive_description, receive
 use Rattle.event_rules.specs.Packets.{receive_hello_on, with_neighbor}
 use Rattle.event_rules.specs.Ticks.{acknowledgments_on, again, hello_sent_on, run_out}
 use Rattle.event_rules.specs.Ticks.{send_acknowledgments}
-use Rattle.event_rules.specs.Ticks.{send_hellos, sends_of, with_hello_sent, without_acknowledgments}
+use Rattle.event_rules.specs.Ticks.{send_hellos, with_hello_sent, without_acknowledgments}
 use Rattle.flood_laws.proofs.Flooding.{flooding_so}
 use Rattle.flood_laws.proofs.Leaving.{each_kept_at, numbered_kept, stepped_kept}
 use Rattle.flood_laws.proofs.Lists.{later_is, of_cons, of_empty}

@@ -20,7 +20,7 @@ use Rattle.received.specs.Cases.{Case}
 use Rattle.received.specs.Flooding.{flood_to}
 use Rattle.received.specs.Links.{Link, link_at}
 use Rattle.received.specs.Outcomes.{Outcome, Send, Stepping, each_neighbor, marked_database}
-use Rattle.received.specs.Outcomes.{on_database, only_at, sends_at, stepping_sends}
+use Rattle.received.specs.Outcomes.{on_database, only_at, sends_at, stepping_sends, sends_of}
 use Rattle.received.specs.Updates.{after_case, case_at, copy_of, send_copy}
 use Rattle.received.proofs.Marks.{changed_by}
 use Rattle.event_rules.specs.Endings.{start_event, with_age}
@@ -29,7 +29,7 @@ use Rattle.event_rules.specs.Hellos.{accepts, names}
 use Rattle.event_rules.specs.Originations.{install_and_flood, new_instance, wanted_body}
 use Rattle.event_rules.specs.Packets.{accept_hello, receive_hello_on, requested_lsas}
 use Rattle.event_rules.specs.Routers.{Occurrence, Router}
-use Rattle.event_rules.specs.Ticks.{acknowledgments_on, again, hello_sent_on, sends_of}
+use Rattle.event_rules.specs.Ticks.{acknowledgments_on, again, hello_sent_on}
 use Rattle.event_rules.proofs.Walk.{OfEvent, outcome}
 use Rattle.flood_laws.specs.NewInstances.{lsas_brought}
 use Rattle.flood_laws.proofs.Acknowledged.{in_order}

@@ -20,11 +20,11 @@ use Rattle.packet.specs.Text.{PacketText, canonical}
 use Rattle.packet.proofs.Whole.{one_packet}
 use Rattle.adjacency.specs.Contents.{Content}
 use Rattle.received.specs.Links.{Link}
-use Rattle.received.specs.Outcomes.{Send}
+use Rattle.received.specs.Outcomes.{Send, at_interface}
 use Rattle.event_rules.specs.declared.model.Out.{Out}
 use Rattle.event_rules.specs.LsaInstances.{LsaInstance, instance_of_header, instance_of_lsa}
 use Rattle.event_rules.specs.LsaInstances.{instances_in_update}
-use Rattle.event_rules.specs.Packing.{at_interface, bodies, out_of, outs_at, outs_of, packet_of}
+use Rattle.event_rules.specs.Packing.{bodies, out_of, outs_at, outs_of, packet_of}
 use Rattle.event_rules.specs.Packing.{sent_lsa, IsSentText}
 use Rattle.event_rules.proofs.Rooms.{both, mapped_all, paired_all}
 use Rattle.flood_laws.specs.Keeping.{AreTexts, AreTextsAt, IsInstance}

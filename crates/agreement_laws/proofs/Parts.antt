@@ -35,7 +35,7 @@ use Rattle.received.specs.Links.{Link, acknowledge_later, change_link}
 use Rattle.received.specs.Links.{link_at, neighbor_at, neighbor_on}
 use Rattle.received.specs.Outcomes.{Outcome, Send, Stepping, each_neighbor, marked_database}
 use Rattle.received.specs.Outcomes.{sends_at, on_database, on_links, one_neighbor, only_at, sending}
-use Rattle.received.specs.Outcomes.{sent_on, step_on, stepped_links, stepping_sends}
+use Rattle.received.specs.Outcomes.{sent_on, step_on, stepped_links, stepping_sends, sends_of}
 use Rattle.received.specs.Updates.{after_case, case_at, copy_of, install, send_copy}
 use Rattle.received.proofs.Marks.{changed_by, tied}
 use Rattle.event_rules.specs.Commands.{taken_down}
@@ -48,7 +48,7 @@ use Rattle.event_rules.specs.Packets.{receive_hello, receive_hello_on}
 use Rattle.event_rules.specs.Packets.{with_neighbor}
 use Rattle.event_rules.specs.Ticks.{acknowledgments_on, again, hello_sent_on, run_out}
 use Rattle.event_rules.specs.Ticks.{send_acknowledgments}
-use Rattle.event_rules.specs.Ticks.{send_hellos, sends_of, with_hello_sent, without_acknowledgments}
+use Rattle.event_rules.specs.Ticks.{send_hellos, with_hello_sent, without_acknowledgments}
 use Rattle.flood_laws.specs.Retransmissions.{AreOfTheDatabase}
 use Rattle.flood_laws.proofs.Leaving.{each_kept_at, stepped_kept}
 use Rattle.flood_laws.proofs.Limits.{tied_key}

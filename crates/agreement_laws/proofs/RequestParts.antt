@@ -25,7 +25,7 @@ use Rattle.received.specs.Flooding.{flood, flood_to, is_sender}
 use Rattle.received.specs.Holds.{Holds}
 use Rattle.received.specs.Links.{Link, acknowledge_later, change_link, link_at, neighbor_at}
 use Rattle.received.specs.Outcomes.{Outcome, Send, Stepping, each_neighbor, on_database, on_links}
-use Rattle.received.specs.Outcomes.{one_neighbor, only_at, sending, sends_at, step_on}
+use Rattle.received.specs.Outcomes.{one_neighbor, only_at, sending, sends_at, step_on, sends_of}
 use Rattle.received.specs.Outcomes.{stepped_links, stepping_sends}
 use Rattle.received.specs.Updates.{after_case, case_at, copy_of, install, send_copy}
 use Rattle.received.proofs.Marks.{IsStill, mark_all}
@@ -38,7 +38,7 @@ use Rattle.event_rules.specs.Packets.{accept_hello, receive_acknowledgment, rece
 use Rattle.event_rules.specs.Packets.{receive_hello_on, with_neighbor}
 use Rattle.event_rules.specs.Ticks.{acknowledgments_on, again, hello_sent_on, run_out}
 use Rattle.event_rules.specs.Ticks.{send_acknowledgments}
-use Rattle.event_rules.specs.Ticks.{send_hellos, sends_of, with_hello_sent, without_acknowledgments}
+use Rattle.event_rules.specs.Ticks.{send_hellos, with_hello_sent, without_acknowledgments}
 use Rattle.flood_laws.proofs.Leaving.{each_kept_at, stepped_kept}
 use Rattle.flood_laws.proofs.Limits.{tied_key}
 use Rattle.flood_laws.proofs.Owing.{put_same}

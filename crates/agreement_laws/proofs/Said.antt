@@ -34,7 +34,7 @@ use Rattle.received.specs.Holds.{Holds}
 use Rattle.received.specs.Links.{Area, Link, acknowledge_later, change_link, link_at}
 use Rattle.received.specs.Outcomes.{Outcome, Send, Stepping, each_neighbor, marked_database}
 use Rattle.received.specs.Outcomes.{on_database, on_links, one_neighbor, only_at, sending, sends_at}
-use Rattle.received.specs.Outcomes.{sent_on, step_on, stepped_links, stepping_sends}
+use Rattle.received.specs.Outcomes.{sent_on, step_on, stepped_links, stepping_sends, sends_of}
 use Rattle.received.specs.Updates.{after_case, case_at, copy_of, send_copy}
 use Rattle.received.proofs.Told.{joined}
 use Rattle.event_rules.specs.Commands.{taken_down}
@@ -47,7 +47,7 @@ use Rattle.event_rules.specs.Packets.{accept_hello, receive_hello_on, requested_
 use Rattle.event_rules.specs.Routers.{Occurrence, Router}
 use Rattle.event_rules.specs.Ticks.{acknowledgments_on, again, hello_sent_on, run_out}
 use Rattle.event_rules.specs.Ticks.{send_acknowledgments}
-use Rattle.event_rules.specs.Ticks.{send_hellos, sends_of, with_hello_sent, without_acknowledgments}
+use Rattle.event_rules.specs.Ticks.{send_hellos, with_hello_sent, without_acknowledgments}
 use Rattle.flood_laws.proofs.Known.{each_all}
 use Rattle.flood_laws.proofs.Retransmitted.{OwnKeys, There, own_at}
 use Rattle.flood_laws.proofs.Leaving.{itself}

@@ -19,7 +19,7 @@ use Rattle.adjacency.specs.Requests.{still_outstanding}
 use Rattle.adjacency.specs.Retransmissions.{next_retransmissions, add_retransmission, request_again}
 use Rattle.adjacency.specs.Retransmissions.{send_again, update_again}
 use Rattle.received.specs.Links.{Link}
-use Rattle.received.specs.Outcomes.{Outcome, Send, on_links, stepping_sends}
+use Rattle.received.specs.Outcomes.{Outcome, Send, on_links, stepping_sends, sends_of}
 use Rattle.event_rules.specs.declared.model.Out.{Out}
 use Rattle.event_rules.specs.Endings.{end_event}
 use Rattle.event_rules.specs.Events.{Happens}
@@ -33,7 +33,7 @@ use Rattle.event_rules.specs.EventState.{EventState, on_area, on_router}
 use Rattle.event_rules.specs.Routers.{Occurrence, Router}
 use Rattle.event_rules.specs.Ticks.{send_acknowledgments, after_tick, again, send_hellos}
 use Rattle.event_rules.specs.Ticks.{hello_sent_on}
-use Rattle.event_rules.specs.Ticks.{run_out, send_all_again, sends_of, settled_exchange}
+use Rattle.event_rules.specs.Ticks.{run_out, send_all_again, settled_exchange}
 use Rattle.conversations.specs.WorkedFlush.{full}
 use Rattle.conversations.specs.WorkedOwn.{beside}
 use Rattle.conversations.specs.WorkedTicks.{ATickOriginates, IsDueAtTick, IsNothingDue}

@@ -21,9 +21,9 @@ use Rattle.packet.specs.Text.{header, hello, key_text, router_id_text, text, typ
 use Rattle.packet.proofs.Records.{key-wide, router_id-wide}
 use Rattle.received.specs.adjacency.Contents.{Content}
 use Rattle.received.specs.Links.{Link}
-use Rattle.received.specs.Outcomes.{Send}
+use Rattle.received.specs.Outcomes.{Send, at_interface}
 use Rattle.event_rules.specs.declared.model.Out.{Out}
-use Rattle.event_rules.specs.Packing.{acknowledgments, at_interface, bodies, descriptions, fill_on}
+use Rattle.event_rules.specs.Packing.{acknowledgments, bodies, descriptions, fill_on}
 use Rattle.event_rules.specs.Packing.{first_key, header_size, hellos, in_key_order, lsa_size}
 use Rattle.event_rules.specs.Packing.{out_of}
 use Rattle.event_rules.specs.Packing.{outs_at, packed_groups, packet_of, requests, sent_lsa}

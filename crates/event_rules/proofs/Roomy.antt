@@ -40,7 +40,7 @@ use Rattle.received.proofs.adjacency.Roomy.{old_description_roomy, quiet_roomy, 
 use Rattle.received.proofs.adjacency.Roomy.{still_heard_roomy, updates_room}
 use Rattle.received.specs.Holds.{Holds, HoldsOfEach}
 use Rattle.received.specs.Links.{Link, link_at, neighbor_on}
-use Rattle.received.specs.Outcomes.{Outcome, sends_at, on_database, on_links}
+use Rattle.received.specs.Outcomes.{Outcome, sends_at, on_database, on_links, sends_of}
 use Rattle.received.proofs.Holding.{each_link_keeps, one_holds}
 use Rattle.received.proofs.Roomy.{FitsIfThere, HasRoomFor, IsRoomyOutcome, SendHasRoom, all_fit}
 use Rattle.received.proofs.Roomy.{case_roomy, changed_fit, changed_roomy, each_roomy, fits_at}
@@ -63,7 +63,7 @@ use Rattle.event_rules.specs.Routers.{Occurrence, Router, in_profile, fresh_link
 use Rattle.event_rules.specs.Routers.{unannounced_router}
 use Rattle.event_rules.specs.Ticks.{acknowledgments_on, again, with_hello_sent, hello_sent_on}
 use Rattle.event_rules.specs.Ticks.{run_out}
-use Rattle.event_rules.specs.Ticks.{sends_of, settled_exchange, without_acknowledgments}
+use Rattle.event_rules.specs.Ticks.{settled_exchange, without_acknowledgments}
 use Rattle.event_rules.proofs.Fitting.{BringsShort, FitsIfRead, IsFewIfAny, IsShort}
 use Rattle.event_rules.proofs.Fitting.{originated_fits}
 use Rattle.event_rules.proofs.Fitting.{packet_short, read_fits, wanted_few}

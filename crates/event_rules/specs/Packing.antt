@@ -1,6 +1,6 @@
 -- What is sent as packets: ordered, packed, and in canonical encoding (RFC 2328, sections 13.3,
 -- 13.5 and appendix A.3).
-use Rattle.std.specs.Prelude.{ℕ, ◌+◌, Bool, nat_le, ◌==◌, if◌then◌else◌, List, [], ◌∷◌, ◌++◌}
+use Rattle.std.specs.Prelude.{ℕ, ◌+◌, Bool, nat_le, if◌then◌else◌, List, [], ◌∷◌, ◌++◌}
 use Rattle.std.specs.Prelude.{map, Option, None, Some}
 use Rattle.std.specs.List.{enumerate_from, filter_map, flat_map}
 use Rattle.std.specs.Ordering.{is_gt}
@@ -17,7 +17,7 @@ use Rattle.packet.specs.Text.{PacketText, canonical}
 use Rattle.received.specs.adjacency.Contents.{Content}
 pub use Rattle.received.specs.adjacency.Drafts.{sent_lsa}
 use Rattle.received.specs.Links.{Link}
-use Rattle.received.specs.Outcomes.{Send}
+use Rattle.received.specs.Outcomes.{Send, at_interface}
 use Rattle.event_rules.specs.declared.model.Out.{Out}
 
 -- ---- in the order of the keys; items with the same key stay in their order
@@ -114,9 +114,6 @@ bodies delay contents =
     (packed_groups header_size 24 (in_key_order key_of (filter_map acknowledgments contents)))
 
 -- ---- all interfaces in order
-
-abbrev pub at_interface : InterfaceNumber → Send → Option Content
-at_interface number s = if s.number == number then Some s.content else None
 
 abbrev pub packet_of : RouterNumber → PacketBody → Packet
 packet_of own says = record { router = own; body = says }

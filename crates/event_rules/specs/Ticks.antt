@@ -1,6 +1,5 @@
 -- What a Tick does, in order (RFC 2328, sections 9.5, 10.3, 12.4, 13.5 and 13.6).
 use Rattle.std.specs.Prelude.{ℕ, if◌then◌else◌, List, [], ◌∷◌, map, Option, None, Some}
-use Rattle.std.specs.List.{enumerate_from, flat_map}
 use Rattle.std.specs.FinMap as finite
 use Rattle.words.specs.Numbers.{Moment, Seconds}
 use Rattle.received.specs.adjacency.Adjacencies.{after_inactivity_timer}
@@ -9,8 +8,7 @@ use Rattle.received.specs.adjacency.Descriptions.{without_old_description}
 use Rattle.received.specs.adjacency.Neighbors.{Neighbor}
 use Rattle.received.specs.adjacency.Retransmissions.{send_again}
 use Rattle.received.specs.Links.{Link}
-use Rattle.received.specs.Outcomes.{Outcome, Send, Stepping, each_neighbor, sends_at, on_links}
-use Rattle.received.specs.Outcomes.{sending}
+use Rattle.received.specs.Outcomes.{Outcome, Stepping, each_neighbor, on_links, sending, sends_of}
 pub use Rattle.event_rules.specs.Hellos.{with_hello_sent, hello_is_due, hello_on, is_due}
 use Rattle.event_rules.specs.Originations.{due_keys, forget_originations, originate_due}
 use Rattle.event_rules.specs.EventState.{EventState, on_area, on_router}
@@ -46,10 +44,6 @@ acknowledgments_on link = map Content.Acknowledges (finite.values link.acknowled
 
 abbrev pub without_acknowledgments : Link → Link
 without_acknowledgments link = record link { acknowledgments = finite.empty }
-
--- what each link sends by itself
-abbrev pub sends_of : (Link → List Content) → List Link → List Send
-sends_of f links = flat_map (λ (e : ℕ × Link). sends_at e.0 (f e.1)) (enumerate_from 1 links)
 
 abbrev pub send_acknowledgments : Moment → Outcome → Outcome
 send_acknowledgments moment o =

@@ -31,7 +31,7 @@ use Rattle.adjacency.specs.Contents.{Content}
 use Rattle.adjacency.proofs.Maps.{IfThere, none_in}
 use Rattle.adjacency.proofs.Told.{OfCopy, Telling}
 use Rattle.received.specs.Links.{Link}
-use Rattle.received.specs.Outcomes.{Send}
+use Rattle.received.specs.Outcomes.{Send, at_interface}
 use Rattle.event_rules.proofs.Rooms.{both, mapped_all, paired_all}
 use Rattle.event_rules.proofs.Walk.{OfEvent}
 use Rattle.event_rules.specs.declared.model.Config.{Config}
@@ -44,7 +44,7 @@ use Rattle.event_rules.specs.LsaInstances.{instances_advertised, instances_in_up
 use Rattle.event_rules.specs.LsaInstances.{instances_received}
 use Rattle.event_rules.specs.Originations.{external_key, has_max_sequence, new_instance}
 use Rattle.event_rules.specs.Originations.{next_sequence, router_key}
-use Rattle.event_rules.specs.Packing.{IsSentText, at_interface, bodies, out_of, outs_at}
+use Rattle.event_rules.specs.Packing.{IsSentText, bodies, out_of, outs_at}
 use Rattle.event_rules.specs.Routers.{Occurrence, Router, fresh_link, unannounced_router}
 use Rattle.flood_laws.specs.Worlds.{IsKnown, IsLawfulOut, instances_stored}
 use Rattle.flood_laws.specs.Keeping.{AnnouncesAddress, AreTexts, AreTextsAt, EventsKeepWhatIsKnown}

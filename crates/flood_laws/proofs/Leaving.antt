@@ -45,7 +45,7 @@ use Rattle.received.specs.Holds.{Holds}
 use Rattle.received.specs.Links.{Area, Link, acknowledge_later, any_exchange_or_loading}
 use Rattle.received.specs.Links.{change_link, link_at, neighbor_at, neighbor_on}
 use Rattle.received.specs.Outcomes.{Outcome, Send, Stepping, each_neighbor, sends_at, on_database}
-use Rattle.received.specs.Outcomes.{on_links, one_neighbor, only_at, sending, step_on}
+use Rattle.received.specs.Outcomes.{on_links, one_neighbor, only_at, sending, step_on, sends_of}
 use Rattle.received.specs.Outcomes.{stepped_links, stepping_sends}
 use Rattle.received.specs.Updates.{after_case, case_at, copy_of, install, send_copy}
 use Rattle.received.proofs.Marks.{IsStill, changed_by, mark_all}
@@ -63,7 +63,7 @@ use Rattle.event_rules.specs.Packets.{receive_description, receive_hello, receiv
 use Rattle.event_rules.specs.Packets.{is_hello, requested_lsas, with_neighbor}
 use Rattle.event_rules.specs.Routers.{Occurrence, Router}
 use Rattle.event_rules.specs.Ticks.{acknowledgments_on, again, hello_sent_on, run_out}
-use Rattle.event_rules.specs.Ticks.{send_acknowledgments, send_hellos, sends_of, settled_exchange}
+use Rattle.event_rules.specs.Ticks.{send_acknowledgments, send_hellos, settled_exchange}
 use Rattle.event_rules.specs.Ticks.{with_hello_sent, without_acknowledgments}
 use Rattle.flood_laws.specs.NewInstances.{lsas_brought}
 use Rattle.flood_laws.specs.TakenOff.{BringsNewer, IsAsked, IsTold, comes_to_max_age}

@@ -32,7 +32,7 @@ use Rattle.received.specs.Flooding.{flood_to}
 use Rattle.received.specs.Links.{Link, change_link, link_at}
 use Rattle.received.specs.Outcomes.{Outcome, Send, Stepping, each_neighbor, marked_database}
 use Rattle.received.specs.Outcomes.{sends_at, on_database, on_links, one_neighbor, only_at, sending}
-use Rattle.received.specs.Outcomes.{stepping_sends}
+use Rattle.received.specs.Outcomes.{stepping_sends, sends_of}
 use Rattle.received.proofs.Marks.{changed_by}
 use Rattle.event_rules.specs.declared.model.Out.{Out}
 use Rattle.event_rules.specs.Endings.{end_event, stays, with_age}
@@ -46,7 +46,7 @@ use Rattle.event_rules.specs.Originations.{own_externals, router_body, router_ke
 use Rattle.event_rules.specs.Packets.{accept_hello, receive_hello_on, requested_lsas, with_neighbor}
 use Rattle.event_rules.specs.Refusals.{exceeds}
 use Rattle.event_rules.specs.Routers.{Occurrence, Router, unannounced_router}
-use Rattle.event_rules.specs.Ticks.{acknowledgments_on, again, hello_sent_on, sends_of}
+use Rattle.event_rules.specs.Ticks.{acknowledgments_on, again, hello_sent_on}
 use Rattle.event_rules.specs.Ticks.{with_hello_sent, without_acknowledgments}
 use Rattle.event_rules.proofs.Walk.{Brings, Invariant, IsKeptByParts, MayGrow, OfEvent, event_kept}
 use Rattle.event_rules.proofs.Walk.{originate_or_wait_kept, outcome}

@@ -34,7 +34,7 @@ use Rattle.received.specs.Cases.{Case}
 use Rattle.received.specs.Flooding.{flood_to}
 use Rattle.received.specs.Links.{Area, Link, link_at}
 use Rattle.received.specs.Outcomes.{Outcome, Send, marked_database, sends_at, on_database, on_links}
-use Rattle.received.specs.Outcomes.{only_at, stepping_sends}
+use Rattle.received.specs.Outcomes.{only_at, stepping_sends, sends_of}
 use Rattle.received.specs.Updates.{after_case, copy_of, install, send_copy}
 use Rattle.received.proofs.Told.{OfArea, OfLink, OfSend, OfWaiting, case_told, change_told}
 use Rattle.received.proofs.Told.{each_told, flood_told, numbered_told, on_database_told}
@@ -51,7 +51,7 @@ use Rattle.event_rules.specs.Originations.{forget_originations, install_and_floo
 use Rattle.event_rules.specs.Originations.{new_instance, next_sequence}
 use Rattle.event_rules.specs.Packets.{accept_hello, receive_hello_on, requested_lsas}
 use Rattle.event_rules.specs.Routers.{Occurrence, Router}
-use Rattle.event_rules.specs.Ticks.{acknowledgments_on, again, hello_sent_on, run_out, sends_of}
+use Rattle.event_rules.specs.Ticks.{acknowledgments_on, again, hello_sent_on, run_out}
 use Rattle.event_rules.specs.Ticks.{with_hello_sent, without_acknowledgments}
 use Rattle.event_rules.proofs.Walk.{outcome}
 use Rattle.flood_laws.specs.InOrder.{IsInOrder}

@@ -12,10 +12,10 @@ use Rattle.packet.specs.declared.model.PacketBody.{PacketBody}
 use Rattle.packet.specs.declared.model.PacketBody.TheVariants as body
 use Rattle.adjacency.specs.Contents.{Content}
 use Rattle.received.specs.Links.{Link}
-use Rattle.received.specs.Outcomes.{Send}
+use Rattle.received.specs.Outcomes.{Send, at_interface}
 use Rattle.flood_laws.specs.Known.{Bears, IsOutOf, IsTextOf, instances_in_content}
 use Rattle.event_rules.specs.LsaInstances.{LsaInstance}
-use Rattle.event_rules.specs.Packing.{acknowledgments, at_interface, bodies, descriptions}
+use Rattle.event_rules.specs.Packing.{acknowledgments, bodies, descriptions}
 use Rattle.event_rules.specs.Packing.{first_key, header_size, hellos, in_key_order, lsa_size}
 use Rattle.event_rules.specs.Packing.{out_of, outs_at, packed_groups, requests, sent_lsa, update_of}
 use Rattle.event_rules.specs.Packing.{updates}

@@ -39,7 +39,7 @@ use Rattle.received.specs.Links.{Area, Link, acknowledge_later, any_has_retransm
 use Rattle.received.specs.Links.{has_retransmission, link_at, neighbor_on}
 use Rattle.received.specs.Outcomes.{Outcome, Send, Stepping, each_neighbor, marked_database}
 use Rattle.received.specs.Outcomes.{sends_at, on_database, on_links, one_neighbor, only_at, sending}
-use Rattle.received.specs.Outcomes.{step_on, stepped_links, stepping_sends}
+use Rattle.received.specs.Outcomes.{step_on, stepped_links, stepping_sends, sends_of}
 use Rattle.received.specs.Updates.{after_case, copy_of, install, send_copy}
 use Rattle.received.proofs.Holding.{changed_keeps, each_link_keeps, flood_to_kept, one_holds}
 use Rattle.received.proofs.Marks.{IsStill, changed_by, mark_all}
@@ -53,7 +53,7 @@ use Rattle.event_rules.specs.Hellos.{accepts, names}
 use Rattle.event_rules.specs.Originations.{due_keys, new_instance, router_key}
 use Rattle.event_rules.specs.Packets.{accept_hello, receive_hello_on, requested_lsas, with_neighbor}
 use Rattle.event_rules.specs.Routers.{Occurrence, Router, fresh_link, unannounced_router}
-use Rattle.event_rules.specs.Ticks.{acknowledgments_on, again, hello_sent_on, run_out, sends_of}
+use Rattle.event_rules.specs.Ticks.{acknowledgments_on, again, hello_sent_on, run_out}
 use Rattle.event_rules.specs.Ticks.{with_hello_sent, without_acknowledgments}
 use Rattle.event_rules.proofs.Walk.{Brings, Invariant, IsKeptByParts, originate_or_wait_kept}
 use Rattle.event_rules.proofs.Walk as walk

@@ -27,7 +27,7 @@ use Rattle.adjacency.proofs.Told.{filled_told, hello_told, lsa_now_told, mismatc
 use Rattle.adjacency.proofs.Told.{old_description_told, quiet_told, request_told, still_heard_told}
 use Rattle.adjacency.proofs.Told.{updates_told}
 use Rattle.received.specs.Links.{Link, link_at, neighbor_on}
-use Rattle.received.specs.Outcomes.{Outcome, sends_at, on_database, on_links}
+use Rattle.received.specs.Outcomes.{Outcome, sends_at, on_database, on_links, sends_of}
 use Rattle.received.proofs.Told.{OfArea, OfLink, OfLinks, OfOutcome, OfSend, OfWaiting, case_told}
 use Rattle.received.proofs.Told.{change_told, changed_told, each_link_told, each_told, flood_told}
 use Rattle.received.proofs.Told.{joined, numbered_told, on_database_told, on_links_told}
@@ -47,7 +47,7 @@ use Rattle.event_rules.specs.EventState.{EventState, flood_from_nobody}
 use Rattle.event_rules.specs.Routers.{Occurrence, Router}
 use Rattle.event_rules.specs.Ticks.{acknowledgments_on, again, with_hello_sent, hello_sent_on}
 use Rattle.event_rules.specs.Ticks.{run_out}
-use Rattle.event_rules.specs.Ticks.{sends_of, settled_exchange, without_acknowledgments}
+use Rattle.event_rules.specs.Ticks.{settled_exchange, without_acknowledgments}
 use Rattle.event_rules.proofs.Walk.{Brings, Invariant, IsKeptByParts, OfEvent, event_kept}
 use Rattle.event_rules.proofs.Walk.{originate_or_wait_kept, outcome}
 

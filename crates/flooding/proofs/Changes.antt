@@ -4,10 +4,10 @@ use Rattle.std.proofs.Common.{◌≡◌, ℕ, ◌+◌, Bool, false, List, [], �
 use Rattle.adjacency.specs.Contents.{Content}
 use Rattle.adjacency.specs.Drafts.{Drafted, drafting}
 use Rattle.received.specs.Links.{Link}
+use Rattle.received.specs.Outcomes.{sends_of}
 use Rattle.flooding.specs.Drafted.{drafts_with}
 use Rattle.flooding.specs.Kept.{KeptLink}
 use Rattle.flooding.specs.Links.{draft_of, present}
-use Rattle.flooding.specs.Steps.{sends_of}
 use Rattle.flooding.proofs.Finish.{Finishes, finish_counts, finish_drafts, finish_items}
 use Rattle.flooding.proofs.Kept.{mixed}
 use Rattle.flooding.proofs.Sends.{draft_from, drafts_are}

@@ -11,8 +11,8 @@ use Rattle.adjacency.specs.Neighbors.{Neighbor}
 use Rattle.adjacency.proofs.Floods.{drafting-none}
 use Rattle.received.specs.Links.{Link, change_link}
 use Rattle.received.specs.Outcomes.{sends_at, only_at, sent_on, step_on, stepped_links}
-use Rattle.received.specs.Outcomes.{stepping_sends}
-use Rattle.flooding.specs.Drafted.{at_interface, drafts_with, drafted_from}
+use Rattle.received.specs.Outcomes.{stepping_sends, at_interface}
+use Rattle.flooding.specs.Drafted.{drafts_with, drafted_from}
 use Rattle.flooding.specs.Kept.{KeptLink}
 use Rattle.flooding.specs.Links.{draft_of, present, with_neighbor}
 use Rattle.flooding.proofs.Sends.{append_none, other_number, picked_elsewhere, picked_here}

@@ -6,11 +6,11 @@ use Rattle.std.specs.Prelude.{None, Some}
 use Rattle.std.proofs.lemmas.Bool.Decides.{nat_tests}
 use Rattle.adjacency.specs.Contents.{Content}
 use Rattle.received.specs.Links.{Link}
-use Rattle.received.specs.Outcomes.{Send, sends_at}
+use Rattle.received.specs.Outcomes.{Send, sends_at, at_interface}
 use Rattle.adjacency.specs.Drafts.{Drafted, drafting}
 use Rattle.adjacency.specs.Floods.{is_any}
 use Rattle.adjacency.proofs.Floods.{drafting-none}
-use Rattle.flooding.specs.Drafted.{at_interface, drafted_from}
+use Rattle.flooding.specs.Drafted.{drafted_from}
 
 pub same_number : (n : ℕ) → (n == n) ≡ true
 same_number n = grind (arith, nat_tests)

@@ -1,19 +1,14 @@
 -- The drafts of the interfaces with what is sent there.
-use Rattle.std.specs.Prelude.{◌+◌, ◌==◌, if◌then◌else◌, List, [], ◌∷◌, map}
-use Rattle.std.specs.Prelude.{Option, None, Some}
+use Rattle.std.specs.Prelude.{◌+◌, List, [], ◌∷◌, map}
 use Rattle.std.specs.List.{filter_map}
 use Rattle.words.specs.Numbers.{InterfaceNumber}
-use Rattle.adjacency.specs.Contents.{Content}
 use Rattle.adjacency.specs.Drafts.{Drafted, drafting, nothing_drafted}
 use Rattle.received.specs.Links.{Link}
-use Rattle.received.specs.Outcomes.{Send}
+use Rattle.received.specs.Outcomes.{Send, at_interface}
 
 -- nothing was sent so far on any of these links
 abbrev pub nothing_at : List Link → List Drafted
 nothing_at links = map (λ (link : Link). nothing_drafted) links
-
-abbrev pub at_interface : InterfaceNumber → Send → Option Content
-at_interface number s = if s.number == number then Some s.content else None
 
 abbrev pub drafted_at : InterfaceNumber → List Send → Link → Drafted → Drafted
 drafted_at number sends link d =

@@ -1,6 +1,6 @@
 -- A step of each link, and a step of one link.
 use Rattle.std.specs.Prelude.{ℕ, List, [], ◌∷◌, ◌++◌, drop, length, map, Option, None, Some}
-use Rattle.std.specs.List.{enumerate_from, flat_map, fold}
+use Rattle.std.specs.List.{fold}
 use Rattle.words.specs.Numbers.{InterfaceNumber, Moment}
 use Rattle.words.specs.declared.key.Key.{Key}
 use Rattle.adjacency.specs.lsdb.Copies.{Database, mark_sent}
@@ -9,12 +9,9 @@ use Rattle.adjacency.specs.Drafts.{Drafted}
 use Rattle.adjacency.specs.Retransmissions.{send_again}
 use Rattle.adjacency.specs.declared.draft.Update.{Update}
 use Rattle.received.specs.Links.{Link, change_link, link_at}
-use Rattle.received.specs.Outcomes.{Outcome, Send, sends_at, on_links, sending}
+use Rattle.received.specs.Outcomes.{Outcome, sends_at, sends_of, on_links, sending}
 use Rattle.flooding.specs.Kept.{KeptLink}
 use Rattle.flooding.specs.Links.{with_neighbor}
-
-abbrev pub sends_of : (Link → List Content) → List Link → List Send
-sends_of f links = flat_map (λ (e : ℕ × Link). sends_at e.0 (f e.1)) (enumerate_from 1 links)
 
 -- each link takes a step, which reads the database before it, and the copies that they send in Link
 -- State Updates are marked as sent

@@ -1,10 +1,11 @@
 //! Changes of links, and steps in which links may send.
 ghost use Rattle.std.specs.Prelude.{◌≡◌, ◌≤◌, IfOk, drop, length, map};
 ghost use Rattle.received.specs.Links.{change_link};
+ghost use Rattle.received.specs.Outcomes.{sends_of};
 ghost use Rattle.flooding.specs.Doing.{AreaDoes, DatabaseDoes, LinksDo};
 ghost use Rattle.flooding.specs.Links.{draft_of, start, without_acknowledged, without_neighbor};
 ghost use Rattle.flooding.specs.Steps.{all_links, key_of_update, keys_behind, mark_each, one_link};
-ghost use Rattle.flooding.specs.Steps.{sends_of, update_count_on};
+ghost use Rattle.flooding.specs.Steps.{update_count_on};
 
 use crate::area::Area;
 use crate::link::Link;

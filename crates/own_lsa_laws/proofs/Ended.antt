@@ -32,7 +32,7 @@ use Rattle.adjacency.proofs.Maps.{AllIn, IfThere, retained_in}
 use Rattle.received.specs.Flooding.{flood_to}
 use Rattle.received.specs.Links.{Link, any_exchange_or_loading, link_at, neighbor_at}
 use Rattle.received.specs.Outcomes.{Outcome, on_database, on_links, one_neighbor, only_at, sends_at}
-use Rattle.received.specs.Outcomes.{sending, stepping_sends}
+use Rattle.received.specs.Outcomes.{sending, stepping_sends, sends_of}
 use Rattle.event_rules.specs.Commands.{after_redistribute, after_withdraw, announce, announce_as}
 use Rattle.event_rules.specs.Commands.{answered_external, end_want, is_announced_as, is_for}
 use Rattle.event_rules.specs.Commands.{unannounce}
@@ -52,7 +52,7 @@ use Rattle.event_rules.specs.Packets.{receive_hello_on, any_exchange_or_later, i
 use Rattle.event_rules.specs.Packets.{receive_request, requested_lsas}
 use Rattle.event_rules.specs.Routers.{Router}
 use Rattle.event_rules.specs.Ticks.{acknowledgments_on, after_tick, again, send_acknowledgments}
-use Rattle.event_rules.specs.Ticks.{hello_sent_on, run_out, send_all_again, sends_of}
+use Rattle.event_rules.specs.Ticks.{hello_sent_on, run_out, send_all_again}
 use Rattle.event_rules.specs.Ticks.{with_hello_sent, without_acknowledgments}
 use Rattle.event_rules.proofs.Walk.{outcome}
 use Rattle.flood_laws.proofs.Limits.{one_less, one_more, tied_key}

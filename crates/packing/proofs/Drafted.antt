@@ -15,8 +15,8 @@ use Rattle.adjacency.specs.Drafts.{Drafted, adds, drafting}
 use Rattle.adjacency.specs.Rooms.{HasRoom}
 use Rattle.adjacency.specs.declared.draft.Update.{Update}
 use Rattle.received.specs.Links.{Link}
-use Rattle.received.specs.Outcomes.{Send}
-use Rattle.event_rules.specs.Packing.{acknowledgments, at_interface, bodies, descriptions}
+use Rattle.received.specs.Outcomes.{Send, at_interface}
+use Rattle.event_rules.specs.Packing.{acknowledgments, bodies, descriptions}
 use Rattle.event_rules.specs.Packing.{first_key}
 use Rattle.event_rules.specs.Packing.{header_size, hellos, in_key_order, is_after, lsa_size}
 use Rattle.event_rules.specs.Packing.{packed_groups, insert_by_key, requests, sent_lsa, update_of}
