@@ -8,7 +8,7 @@ use Rattle.std.specs.List.{AllByRecursion, Contains, cons_option, enumerate_from
 use Rattle.std.specs.List.{flat_map}
 use Rattle.std.proofs.lemmas.Bool.{eqb-true}
 use Rattle.lsa.specs.Headers.{header_at}
-use Rattle.lsa.specs.Reading.{fault_of, lsa_in, lsa_of}
+use Rattle.lsa.specs.Reading.{fault_of, lsa_in, lsa_of, read_unless}
 use Rattle.lsa.specs.Text.{text}
 use Rattle.lsa.specs.declared.fault.LsaFault.{LsaFault}
 use Rattle.lsdb.specs.Headers.{Header, Lsa}
@@ -28,7 +28,6 @@ use Rattle.event_rules.specs.Packing.{bodies, out_of, outs_at, outs_of, packet_o
 use Rattle.event_rules.specs.Packing.{sent_lsa, IsSentText}
 use Rattle.event_rules.proofs.Rooms.{both, mapped_all, paired_all}
 use Rattle.flood_laws.specs.Keeping.{AreTexts, AreTextsAt, IsInstance}
-use Rattle.event_rules.proofs.Fitting.{read_unless}
 use Rattle.flood_laws.proofs.Known.{of_member}
 use Rattle.flood_laws.proofs.Lists.{later_is, of_cons, of_empty}
 use Rattle.flood_laws.proofs.Taken.{named_first}

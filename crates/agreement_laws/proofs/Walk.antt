@@ -9,7 +9,7 @@ use Rattle.std.proofs.lemmas.Bool.{eqb-true, ltb-false}
 use Rattle.words.specs.declared.key.Key.{Key}
 use Rattle.lsa.specs.Origination.{sealed_lsa}
 use Rattle.lsa.specs.Reading.{body_fills, checksum_is_right, fault_of, first_of, is_known_type}
-use Rattle.lsa.specs.Reading.{lsa_in}
+use Rattle.lsa.specs.Reading.{lsa_in, read_unless}
 use Rattle.lsa.specs.declared.body.LsaBody.{LsaBody}
 use Rattle.lsa.specs.declared.fault.LsaFault.{LsaFault}
 use Rattle.lsa.specs.declared.fault.LsaFault.TheVariants as wrong
@@ -51,7 +51,6 @@ use Rattle.flood_laws.proofs.Lists.{of_cons, of_empty}
 use Rattle.flood_laws.proofs.Retransmitted.{IsItsOwn, OwnKeys, There, all_there, own_at, read}
 use Rattle.flood_laws.proofs.Retransmitted as retransmitted
 use Rattle.flood_laws.proofs.Worlds.{mapped}
-use Rattle.event_rules.proofs.Fitting.{read_unless}
 use Rattle.agreement_laws.specs.Exchanged.{Converses, Tells, conversation_with, headers_told}
 use Rattle.agreement_laws.proofs.Ages.{aged_at_least}
 use Rattle.agreement_laws.proofs.Describing.{held, instance_at}

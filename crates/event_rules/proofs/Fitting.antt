@@ -22,7 +22,7 @@ use Rattle.lsa.specs.Reading.{router_id_at, body_fills, body_of, external_fills,
 use Rattle.lsa.specs.Reading.{external_tos_at, fault_of, faults, first_of, is_external_bit}
 use Rattle.lsa.specs.Reading.{is_link_kind, link_at, link_size, link_tos_at, links_at, links_fill}
 use Rattle.lsa.specs.Reading.{lsa_in, lsa_of, network_fills, network_of, router_fills, router_of}
-use Rattle.lsa.specs.Reading.{summary_fills, summary_of, summary_tos_at}
+use Rattle.lsa.specs.Reading.{read_unless, summary_fills, summary_of, summary_tos_at}
 use Rattle.lsa.specs.Text.{IsRouterId, IsExternalTos, IsLinkTos, IsSummaryTos, router_id_text}
 use Rattle.lsa.specs.Text.{body_text, external_fields, external_tos_text, link_fields, link_text}
 use Rattle.lsa.specs.Text.{link_tos_text, router_fields, summary_fields, summary_text}
@@ -205,11 +205,6 @@ read_length bytes none =
 abbrev pub FitsIfRead : Option Lsa → Type 0
 FitsIfRead None = Unit {0}
 FitsIfRead (Some lsa) = Fits lsa
-
--- the LSA in the bytes, by their fault
-abbrev pub read_unless : List ℕ → Option LsaFault → Option Lsa
-read_unless bytes None = Some (lsa_of bytes)
-read_unless bytes (Some f) = None
 
 pub read_fits : (bytes : List ℕ) → 28 + length bytes ≤ 8192 → FitsIfRead (lsa_in bytes)
 read_fits bytes short = by_fault (fault_of bytes) refl

@@ -16,7 +16,7 @@ use Rattle.lsa.specs.Fletcher.{bytes_but_age, first_check_byte, one_to_255, with
 use Rattle.lsa.specs.Fletcher.{second_check_byte, without_checksum, weighted_sum}
 use Rattle.lsa.specs.Headers.{IsHeader, header_at, header_text}
 use Rattle.lsa.specs.Origination.{sealed_lsa, with_header_of_body}
-use Rattle.lsa.specs.Reading.{fault_of, lsa_in, lsa_of}
+use Rattle.lsa.specs.Reading.{fault_of, lsa_in, lsa_of, read_unless}
 use Rattle.lsa.specs.Text.{Parts, body_text, text, type_of}
 use Rattle.lsa.specs.declared.body.LsaBody.{LsaBody}
 use Rattle.lsa.specs.declared.body.LsaBody.TheVariants as lsa_body
@@ -56,7 +56,6 @@ use Rattle.flood_laws.specs.Known.{Bears, EventsHoldOnlyWhatIsKnown, IsOutOf, Is
 use Rattle.flood_laws.specs.Known.{instances_in_content, instances_in_sends}
 use Rattle.flood_laws.specs.TakenOff.{TakesOffWhatIsTold}
 use Rattle.flood_laws.proofs.Acknowledged.{taken_off_was_told}
-use Rattle.event_rules.proofs.Fitting.{read_unless}
 use Rattle.flood_laws.proofs.Known.{Enters, IsExplained, Leaves, all_known, all_new, event_leaves}
 use Rattle.flood_laws.proofs.Known.{first_own, held_named, left_all, named_by, named_sends}
 use Rattle.flood_laws.proofs.Known.{new_ones, none_on, of_member, of_members, own_stays}

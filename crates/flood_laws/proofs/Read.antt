@@ -3,7 +3,7 @@ use Rattle.std.proofs.Common.{◌≡◌, suc, ◌<◌, length, List, [], ◌∷�
 use Rattle.std.proofs.Common.{ap, arith}
 use Rattle.std.specs.List.{AllByRecursion, Contains, cons_option, filter_map}
 use Rattle.lsa.specs.Headers.{IsHeader}
-use Rattle.lsa.specs.Reading.{fault_of, lsa_in}
+use Rattle.lsa.specs.Reading.{fault_of, lsa_in, read_unless}
 use Rattle.lsa.specs.Text.{body_text, text}
 use Rattle.lsa.specs.declared.fault.LsaFault.{LsaFault}
 use Rattle.lsa.proofs.Headers.{header-reads_back}
@@ -11,7 +11,6 @@ use Rattle.lsdb.specs.Headers.{Header, Lsa}
 use Rattle.flood_laws.specs.Known.{UpdatesTellWhatTheyBear}
 use Rattle.event_rules.specs.LsaInstances.{LsaInstance, instance_of_lsa, instance_of_header}
 use Rattle.event_rules.specs.LsaInstances.{instances_in_update}
-use Rattle.event_rules.proofs.Fitting.{read_unless}
 use Rattle.flood_laws.proofs.Known.{of_member}
 use Rattle.flood_laws.proofs.Lists.{later_is}
 

@@ -6,7 +6,7 @@ use mathlib.Core.Bool.{false≢true}
 use Rattle.lsa.specs.declared.fault.LsaFault.{LsaFault}
 use Rattle.lsa.specs.declared.fault.LsaError.TheVariants as errors
 use Rattle.lsa.specs.Outcome.{Reads}
-use Rattle.lsa.specs.Reading.{lsa_in}
+use Rattle.lsa.specs.Reading.{lsa_in, read_unless}
 use Rattle.flooding.specs.adjacency.lsdb.Headers.{Lsa}
 use Rattle.event_rules.specs.received.Cases.{Case}
 use Rattle.event_rules.specs.received.Updates.{after_case, case_at, goes_on}
@@ -14,7 +14,6 @@ use Rattle.event_rules.specs.EventState.{EventState, on_area}
 use Rattle.event_rules.specs.Originations.{receive_self_originated}
 use Rattle.event_rules.specs.Packets.{after_lsa, after_lsas, after_unread, case_in}
 use Rattle.event_rules.specs.Routers.{Router}
-use Rattle.event_rules.proofs.Fitting.{read_unless}
 use Rattle.flooding.specs.Cases.{is_newer}
 use Rattle.flooding.proofs.Updates.{drop_end}
 use Rattle.router_state.specs.Kept.{KeptRouter}
