@@ -5,14 +5,11 @@ use Rattle.transfer.specs.Rules.{rule_number}
 use Rattle.transfer.specs.declared.rule.Rule.TheVariants as rules
 use Rattle.verifier.specs.Programs.{Program}
 use Rattle.verifier.specs.declared.refusal.Refusal.{Refusal}
-use Rattle.object_verdicts.specs.Verdicts.{Accepts, Refuses}
+use Rattle.object_verdicts.specs.Verdicts.{Accepts, Refuses, accepted_line}
 use Rattle.object_verdicts.specs.declared.error.VerifyError.TheVariants.{Refused}
 use Rattle.commands.specs.declared.report.CommandOutput.{CommandOutput}
 
--- the lines that are printed
-abbrev pub accepted_line : (bound : ℕ) → List ℕ
-accepted_line bound = codes "accepted bound " ++ (decimal bound ++ 10 ∷ [])
-
+-- the line that is printed for a refused program
 abbrev pub refused_line : Refusal → List ℕ
 refused_line refusal = codes "refused slot "
     ++ (decimal refusal.slot ++ (codes " rule " ++ (decimal (rule_number refusal.rule) ++ 10 ∷ [])))

@@ -2,7 +2,8 @@
 
 ghost use Rattle.std.specs.Prelude.{◌≡◌, ◌⊎◌, List, ℕ, true, false, IfOk, IfErr, string_bytes};
 ghost use Rattle.commands.specs.Assembly.{IsObjectFault};
-ghost use Rattle.commands.specs.Verdicts.{IsVerdict, accepted_line, refused_line};
+ghost use Rattle.commands.specs.Verdicts.{IsVerdict, refused_line};
+ghost use Rattle.object_verdicts.specs.Verdicts.{accepted_line};
 
 use crate::fault::CommandError;
 use crate::files;

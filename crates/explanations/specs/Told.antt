@@ -1,16 +1,13 @@
 -- The text of a verdict.
-use Rattle.std.specs.Prelude.{◌≡◌, ℕ, List, [], ◌∷◌, ◌++◌, Result, Ok, Err, codes, decimal}
+use Rattle.std.specs.Prelude.{◌≡◌, ℕ, List, ◌++◌, Result, Ok, Err, codes, decimal}
+use Rattle.object_verdicts.specs.Verdicts.{accepted_line}
 use Rattle.object_verdicts.specs.declared.error.VerifyError.{VerifyError}
 use Rattle.object_verdicts.specs.declared.error.VerifyError.TheVariants as errors
 use Rattle.transfer.specs.Rules.{rule_number}
 use Rattle.verifier.specs.Programs.{Program}
 use Rattle.verifier.specs.declared.refusal.Refusal.{Refusal}
 
--- the line for an accepted program, as `routerd verify` prints it
-abbrev pub accepted_line : (bound : ℕ) → List ℕ
-accepted_line bound = codes "accepted bound " ++ (decimal bound ++ 10 ∷ [])
-
--- and the beginning of that for a refused one
+-- the beginning of the line for a refused program, as `routerd verify` prints it
 abbrev pub refused_words : Refusal → List ℕ
 refused_words refusal = codes "refused slot "
     ++ (decimal refusal.slot ++ (codes " rule " ++ decimal (rule_number refusal.rule)))

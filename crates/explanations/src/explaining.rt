@@ -1,7 +1,7 @@
 //! A program and the verifier's answer about it, explained.
 ghost use Rattle.std.specs.Prelude.{◌≡◌, ◌++◌, IfErr, IfOk, string_bytes};
-ghost use Rattle.explanations.specs.Told.{TellsVerdict, accepted_line, refused_words};
-ghost use Rattle.object_verdicts.specs.Verdicts.{Accepts, Refuses};
+ghost use Rattle.explanations.specs.Told.{TellsVerdict, refused_words};
+ghost use Rattle.object_verdicts.specs.Verdicts.{Accepts, Refuses, accepted_line};
 
 use crate::edges::Ways;
 use crate::lines::instruction_lines;

@@ -5,11 +5,11 @@ use Rattle.std.specs.Prelude.{Some, None, Bool, true, false, not, codes}
 use Rattle.std.specs.Prelude.{IfSome, IsSome, length, slice_get, string_bytes, take}
 use Rattle.std.specs.Char.{is_ascii_alphanumeric}
 use Rattle.std.specs.List.{list_all}
-use Rattle.explanations.specs.Told as explained
 use Rattle.isa.specs.declared.hook.Hook.{Hook}
 use Rattle.isa.specs.Hooks.{hook_name}
 use Rattle.object.specs.Objects.{ObjectParts}
 use Rattle.verifier.specs.Programs.{Program}
+use Rattle.object_verdicts.specs.Verdicts.{accepted_line}
 use Rattle.annotations.specs.Annotated.{IsAnnotation, with_found}
 use Rattle.elf.specs.declared.lists.LinkedSymbol.{LinkedSymbol}
 use Rattle.elf.specs.Entries.{is_code}
@@ -59,7 +59,7 @@ abbrev pub TellsFunction : Option (List ℕ) → (function hook : List ℕ) → 
 TellsFunction (Some folder) function hook program found text =
     text ≡ built_text folder function hook program found
 TellsFunction None function hook program found text = (before : List ℕ)
-    × (text ≡ before ++ explained.accepted_line program.bound)
+    × (text ≡ before ++ accepted_line program.bound)
 
 -- A section is for the hook that it is named by, and .text for the one that was asked for.
 abbrev pub IsHookOf : Option Hook → List ℕ → Hook → Type 0

@@ -1,5 +1,6 @@
 -- From the bytes of an object file to the verifier's answer.
-use Rattle.std.specs.Prelude.{◌≡◌, ℕ, ◌+◌, ◌*◌, ◌<◌, ◌≤◌, List, length}
+use Rattle.std.specs.Prelude.{◌≡◌, ℕ, ◌+◌, ◌*◌, ◌<◌, ◌≤◌, List, [], ◌∷◌, ◌++◌, length}
+use Rattle.std.specs.Prelude.{codes, decimal}
 use Rattle.isa.specs.declared.code.Slot.{Slot}
 use Rattle.isa.specs.declared.decoding.DecodeFault.{DecodeFault}
 use Rattle.isa.specs.Spelling as code
@@ -58,3 +59,7 @@ abbrev pub Refuses : List ℕ → VerifyError → Type 0
 Refuses bytes (errors.Object error) = object_refusals.Refuses bytes error
 Refuses bytes (errors.Code error) = RefusesCode bytes error.slot error.kind
 Refuses bytes (errors.Refused refusal) = RefusesProgram bytes refusal
+
+-- the line that is printed for an accepted program
+abbrev pub accepted_line : (bound : ℕ) → List ℕ
+accepted_line bound = codes "accepted bound " ++ (decimal bound ++ 10 ∷ [])
