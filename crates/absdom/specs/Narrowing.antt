@@ -1,7 +1,7 @@
 -- How the parts of a pair narrow each other, in terms of what their domains give: the first domain
 -- for its tests against the least and the greatest number of the second part, the second domain for
 -- its test against the first part's number, if that is a single one.
-use Rattle.std.specs.Prelude.{◌≡◌, ℕ, Option, Some, IfSome}
+use Rattle.std.specs.Prelude.{◌≡◌, ℕ, Option, Some}
 use Rattle.isa.specs.declared.instruction.Test.{Test}
 use Rattle.isa.specs.declared.instruction.Test.TheVariants.{Equal, GreaterOrEqual, LessOrEqual}
 use Rattle.isa.specs.declared.instruction.Width.{Width}

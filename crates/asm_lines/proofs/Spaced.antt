@@ -1,7 +1,7 @@
 -- What is written is read back.
-use Rattle.std.proofs.Common.{◌≡◌, ℕ, ◌+◌, ◌-◌, ◌<◌, ◌≤◌, ◌^◌, zero, suc, List, [], ◌∷◌, ◌++◌}
-use Rattle.std.proofs.Common.{length, Bool, true, false, ◌&&◌, not, refl, sym, ap, ◌∙◌, subst}
-use Rattle.std.proofs.Common.{arith, Some, None, Option, append_assoc}
+use Rattle.std.proofs.Common.{◌≡◌, ℕ, ◌+◌, ◌-◌, ◌<◌, ◌^◌, zero, List, [], ◌∷◌, ◌++◌}
+use Rattle.std.proofs.Common.{length, Bool, true, false, refl, sym, ap, ◌∙◌}
+use Rattle.std.proofs.Common.{arith, Some, None, append_assoc}
 use Rattle.std.specs.Prelude.{if◌then◌else◌, is_ok, OnOk, Result, Ok, Err}
 use Rattle.std.specs.List.{list_all}
 use Rattle.std.specs.Str.{all_ascii_digits}

@@ -1,6 +1,6 @@
 -- If the root has no LSA, or one without a link to a node, no link leads on from it, so that it
 -- alone is reached.
-use Rattle.std.proofs.Common.{◌≡◌, ◌<◌, get_or, ℕ, zero, suc, Bool, true, inl, inr, List, [], ◌∷◌}
+use Rattle.std.proofs.Common.{◌≡◌, ◌<◌, get_or, ℕ, zero, suc, true, inl, inr, List, [], ◌∷◌}
 use Rattle.std.proofs.Common.{slice_get, Option, None, Some, arith, refl, sym, ap, subst}
 use Rattle.std.proofs.lemmas.Bool.{false≢true}
 use Rattle.std.proofs.lemmas.List.Elements.{All-contains}

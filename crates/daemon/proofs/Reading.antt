@@ -1,5 +1,5 @@
 -- Bytes that are read one after the other, and the line that they are.
-use Rattle.std.proofs.Common.{◌≡◌, ◌≢◌, ◌⊎◌, inl, inr, ℕ, ◌+◌, ◌<◌, ◌≤◌, Bool, true, false, List}
+use Rattle.std.proofs.Common.{◌≡◌, ◌≢◌, inl, inr, ℕ, ◌<◌, ◌≤◌, Bool, true, false, List}
 use Rattle.std.proofs.Common.{[], ◌∷◌, ◌++◌, length, Option, Some, None, take, slice_index, refl}
 use Rattle.std.proofs.Common.{sym, subst, ap, ◌∙◌, arith, length-append}
 use Rattle.std.specs.Prelude.{MatchOption, string_bytes}
@@ -7,7 +7,7 @@ use Rattle.std.specs.List.{All}
 use Rattle.std.specs.Str.{IsUtf8}
 use Rattle.std.specs.Io.KnownBytes.{Consumes, IsAtEnd, Keeps}
 use Rattle.std.proofs.lemmas.List.Elements.{All-nil, All-push}
-use Rattle.daemon.specs.Lines.{Fails, Gives, GivesEach, GivesLine, IsGiven, IsKeptOf, IsLast}
+use Rattle.daemon.specs.Lines.{Fails, Gives, GivesEach, IsGiven, IsKeptOf, IsLast}
 use Rattle.daemon.specs.Lines.{IsNext, IsText, IsWhole}
 use Rattle.daemon.specs.declared.lines.Given.{Given}
 use Rattle.daemon.specs.declared.lines.Given.TheVariants.{Line, Memory, End, Failed}

@@ -10,8 +10,8 @@ pub use Rattle.words.specs.Constants.{max_sequence_number}
 pub use Rattle.words.specs.Keys.{external_key, router_key}
 pub use Rattle.words.specs.Constants.{initial_sequence_number}
 use Rattle.words.specs.Constants.{e_bit, ls_refresh_time, max_age, min_ls_interval}
-use Rattle.words.specs.Numbers.{Moment, RouterNumber}
-use Rattle.words.specs.Prefixes.{Network, mask_of, network_address}
+use Rattle.words.specs.Numbers.{Moment}
+use Rattle.words.specs.Prefixes.{mask_of, network_address}
 use Rattle.words.specs.declared.key.Key.{Key}
 use Rattle.words.specs.declared.route.External.{External}
 use Rattle.lsa.specs.declared.body.LsaBody.{LsaBody}

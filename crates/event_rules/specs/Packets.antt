@@ -16,7 +16,7 @@ use Rattle.packet.specs.declared.model.Packet.{Packet}
 use Rattle.received.specs.adjacency.Adjacencies as adjacencies
 use Rattle.received.specs.adjacency.Contents.{Content, Step, no_sends}
 use Rattle.received.specs.adjacency.Descriptions.{after_description}
-use Rattle.received.specs.adjacency.Neighbors.{Neighbor, is_exchange_or_later}
+use Rattle.received.specs.adjacency.Neighbors.{Neighbor}
 use Rattle.received.specs.adjacency.Retransmissions.{after_acknowledgment, lsa_of}
 pub use Rattle.received.specs.adjacency.Steps.{any_exchange_or_later, is_there}
 use Rattle.received.specs.Cases.{Case}

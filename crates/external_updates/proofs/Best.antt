@@ -12,7 +12,7 @@ use Rattle.words.specs.declared.key.Key.{Key}
 use Rattle.words.specs.declared.route.Route.{Route}
 use Rattle.routes.specs.Candidates.{IsCandidate, Offers}
 use Rattle.routes.specs.Candidates.Offers.{Between, External, Within}
-use Rattle.routes.specs.Routes.{AreRoutesAmong, IsBefore, IsRouteAmong}
+use Rattle.routes.specs.Routes.{AreRoutesAmong, IsBefore}
 use Rattle.routes.specs.Said.{Said, said_at}
 use Rattle.routes.specs.Summaries.{OffersInside}
 use Rattle.routes.specs.declared.offer.Offer.{Offer}

@@ -1,6 +1,6 @@
 -- Routes remain sorted by their prefixes when the one for a prefix is replaced.
 use Rattle.std.proofs.Common.{◌≡◌, ℕ, ◌+◌, ◌-◌, ◌<◌, ◌≤◌, ◌⊎◌, inl, inr, List, length, get_or, set}
-use Rattle.std.proofs.Common.{Option, Some, None, arith, refl, sym, ◌∙◌, ap, subst}
+use Rattle.std.proofs.Common.{Some, None, arith, sym, ◌∙◌, ap, subst}
 use Rattle.std.specs.List.{Contains, insert, remove}
 use Rattle.std.specs.Prelude.{slice_get}
 use Rattle.std.proofs.lemmas.Bool.{cases_eq, cases_lt}

@@ -1,13 +1,11 @@
 -- What is unchanged while only AS-external-LSAs change.
 use Rattle.std.proofs.Common.{◌≡◌, ℕ, inl, inr, List, refl, arith, sym, ap, subst, ◌∙◌}
-use Rattle.lsa.specs.declared.body.LsaBody.TheVariants as body
 use Rattle.lsa.specs.declared.body.ExternalLsa.{ExternalLsa}
 use Rattle.words.specs.Prefixes.{Network}
 use Rattle.words.specs.declared.key.Key.{Key}
 use Rattle.words.specs.declared.route.ExternalType.{ExternalType}
 use Rattle.words.specs.declared.route.ExternalType.TheVariants.{Type1, Type2}
-use Rattle.words.specs.declared.route.Route.{Route}
-use Rattle.routes.specs.Candidates.{IsCandidate, Offers, OffersExternal, external_offer}
+use Rattle.routes.specs.Candidates.{Offers, OffersExternal, external_offer}
 use Rattle.routes.specs.Candidates.Offers.{Between, External, Within}
 use Rattle.routes.specs.Links.{router_key}
 use Rattle.routes.specs.Offers.{IsPrefix}
@@ -23,8 +21,6 @@ use Rattle.candidates.specs.Bodies.{OfSaid}
 use Rattle.candidates.specs.Borders.{IsFlagged, Tells}
 use Rattle.candidates.specs.Ways.{Ways}
 use Rattle.candidates.specs.declared.flagged.Flagged.{Flagged}
-use Rattle.candidates.specs.Inner.{AreInner}
-use Rattle.candidates.specs.declared.inner.InnerRoutes.{InnerRoutes}
 use Rattle.kept_routes.proofs.Inner.{AgreeInside, external_way, inside, turned}
 use Rattle.external_updates.specs.Changes.{IsUntouched, TellsOf}
 use Rattle.external_updates.specs.Laws.{InnerRoutesAreKept, UntouchedCandidatesAreKept}

@@ -1,5 +1,5 @@
 -- What is unchanged while only AS-external-LSAs change (RFC 2328, section 16.6).
-use Rattle.std.specs.Prelude.{◌≡◌, Some, ◌↔◌}
+use Rattle.std.specs.Prelude.{Some, ◌↔◌}
 use Rattle.candidates.specs.Inner.{AreInner}
 use Rattle.candidates.specs.declared.inner.InnerRoutes.{InnerRoutes}
 use Rattle.external_updates.specs.Changes.{IsUntouched}

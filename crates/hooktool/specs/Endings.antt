@@ -1,5 +1,5 @@
 -- How the program ends: what was asked for, what is printed, and with which status.
-use Rattle.std.specs.Prelude.{◌≡◌, ◌⊎◌, ℕ, List, Bool, true, false, Option, Some, Result, Ok, Err}
+use Rattle.std.specs.Prelude.{◌≡◌, ◌⊎◌, ℕ, List, Bool, true, false, Some, Result, Ok, Err}
 use Rattle.std.specs.Prelude.{IfErr, IfOk, string_bytes}
 use Rattle.std.specs.Io.KnownBytes.{Appends}
 use Rattle.hooktool.specs.Streams.{StreamState}
@@ -21,7 +21,6 @@ use Rattle.hooktool.specs.declared.testing.Tested.{Tested}
 use Rattle.hooktool.specs.declared.testing.Tested.TheVariants as tests
 use Rattle.object_trials.specs.Stops.{KnownFiles}
 use Rattle.hooktool.specs.declared.fault.HooktoolFault.{HooktoolFault}
-use Rattle.hooktool.specs.declared.fault.HooktoolFault.TheVariants as faults
 use Rattle.hooktool.specs.declared.report.CommandReport.{CommandReport}
 
 -- The request was carried out, and this is told of the files that it names. Of a test more is told

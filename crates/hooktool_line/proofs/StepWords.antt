@@ -1,7 +1,7 @@
 -- The lines of a test, word by word.
 use Rattle.std.proofs.Common.{◌≡◌, ◌∙◌, ◌+◌, ◌<◌, ◌≤◌, ◌^◌, ℕ, List, [], ◌∷◌, ◌++◌, Option, Some}
 use Rattle.std.proofs.Common.{None, Ok, Err, ap, ap₂, arith, get_or, inl, inr, length, refl, subst}
-use Rattle.std.proofs.Common.{false, suc, sym, take, true}
+use Rattle.std.proofs.Common.{false, sym, take, true}
 use Rattle.std.proofs.lemmas.Fmt.{decimal_injective}
 use Rattle.std.proofs.lemmas.List.{length-map, length-take-le, take_all, take_more}
 use Rattle.std.proofs.lemmas.Option.{slice_get-get_or, slice_get-map}

@@ -1,7 +1,6 @@
 -- How narrow intervals are: their bounds lie within what unsigned and signed bounds give alone.
 use Rattle.std.specs.Prelude.{ℕ, Option, Some, IfSome}
 use Rattle.isa.specs.declared.instruction.Width.{Width}
-use Rattle.isa.specs.declared.instruction.Width.TheVariants.{Bits64}
 use Rattle.isa.specs.declared.instruction.Operation.{Operation}
 use Rattle.isa.specs.declared.instruction.Test.{Test}
 use Rattle.isa.specs.Arithmetic.{low, test_holds}

@@ -1,5 +1,5 @@
 -- The pairs of numbers that meet a test, and how narrow their spans are.
-use Rattle.std.specs.Prelude.{ℕ, ◌*◌, ◌<◌, ◌≤◌, ◌^◌, Bool, IsTrue, Option, IsSomeAnd, IfSome}
+use Rattle.std.specs.Prelude.{ℕ, ◌*◌, ◌<◌, ◌^◌, Bool, IsTrue, Option, IsSomeAnd, IfSome}
 use Rattle.isa.specs.declared.instruction.Width.{Width}
 use Rattle.isa.specs.declared.instruction.Test.{Test}
 use Rattle.isa.specs.declared.instruction.Test.TheVariants.{AnyBitSet, SignedGreater}

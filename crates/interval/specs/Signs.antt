@@ -1,8 +1,8 @@
 -- Signed bounds. A signed number is kept as its biased number, the unsigned number that is 2^63
 -- above it, so that the signed order is the order of biased numbers.
-use Rattle.std.specs.Prelude.{◌≡◌, ℕ, ◌+◌, ◌-◌, ◌*◌, ◌%◌, ◌<◌, ◌≤◌, ◌^◌, ◌⊎◌}
+use Rattle.std.specs.Prelude.{◌≡◌, ℕ, ◌+◌, ◌*◌, ◌%◌, ◌<◌, ◌≤◌, ◌^◌, ◌⊎◌}
 use Rattle.isa.specs.declared.instruction.Width.{Width}
-use Rattle.isa.specs.declared.instruction.Width.TheVariants.{Bits32, Bits64}
+use Rattle.isa.specs.declared.instruction.Width.TheVariants.{Bits64}
 use Rattle.isa.specs.declared.instruction.Operation.{Operation}
 use Rattle.isa.specs.declared.instruction.Operation.TheVariants.{Add, Subtract, Move}
 use Rattle.isa.specs.declared.instruction.Test.{Test}

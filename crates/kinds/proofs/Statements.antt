@@ -1,5 +1,5 @@
 -- Kinds that are read from what is stated.
-use Rattle.std.proofs.Common.{◌≡◌, ℕ, ◌<◌, length, get_or}
+use Rattle.std.proofs.Common.{◌≡◌, ℕ, ◌<◌, get_or}
 use Rattle.object.specs.declared.kind.StatedKind.{StatedKind as Stated}
 use Rattle.object.specs.declared.kind.StatedKind.TheVariants as said
 use Rattle.object.specs.Statements.{StatementParts}

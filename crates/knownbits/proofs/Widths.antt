@@ -1,10 +1,10 @@
 -- The two widths.
 use Rattle.std.proofs.Common.{◌≡◌, ℕ, ◌+◌, ◌-◌, ◌%◌, ◌<◌, ◌≤◌, ◌^◌, sym, ap, ◌∙◌, refl, arith}
-use Rattle.std.specs.Prelude.{bit_and, bit_or}
+use Rattle.std.specs.Prelude.{bit_and}
 use Rattle.std.specs.Int.{bit_at}
 use Rattle.std.proofs.lemmas.Nat.{and_mask}
 use Rattle.std.proofs.Math.Nat.{mod-eq_of_lt}
-use Rattle.std.proofs.lemmas.Nat.Bits.{bit_at_ones, bit_at_and, bit_at-lt}
+use Rattle.std.proofs.lemmas.Nat.Bits.{bit_at_ones}
 use Rattle.isa.specs.declared.instruction.Extension.TheVariants as extensions
 use Rattle.isa.specs.declared.instruction.SwapWidth.TheVariants as swaps
 use Rattle.isa.specs.declared.instruction.ByteOrder.TheVariants as orders
@@ -12,7 +12,7 @@ use Rattle.absdom.specs.declared.unary.UnaryOperation.{UnaryOperation}
 use Rattle.absdom.specs.declared.unary.UnaryOperation.TheVariants.{Negate, Extend, Reorder}
 use Rattle.absdom.specs.Unary.{unary_result}
 use Rattle.knownbits.specs.declared.value.KnownBits.{KnownBits}
-use Rattle.knownbits.specs.Masks.{HasBits, Knows, KnowsBelow}
+use Rattle.knownbits.specs.Masks.{HasBits, KnowsBelow}
 use Rattle.knownbits.specs.Known.{KnowsOne, shared_known, unary_width}
 use Rattle.knownbits.proofs.BitLemmas.{both_known}
 use Rattle.isa.specs.declared.instruction.Width.{Width}

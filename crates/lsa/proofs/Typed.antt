@@ -1,5 +1,4 @@
 -- What a body's types ensure and what is proved of it make it a body that can be written.
-use Rattle.std.specs.List.{AllByRecursion}
 use Rattle.words.proofs.Each.{each_both}
 use Rattle.lsa.specs.declared.body.RouterLink.{RouterLink}
 use Rattle.lsa.specs.declared.body.SummaryTos.{SummaryTos}

@@ -1,7 +1,7 @@
 -- What the field types of a body in Rust ensure, and what they don't: a field of one, two or three
 -- bytes may have a wider type, and a list may be longer than its count can say. Together they are
 -- `IsBody`.
-use Rattle.std.specs.Prelude.{ℕ, ◌<◌, ◌^◌, length}
+use Rattle.std.specs.Prelude.{◌<◌, ◌^◌, length}
 use Rattle.std.specs.List.{AllByRecursion}
 use Rattle.lsa.specs.declared.body.RouterLink.{RouterLink}
 use Rattle.lsa.specs.declared.body.RouterLsa.{RouterLsa}

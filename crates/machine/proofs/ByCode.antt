@@ -1,19 +1,16 @@
 -- What the code alone says of reads, and of where a step leads.
-use Rattle.std.proofs.Common.{◌≡◌, ℕ, ℤ, Bool, true, false, Some, List, [], ◌∷◌, ◌++◌, map, inl}
+use Rattle.std.proofs.Common.{◌≡◌, ℕ, ℤ, Bool, true, false, Some, ◌++◌, map, inl}
 use Rattle.std.proofs.Common.{inr, ◌⊎◌, refl, ap, sym, ◌∙◌}
-use Rattle.isa.specs.declared.instruction.Instruction.{Instruction}
 use Rattle.isa.specs.declared.instruction.Instruction.TheVariants as instructions
 use Rattle.isa.specs.declared.instruction.Operation.{Operation}
 use Rattle.isa.specs.declared.instruction.Operation.TheVariants as operations
 use Rattle.isa.specs.declared.instruction.Source.{Source}
 use Rattle.isa.specs.declared.instruction.Source.TheVariants as sources
-use Rattle.isa.specs.Flow.{operation_registers, source_numbers, slot_after, jump_target}
+use Rattle.isa.specs.Flow.{operation_registers, source_numbers}
 use Rattle.isa.specs.Flow.{slot_at_distance}
 use Rattle.std.specs.Prelude.{◌≢◌, ◌+◌, if◌then◌else◌}
 use Rattle.machine.specs.declared.state.State.{State}
-use Rattle.machine.specs.Label.{Label}
-use Rattle.machine.specs.State.{Setting, held, operand, moved_on, with_register, after_jump}
-use Rattle.machine.specs.Steps.{Does}
+use Rattle.machine.specs.State.{held, operand, moved_on, with_register, after_jump}
 use Rattle.machine.specs.Faults.{operation_reads}
 use Rattle.std.proofs.lemmas.List.{get_or-set_other}
 use Rattle.machine.specs.declared.state.Content.{Content}

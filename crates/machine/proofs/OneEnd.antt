@@ -1,12 +1,11 @@
 -- The labels of a run determine where it leads and what it answers.
-use Rattle.std.proofs.Common.{◌≡◌, ℕ, List, [], ◌∷◌, refl, sym, ◌∙◌, subst}
+use Rattle.std.proofs.Common.{◌≡◌, ℕ, List, [], ◌∷◌, sym, ◌∙◌, subst}
 use Rattle.machine.specs.declared.state.State.{State}
 use Rattle.machine.specs.Label.{Label}
 use Rattle.machine.specs.State.{Setting, start}
-use Rattle.machine.specs.Steps.{Exits, IsAt}
+use Rattle.machine.specs.Steps.{Exits}
 use Rattle.machine.specs.Runs.{Leads, Ends}
 use Rattle.machine.specs.declared.state.Content.TheVariants.{Number}
-use Rattle.machine.specs.Laws.{AnswerIsUnique}
 use Rattle.machine.proofs.Determined.{determined}
 
 pub leads_once : (setting : Setting) (labels : List Label) (s a b : State)

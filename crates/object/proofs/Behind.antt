@@ -1,8 +1,7 @@
 -- Statements one after the other in the bytes.
-use Rattle.std.proofs.Common.{◌≡◌, ℕ, ◌+◌, ◌*◌, ◌^◌, ◌≤◌, ◌<◌, List, [], ◌∷◌, ◌++◌, length, take}
+use Rattle.std.proofs.Common.{◌≡◌, ℕ, ◌+◌, ◌*◌, ◌≤◌, ◌<◌, List, [], ◌∷◌, ◌++◌, length, take}
 use Rattle.std.proofs.Common.{drop, refl, sym, ap, subst, ◌∙◌, arith, length-append, append_assoc}
 use Rattle.std.proofs.Common.{inl, inr}
-use Rattle.std.specs.Prelude.{◌⊎◌}
 use Rattle.std.specs.List.{flat_map}
 use Rattle.std.specs.Int.{w32, from_le_bytes}
 use Rattle.std.proofs.lemmas.Grind.{flat_map-append}
@@ -13,7 +12,7 @@ use Rattle.object.specs.declared.error.ObjectError.TheVariants as errors
 use Rattle.object.specs.Statements.{StatementParts, IsStatement}
 use Rattle.object.specs.Objects.{AreStatements, next_slot}
 use Rattle.object.specs.Spelling.{statement_text}
-use Rattle.object.specs.Refusals.{AreSpelled, Fails, FailsBehind, IsNoStatement, IsOutOfOrder}
+use Rattle.object.specs.Refusals.{AreSpelled, Fails, FailsBehind}
 use Rattle.object.specs.Refusals.{StatementsFail}
 use Rattle.object.proofs.Orders.{next_slot-more, ordered_more}
 use Rattle.object.proofs.Parts.{length-statement, same_statement, slot_in_front}

@@ -1,7 +1,7 @@
 -- An object file as a whole.
-use Rattle.std.proofs.Common.{◌≡◌, ℕ, ◌+◌, ◌-◌, ◌*◌, ◌/◌, ◌%◌, ◌^◌, ◌≤◌, ◌<◌, List, [], ◌∷◌, ◌++◌}
-use Rattle.std.proofs.Common.{length, take, drop, get_or, refl, sym, ap, subst, ◌∙◌, arith}
-use Rattle.std.proofs.Common.{length-append, length-take, length-drop, append_assoc, inl, inr}
+use Rattle.std.proofs.Common.{◌≡◌, ℕ, ◌+◌, ◌-◌, ◌*◌, ◌≤◌, List, [], ◌++◌}
+use Rattle.std.proofs.Common.{length, take, drop, refl, sym, ap, subst, ◌∙◌, arith}
+use Rattle.std.proofs.Common.{length-append, length-take, length-drop, inl, inr}
 use Rattle.std.specs.Prelude.{slice_index, Result, Ok, Err, IfOk, IfErr, MatchResult}
 use Rattle.std.specs.List.{flat_map}
 use Rattle.std.specs.Int.{w16, w32, from_le_bytes}
@@ -19,9 +19,8 @@ use Rattle.object.specs.Objects.{AreStatements, IsObject, ObjectParts, slots_of}
 use Rattle.object.specs.Spelling.{Spells, fields_of_header, header_bytes, magic, statement_text}
 use Rattle.object.specs.Spelling.{text}
 use Rattle.object.specs.Refusals.{AreFieldsOf, AreSpelled, FailsAt, FailsBehind, HasSize, Refuses}
-use Rattle.object.specs.Refusals.{StatementsFail, announced_size, count_in, slots_in}
+use Rattle.object.specs.Refusals.{StatementsFail, count_in, slots_in}
 use Rattle.object.proofs.Orders.{few_statements}
-use Rattle.object.proofs.Same.{same_header_fields}
 use Rattle.object.proofs.Behind.{length-statements, not_behind, same_statements}
 
 -- ---- what the bytes of an object announce

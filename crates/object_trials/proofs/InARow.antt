@@ -1,5 +1,5 @@
 -- Runs in a row with one more run.
-use Rattle.std.proofs.Common.{◌≡◌, ℕ, List, [], ◌∷◌, ◌++◌, refl, subst, sym}
+use Rattle.std.proofs.Common.{ℕ, List, [], ◌∷◌, ◌++◌, refl, subst, sym}
 use Rattle.machine.specs.Given.{Given}
 use Rattle.maps.specs.Words.{SeatView}
 use Rattle.object_trials.specs.Runs.{RunsInARow, RunsOnce}

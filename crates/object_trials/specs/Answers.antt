@@ -1,5 +1,5 @@
 -- What a test expects of answers.
-use Rattle.std.specs.Prelude.{◌==◌, ◌%◌, ℕ, Bool, true, false, Ok, Err, nat_le, not}
+use Rattle.std.specs.Prelude.{◌==◌, ◌%◌, ℕ, Bool, false, Ok, Err, nat_le, not}
 use Rattle.isa.specs.declared.hook.Hook.{Hook}
 use Rattle.isa.specs.declared.hook.Hook.TheVariants as hooks
 use Rattle.interp.specs.Outcome.{trap_number}

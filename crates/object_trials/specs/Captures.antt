@@ -1,5 +1,5 @@
 -- Files of packets in the classic form of libpcap, as pcap-savefile(5) has it.
-use Rattle.std.specs.Prelude.{◌≡◌, ◌⊎◌, ℕ, ◌+◌, ◌-◌, ◌<◌, ◌≤◌, List, [], ◌∷◌, length, slice_range}
+use Rattle.std.specs.Prelude.{◌≡◌, ◌⊎◌, ℕ, ◌+◌, ◌<◌, ◌≤◌, List, [], ◌∷◌, length, slice_range}
 use Rattle.object_trials.specs.Frames.{HasNumber}
 use Rattle.object_trials.specs.CaptureNumbers.{half, word}
 use Rattle.object_trials.specs.declared.captures.fault.CaptureError.{CaptureError}

@@ -1,5 +1,5 @@
 -- What is done to counters and cells before a program runs.
-use Rattle.std.specs.Prelude.{◌≡◌, ◌≤◌, ◌<◌, ◌^◌, ◌⊎◌, ℕ, List}
+use Rattle.std.specs.Prelude.{◌≡◌, ◌≤◌, ◌<◌, ◌^◌, ◌⊎◌, List}
 use Rattle.maps.specs.Access.{adds_made}
 use Rattle.maps.specs.Words.{SeatView, seat_after}
 use Rattle.maps.specs.declared.access.Access.TheVariants.{Add, SetCell}

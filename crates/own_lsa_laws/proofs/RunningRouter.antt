@@ -1,5 +1,5 @@
 -- The premises of the law about own LSAs, met by the events that lead to a running router.
-use Rattle.std.proofs.Common.{◌≡◌, ℕ, ◌≤◌, Bool, List, Option, sym, subst}
+use Rattle.std.proofs.Common.{ℕ, ◌≤◌, Bool, List, Option, subst}
 use Rattle.words.specs.Numbers.{Moment}
 use Rattle.event_rules.specs.declared.model.Config.{Config}
 use Rattle.event_rules.specs.declared.model.Out.{Out}
@@ -10,7 +10,7 @@ use Rattle.own_lsa_laws.specs.OwnCopies.{EndsWithTick, NobodySpeaksForThisRouter
 use Rattle.flood.specs.declared.event.Event.{Event}
 use Rattle.flood.specs.declared.event.Event.TheVariants as event
 use Rattle.worker.specs.Replay.{Leads}
-use Rattle.worker.specs.Turns.{IsOfferedBySome, Sends, TakesFor, took_from}
+use Rattle.worker.specs.Turns.{Sends}
 use Rattle.worker.specs.Work.TheVariants.{Tick}
 use Rattle.own_lsa_laws.specs.RunningRouter.{IsTicked, NobodySpeaksForTheRunningRouter}
 

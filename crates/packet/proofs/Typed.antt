@@ -1,6 +1,5 @@
 -- What a packet's types ensure and what is proved of it make it a packet that can be encoded.
 use Rattle.std.proofs.Common.{ℕ, List}
-use Rattle.std.specs.List.{AllByRecursion}
 use Rattle.words.specs.Fields.{AreBytes}
 use Rattle.words.proofs.Each.{each_both}
 use Rattle.packet.specs.declared.model.PacketBody.{PacketBody}

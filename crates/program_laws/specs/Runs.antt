@@ -3,7 +3,7 @@ use Rattle.std.specs.Prelude.{◌≡◌, ℕ, List, [], ◌∷◌, Some, pos, ne
 use Rattle.isa.specs.declared.code.Slot.{Slot}
 use Rattle.isa.specs.declared.code.Slot.TheVariants.{SecondHalf, Start}
 use Rattle.isa.specs.declared.hook.Hook.{Hook}
-use Rattle.isa.specs.declared.instruction.Instruction.TheVariants.{Exit, Load, LoadMap, Store}
+use Rattle.isa.specs.declared.instruction.Instruction.TheVariants.{Load, LoadMap, Store}
 use Rattle.isa.specs.declared.instruction.LoadSize.TheVariants.{Unsigned64}
 use Rattle.isa.specs.declared.instruction.Source.TheVariants.{Register}
 use Rattle.isa.specs.declared.instruction.StoreSize.TheVariants as stored

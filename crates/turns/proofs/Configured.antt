@@ -9,7 +9,6 @@ use Rattle.hooks.specs.declared.operation.LoaderOperation.{LoaderOperation}
 use Rattle.hooks.specs.Questions.{ExternalAnswer, price_input, tag_input}
 use Rattle.hooks.specs.Vacant.{IsAnsweredByNone}
 use Rattle.flood.specs.event_rules.Routers.{Router}
-use Rattle.flood.specs.declared.event.Event.{Event}
 use Rattle.flood.specs.declared.event.Event.TheVariants as event
 use Rattle.turns.specs.Laws.{AnswersAreBesideATable}
 use Rattle.turns.specs.Turns.{AreAsked, AreBeside, IsOfferedBySome, IsRedistribute, Offers}

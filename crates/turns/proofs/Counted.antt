@@ -1,5 +1,5 @@
 -- A datagram that was counted, and refusals of questions.
-use Rattle.std.proofs.Common.{◌≡◌, ◌⊎◌, inl, inr, ℕ, List, Option, None, Some, sym, ◌∙◌, subst}
+use Rattle.std.proofs.Common.{◌≡◌, inl, inr, ℕ, List, Option, None, Some, sym, ◌∙◌, subst}
 use Rattle.std.specs.Prelude.{IfNone, IfSome}
 use Rattle.words.specs.Numbers.{InterfaceNumber, Moment}
 use Rattle.maps.specs.Words.{SeatView}

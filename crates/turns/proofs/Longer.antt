@@ -3,7 +3,6 @@
 use Rattle.std.proofs.Common.{◌≡◌, ◌⊎◌, inl, inr, ◌∙◌, ℕ, ◌+◌, Bool, List, Option, None, Some}
 use Rattle.std.proofs.Common.{arith, subst}
 use Rattle.std.specs.Prelude.{IfNone, IfSome, MatchOption}
-use Rattle.std.specs.List.{All}
 use mathlib.Core.List.{IsPrefix}
 use Rattle.words.specs.Numbers.{Moment}
 use Rattle.words.specs.declared.route.External.{External}

@@ -1,7 +1,7 @@
 -- What a turn gives to the book, and what comes of it.
-use Rattle.std.specs.Prelude.{◌≡◌, ◌≢◌, ◌⊎◌, ◌↔◌, ℕ, ◌+◌, ◌<◌, ◌≤◌, Bool, true, List, [], Option}
+use Rattle.std.specs.Prelude.{◌≡◌, ◌≢◌, ◌⊎◌, ◌↔◌, ℕ, ◌+◌, ◌<◌, ◌≤◌, Bool, true, List, Option}
 use Rattle.std.specs.Prelude.{IfSome, IsTrue, MatchOption, Some}
-use Rattle.std.specs.Prelude.{Result, Err, length, map, max, slice_get}
+use Rattle.std.specs.Prelude.{Err, length, map, max, slice_get}
 use Rattle.std.specs.FinMap as finite
 use Rattle.std.specs.List.{All}
 use mathlib.Core.List.{IsPrefix}

@@ -1,8 +1,8 @@
 -- The life of a worker: what its clock showed, what its link heard, and the turns that came of
 -- both.
-use Rattle.std.specs.Prelude.{◌≡◌, ◌≢◌, ◌⊎◌, ℕ, zero, suc, ◌+◌, ◌≤◌, List, [], ◌∷◌, ◌++◌, length}
+use Rattle.std.specs.Prelude.{◌≡◌, ◌≢◌, ◌⊎◌, ℕ, zero, suc, ◌≤◌, List, [], ◌∷◌, ◌++◌, length}
 use Rattle.std.specs.Prelude.{Bool, true, false, Option, Some, None, MatchOption}
-use Rattle.std.specs.Prelude.{Result, Ok, Err, MatchResult}
+use Rattle.std.specs.Prelude.{Result, Err, MatchResult}
 use mathlib.Core.List.{IsPrefix}
 use Rattle.hooks.specs.declared.operation.LoaderOperation.{LoaderOperation}
 use Rattle.turns.specs.Turns.{AsksFor, IsTurned, Offers, Refuses, RefusesFor, Took}

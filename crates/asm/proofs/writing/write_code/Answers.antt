@@ -1,10 +1,10 @@
-use Rattle.std.proofs.Common.{◌≡◌, ◌∙◌, subst, sym, ap, length, drop, string_bytes, arith, ◌<◌, ◌+◌}
+use Rattle.std.proofs.Common.{◌≡◌, subst, sym, ap, length, drop, string_bytes, arith, ◌<◌, ◌+◌}
 use Rattle.std.proofs.Common.{◌++◌}
 use Rattle.std.specs.List.{flat_map}
 use Rattle.isa.specs.declared.code.Slot.TheVariants.{Start, SecondHalf}
 use Rattle.asm.specs.Listing.{text_of, slot_lines}
-use Rattle.asm.proofs.Codes.{CodeSoFar, item_at, start_step, second_step, code_ends}
-use Rattle.asm.proofs.Lines.{start_written, second_written, code_written}
+use Rattle.asm.proofs.Codes.{CodeSoFar, item_at, start_step, second_step}
+use Rattle.asm.proofs.Lines.{start_written, second_written}
 use Rattle.asm.proofs.writing.write_code.Goals.{in-Start+in_ok-put-in-Start, in-SecondHalf}
 use Rattle.asm.proofs.writing.write_code.Goals as goal
 

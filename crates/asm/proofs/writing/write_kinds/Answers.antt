@@ -1,4 +1,4 @@
-use Rattle.std.proofs.Common.{◌≡◌, ◌∙◌, ℕ, ◌+◌, ◌<◌, ◌++◌, [], List, length, drop, subst, sym, ap}
+use Rattle.std.proofs.Common.{◌≡◌, ◌∙◌, ℕ, ◌+◌, ◌<◌, ◌++◌, [], length, drop, subst, sym, ap}
 use Rattle.std.proofs.Common.{get_or, string_bytes, arith}
 use Rattle.object.specs.declared.kind.StatedKind.{StatedKind}
 use Rattle.asm_lines.specs.declared.line.AssemblyLine.TheVariants as lines

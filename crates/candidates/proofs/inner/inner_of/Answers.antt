@@ -1,6 +1,4 @@
-use Rattle.std.proofs.Common.{◌≡◌, List, [], arith, sym, subst}
-use Rattle.std.specs.List.{Contains}
-use Rattle.std.specs.Prelude.{◌↔◌}
+use Rattle.std.proofs.Common.{List, [], arith, sym, subst}
 use Rattle.words.specs.declared.route.Route.{Route}
 use Rattle.candidates.specs.Borders.{AreCloseBy, HasLengths, Tells}
 use Rattle.candidates.specs.Gathering.{Adds, OfEach}

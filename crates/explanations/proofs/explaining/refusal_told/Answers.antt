@@ -1,4 +1,4 @@
-use Rattle.std.proofs.Common.{◌≡◌, ◌∙◌, ap, IfOk, string_bytes, ℕ, List, ◌++◌, codes, decimal}
+use Rattle.std.proofs.Common.{◌≡◌, ◌∙◌, ap, string_bytes, ℕ, List, ◌++◌, codes, decimal}
 use Rattle.std.proofs.lemmas.Result.{IfOk-weaker}
 use Rattle.explanations.specs.Told.{refused_words}
 use Rattle.explanations.proofs.Refusals.{refused_text}

@@ -1,4 +1,4 @@
-use Rattle.std.proofs.Common.{[], List, ap, subst, sym, ◌∙◌}
+use Rattle.std.proofs.Common.{List, ap, subst, sym, ◌∙◌}
 use Rattle.std.specs.Prelude.{slice_get}
 use Rattle.candidates.specs.Gathering.{Adds, OfEach}
 use Rattle.routes.specs.Said.{said_at}

@@ -1,4 +1,4 @@
-use Rattle.std.proofs.Common.{◌≡◌, true, false, List, Option, None, Some, subst, sym, ◌∙◌}
+use Rattle.std.proofs.Common.{◌≡◌, true, false, List, Option, Some, subst, sym, ◌∙◌}
 use Rattle.std.specs.Prelude.{IfSome}
 use Rattle.words.specs.declared.route.Route.{Route}
 use Rattle.external_updates.specs.Placing.{IsPlaced}

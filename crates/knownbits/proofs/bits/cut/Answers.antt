@@ -1,4 +1,4 @@
-use Rattle.std.proofs.Common.{arith, ap, sym, ◌∙◌}
+use Rattle.std.proofs.Common.{arith}
 use Rattle.std.proofs.lemmas.Nat.Bits.{bit_at_mask_inside}
 use Rattle.knownbits.proofs.BitLemmas.{cut_known, left_known, right_known}
 use Rattle.knownbits.proofs.bits.cut.Goals as goal

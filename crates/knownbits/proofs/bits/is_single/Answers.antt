@@ -1,4 +1,4 @@
-use Rattle.std.proofs.Common.{arith, ap}
+use Rattle.std.proofs.Common.{arith}
 use Rattle.std.proofs.lemmas.Bool.Decides.{nat_tests}
 use Rattle.knownbits.proofs.BitLemmas.{all_ones}
 use Rattle.knownbits.proofs.bits.is_single.Goals as goal

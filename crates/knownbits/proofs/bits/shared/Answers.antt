@@ -1,4 +1,3 @@
-use Rattle.std.proofs.Common.{◌≡◌, ◌%◌, ◌^◌, arith}
 use Rattle.knownbits.proofs.BitLemmas.{shared_bits}
 use Rattle.knownbits.proofs.bits.shared.Goals as goal
 

@@ -1,4 +1,4 @@
-use Rattle.std.proofs.Common.{inl, inr}
+use Rattle.std.proofs.Common.{inl}
 use Rattle.absdom.proofs.ArithmeticLemmas.{operate_below}
 use Rattle.knownbits.proofs.domain.results.Goals as goal
 

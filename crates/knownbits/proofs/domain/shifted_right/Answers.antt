@@ -1,4 +1,4 @@
-use Rattle.std.proofs.Common.{◌≡◌, ℕ, ◌/◌, ◌^◌, ◌%◌, ap, refl, ◌∙◌, subst}
+use Rattle.std.proofs.Common.{◌≡◌, ◌/◌, ◌^◌, ◌%◌, ap, ◌∙◌, subst}
 use Rattle.isa.specs.Arithmetic.{bits}
 use Rattle.knownbits.specs.Masks.{HasBits}
 use Rattle.knownbits.proofs.Widths.{single_value}

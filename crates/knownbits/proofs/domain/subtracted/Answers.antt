@@ -1,4 +1,4 @@
-use Rattle.std.proofs.Common.{◌≡◌, ◌<◌, ◌≤◌, ◌+◌, ◌-◌, ◌^◌, ◌%◌, arith, subst}
+use Rattle.std.proofs.Common.{◌≤◌, ◌+◌, ◌-◌, ◌^◌, ◌%◌, arith, subst}
 use Rattle.knownbits.specs.Masks.{HasBits}
 use Rattle.knownbits.proofs.Widths.{width_most, low_difference}
 use Rattle.knownbits.proofs.domain.subtracted.Goals as goal

@@ -1,4 +1,4 @@
-use Rattle.std.proofs.Common.{arith, ◌≡◌, ◌<◌, ◌+◌, ◌*◌, ◌^◌, ◌%◌, subst}
+use Rattle.std.proofs.Common.{arith, ◌<◌, ◌+◌, ◌*◌, ◌^◌, ◌%◌, subst}
 use Rattle.knownbits.specs.Masks.{HasBits}
 use Rattle.knownbits.proofs.BitLemmas.{shl_known, shl_fills, shl_moves}
 use Rattle.knownbits.proofs.Widths.{width_most, low_of_word}

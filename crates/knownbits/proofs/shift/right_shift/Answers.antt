@@ -1,8 +1,8 @@
-use Rattle.std.proofs.Common.{arith, ◌≡◌, ◌<◌, ◌+◌, ◌*◌, ◌/◌, ◌^◌, ◌%◌, ap, sym, ◌∙◌, subst}
+use Rattle.std.proofs.Common.{arith, ◌+◌, subst}
 use Rattle.std.proofs.lemmas.Nat.{shr_le}
 use Rattle.knownbits.specs.Masks.{HasBits}
 use Rattle.knownbits.proofs.BitLemmas.{shr_known, shr_filled, shr_moves, bit_place}
-use Rattle.knownbits.proofs.Widths.{width_most, number_small, low_fits}
+use Rattle.knownbits.proofs.Widths.{low_fits}
 use Rattle.knownbits.proofs.shift.right_shift.Goals as goal
 
 pub returns-clause-holds : goal.returns-clause-holds

@@ -1,5 +1,4 @@
-use Rattle.std.proofs.Common.{◌≡◌, ap, sym, ◌∙◌}
-use Rattle.knownbits.proofs.BitLemmas.{sum_known, run_knows, word_small, and_small}
+use Rattle.knownbits.proofs.BitLemmas.{sum_known, run_knows, word_small}
 use Rattle.knownbits.proofs.sum.sum.Goals as goal
 
 pub returns-clause-holds : goal.returns-clause-holds

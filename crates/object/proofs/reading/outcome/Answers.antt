@@ -1,4 +1,4 @@
-use Rattle.std.proofs.Common.{◌≡◌, refl, sym, subst}
+use Rattle.std.proofs.Common.{refl, sym, subst}
 use Rattle.object.specs.Objects.{ObjectParts}
 use Rattle.object.specs.Spelling.{Spells}
 use Rattle.object.proofs.Whole.{read_of, read_object, read_spells, cut_fails}

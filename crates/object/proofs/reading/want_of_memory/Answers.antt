@@ -1,6 +1,5 @@
-use Rattle.std.proofs.Common.{◌∙◌, ◌+◌, ap, subst, ℕ, List, [], ◌∷◌, ◌++◌, refl, sym}
-use Rattle.object.specs.Statements.{StatementParts}
-use Rattle.object.proofs.Behind.{SoFar, one_fails, so_far_all, so_far_more}
+use Rattle.std.proofs.Common.{◌+◌, subst, ℕ, [], ◌∷◌, ◌++◌, refl, sym}
+use Rattle.object.proofs.Behind.{SoFar, one_fails, so_far_more}
 use Rattle.object.proofs.reading.want_of_memory.Goals as goal
 
 pub returns-in-Err : goal.returns-in-Err

@@ -1,4 +1,3 @@
-use Rattle.hooks.specs.Known.{known_to}
 use Rattle.turns.proofs.Counted.{asks, counts}
 use Rattle.turns.proofs.questions.asked.Goals as goal
 

@@ -1,4 +1,3 @@
-use Rattle.hooks.specs.Known.{known_to}
 use Rattle.turns.proofs.Away.{begins, of_veto}
 use Rattle.turns.proofs.Vetoes.{is_veto}
 use Rattle.turns.proofs.questions.veto.Goals as goal

@@ -1,4 +1,4 @@
-use Rattle.std.proofs.Common.{◌≡◌, ap, sym, ◌∙◌, subst}
+use Rattle.std.proofs.Common.{◌≡◌, ap, ◌∙◌, subst}
 use Rattle.isa.specs.Arithmetic.{low, operate}
 use Rattle.absdom.proofs.ArithmeticLemmas.{low_below}
 use Rattle.knownbits.specs.Masks.{HasBits}

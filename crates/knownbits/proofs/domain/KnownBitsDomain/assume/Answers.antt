@@ -1,6 +1,5 @@
-use Rattle.std.proofs.Common.{◌≡◌, ◌<◌, ⊎_elim, arith, sym, ◌∙◌, subst}
-use Rattle.std.specs.Prelude.{Some, None}
-use Rattle.knownbits.specs.Known.{KnowsBoth, KnowsZero, KnowsOne}
+use Rattle.std.proofs.Common.{⊎_elim, arith, sym, subst}
+use Rattle.knownbits.specs.Known.{KnowsBoth, KnowsOne}
 use Rattle.knownbits.proofs.Widths.{width_most, shared_one}
 use Rattle.knownbits.proofs.domain.KnownBitsDomain.assume.Goals as goal
 

@@ -1,4 +1,4 @@
-use Rattle.std.proofs.Common.{◌≡◌, ◌<◌, ◌^◌, arith, refl}
+use Rattle.std.proofs.Common.{◌<◌, ◌^◌, arith, refl}
 use Rattle.std.proofs.lemmas.Nat.{and_le_l}
 use Rattle.knownbits.proofs.BitLemmas.{at_most, greatest}
 use Rattle.knownbits.proofs.domain.KnownBitsDomain.range.Goals as goal

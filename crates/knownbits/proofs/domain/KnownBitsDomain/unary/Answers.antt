@@ -2,7 +2,6 @@ use Rattle.std.proofs.Common.{◌≡◌, ap, ◌∙◌, subst}
 use Rattle.isa.specs.Arithmetic.{low}
 use Rattle.absdom.specs.Unary.{unary_result}
 use Rattle.knownbits.specs.Masks.{HasBits}
-use Rattle.knownbits.specs.Known.{unary_width}
 use Rattle.knownbits.proofs.Widths.{single_value, unary_low}
 use Rattle.knownbits.proofs.domain.KnownBitsDomain.unary.Goals as goal
 

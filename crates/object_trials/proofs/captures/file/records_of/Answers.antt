@@ -1,4 +1,4 @@
-use Rattle.std.proofs.Common.{◌+◌, ◌∷◌, ◌++◌, [], List, length, subst, sym}
+use Rattle.std.proofs.Common.{◌+◌, List, length, subst, sym}
 use Rattle.object_trials.specs.Captures.{AreRecords}
 use Rattle.object_trials.specs.declared.captures.file.Record.{Record}
 use Rattle.object_trials.proofs.Behind.{ends_inside, one_more}
