@@ -28,7 +28,7 @@ use Rattle.received.specs.Outcomes.{Outcome, Send, Stepping, each_neighbor, on_d
 use Rattle.received.specs.Outcomes.{one_neighbor, only_at, sending, sends_at, step_on, sends_of}
 use Rattle.received.specs.Outcomes.{stepped_links, stepping_sends}
 use Rattle.received.specs.Updates.{after_case, case_at, copy_of, install, send_copy}
-use Rattle.received.proofs.Marks.{IsStill, mark_all}
+use Rattle.received.proofs.Marks.{IsStill, mark_all, There}
 use Rattle.event_rules.specs.Commands.{taken_down}
 use Rattle.event_rules.specs.Endings.{link_loading_done, stays, with_age}
 use Rattle.event_rules.specs.EventState.{flood_from_nobody}
@@ -42,7 +42,7 @@ use Rattle.event_rules.specs.Ticks.{send_hellos, with_hello_sent, without_acknow
 use Rattle.flood_laws.proofs.Leaving.{each_kept_at, stepped_kept}
 use Rattle.flood_laws.proofs.Limits.{tied_key}
 use Rattle.flood_laws.proofs.Owing.{put_same}
-use Rattle.flood_laws.proofs.Retransmitted.{OwnKeys, There, own_at}
+use Rattle.flood_laws.proofs.Retransmitted.{OwnKeys, own_at}
 use Rattle.agreement_laws.specs.Exchanged.{Conversation}
 use Rattle.agreement_laws.specs.Ranks.{RanksFollowTheComparison, is_at_least}
 use Rattle.agreement_laws.proofs.Holding.{HasEnded, IsHeldAsNew, held_flushed, held_installed}

@@ -26,6 +26,7 @@ use Rattle.received.specs.Links.{Link, neighbor_at}
 use Rattle.received.specs.Outcomes.{Outcome, on_links, only_at, sends_at, step_on}
 use Rattle.received.specs.Outcomes.{stepped_links, stepping_sends}
 use Rattle.received.proofs.Holding.{one_holds}
+use Rattle.received.proofs.Marks.{all_there}
 use Rattle.event_rules.specs.declared.model.Out.{Out}
 use Rattle.event_rules.specs.Endings.{end_event, start_event}
 use Rattle.event_rules.specs.EventState.{EventState}
@@ -40,7 +41,7 @@ use Rattle.flood_laws.proofs.Acknowledged.{in_order, order_begun, order_brings, 
 use Rattle.flood_laws.proofs.EventWalk.{IsHeard, IsKeptToo, event_kept_too}
 use Rattle.flood_laws.proofs.Leaving.{stepped_kept}
 use Rattle.flood_laws.proofs.Limits.{new_key, tied_key, wanted_type}
-use Rattle.flood_laws.proofs.Retransmitted.{IsItsOwn, all_there, own_at, read}
+use Rattle.flood_laws.proofs.Retransmitted.{IsItsOwn, own_at, read}
 use Rattle.flood_laws.proofs.Retransmitted as retransmitted
 use Rattle.agreement_laws.specs.Exchanged.{Conversation, conversation_with}
 use Rattle.agreement_laws.specs.Ranks.{RanksFollowTheComparison, is_at_least}

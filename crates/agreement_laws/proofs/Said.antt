@@ -36,7 +36,8 @@ use Rattle.received.specs.Outcomes.{Outcome, Send, Stepping, each_neighbor, mark
 use Rattle.received.specs.Outcomes.{on_database, on_links, one_neighbor, only_at, sending, sends_at}
 use Rattle.received.specs.Outcomes.{sent_on, step_on, stepped_links, stepping_sends, sends_of}
 use Rattle.received.specs.Updates.{after_case, case_at, copy_of, send_copy}
-use Rattle.received.proofs.Told.{joined}
+use Rattle.received.proofs.Marks.{There}
+use Rattle.received.proofs.Roomy.{joined}
 use Rattle.event_rules.specs.Commands.{taken_down}
 use Rattle.event_rules.specs.Endings.{link_loading_done, stays, with_age}
 use Rattle.event_rules.specs.EventState.{flood_from_nobody}
@@ -49,7 +50,7 @@ use Rattle.event_rules.specs.Ticks.{acknowledgments_on, again, hello_sent_on, ru
 use Rattle.event_rules.specs.Ticks.{send_acknowledgments}
 use Rattle.event_rules.specs.Ticks.{send_hellos, with_hello_sent, without_acknowledgments}
 use Rattle.flood_laws.proofs.Known.{each_all}
-use Rattle.flood_laws.proofs.Retransmitted.{OwnKeys, There, own_at}
+use Rattle.flood_laws.proofs.Retransmitted.{OwnKeys, own_at}
 use Rattle.flood_laws.proofs.Leaving.{itself}
 use Rattle.agreement_laws.specs.SaidIsHeld.{young}
 use Rattle.agreement_laws.specs.CopiesClimb.{HasHad}

@@ -30,7 +30,8 @@ use Rattle.flood_laws.proofs.Acknowledged.{in_order, order_begun, order_brings, 
 use Rattle.flood_laws.proofs.EventWalk.{IsKeptToo, event_kept_too}
 use Rattle.flood_laws.proofs.Known.{of_member}
 use Rattle.flood_laws.proofs.Limits.{new_key, wanted_type}
-use Rattle.flood_laws.proofs.Retransmitted.{all_there, read}
+use Rattle.flood_laws.proofs.Retransmitted.{read}
+use Rattle.received.proofs.Marks.{all_there}
 use Rattle.agreement_laws.specs.SaidIsHeld.{IsAcknowledged, IsOfDatabase, IsReceived, IsToDescribe}
 use Rattle.agreement_laws.specs.SaidIsHeld.{SaysWhatIsHeld, WhatIsSaidIsHeld, young}
 use Rattle.agreement_laws.proofs.Having.{Whole, joined, whole_begun, whole_kept}

@@ -32,6 +32,7 @@ use Rattle.received.specs.Holds.{Holds, HoldsOfEach}
 use Rattle.received.specs.Links.{Area, Link, link_at, neighbor_at, neighbor_on}
 use Rattle.received.specs.Outcomes.{Outcome, sends_at, step_on, stepping_sends}
 use Rattle.received.proofs.Holding.{one_holds}
+use Rattle.received.proofs.Marks.{There, all_there}
 use Rattle.event_rules.specs.declared.model.Out.{Out}
 use Rattle.event_rules.specs.Endings.{end_event, start_event, with_age}
 use Rattle.event_rules.specs.EventState.{EventState, flood_from_nobody}
@@ -48,7 +49,7 @@ use Rattle.flood_laws.proofs.EventWalk.{IsHeard, IsKeptToo, event_kept_too}
 use Rattle.flood_laws.proofs.Leaving.{stepped_kept}
 use Rattle.flood_laws.proofs.Limits.{tied_key}
 use Rattle.flood_laws.proofs.Lists.{of_cons, of_empty}
-use Rattle.flood_laws.proofs.Retransmitted.{IsItsOwn, OwnKeys, There, all_there, own_at, read}
+use Rattle.flood_laws.proofs.Retransmitted.{IsItsOwn, OwnKeys, own_at, read}
 use Rattle.flood_laws.proofs.Retransmitted as retransmitted
 use Rattle.flood_laws.proofs.Worlds.{mapped}
 use Rattle.agreement_laws.specs.Exchanged.{Converses, Tells, conversation_with, headers_told}

@@ -48,7 +48,7 @@ use Rattle.received.specs.Outcomes.{Outcome, Send, Stepping, each_neighbor, send
 use Rattle.received.specs.Outcomes.{on_links, one_neighbor, only_at, sending, step_on, sends_of}
 use Rattle.received.specs.Outcomes.{stepped_links, stepping_sends}
 use Rattle.received.specs.Updates.{after_case, case_at, copy_of, install, send_copy}
-use Rattle.received.proofs.Marks.{IsStill, changed_by, mark_all}
+use Rattle.received.proofs.Marks.{IsStill, changed_by, mark_all, There, all_there}
 use Rattle.event_rules.specs.Commands.{taken_down}
 use Rattle.event_rules.specs.Endings.{link_loading_done, loading_done_on, start_event, stays}
 use Rattle.event_rules.specs.Endings.{with_age}
@@ -76,7 +76,7 @@ use Rattle.flood_laws.proofs.Owing.{Owing, acknowledgment_owing, again_owing, de
 use Rattle.flood_laws.proofs.Owing.{filled_owing, flooded_other, flooded_same, hello_owing}
 use Rattle.flood_laws.proofs.Owing.{mismatched_owing, old_description_owing, put_other, put_same}
 use Rattle.flood_laws.proofs.Owing.{released_owing, request_owing}
-use Rattle.flood_laws.proofs.Retransmitted.{IsItsOwn, OwnKeys, There, all_there, own_at}
+use Rattle.flood_laws.proofs.Retransmitted.{IsItsOwn, OwnKeys, own_at}
 use Rattle.flood_laws.proofs.Taken.{owed_where_implied}
 use Rattle.flood_laws.proofs.Worlds.{mapped}
 

@@ -30,7 +30,7 @@ use Rattle.adjacency.proofs.Facts.{Sound, sound_kept, sound_lists, sound_of}
 use Rattle.adjacency.proofs.Kept.{Fact, IsKeptWith, Of, acknowledgment_kept, again_kept, chosen}
 use Rattle.adjacency.proofs.Kept.{description_kept, hello_kept, mismatched_kept, released_kept}
 use Rattle.adjacency.proofs.Kept.{request_kept}
-use Rattle.adjacency.proofs.Maps.{AllIn, IfThere, OfEntry, entries_in, inserted_in, made_in}
+use Rattle.adjacency.proofs.Maps.{AllIn, IfThere, OfEntry, inserted_in, made_in}
 use Rattle.adjacency.proofs.Maps.{none_in, removed_in, retained_in}
 use Rattle.received.specs.Cases.{Case}
 use Rattle.received.specs.Flooding.{flood, flood_to, gets, meets, request_of, without_met_request}
@@ -42,7 +42,8 @@ use Rattle.received.specs.Outcomes.{sends_at, on_database, on_links, one_neighbo
 use Rattle.received.specs.Outcomes.{step_on, stepped_links, stepping_sends, sends_of}
 use Rattle.received.specs.Updates.{after_case, copy_of, install, send_copy}
 use Rattle.received.proofs.Holding.{changed_keeps, each_link_keeps, flood_to_kept, one_holds}
-use Rattle.received.proofs.Marks.{IsStill, changed_by, mark_all}
+use Rattle.received.proofs.Marks.{IsStill, StillThere, There, all_there, changed_by, mark_all}
+use Rattle.received.proofs.Marks.{still_all, still_marked}
 use Rattle.event_rules.specs.declared.model.Config.{Config}
 use Rattle.event_rules.specs.declared.model.Out.{Out}
 use Rattle.event_rules.specs.Commands.{taken_down}
@@ -118,16 +119,6 @@ of_aged db key moment c there aged = (
       (stays_aged c.lsa.header.age c.stored moment now
       (eqb-true (age_at c.lsa.header.age c.stored moment) 3600 aged) later),
 )
-
-abbrev pub There : Database → Key → DatabaseCopy → Type 0
-There db key c = finite.get db key ≡ Some c
-
-pub all_there : (db : Database) → AllByRecursion (OfEntry (There db)) (finite.entries db)
-all_there db = entries_in (There db) db (λ key. found key (finite.get db key) refl)
-  where
-    found : (key : Key) (o : Option DatabaseCopy) → finite.get db key ≡ o → IfThere (There db) key o
-    found key None is = tt
-    found key (Some c) is = is
 
 aged_entries : (db : Database) (moment : ℕ) (es : List (Key × DatabaseCopy))
     → AllByRecursion (OfEntry (There db)) es
@@ -385,17 +376,6 @@ put_kept moment sender lsa installed o h =
 
 -- ---- aging, and premature aging
 
-abbrev StillThere : Database → (Key × DatabaseCopy) → Type 0
-StillThere db e = IsStill db e.0 e.1
-
-still_marked : (moment : ℕ) (more : List Send) (db : Database) (es : List (Key × DatabaseCopy))
-    → AllByRecursion (StillThere db) es → AllByRecursion (StillThere (marks moment more db)) es
-still_marked moment more db [] h = tt
-still_marked moment more db (e ∷ es) h = (
-  mark_all moment more e.0 (record e.1 { sent = h.0.0 }) db h.0.1,
-  still_marked moment more db es h.1,
-)
-
 aged_flooded : (moment : ℕ) (e : Key × DatabaseCopy) (o : Outcome) → IsStill o.area.database e.0 e.1
     → is_aged_out moment e.1 ≡ true → OfOutcome o
     → OfOutcome (flood_from_nobody moment (lsa_now moment e.1) o)
@@ -429,11 +409,6 @@ ages_kept before moment (e ∷ es) o still h =
     ))
     (λ is. (h, still.1)) in
     ages_kept before moment es (with_age before moment o e) so.1 so.0
-
-still_all : (db : Database) (es : List (Key × DatabaseCopy))
-    → AllByRecursion (OfEntry (There db)) es → AllByRecursion (StillThere db) es
-still_all db [] h = tt
-still_all db (e ∷ es) h = ((e.1.sent, h.0), still_all db es h.1)
 
 abbrev aged : ℕ → DatabaseCopy → DatabaseCopy
 aged moment d = record d { lsa = lsa_aged 3600 d.lsa; stored = moment }

@@ -30,8 +30,9 @@ use Rattle.received.specs.Links.{Link, link_at, neighbor_on}
 use Rattle.received.specs.Outcomes.{Outcome, sends_at, on_database, on_links, sends_of}
 use Rattle.received.proofs.Told.{OfArea, OfLink, OfLinks, OfOutcome, OfSend, OfWaiting, case_told}
 use Rattle.received.proofs.Told.{change_told, changed_told, each_link_told, each_told, flood_told}
-use Rattle.received.proofs.Told.{joined, numbered_told, on_database_told, on_links_told}
+use Rattle.received.proofs.Told.{numbered_told, on_database_told, on_links_told}
 use Rattle.received.proofs.Told.{one_neighbor_told, one_told, sending_told}
+use Rattle.received.proofs.Roomy.{joined}
 use Rattle.event_rules.specs.Commands.{taken_down}
 use Rattle.event_rules.specs.Endings.{start_event, link_loading_done, loading_done_on, end_event}
 use Rattle.event_rules.specs.Endings.{stays}

@@ -1,7 +1,7 @@
 -- What is sent marks the copies sent in Link State Updates as sent, and changes nothing else.
 use Rattle.std.proofs.Common.{◌≡◌, ℕ, Bool, true, false, cond, List, [], ◌∷◌, Option, None, Some}
 use Rattle.std.proofs.Common.{refl, sym, ap, ◌∙◌, true≢false}
-use Rattle.std.specs.List.{fold}
+use Rattle.std.specs.List.{AllByRecursion, fold}
 use Rattle.std.specs.FinMap as finite
 use Rattle.std.specs.Ordering.{eq_by_cmp, is_eq}
 use Rattle.std.specs.declared.cmp.Ordering.{Ordering}
@@ -12,6 +12,7 @@ use Rattle.adjacency.specs.lsdb.Headers.{lsa_key}
 use Rattle.adjacency.specs.lsdb.Keys.{key_cmp}
 use Rattle.adjacency.proofs.lsdb.Keys.{keys_total}
 use Rattle.adjacency.specs.Contents.{Content}
+use Rattle.adjacency.proofs.Maps.{IfThere, OfEntry, entries_in}
 use Rattle.received.specs.Outcomes.{Send, marked_database}
 
 pub tied : (o : Ordering) → is_eq o ≡ true → o ≡ Equal
@@ -78,3 +79,32 @@ mark_all moment (s ∷ more) key c db there =
     let one : IsStill (marked_database moment db s.content) key c =
     mark_one moment s.content key c db there in
     mark_all moment more key (record c { sent = one.0 }) (marked_database moment db s.content) one.1
+
+-- ---- each copy of a database is there, and still there when others were marked
+
+abbrev pub There : Database → Key → DatabaseCopy → Type 0
+There db key c = finite.get db key ≡ Some c
+
+pub all_there : (db : Database) → AllByRecursion (OfEntry (There db)) (finite.entries db)
+all_there db = entries_in (There db) db (λ key. found key (finite.get db key) refl)
+  where
+    found : (key : Key) (o : Option DatabaseCopy) → finite.get db key ≡ o → IfThere (There db) key o
+    found key None is = tt
+    found key (Some c) is = is
+
+abbrev pub StillThere : Database → (Key × DatabaseCopy) → Type 0
+StillThere db e = IsStill db e.0 e.1
+
+pub still_all : (db : Database) (es : List (Key × DatabaseCopy))
+    → AllByRecursion (OfEntry (There db)) es → AllByRecursion (StillThere db) es
+still_all db [] h = tt
+still_all db (e ∷ es) h = ((e.1.sent, h.0), still_all db es h.1)
+
+pub still_marked : (moment : ℕ) (more : List Send) (db : Database) (es : List (Key × DatabaseCopy))
+    → AllByRecursion (StillThere db) es → AllByRecursion (StillThere
+    (fold (λ (d : Database) (s : Send). marked_database moment d s.content) db more)) es
+still_marked moment more db [] h = tt
+still_marked moment more db (e ∷ es) h = (
+  mark_all moment more e.0 (record e.1 { sent = h.0.0 }) db h.0.1,
+  still_marked moment more db es h.1,
+)

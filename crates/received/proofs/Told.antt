@@ -1,7 +1,7 @@
 -- A property of all that is held and sent still holds after sending, steps of the neighbors,
 -- flooding and a received LSA: of the copies of the database, the retransmission lists, the delayed
 -- acknowledgments, and what is sent.
-use Rattle.std.proofs.Common.{◌≡◌, ℕ, zero, suc, ◌+◌, ◌==◌, cond, List, [], ◌∷◌, ◌++◌, map, length}
+use Rattle.std.proofs.Common.{◌≡◌, ℕ, zero, suc, ◌+◌, ◌==◌, cond, List, [], ◌∷◌, map, length}
 use Rattle.std.proofs.Common.{Option, None, Some, ◌∙◌}
 use Rattle.std.specs.Prelude.{slice_get}
 use Rattle.std.specs.FinMap as finite
@@ -27,7 +27,7 @@ use Rattle.received.specs.Outcomes.{sends_at, on_database, on_links, one_neighbo
 use Rattle.received.specs.Outcomes.{sent_on, step_on, stepped_links}
 use Rattle.received.specs.Updates.{acknowledge_at_once, after_case, copy_of, install, send_copy}
 use Rattle.received.proofs.Marks.{changed_by}
-use Rattle.received.proofs.Roomy.{same_number}
+use Rattle.received.proofs.Roomy.{joined, same_number}
 
 -- ---- what is held and sent
 
@@ -53,11 +53,6 @@ pub record OfArea (t : Telling) (a : Area) (sends : List Send) : Type 0 where
 
 abbrev pub OfOutcome : Telling → Outcome → Type 0
 OfOutcome t o = OfArea t o.area o.sends
-
-pub joined : {X : Type 0} (P : X → Type 0) (xs ys : List X) → AllByRecursion P xs
-    → AllByRecursion P ys → AllByRecursion P (xs ++ ys)
-joined P [] ys p q = q
-joined P (x ∷ xs) ys p q = (p.0, joined P xs ys p.1 q)
 
 module _ (t : Telling) where
   -- ---- databases

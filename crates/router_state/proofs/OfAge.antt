@@ -6,14 +6,14 @@ use Rattle.std.specs.List.{AllByRecursion, filter, fold}
 use Rattle.std.specs.FinMap as finite
 use Rattle.words.specs.declared.key.Key.{Key}
 use Rattle.flooding.specs.lsdb.Headers.{Lsa}
-use Rattle.flooding.specs.lsdb.Copies.{Database, DatabaseCopy, aged_keys, has_just_aged_out}
+use Rattle.flooding.specs.lsdb.Copies.{DatabaseCopy, aged_keys, has_just_aged_out}
 use Rattle.flooding.specs.lsdb.Copies.{is_aged_out, lsa_now}
 use Rattle.flooding.specs.adjacency.Drafts.{Drafted}
-use Rattle.flooding.proofs.adjacency.Maps.{IfThere, OfEntry, entries_in}
 use Rattle.flooding.specs.received.Flooding.{flood, flood_to}
 use Rattle.flooding.specs.received.Links.{Area}
 use Rattle.flooding.specs.received.Outcomes.{Outcome, Send, stepping_sends}
-use Rattle.flooding.proofs.received.Marks.{IsStill, mark_all}
+use Rattle.flooding.proofs.received.Marks.{IsStill, StillThere, all_there, still_all}
+use Rattle.flooding.proofs.received.Marks.{still_marked}
 use Rattle.event_rules.specs.Endings.{with_age, with_ages}
 use Rattle.flooding.specs.Drafted.{drafts_with}
 use Rattle.flooding.specs.Links.{come_of_age, come_of_age_copy, start}
@@ -22,36 +22,6 @@ use Rattle.router_state.specs.Aging.{each_come_of_age, outcomes_in_turn}
 use Rattle.router_state.specs.Making.{interfaces_of}
 use Rattle.router_state.proofs.Areas.{keeps_neighbors}
 use Rattle.router_state.proofs.Drafts.{drafted_append, drafted_same}
-use Rattle.router_state.proofs.Stepped.{marks}
-
--- ---- the copies stay the same, except for when they were sent
-
-abbrev StillThere : Database → (Key × DatabaseCopy) → Type 0
-StillThere db e = IsStill db e.0 e.1
-
-abbrev There : Database → Key → DatabaseCopy → Type 0
-There db key c = finite.get db key ≡ Some c
-
-still_marked : (moment : ℕ) (more : List Send) (db : Database) (es : List (Key × DatabaseCopy))
-    → AllByRecursion (StillThere db) es → AllByRecursion (StillThere (marks moment db more)) es
-still_marked moment more db [] h = tt
-still_marked moment more db (e ∷ es) h = (
-  mark_all moment more e.0 (record e.1 { sent = h.0.0 }) db h.0.1,
-  still_marked moment more db es h.1,
-)
-
-still_each : (db : Database) (es : List (Key × DatabaseCopy))
-    → AllByRecursion (OfEntry (There db)) es → AllByRecursion (StillThere db) es
-still_each db [] h = tt
-still_each db (e ∷ es) h = ((e.1.sent, h.0), still_each db es h.1)
-
-still_all : (db : Database) → AllByRecursion (StillThere db) (finite.entries db)
-still_all db = still_each db (finite.entries db)
-    (entries_in (There db) db (λ key. found key (finite.get db key) refl))
-  where
-    found : (key : Key) (o : Option DatabaseCopy) → finite.get db key ≡ o → IfThere (There db) key o
-    found key None is = tt
-    found key (Some c) is = is
 
 -- ---- one entry, and the key of one copy
 
@@ -114,7 +84,8 @@ module _ (before moment : ℕ) where
 
   pub ages_are : (a : Area) → each_come_of_age before moment (aged_keys moment a.database) a
       ≡ with_ages before moment (start a)
-  ages_are a = sym (ages_by_keys (finite.entries a.database) (start a) (still_all a.database))
+  ages_are a = sym (ages_by_keys (finite.entries a.database) (start a)
+      (still_all a.database (finite.entries a.database) (all_there a.database)))
 
 -- ---- what is sent after something else is drafted after it
 
