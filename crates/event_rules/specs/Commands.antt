@@ -11,7 +11,8 @@ use Rattle.words.specs.declared.route.External.{External}
 use Rattle.words.specs.declared.route.ExternalType.{ExternalType}
 use Rattle.words.specs.declared.route.ExternalType.TheVariants.{Type1, Type2}
 use Rattle.words.specs.declared.route.Route.{Route}
-use Rattle.received.specs.Links.{Link, change_link}
+use Rattle.received.specs.Links.{change_link}
+pub use Rattle.received.specs.Links.{taken_down}
 use Rattle.received.specs.Outcomes.{on_links}
 use Rattle.event_rules.specs.Originations.{external_key, flush, originate_anyway}
 use Rattle.event_rules.specs.EventState.{EventState, on_area, on_router}
@@ -84,10 +85,6 @@ after_withdraw moment prefix p =
 
 abbrev pub after_install : List (Route × ℕ) → EventState → EventState
 after_install answers p = on_router (λ (r : Router). record r { answers = answers }) p
-
--- the neighbor is Down; the interface stays
-abbrev pub taken_down : Link → Link
-taken_down link = record link { neighbor = None }
 
 abbrev pub after_link_down : InterfaceNumber → EventState → EventState
 after_link_down number p = on_area (on_links (change_link number taken_down)) p

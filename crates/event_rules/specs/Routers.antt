@@ -1,6 +1,6 @@
 -- The state of a router, what may happen to it, and its start.
 use Rattle.std.specs.Prelude.{ℕ, Bool, true, not, ◌&&◌, ◌==◌, nat_le, nat_lt, List, [], ◌∷◌, length}
-use Rattle.std.specs.Prelude.{map, Option, None}
+use Rattle.std.specs.Prelude.{map, Option}
 use Rattle.std.specs.List.{list_all, list_any}
 use Rattle.std.specs.FinMap as finite
 use Rattle.std.specs.FinSet as set
@@ -14,6 +14,7 @@ use Rattle.received.specs.adjacency.declared.interface.Interface.{Interface}
 use Rattle.received.specs.adjacency.declared.state.NeighborState.{NeighborState}
 use Rattle.received.specs.adjacency.Steps.{named_neighbor}
 use Rattle.received.specs.Links.{Area, Link, neighbor_at}
+pub use Rattle.received.specs.Links.{fresh_link}
 use Rattle.event_rules.specs.declared.model.Config.{Config}
 
 pub record Router : Type 0 where
@@ -68,15 +69,6 @@ in_profile c =
     && list_all is_lawful c.interfaces && are_distinct c.interfaces
 
 -- ---- the start
-
--- a link on which nothing was received or sent
-abbrev pub fresh_link : Interface → Link
-fresh_link i = record {
-  interface = i;
-  neighbor = None;
-  acknowledgments = finite.empty;
-  last_hello_sent = None;
-}
 
 -- a router with these links and nothing else
 abbrev pub with_links : RouterNumber → List Link → Moment → Router

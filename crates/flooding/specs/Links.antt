@@ -10,7 +10,6 @@ use Rattle.adjacency.specs.lsdb.Headers.{Lsa, lsa_aged}
 use Rattle.adjacency.specs.Contents.{Content, Step, sent_on, step_on}
 use Rattle.adjacency.specs.Drafts.{Drafted}
 use Rattle.adjacency.specs.Neighbors.{Neighbor}
-use Rattle.adjacency.specs.declared.interface.Interface.{Interface}
 use Rattle.received.specs.Flooding.{flood}
 use Rattle.received.specs.Links.{Area, Link, any_has_retransmission}
 use Rattle.received.specs.Outcomes.{Outcome, on_database}
@@ -25,20 +24,8 @@ settled_link l = l.settled
 abbrev pub draft_of : KeptLink → Drafted
 draft_of l = l.drafted
 
--- the neighbor is Down, and nothing was sent
-abbrev pub unused_link : Interface → Link
-unused_link interface = record {
-  interface = interface;
-  neighbor = None;
-  acknowledgments = finite.empty;
-  last_hello_sent = None;
-}
-
 abbrev pub with_neighbor : Option Neighbor → Link → Link
 with_neighbor n link = record link { neighbor = n }
-
-abbrev pub without_neighbor : Link → Link
-without_neighbor link = record link { neighbor = None }
 
 -- the neighbor on the link, if there is one, takes a step
 abbrev pub neighbor_step : (Neighbor → Step) → Link → Link

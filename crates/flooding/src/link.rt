@@ -7,9 +7,9 @@ ghost use Rattle.adjacency.specs.Contents.{Updates, no_sends, sent_on};
 ghost use Rattle.adjacency.specs.Drafts.{nothing_drafted};
 ghost use Rattle.adjacency.specs.Floods.{flood_step, is_any};
 ghost use Rattle.adjacency.specs.Retransmissions.{remove_retransmission};
-ghost use Rattle.received.specs.Links.{acknowledge_later};
+ghost use Rattle.received.specs.Links.{acknowledge_later, fresh_link};
 ghost use Rattle.flooding.specs.Doing.{LinkDoes};
-ghost use Rattle.flooding.specs.Links.{neighbor_sends, neighbor_step, unused_link};
+ghost use Rattle.flooding.specs.Links.{neighbor_sends, neighbor_step};
 
 mod acknowledgments;
 mod asked;
@@ -72,8 +72,8 @@ impl Link {
     /// An interface whose neighbor is Down and on which nothing was sent. It doesn't allocate.
     pub fn new(alloc: Global, interface: Interface) -> Self
         ensures { result ≡ record {
-          present = unused_link interface;
-          settled = unused_link interface;
+          present = fresh_link interface;
+          settled = fresh_link interface;
           drafted = nothing_drafted;
         } }
     {

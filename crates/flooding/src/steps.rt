@@ -1,9 +1,9 @@
 //! Changes of links, and steps in which links may send.
 ghost use Rattle.std.specs.Prelude.{◌≡◌, ◌≤◌, IfOk, drop, length, map};
-ghost use Rattle.received.specs.Links.{change_link};
+ghost use Rattle.received.specs.Links.{change_link, taken_down};
 ghost use Rattle.received.specs.Outcomes.{sends_of};
 ghost use Rattle.flooding.specs.Doing.{AreaDoes, DatabaseDoes, LinksDo};
-ghost use Rattle.flooding.specs.Links.{draft_of, start, without_acknowledged, without_neighbor};
+ghost use Rattle.flooding.specs.Links.{draft_of, start, without_acknowledged};
 ghost use Rattle.flooding.specs.Steps.{all_links, key_of_update, keys_behind, mark_each, one_link};
 ghost use Rattle.flooding.specs.Steps.{update_count_on};
 
@@ -125,7 +125,7 @@ impl Area {
         requires last { number ≤ length self.old.present.links }
         ensures { self.new ≡ record self.old {
           present = record self.old.present {
-            links = change_link number without_neighbor self.old.present.links;
+            links = change_link number taken_down self.old.present.links;
           };
         } }
     {

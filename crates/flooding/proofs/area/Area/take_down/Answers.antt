@@ -1,8 +1,8 @@
 use Rattle.std.proofs.Common.{◌≡◌, ◌-◌, ◌<◌, ◌+◌, length, map, refl, ap, ◌∙◌, arith}
 use Rattle.std.proofs.lemmas.List.{length-map}
-use Rattle.received.specs.Links.{change_link}
+use Rattle.received.specs.Links.{change_link, taken_down}
 use Rattle.flooding.specs.Kept.{RouterArea}
-use Rattle.flooding.specs.Links.{draft_of, present, settled_link, without_neighbor}
+use Rattle.flooding.specs.Links.{draft_of, present, settled_link}
 use Rattle.flooding.proofs.Kept.{shows_kept}
 use Rattle.flooding.proofs.Marking.{area_is, router_area_is}
 use Rattle.flooding.proofs.OneLink.{changed_at}
@@ -33,13 +33,13 @@ returns c =
     omega (arith, c.requires.first, c.requires.last, shown, length-map items present) in
     let at : n ≡ 1 + i = omega (arith, c.requires.first) in
     router_area_is refl
-    (area_is (changed_at present without_neighbor 1 n i items c.take_down.new.self link lt at
+    (area_is (changed_at present taken_down 1 n i items c.take_down.new.self link lt at
     (ap present c.take_down.ensures
-    ∙ ap (λ k. without_neighbor (present k)) c.index_mut.ensures.value)) refl)
+    ∙ ap (λ k. taken_down (present k)) c.index_mut.ensures.value)) refl)
     (area_is (shows_kept settled_link items i link c.take_down.new.self c.index_mut.ensures.value
     (ap settled_link c.take_down.ensures ∙ ap settled_link c.index_mut.ensures.value)) refl)
     (shows_kept draft_of items i link c.take_down.new.self c.index_mut.ensures.value
     (ap draft_of c.take_down.ensures ∙ ap draft_of c.index_mut.ensures.value))
     ∙ ap (λ (v : RouterArea). record v {
-      present = record v.present { links = change_link n without_neighbor v.present.links };
+      present = record v.present { links = change_link n taken_down v.present.links };
     }) c.self.view_is
