@@ -1,12 +1,10 @@
 -- What a received packet does to the router (RFC 2328, sections 8.2, 10.5 to 10.7, 13 and 13.7).
 use Rattle.std.specs.Prelude.{ℕ, ◌==◌, Bool, true, false, ◌&&◌, ◌||◌, if◌then◌else◌, List, [], ◌∷◌}
 use Rattle.std.specs.Prelude.{map, Option, None, Some}
-use Rattle.std.specs.List.{filter_map, list_all}
-use Rattle.std.specs.FinMap as finite
+use Rattle.std.specs.List.{list_all}
 use Rattle.words.specs.Numbers.{InterfaceNumber, Moment, RouterNumber}
 use Rattle.words.specs.declared.key.Key.{Key}
 use Rattle.lsa.specs.Reading.{lsa_in}
-use Rattle.received.specs.lsdb.Copies.{Database}
 use Rattle.received.specs.lsdb.Headers.{Header, Lsa}
 use Rattle.packet.specs.declared.model.PacketBody.{PacketBody}
 use Rattle.packet.specs.declared.model.PacketBody.TheVariants as body
@@ -17,8 +15,9 @@ use Rattle.received.specs.adjacency.Adjacencies as adjacencies
 use Rattle.received.specs.adjacency.Contents.{Content, Step, no_sends}
 use Rattle.received.specs.adjacency.Descriptions.{after_description}
 use Rattle.received.specs.adjacency.Neighbors.{Neighbor}
-use Rattle.received.specs.adjacency.Retransmissions.{after_acknowledgment, lsa_of}
+use Rattle.received.specs.adjacency.Retransmissions.{after_acknowledgment}
 pub use Rattle.received.specs.adjacency.Steps.{any_exchange_or_later, is_there}
+pub use Rattle.received.specs.adjacency.Steps.{lsas_of as requested_lsas}
 use Rattle.received.specs.Cases.{Case}
 use Rattle.received.specs.Links.{Link, change_link, link_at, neighbor_at}
 use Rattle.received.specs.Outcomes.{Outcome, sends_at, on_links, one_neighbor, sending}
@@ -51,9 +50,6 @@ receive_hello own moment number from h o =
     receive_hello_on own moment number from h (link_at number o.area.links) o
 
 -- ---- Link State Requests (section 10.7)
-
-abbrev pub requested_lsas : Moment → Database → List Key → List Lsa
-requested_lsas moment db keys = filter_map (λ (key : Key). lsa_of moment (finite.get db key)) keys
 
 -- the LSAs are sent, without being put on the retransmission list; if one is missing, none is sent
 abbrev pub receive_request : Moment → InterfaceNumber → List Key → Outcome → Outcome

@@ -3,12 +3,11 @@
 -- A call errors only if an allocation is refused, and may have done a part of its work then: the
 -- caller rolls the router back, which drops what was drafted, too. Whatever it answers, what was
 -- settled stays the same.
-use Rattle.std.specs.Prelude.{◌≡◌, List, map, OnOk, Result}
+use Rattle.std.specs.Prelude.{◌≡◌, List, OnOk, Result}
 use Rattle.flooding.specs.adjacency.Drafts.{Drafted}
-use Rattle.flooding.specs.adjacency.declared.interface.Interface.{Interface}
-use Rattle.flooding.specs.received.Links.{Link}
 use Rattle.flooding.specs.Drafted.{drafts_with}
 use Rattle.event_rules.specs.EventState.{EventState}
+pub use Rattle.originations.specs.Described.{interfaces as interfaces_of}
 use Rattle.router_state.specs.Kept.{KeptRouter}
 
 -- the router is that of the event so far, and its drafts, which began as `first`, have what was
@@ -16,9 +15,6 @@ use Rattle.router_state.specs.Kept.{KeptRouter}
 pub record IsMaking (p : EventState) (first : List Drafted) (r : KeptRouter) : Type 0 where
   pub router : r.present ≡ p.router
   pub drafts : r.drafted ≡ drafts_with p.sends p.router.area.links first
-
-abbrev pub interfaces_of : List Link → List Interface
-interfaces_of links = map (λ (link : Link). link.interface) links
 
 -- the function f, as a part of any event, leads from the old router to the new one
 pub record Makes (f : EventState → EventState) (old new : KeptRouter) : Type 0 where
