@@ -155,9 +155,9 @@ starts moment router dd_sequence_start last_heard number is =
 
 pub kept_is : {A : Type 0} {p q s t : A} → p ≡ q → s ≡ t → ◌≡◌ {A = Kept A} (record {
   present = p;
-  settled = s;
-}) (record { present = q; settled = t })
-kept_is a b i = record { present = a i; settled = b i }
+  committed = s;
+}) (record { present = q; committed = t })
+kept_is a b i = record { present = a i; committed = b i }
 
 -- ---- a Hello
 

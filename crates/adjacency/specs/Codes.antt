@@ -41,5 +41,5 @@ abbrev pub coded_keys : Coded KeySet
 coded_keys = set.code coded_key
 
 abbrev pub coded_kept : {A : Type 0} → Coded A → Coded (Kept A)
-coded_kept {A} a = code_by (A × A) (coded× a a) (λ k. (k.present, k.settled))
-    (λ p. record { present = p.0; settled = p.1 }) (λ _. refl)
+coded_kept {A} a = code_by (A × A) (coded× a a) (λ k. (k.present, k.committed))
+    (λ p. record { present = p.0; committed = p.1 }) (λ _. refl)

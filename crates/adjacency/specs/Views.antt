@@ -39,23 +39,23 @@ neighbor_of s described summary requests outstanding retransmissions = record {
 }
 
 -- the value before the first change in an event, else the present value
-abbrev pub settled_value : {A : Type 0} → Option A → A → A
-settled_value None present = present
-settled_value (Some before) present = before
+abbrev pub committed_value : {A : Type 0} → Option A → A → A
+committed_value None present = present
+committed_value (Some before) present = before
 
 abbrev pub present_of : Option (Kept Neighbor) → Option Neighbor
 present_of None = None
 present_of (Some n) = Some n.present
 
-abbrev pub settled_of : Option (Kept Neighbor) → Option Neighbor
-settled_of None = None
-settled_of (Some n) = Some n.settled
+abbrev pub committed_of : Option (Kept Neighbor) → Option Neighbor
+committed_of None = None
+committed_of (Some n) = Some n.committed
 
 -- the neighbor that was moved away, if one was, else the present one
-abbrev pub settled_among : Option (Option (Kept Neighbor)) → Option (Kept Neighbor)
+abbrev pub committed_among : Option (Option (Kept Neighbor)) → Option (Kept Neighbor)
     → Option Neighbor
-settled_among None there = settled_of there
-settled_among (Some before) there = settled_of before
+committed_among None there = committed_of there
+committed_among (Some before) there = committed_of before
 
 abbrev pub fresh_standing : ℕ → Option ℕ → ℕ → Standing
 fresh_standing router dd_sequence_start last_heard = record {

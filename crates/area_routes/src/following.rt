@@ -33,17 +33,17 @@ fn follow_from(
     routes: Vec<Route>,
 ) -> Option<Next>
     requires order { before ≤ moment }
-    requires same { SayTheSame (Some 4) (said_at before area.now.settled.database)
+    requires same { SayTheSame (Some 4) (said_at before area.now.committed.database)
         (said_at moment area.now.present.database) }
     requires walk { IsWalkOf (said_at moment area.now.present.database) walk.now }
     requires inner { AreInnerBy (said_at moment area.now.present.database) walk.now.root walk.now
         inner.now }
-    requires routes { AreCandidates (said_at before area.now.settled.database) walk.now.root
+    requires routes { AreCandidates (said_at before area.now.committed.database) walk.now.root
         routes.items }
     ensures candidates { IfSome result (λ next. AreCandidates
         (said_at moment area.now.present.database) walk.now.root next.candidates.items) }
     ensures none_new { IfSome result (λ next. IsTrue next.none_new → StayAnswered
-        (said_at before area.now.settled.database) (said_at moment area.now.present.database)
+        (said_at before area.now.committed.database) (said_at moment area.now.present.database)
         walk.now.root) }
     ensures another { IfSome result (λ next. next.none_new ≡ false
         → HasAnother routes.items next.candidates.items) }
@@ -78,17 +78,17 @@ fn follow_some(
     kept: Option<Vec<Route>>,
 ) -> Option<Next>
     requires order { before ≤ moment }
-    requires same { SayTheSame (Some 4) (said_at before area.now.settled.database)
+    requires same { SayTheSame (Some 4) (said_at before area.now.committed.database)
         (said_at moment area.now.present.database) }
     requires walk { IsWalkOf (said_at moment area.now.present.database) walk.now }
     requires inner { AreInnerBy (said_at moment area.now.present.database) walk.now.root walk.now
         inner.now }
     requires routes { IfSome kept (λ routes. AreCandidates
-        (said_at before area.now.settled.database) walk.now.root routes.items) }
+        (said_at before area.now.committed.database) walk.now.root routes.items) }
     ensures candidates { IfSome result (λ next. AreCandidates
         (said_at moment area.now.present.database) walk.now.root next.candidates.items) }
     ensures none_new { IfSome result (λ next. IsTrue next.none_new → StayAnswered
-        (said_at before area.now.settled.database) (said_at moment area.now.present.database)
+        (said_at before area.now.committed.database) (said_at moment area.now.present.database)
         walk.now.root) }
     ensures another { IfSome result (λ next. next.none_new ≡ false
         → HaveAnother kept next.candidates.items) }
@@ -110,17 +110,17 @@ pub fn followed(
     kept: Option<Vec<Route>>,
 ) -> Option<Next>
     requires order { before ≤ moment }
-    requires same { SayTheSame (Some 4) (said_at before area.now.settled.database)
+    requires same { SayTheSame (Some 4) (said_at before area.now.committed.database)
         (said_at moment area.now.present.database) }
     requires walk { IsWalkOf (said_at moment area.now.present.database) walk.now }
     requires inner { IfSome inner.now (AreInnerBy (said_at moment area.now.present.database)
         walk.now.root walk.now) }
     requires routes { IfSome kept (λ routes. AreCandidates
-        (said_at before area.now.settled.database) walk.now.root routes.items) }
+        (said_at before area.now.committed.database) walk.now.root routes.items) }
     ensures candidates { IfSome result (λ next. AreCandidates
         (said_at moment area.now.present.database) walk.now.root next.candidates.items) }
     ensures none_new { IfSome result (λ next. IsTrue next.none_new → StayAnswered
-        (said_at before area.now.settled.database) (said_at moment area.now.present.database)
+        (said_at before area.now.committed.database) (said_at moment area.now.present.database)
         walk.now.root) }
     ensures another { IfSome result (λ next. next.none_new ≡ false
         → HaveAnother kept next.candidates.items) }

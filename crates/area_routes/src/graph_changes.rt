@@ -229,10 +229,10 @@ fn note_key(
     ensures kept { OnOk result ((place : ℕ) → Contains places.old.items place
         → Contains places.new.items place) }
     ensures covered { IfOk result (λ covered. IsTrue covered → IsCovered
-        (said_at before at.now.db.now.settled) (said_at at.now.moment at.now.db.now.present)
+        (said_at before at.now.db.now.committed) (said_at at.now.moment at.now.db.now.present)
         at.now.nodes.now places.new.items key.now) }
 {
-    let was = at.db.settled_body_at(before, key);
+    let was = at.db.committed_body_at(before, key);
     let is = at.db.body_at(at.moment, key);
     if was.is_none() && is.is_none() {
         return Ok(true);
@@ -263,7 +263,7 @@ pub fn places_to_renew(
 ) -> Result<Option<Vec<usize>>, AllocError>
     requires { Ascend at.now.nodes.now }
     ensures { IfOk result (λ found. IfSome found (λ places. AreCovered
-        (said_at before at.now.db.now.settled) (said_at at.now.moment at.now.db.now.present)
+        (said_at before at.now.db.now.committed) (said_at at.now.moment at.now.db.now.present)
         at.now.nodes.now places.items keys.now)) }
 {
     let mut places = Vec::new(alloc);

@@ -50,9 +50,9 @@ fn renewed(
     moment: Second,
     places: &[usize],
 ) -> Result<Option<AreaGraph>, AllocError>
-    requires graph { IsAreaGraph (said_at before db.now.settled) graph }
+    requires graph { IsAreaGraph (said_at before db.now.committed) graph }
     requires nodes { AreNodes (said_at moment db.now.present) graph.nodes.items }
-    requires others { StayUnlessAmong (said_at before db.now.settled)
+    requires others { StayUnlessAmong (said_at before db.now.committed)
         (said_at moment db.now.present) graph.root graph.nodes.items places.now }
     ensures graph { IfOk result (λ next. IfSome next
         (IsAreaGraph (said_at moment db.now.present))) }
@@ -83,11 +83,11 @@ fn renewed(
     }))
 }
 
-/// The graph of a database after an event, from the graph before it: from what the settled database
-/// said at the moment `before` to what the database says at this moment. `None` if it has to be
-/// rebuilt: if a router or network was added or removed, or if many LSAs changed. It takes the time
-/// of two lookups for each link of the routers and networks whose LSAs changed, and of those that
-/// these named or name: at most as many as there are nodes, and 64 more.
+/// The graph of a database after an event, from the graph before it: from what the committed
+/// database said at the moment `before` to what the database says at this moment. `None` if it has
+/// to be rebuilt: if a router or network was added or removed, or if many LSAs changed. It takes
+/// the time of two lookups for each link of the routers and networks whose LSAs changed, and of
+/// those that these named or name: at most as many as there are nodes, and 64 more.
 ///
 /// # Errors
 /// `AllocError` if an allocation is refused.
@@ -99,7 +99,7 @@ pub fn follow_graph(
     moment: Second,
 ) -> Result<Option<AreaGraph>, AllocError>
     requires order { before ≤ moment }
-    requires graph { IsAreaGraph (said_at before db.now.settled) graph }
+    requires graph { IsAreaGraph (said_at before db.now.committed) graph }
     ensures graph { IfOk result (λ next. IfSome next
         (IsAreaGraph (said_at moment db.now.present))) }
     ensures root { IfOk result (λ next. IfSome next (λ followed. followed.root ≡ graph.root)) }

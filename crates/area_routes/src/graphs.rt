@@ -82,7 +82,7 @@ fn followed(
     graph: AreaGraph,
 ) -> Option<AreaGraph>
     requires order { before ≤ moment }
-    requires graph { IsAreaGraph (said_at before area.now.settled.database) graph }
+    requires graph { IsAreaGraph (said_at before area.now.committed.database) graph }
     ensures graph { IfSome result (IsAreaGraph (said_at moment area.now.present.database)) }
     ensures root { IfSome result (λ next. next.root ≡ graph.root) }
 {
@@ -103,7 +103,7 @@ pub fn graph_after(
     kept: Option<AreaGraph>,
 ) -> Option<AreaGraph>
     requires order { before ≤ moment }
-    requires graph { IfSome kept (IsAreaGraph (said_at before area.now.settled.database)) }
+    requires graph { IfSome kept (IsAreaGraph (said_at before area.now.committed.database)) }
     ensures { IfSome result (IsGraphFrom (said_at moment area.now.present.database)
         (root_by router area.now.present.links)) }
 {

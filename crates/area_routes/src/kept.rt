@@ -94,12 +94,12 @@ fn leaves_candidates(
     moment: Second,
 ) -> Result<bool, AllocError>
     requires order { before ≤ moment }
-    requires walk { IsWalkOf (said_at before area.now.settled.database) walk.now }
+    requires walk { IsWalkOf (said_at before area.now.committed.database) walk.now }
     ensures same { IfOk result (λ same. IsTrue same → OfferTheSame
-        (said_at before area.now.settled.database) (said_at moment area.now.present.database)
+        (said_at before area.now.committed.database) (said_at moment area.now.present.database)
         walk.now.root) }
     ensures left { IfOk result (λ same. LeaveCandidates before moment
-        area.now.settled.database area.now.present.database walk.now → IsTrue same) }
+        area.now.committed.database area.now.present.database walk.now → IsTrue same) }
 {
     let db = area.database();
     let same = leave_candidates(alloc, db, walk, before, moment)?;
@@ -117,9 +117,9 @@ fn says_the_same(
 ) -> Result<bool, AllocError>
     requires { before ≤ moment }
     ensures same { IfOk result (λ same. IsTrue same → SayTheSame last_type
-        (said_at before area.now.settled.database) (said_at moment area.now.present.database)) }
+        (said_at before area.now.committed.database) (said_at moment area.now.present.database)) }
     ensures left { IfOk result (λ same. IsTrue same ↔ AreLeft last_type before moment
-        area.now.settled.database area.now.present.database) }
+        area.now.committed.database area.now.present.database) }
 {
     let db = area.database();
     let same = say_the_same(alloc, db, last_type, before, moment)?;
@@ -131,7 +131,8 @@ fn says_the_same(
 fn externals_stay(alloc: Global, area: &Area, before: Second, moment: Second) -> bool
     requires { before ≤ moment }
     ensures { IsTrue result → ExternalsSayTheSame
-        (said_at before area.now.settled.database) (said_at moment area.now.present.database) }
+        (said_at before area.now.committed.database)
+        (said_at moment area.now.present.database) }
 {
     let db = area.database();
     if let Ok(keys) = changed_keys(alloc, db, before, moment) {
@@ -281,7 +282,7 @@ impl AreaRoutes {
         })
     }
 
-    /// Follows a router over an event, from its area when it was last settled, at the moment
+    /// Follows a router over an event, from its area when it was last committed, at the moment
     /// `before`, to its area at this moment. No walk is made: the old one remains valid if the
     /// router's addresses are the same and no LSA of type 1 or 2 was added or removed, reached
     /// MaxAge or changed its contents; another instance below MaxAge with the same contents is no
@@ -298,20 +299,20 @@ impl AreaRoutes {
         moment: Second,
     ) -> Result<(), AllocError>
         requires order { before ≤ moment }
-        requires routes { AreRoutesOf router area.now.settled before self.old }
+        requires routes { AreRoutesOf router area.now.committed before self.old }
         ensures routes { OnOk result (AreRoutesOf router area.now.present moment self.new) }
         // What was known of the answers is still known, or not known any more.
         ensures answered { OnOk result ((answers : Answers)
-            → AreKept router area.now.settled before answers self.old
+            → AreKept router area.now.committed before answers self.old
             → AreKept router area.now.present moment answers self.new) }
         // It walks again later only if the router's addresses differ, or an LSA of type 1 or 2 was
         // added or removed, reached MaxAge or changed its contents.
         ensures walks { OnOk result (ServesOnlyThen before moment router
-            area.now.settled area.now.present self.old self.new) }
+            area.now.committed area.now.present self.old self.new) }
         // If the only LSAs of any type for which that happened are external ones that offer
         // nothing, what is known of the candidates and of the answers is unchanged too.
         ensures candidates { OnOk result (self.old.behind ≡ false
-            → HaveStayed before moment router area.now.settled area.now.present self.old.walk
+            → HaveStayed before moment router area.now.committed area.now.present self.old.walk
             → self.new ≡ record self.old {
               externals = self.new.externals;
               graph = self.new.graph;
@@ -333,7 +334,8 @@ impl AreaRoutes {
     fn externals_stay(&self, alloc: Global, area: &Area, before: Second, moment: Second) -> bool
         requires { before ≤ moment }
         ensures { IsTrue result → ExternalsSayTheSame
-            (said_at before area.now.settled.database) (said_at moment area.now.present.database) }
+            (said_at before area.now.committed.database)
+            (said_at moment area.now.present.database) }
     {
         if self.externals.is_none() {
             return false;
@@ -362,8 +364,8 @@ impl AreaRoutes {
         moment: Second,
     )
         requires order { before ≤ moment }
-        requires graph { KnowsGraph (said_at before area.now.settled.database)
-            (root_by router area.now.settled.links) self.old }
+        requires graph { KnowsGraph (said_at before area.now.committed.database)
+            (root_by router area.now.committed.links) self.old }
         ensures graph { KnowsGraph (said_at moment area.now.present.database)
             (root_by router area.now.present.links) self.new }
         ensures others { self.new ≡ record self.old { graph = self.new.graph } }
@@ -382,17 +384,17 @@ impl AreaRoutes {
         moment: Second,
     ) -> Result<(), AllocError>
         requires order { before ≤ moment }
-        requires routes { AreOffersOf router area.now.settled before self.old }
+        requires routes { AreOffersOf router area.now.committed before self.old }
         ensures routes { OnOk result (AreOffersOf router area.now.present moment self.new) }
         ensures answered { OnOk result ((answers : Answers)
-            → KnowsAnswered (said_at before area.now.settled.database)
-            (root_by router area.now.settled.links) answers self.old
+            → KnowsAnswered (said_at before area.now.committed.database)
+            (root_by router area.now.committed.links) answers self.old
             → KnowsAnswered (said_at moment area.now.present.database)
             (root_by router area.now.present.links) answers self.new) }
         ensures walks { OnOk result (ServesOnlyThen before moment router
-            area.now.settled area.now.present self.old self.new) }
+            area.now.committed area.now.present self.old self.new) }
         ensures candidates { OnOk result (self.old.behind ≡ false
-            → HaveStayed before moment router area.now.settled area.now.present self.old.walk
+            → HaveStayed before moment router area.now.committed area.now.present self.old.walk
             → self.new ≡ self.old) }
         ensures none_new { OnOk result (BringsNoneNew self.old self.new
             → self.new.answered ≡ self.old.answered) }
@@ -432,9 +434,9 @@ impl AreaRoutes {
     fn follow_offers(&mut self, alloc: Global, area: &Area, before: Second, moment: Second)
         requires order { before ≤ moment }
         requires walk { IsWalkOf (said_at moment area.now.present.database) self.old.walk }
-        requires candidates { KnowsCandidates (said_at before area.now.settled.database)
+        requires candidates { KnowsCandidates (said_at before area.now.committed.database)
             self.old.walk.root self.old }
-        requires inner { KnowsInner (said_at before area.now.settled.database)
+        requires inner { KnowsInner (said_at before area.now.committed.database)
             self.old.walk.root self.old }
         ensures walk { self.new.walk ≡ self.old.walk }
         ensures behind { self.new.behind ≡ self.old.behind }
@@ -445,7 +447,7 @@ impl AreaRoutes {
             self.old.walk.root self.new }
         ensures externals { self.new.externals ≡ self.old.externals }
         ensures answered { (answers : Answers)
-            → KnowsAnswered (said_at before area.now.settled.database) self.old.walk.root answers
+            → KnowsAnswered (said_at before area.now.committed.database) self.old.walk.root answers
             self.old
             → KnowsAnswered (said_at moment area.now.present.database) self.old.walk.root answers
             self.new }
@@ -467,10 +469,10 @@ impl AreaRoutes {
     // The same if only AS-external-LSAs change.
     fn follow_externals(&mut self, alloc: Global, area: &Area, before: Second, moment: Second)
         requires order { before ≤ moment }
-        requires same { SayTheSame (Some 4) (said_at before area.now.settled.database)
+        requires same { SayTheSame (Some 4) (said_at before area.now.committed.database)
             (said_at moment area.now.present.database) }
         requires walk { IsWalkOf (said_at moment area.now.present.database) self.old.walk }
-        requires candidates { KnowsCandidates (said_at before area.now.settled.database)
+        requires candidates { KnowsCandidates (said_at before area.now.committed.database)
             self.old.walk.root self.old }
         requires inner { KnowsInner (said_at moment area.now.present.database)
             self.old.walk.root self.old }
@@ -483,7 +485,7 @@ impl AreaRoutes {
             self.old.walk.root self.new }
         ensures externals { self.new.externals ≡ self.old.externals }
         ensures answered { (answers : Answers)
-            → KnowsAnswered (said_at before area.now.settled.database) self.old.walk.root answers
+            → KnowsAnswered (said_at before area.now.committed.database) self.old.walk.root answers
             self.old
             → KnowsAnswered (said_at moment area.now.present.database) self.old.walk.root answers
             self.new }

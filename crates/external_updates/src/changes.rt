@@ -15,9 +15,9 @@ use routes::Lsdb;
 use std::alloc::{AllocError, Global};
 use words::{Key, Prefix, Second};
 
-/// The keys whose LSAs may differ in contents at this moment from those of the settled database at
-/// the moment `before`: those that changed since, and those of the copies that have MaxAge. A key
-/// may occur more than once.
+/// The keys whose LSAs may differ in contents at this moment from those of the committed database
+/// at the moment `before`: those that changed since, and those of the copies that have MaxAge. A
+/// key may occur more than once.
 ///
 /// # Errors
 /// `AllocError` if an allocation is refused.
@@ -29,7 +29,7 @@ pub fn changed_keys(
 ) -> Result<Vec<Key>, AllocError>
     requires { before ≤ moment }
     ensures { IfOk result (λ keys. OthersSayTheSame keys.items
-        (said_at before db.now.settled) (said_at moment db.now.present)) }
+        (said_at before db.now.committed) (said_at moment db.now.present)) }
 {
     let mut keys = db.changed_keys(alloc, moment)?;
     // Within one moment no LSA reaches MaxAge.
@@ -118,12 +118,12 @@ pub fn networks_told(
     keys: &[Key],
 ) -> Result<Vec<Prefix>, AllocError>
     ensures { IfOk result (λ prefixes. AreAllTold
-        (said_at before db.now.settled) (said_at moment db.now.present)
+        (said_at before db.now.committed) (said_at moment db.now.present)
         keys.now prefixes.items) }
 {
     let mut prefixes = Vec::new(alloc);
     for key in keys {
-        note_network(&mut prefixes, key, db.settled_body_at(before, key))?;
+        note_network(&mut prefixes, key, db.committed_body_at(before, key))?;
         note_network(&mut prefixes, key, db.body_at(moment, key))?;
     }
     Ok(prefixes)

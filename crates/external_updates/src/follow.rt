@@ -126,8 +126,8 @@ fn renew_all(
 }
 
 /// Follows an event in which no LSA of types 1 to 4 was added or removed, reached MaxAge or changed
-/// its contents: the candidates of the settled database at the moment `before` become those of the
-/// database at this moment (RFC 2328, section 16.6). Only destinations that changed
+/// its contents: the candidates of the committed database at the moment `before` become those of
+/// the database at this moment (RFC 2328, section 16.6). Only destinations that changed
 /// AS-external-LSAs advertise or advertised are recalculated, and the result says whether one of
 /// these has a new route; usually none has after an AS-external-LSA is removed. If too many of them
 /// changed, too many may advertise one destination, or an allocation is refused, the routes are
@@ -146,9 +146,9 @@ pub fn follow_externals(
 ) -> Result<Followed, AllocError>
     requires order { before ≤ moment }
     requires same { SayTheSame (Some 4)
-        (said_at before db.now.settled) (said_at moment db.now.present) }
+        (said_at before db.now.committed) (said_at moment db.now.present) }
     requires inner { Knows (said_at moment db.now.present) root.now inner.now }
-    requires routes { AreCandidates (said_at before db.now.settled) root.now routes.old.items }
+    requires routes { AreCandidates (said_at before db.now.committed) root.now routes.old.items }
     ensures { IfOk result (λ done. HaveFollowed (said_at moment db.now.present) root.now
         routes.old.items routes.new.items done) }
 {

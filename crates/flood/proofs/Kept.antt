@@ -21,12 +21,12 @@ are_kept r id area moment answers kept a b c d is =
     (subst (λ x. AreKept id area moment x kept) d is)))
 
 -- a property of the walk for the parts is one for the router
-pub walks_then : (before : ℕ) (r : Router) (settled : Area) (id moment : ℕ) (old new : Area)
-    (kept next last : KeptRoutes) → id ≡ r.id → old ≡ settled → new ≡ r.area → moment ≡ r.moment
+pub walks_then : (before : ℕ) (r : Router) (committed : Area) (id moment : ℕ) (old new : Area)
+    (kept next last : KeptRoutes) → id ≡ r.id → old ≡ committed → new ≡ r.area → moment ≡ r.moment
     → last.walk ≡ next.walk → last.behind ≡ next.behind
     → ServesOnlyThen before moment id old new kept next
-    → ServesOnlyThen before r.moment r.id settled r.area kept last
-walks_then before r settled id moment old new kept next last a b c d e f is =
+    → ServesOnlyThen before r.moment r.id committed r.area kept last
+walks_then before r committed id moment old new kept next last a b c d e f is =
     let then : ServesOnlyThen before moment id old new kept last =
     record {
       walk = e ∙ is.walk;
@@ -34,8 +34,8 @@ walks_then before r settled id moment old new kept next last a b c d e f is =
       falls = λ not. f ∙ is.falls not;
       lags = λ on. f ∙ is.lags on;
     } in
-    subst (λ x. ServesOnlyThen before x r.id settled r.area kept last) d
-    (subst (λ x. ServesOnlyThen before moment x settled r.area kept last) a
+    subst (λ x. ServesOnlyThen before x r.id committed r.area kept last) d
+    (subst (λ x. ServesOnlyThen before moment x committed r.area kept last) a
     (subst (λ x. ServesOnlyThen before moment id x r.area kept last) b
     (subst (λ x. ServesOnlyThen before moment id old x kept last) c then)))
 

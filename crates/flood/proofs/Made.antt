@@ -58,14 +58,14 @@ stays_within (Err error.Full) new tells = tt
 
 -- the complete event in its three parts
 pub made_whole : (old aged parted new : KeptRouter) (moment : ℕ) (p : Part)
-    → old.settled ≡ old.present
+    → old.committed ≡ old.present
     → Makes (on_area (with_ages old.present.moment moment)) old aged
-    → Makes (after_part p moment) aged parted → Makes (end_event parted.settled moment) parted new
+    → Makes (after_part p moment) aged parted → Makes (end_event parted.committed moment) parted new
     → Makes (after_event old.present moment p) old new
 made_whole old aged parted new moment p is ages part end =
     makes_then (makes_then ages part)
     (subst (λ (r : Router). Makes (end_event r moment) parted new)
-    (part.settled ∙ ages.settled ∙ is) end)
+    (part.committed ∙ ages.committed ∙ is) end)
 
 -- ---- its result
 

@@ -4,10 +4,10 @@ use Rattle.flood_laws.specs.adjacency.declared.interface.Interface.{Interface}
 use Rattle.event_rules.specs.Routers.{fresh_link}
 use Rattle.area_routes.specs.flooding.Kept.{KeptLink}
 
--- a link on which nothing was received, sent or drafted, settled
+-- a link on which nothing was received, sent or drafted, committed
 abbrev pub fresh_kept : Interface → KeptLink
 fresh_kept i = record {
   present = fresh_link i;
-  settled = fresh_link i;
+  committed = fresh_link i;
   drafted = nothing_drafted;
 }

@@ -28,13 +28,13 @@ fn keep(
     event: &Event,
 ) -> Result<(), AllocError>
     requires order { before ≤ router.now.present.moment }
-    requires kept { AreKept router.now.present.id router.now.settled.area before
-        router.now.settled.answers routes.old }
+    requires kept { AreKept router.now.present.id router.now.committed.area before
+        router.now.committed.answers routes.old }
     requires answers { brings_answers (occurrence_of event.now) ≡ false
-        → router.now.present.answers ≡ router.now.settled.answers }
+        → router.now.present.answers ≡ router.now.committed.answers }
     ensures kept { OnOk result (AreKeptNow router.now.present routes.new) }
     ensures walks { OnOk result (ServesOnlyThen before router.now.present.moment
-        router.now.present.id router.now.settled.area router.now.present.area
+        router.now.present.id router.now.committed.area router.now.present.area
         routes.old routes.new) }
     ensures err { OnErr result (routes.new ≡ routes.old) }
 {
@@ -68,10 +68,10 @@ pub fn pack_and_update_routes(
         × AreDrafts links sends drafts.items }
     requires few { length drafts.items ≤ 63 }
     requires order { before ≤ router.now.present.moment }
-    requires kept { AreKept router.now.present.id router.now.settled.area before
-        router.now.settled.answers routes.old }
+    requires kept { AreKept router.now.present.id router.now.committed.area before
+        router.now.committed.answers routes.old }
     requires answers { brings_answers (occurrence_of event.now) ≡ false
-        → router.now.present.answers ≡ router.now.settled.answers }
+        → router.now.present.answers ≡ router.now.committed.answers }
     ensures outs { (links : List LinkOfArea) (sends : List Send)
         → AreDrafts links sends drafts.items
         → IfOk result (λ outs. outs.items ≡ outs_of own links sends) }
@@ -81,7 +81,7 @@ pub fn pack_and_update_routes(
     ensures limit { TellsLimit router.now.present result }
     ensures kept { OnOk result (AreKeptNow router.now.present routes.new) }
     ensures walks { OnOk result (ServesOnlyThen before router.now.present.moment
-        router.now.present.id router.now.settled.area router.now.present.area
+        router.now.present.id router.now.committed.area router.now.present.area
         routes.old routes.new) }
     ensures err { OnErr result (routes.new ≡ routes.old) }
 {

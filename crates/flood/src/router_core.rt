@@ -65,13 +65,13 @@ impl Model for Core {
 
     ghost view = { λ a. a.router.present };
 
-    // Between events the state is settled, nothing is drafted, all that may be sent fits into
+    // Between events the state is committed, nothing is drafted, all that may be sent fits into
     // packets, and no limit is exceeded. The router announces external destinations only under its
     // own Router ID, its retransmission lists have the database's instances, and the numbers of the
     // instances that it holds are in their ranges. What is kept for routes is valid at the moment
     // of the last event.
     ghost invariant = { λ a.
-        (a.router.settled ≡ a.router.present)
+        (a.router.committed ≡ a.router.present)
         × IsRoomy a.router.present
         × (exceeds a.router.present ≡ false)
         × IsInOrder a.router.present
@@ -95,7 +95,7 @@ impl Core {
             return Err(ConfigError::Interface);
         }
         let mut router = begin(alloc, config)?;
-        router.settle();
+        router.commit();
         match AreaRoutes::new(alloc, router.id(), router.area(), router.moment()) {
             Ok(routes) => Ok(Core {
                 alloc,
@@ -139,7 +139,7 @@ impl Core {
             event,
         ) {
             Ok(outs) => {
-                self.router.settle_at(self.alloc, moment);
+                self.router.commit_at(self.alloc, moment);
                 Ok(outs)
             }
             Err(error) => {
@@ -196,7 +196,7 @@ impl Core {
         ensures { result.now ≡ record {
           router = self.now.id;
           present = self.now.area.database;
-          settled = self.now.area.database;
+          committed = self.now.area.database;
         } }
     {
         self.router.area().database()

@@ -1,4 +1,4 @@
-//! One event, before it is settled or rolled back.
+//! One event, before it is committed or rolled back.
 ghost use Rattle.std.specs.Prelude.{◌≡◌, IfOk, None, OnErr, OnOk, false};
 ghost use Rattle.event_rules.specs.RoomLaws.{IsRoomy};
 ghost use Rattle.event_rules.specs.Events.{Happens};
@@ -65,7 +65,7 @@ pub fn take(
     moment: Second,
     event: &Event,
 ) -> Result<Vec<Out>, CoreError>
-    requires settled { router.old.settled ≡ router.old.present }
+    requires committed { router.old.committed ≡ router.old.present }
     requires drafted { router.old.drafted ≡ nothing_at router.old.present.area.links }
     requires roomy { IsRoomy router.old.present }
     requires order { IsInOrder router.old.present }
@@ -79,7 +79,7 @@ pub fn take(
     ensures holds { OnOk result (HoldsInstances router.new.present) }
     ensures refused { Answers router.old.present moment (occurrence_of event.now) result }
     ensures limit { OnOk result (exceeds router.new.present ≡ false) }
-    ensures settled { router.new.settled ≡ router.old.settled }
+    ensures committed { router.new.committed ≡ router.old.committed }
     ensures kept { OnOk result (AreKeptNow router.new.present routes.new) }
     // No walk is made, and the one that is kept stays valid unless an LSA of type 1 or 2 was added
     // or removed, has reached MaxAge or says something else, or the interfaces' addresses differ.

@@ -11,7 +11,7 @@ use Rattle.received.specs.Outcomes.{Send, only_at, sends_at, stepped_links, step
 use Rattle.flooding.specs.Doing.{LinkDoes, LinksDo}
 use Rattle.flooding.specs.Drafted.{drafts_with}
 use Rattle.flooding.specs.Kept.{KeptLink}
-use Rattle.flooding.specs.Links.{draft_of, neighbor_sends, neighbor_step, present, settled_link}
+use Rattle.flooding.specs.Links.{committed_link, draft_of, neighbor_sends, neighbor_step, present}
 use Rattle.flooding.proofs.Kept.{shows_kept}
 use Rattle.flooding.proofs.Only.{drafts_sent, links_changed, links_stepped, sends_stepped}
 
@@ -20,8 +20,9 @@ module _ (ls : List KeptLink) (i k : ℕ) (d y : KeptLink) (lt : i < length ls) 
   abbrev pub x : KeptLink
   x = get_or ls i d
 
-  settled_there : y.settled ≡ x.settled → map settled_link (set ls i y) ≡ map settled_link ls
-  settled_there is = shows_kept settled_link ls i d y read is
+  committed_there : y.committed ≡ x.committed
+      → map committed_link (set ls i y) ≡ map committed_link ls
+  committed_there is = shows_kept committed_link ls i d y read is
 
   drafted_there : (cs : List Content)
       → y.drafted ≡ drafting x.present.interface.delay cs x.drafted
@@ -47,7 +48,7 @@ module _ (ls : List KeptLink) (i k : ℕ) (d y : KeptLink) (lt : i < length ls) 
     one_sends cs does = record {
       links = on_ok r (λ is. shows_kept present ls i d y read is) does.link;
       drafts = on_ok r (λ is. drafted_there cs is) does.draft;
-      settled = settled_there does.settled;
+      committed = committed_there does.committed;
     }
 
     -- it is changed, and sends nothing
@@ -56,7 +57,7 @@ module _ (ls : List KeptLink) (i k : ℕ) (d y : KeptLink) (lt : i < length ls) 
     one_changes change does = record {
       links = on_ok r (λ is. changed_there change is) does.link;
       drafts = on_ok r (λ is. drafted_there [] is) does.draft;
-      settled = settled_there does.settled;
+      committed = committed_there does.committed;
     }
 
     -- its neighbor takes a step
@@ -69,7 +70,7 @@ module _ (ls : List KeptLink) (i k : ℕ) (d y : KeptLink) (lt : i < length ls) 
           drafted_there (neighbor_sends f x.present) is
           ∙ ap (λ (ss : List Send). drafts_with ss (map present ls) (map draft_of ls))
           (sent_there f)) does.draft;
-      settled = settled_there does.settled;
+      committed = committed_there does.committed;
     }
 
     -- its neighbor takes a step, and nothing is sent
@@ -79,5 +80,5 @@ module _ (ls : List KeptLink) (i k : ℕ) (d y : KeptLink) (lt : i < length ls) 
     one_steps_silently f does = record {
       links = on_ok r (λ is. stepped_there f is) does.link;
       drafts = on_ok r (λ is. drafted_there [] is) does.draft;
-      settled = settled_there does.settled;
+      committed = committed_there does.committed;
     }

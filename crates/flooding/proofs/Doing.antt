@@ -28,7 +28,7 @@ area_rests f a r is = record {
   area = always r (ap (λ (o : Outcome). o.area) is);
   drafts = always r (drafted_none 1 a.present.links a.drafted
       ∙ ap (λ (o : Outcome). drafts_with o.sends a.present.links a.drafted) is);
-  settled = refl;
+  committed = refl;
   router = refl;
 }
 
@@ -39,6 +39,6 @@ area_same f g a b r same does = record {
   area = on_ok r (λ is. is ∙ ap (λ (o : Outcome). o.area) same) does.area;
   drafts = on_ok r (λ is.
       is ∙ ap (λ (o : Outcome). drafts_with o.sends a.present.links a.drafted) same) does.drafts;
-  settled = does.settled;
+  committed = does.committed;
   router = does.router;
 }

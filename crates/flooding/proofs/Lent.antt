@@ -1,5 +1,5 @@
 -- Links that are lent as a slice, and what the Vec has afterwards: none of them has changed its
--- settled state, so there are as many as before.
+-- committed state, so there are as many as before.
 use Rattle.std.proofs.Common.{◌≡◌, ℕ, List, ◌++◌, length, map, take, drop, Result, refl, sym, ap}
 use Rattle.std.proofs.Common.{◌∙◌}
 use Rattle.std.proofs.lemmas.List.{length-map, take_at}
@@ -10,7 +10,7 @@ use Rattle.received.specs.Outcomes.{Send}
 use Rattle.flooding.specs.Doing.{AreaDoes, LinksDo}
 use Rattle.flooding.specs.Drafted.{drafts_with}
 use Rattle.flooding.specs.Kept.{KeptLink, RouterArea}
-use Rattle.flooding.specs.Links.{area_of, draft_of, present, settled_link}
+use Rattle.flooding.specs.Links.{area_of, committed_link, draft_of, present}
 use Rattle.flooding.proofs.Marking.{area_is, on_links_alone}
 
 pub lent_number : (items lent : List KeptLink) (links : List Link) → lent ≡ items
@@ -19,24 +19,26 @@ lent_number items lent links value shown =
     ap length value ∙ sym (length-map items present) ∙ ap length shown
 
 module _ (items lent made : List KeptLink) (count : ℕ) where
-  pub given_back : length lent ≡ count → map settled_link made ≡ map settled_link lent
+  pub given_back : length lent ≡ count → map committed_link made ≡ map committed_link lent
       → take count (made ++ drop (length made) items) ≡ made
   given_back long kept =
       take_at made (drop (length made) items) count
-      (sym (length-map made settled_link) ∙ ap length kept ∙ length-map lent settled_link ∙ long)
+      (sym (length-map made committed_link) ∙ ap length kept ∙ length-map lent committed_link
+      ∙ long)
 
-  pub settled_back : lent ≡ items → length lent ≡ count
-      → map settled_link made ≡ map settled_link lent
-      → map settled_link (take count (made ++ drop (length made) items)) ≡ map settled_link items
-  settled_back value long kept =
-      ap (map settled_link) (given_back long kept) ∙ kept ∙ ap (map settled_link) value
+  pub committed_back : lent ≡ items → length lent ≡ count
+      → map committed_link made ≡ map committed_link lent
+      → map committed_link (take count (made ++ drop (length made) items))
+      ≡ map committed_link items
+  committed_back value long kept =
+      ap (map committed_link) (given_back long kept) ∙ kept ∙ ap (map committed_link) value
 
 -- links and database from these parts
 abbrev pub area_from : List KeptLink → RouterDatabase → RouterArea
 area_from items d = record {
   router = d.router;
   present = area_of items d.present;
-  settled = record { links = map settled_link items; database = d.settled };
+  committed = record { links = map committed_link items; database = d.committed };
   drafted = map draft_of items;
 }
 
@@ -47,7 +49,7 @@ pub lent_do : {X E : Type 0} (after : List Link → List Link) (sends : List Lin
     → LinksDo after sends lent made r → AreaDoes (on_links_alone after sends) old
     (area_from (take count (made ++ drop (length made) items)) d) r
 lent_do after sends items lent made count d old r value long shown does =
-    let back = given_back items lent made count long does.settled in
+    let back = given_back items lent made count long does.committed in
     record {
       area = on_ok r (λ is.
           area_is (ap (map present) back ∙ is) refl
@@ -60,7 +62,7 @@ lent_do after sends items lent made count d old r value long shown does =
           (map draft_of ls)) value
           ∙ ap (λ (v : RouterArea). drafts_with (sends v.present.links) v.present.links v.drafted)
           shown) does.drafts;
-      settled = area_is (settled_back items lent made count value long does.settled) refl
-          ∙ ap (λ (v : RouterArea). v.settled) shown;
+      committed = area_is (committed_back items lent made count value long does.committed) refl
+          ∙ ap (λ (v : RouterArea). v.committed) shown;
       router = ap (λ (v : RouterArea). v.router) shown;
     }

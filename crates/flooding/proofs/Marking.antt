@@ -110,12 +110,12 @@ pub router_area_is : {q r : ℕ} {a b s t : Area} {ds es : List Drafted} → q �
     → ds ≡ es → ◌≡◌ {A = RouterArea} (record {
       router = q;
       present = a;
-      settled = s;
+      committed = s;
       drafted = ds;
-    }) (record { router = r; present = b; settled = t; drafted = es })
+    }) (record { router = r; present = b; committed = t; drafted = es })
 router_area_is own now before drafts i = record {
   router = own i;
   present = now i;
-  settled = before i;
+  committed = before i;
   drafted = drafts i;
 }

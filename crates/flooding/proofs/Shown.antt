@@ -19,11 +19,11 @@ shown a = record {
     acknowledgments = a.acknowledgments.present;
     last_hello_sent = a.last_hello_sent.present;
   };
-  settled = record {
+  committed = record {
     interface = a.interface;
-    neighbor = a.slot.settled;
-    acknowledgments = a.acknowledgments.settled;
-    last_hello_sent = a.last_hello_sent.settled;
+    neighbor = a.slot.committed;
+    acknowledgments = a.acknowledgments.committed;
+    last_hello_sent = a.last_hello_sent.committed;
   };
   drafted = a.draft;
 }
@@ -34,20 +34,20 @@ pub stays_drafted : (k old : KeptLink) → k ≡ old
 stays_drafted k old is = ap (λ (l : KeptLink). l.drafted) is
     ∙ drafting-none old.present.interface.delay old.drafted
 
--- `now` is the neighbor afterwards, `before` the one that is settled, and d the draft
+-- `now` is the neighbor afterwards, `before` the one that is committed, and d the draft
 pub place_becomes : {X E : Type 0} (g : Option Neighbor → Option Neighbor)
     (s : Option Neighbor → List Content) (k old : KeptLink) (now before : Option Neighbor)
     (d : Drafted) (r : Result X E) → k ≡ old → OnOk r (now ≡ g old.present.neighbor)
     → OnOk r (d ≡ drafting old.present.interface.delay (s old.present.neighbor) old.drafted)
-    → before ≡ old.settled.neighbor
+    → before ≡ old.committed.neighbor
     → LinkDoes (λ (l : Link). with_neighbor (g l.neighbor) l) (λ (l : Link). s l.neighbor) old
     (record {
       present = with_neighbor now k.present;
-      settled = with_neighbor before k.settled;
+      committed = with_neighbor before k.committed;
       drafted = d;
     }) r
 place_becomes g s k old now before d r is to sent stays = record {
   link = on_ok r (λ e. (λ j. with_neighbor (e j) (is j).present)) to;
   draft = sent;
-  settled = λ j. with_neighbor (stays j) (is j).settled;
+  committed = λ j. with_neighbor (stays j) (is j).committed;
 }

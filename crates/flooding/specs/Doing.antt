@@ -2,7 +2,7 @@
 -- links and database.
 --
 -- It errors only if an allocation is refused, and may have done a part of its work then: the caller
--- rolls the router back, which drops what was drafted, too. Whatever it answers, what was settled
+-- rolls the router back, which drops what was drafted, too. Whatever it answers, what was committed
 -- stays the same.
 use Rattle.std.specs.Prelude.{◌≡◌, ℕ, List, map, Option, OnOk, Result}
 use Rattle.adjacency.specs.lsdb.Copies.{Database}
@@ -16,7 +16,7 @@ use Rattle.received.specs.Links.{Area, Link}
 use Rattle.received.specs.Outcomes.{Outcome, Send}
 use Rattle.flooding.specs.Drafted.{drafts_with}
 use Rattle.flooding.specs.Kept.{KeptLink, RouterArea}
-use Rattle.flooding.specs.Links.{draft_of, present, settled_link}
+use Rattle.flooding.specs.Links.{committed_link, draft_of, present}
 
 -- the neighbor, if there is one, takes the step
 abbrev pub SlotSends : {X E : Type 0} → (Neighbor → Step) → Kept (Option Neighbor)
@@ -35,7 +35,7 @@ pub record LinkDoes {X E : Type 0} (after : Link → Link) (sends : Link → Lis
   pub link : OnOk result (new.present ≡ after old.present)
   pub draft : OnOk result (new.drafted
       ≡ drafting old.present.interface.delay (sends old.present) old.drafted)
-  pub settled : new.settled ≡ old.settled
+  pub committed : new.committed ≡ old.committed
 
 -- the links become what `after` says, and what is sent on each is drafted for its interface
 pub record LinksDo {X E : Type 0} (after : List Link → List Link) (sends : List Link → List Send)
@@ -43,13 +43,13 @@ pub record LinksDo {X E : Type 0} (after : List Link → List Link) (sends : Lis
   pub links : OnOk result (map present new ≡ after (map present old))
   pub drafts : OnOk result (map draft_of new
       ≡ drafts_with (sends (map present old)) (map present old) (map draft_of old))
-  pub settled : map settled_link new ≡ map settled_link old
+  pub committed : map committed_link new ≡ map committed_link old
 
 -- the database becomes what `after` says
 pub record DatabaseDoes {X E : Type 0} (after : Database → Database) (old new : RouterDatabase)
     (result : Result X E) : Type 0 where
   pub ok : OnOk result (new.present ≡ after old.present)
-  pub settled : new.settled ≡ old.settled
+  pub committed : new.committed ≡ old.committed
   pub router : new.router ≡ old.router
 
 -- links and database become what `f` says of the area, and what that sends is drafted
@@ -58,5 +58,5 @@ pub record AreaDoes {X E : Type 0} (f : Area → Outcome) (old new : RouterArea)
   pub area : OnOk result (new.present ≡ (f old.present).area)
   pub drafts : OnOk result (new.drafted
       ≡ drafts_with (f old.present).sends old.present.links old.drafted)
-  pub settled : new.settled ≡ old.settled
+  pub committed : new.committed ≡ old.committed
   pub router : new.router ≡ old.router

@@ -1,4 +1,4 @@
--- Links and their settled state, and flooding of database copies.
+-- Links and their committed state, and flooding of database copies.
 use Rattle.std.specs.Prelude.{if◌then◌else◌, List, [], map, Option, None, Some}
 use Rattle.std.specs.FinMap as finite
 use Rattle.words.specs.Numbers.{InterfaceNumber, Moment}
@@ -18,8 +18,8 @@ use Rattle.flooding.specs.Kept.{KeptLink}
 abbrev pub present : KeptLink → Link
 present l = l.present
 
-abbrev pub settled_link : KeptLink → Link
-settled_link l = l.settled
+abbrev pub committed_link : KeptLink → Link
+committed_link l = l.committed
 
 abbrev pub draft_of : KeptLink → Drafted
 draft_of l = l.drafted

@@ -2,23 +2,23 @@
 //!
 //! A call that is a part of an event says by `AreaDoes` what it does: it changes links and database
 //! as the definition that it names, adds what that sends to the drafts of the interfaces, and
-//! leaves what was settled and the Router ID as they were. If it errors with `AllocError`, it may
+//! leaves what was committed and the Router ID as they were. If it errors with `AllocError`, it may
 //! have done a part of its work; its caller then rolls back, which drops what was drafted, too.
 ghost use Rattle.std.specs.Prelude.{◌≡◌, map, IfOk, OnOk};
 ghost use Rattle.std.specs.FinMap as finite;
 ghost use Rattle.flooding.specs.Drafted.{nothing_at};
-ghost use Rattle.flooding.specs.Links.{area_of, draft_of, present, settled_link};
+ghost use Rattle.flooding.specs.Links.{area_of, committed_link, draft_of, present};
 
 mod copying;
 
-use crate::flood::{roll_back_links, settle_links, take_drafts};
+use crate::flood::{commit_links, roll_back_links, take_drafts};
 use crate::link::Link;
 use adjacency::{Draft, Lsdb};
 use std::alloc::{AllocError, Global};
 use std::marker::Model;
 use words::{RouterId, Second};
 
-/// The links of a router and its database, their state when they were last settled, and what was
+/// The links of a router and its database, their state when they were last committed, and what was
 /// drafted since.
 #[derive(Drop)]
 pub struct Area {
@@ -45,12 +45,15 @@ impl Model for Area {
       finite.code {X = DatabaseCopy} {R = key_cmp} coded_key (Prim.hlevel codes),
     )) (Prim.hlevel codes) };
 
-    ghost use Rattle.flooding.specs.Links.{draft_of, present, settled_link};
+    ghost use Rattle.flooding.specs.Links.{committed_link, draft_of, present};
 
     ghost view = { λ a. record {
       router = a.database.router;
       present = record { links = map present a.links.items; database = a.database.present };
-      settled = record { links = map settled_link a.links.items; database = a.database.settled };
+      committed = record {
+        links = map committed_link a.links.items;
+        database = a.database.committed;
+      };
       drafted = map draft_of a.links.items;
     } };
 }
@@ -62,7 +65,7 @@ impl Area {
         ensures { result ≡ record {
           router = router;
           present = area_of links.items finite.empty;
-          settled = record { links = map settled_link links.items; database = finite.empty };
+          committed = record { links = map committed_link links.items; database = finite.empty };
           drafted = map draft_of links.items;
         } }
     {
@@ -75,7 +78,7 @@ impl Area {
     /// The links, interface n at index n - 1.
     pub fn links(&self) -> &[Link]
         ensures present { map present result.now ≡ self.now.present.links }
-        ensures settled { map settled_link result.now ≡ self.now.settled.links }
+        ensures committed { map committed_link result.now ≡ self.now.committed.links }
         ensures drafts { map draft_of result.now ≡ self.now.drafted }
     {
         &self.links
@@ -86,42 +89,42 @@ impl Area {
         ensures { result.now ≡ record {
           router = self.now.router;
           present = self.now.present.database;
-          settled = self.now.settled.database;
+          committed = self.now.committed.database;
         } }
     {
         &self.database
     }
 
     /// Makes the changes so far final, and drops what was drafted. It doesn't allocate.
-    pub fn settle(&mut self)
+    pub fn commit(&mut self)
         ensures { self.new ≡ record self.old {
-          settled = self.old.present;
+          committed = self.old.present;
           drafted = nothing_at self.old.present.links;
         } }
     {
-        settle_links(&mut self.links);
-        self.database.settle();
+        commit_links(&mut self.links);
+        self.database.commit();
     }
 
-    /// Like `settle`, and the database scans its copies if one may have reached MaxAge by this
-    /// moment, as in `Lsdb::settle_at`. If an allocation for that is refused, it tries again the
+    /// Like `commit`, and the database scans its copies if one may have reached MaxAge by this
+    /// moment, as in `Lsdb::commit_at`. If an allocation for that is refused, it tries again the
     /// next time.
-    pub fn settle_at(&mut self, alloc: Global, moment: Second)
+    pub fn commit_at(&mut self, alloc: Global, moment: Second)
         ensures { self.new ≡ record self.old {
-          settled = self.old.present;
+          committed = self.old.present;
           drafted = nothing_at self.old.present.links;
         } }
     {
-        settle_links(&mut self.links);
-        self.database.settle_at(alloc, moment);
+        commit_links(&mut self.links);
+        self.database.commit_at(alloc, moment);
     }
 
-    /// Undoes all changes since the area was last settled, and drops what was drafted. It doesn't
+    /// Undoes all changes since the area was last committed, and drops what was drafted. It doesn't
     /// allocate.
     pub fn roll_back(&mut self)
         ensures { self.new ≡ record self.old {
-          present = self.old.settled;
-          drafted = nothing_at self.old.settled.links;
+          present = self.old.committed;
+          drafted = nothing_at self.old.committed.links;
         } }
     {
         roll_back_links(&mut self.links);
@@ -137,7 +140,7 @@ impl Area {
           drafted = nothing_at self.old.present.links;
         }) }
         ensures present { self.new.present ≡ self.old.present }
-        ensures settled { self.new.settled ≡ self.old.settled }
+        ensures committed { self.new.committed ≡ self.old.committed }
         ensures router { self.new.router ≡ self.old.router }
     {
         take_drafts(alloc, &mut self.links)

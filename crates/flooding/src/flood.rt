@@ -9,7 +9,7 @@ ghost use Rattle.received.specs.Updates.{install};
 ghost use Rattle.flooding.specs.Doing.{AreaDoes, LinksDo};
 ghost use Rattle.flooding.specs.Drafted.{nothing_at};
 ghost use Rattle.flooding.specs.Links.{age_outcome, come_of_age, draft_of, flooded_key};
-ghost use Rattle.flooding.specs.Links.{originate_outcome, present, settled_link, start};
+ghost use Rattle.flooding.specs.Links.{committed_link, originate_outcome, present, start};
 
 use crate::area::Area;
 use crate::link::Link;
@@ -188,20 +188,20 @@ impl Area {
     }
 }
 
-pub fn settle_links(links: &mut [Link])
+pub fn commit_links(links: &mut [Link])
     ensures present { map present links.new ≡ map present links.old }
-    ensures settled { map settled_link links.new ≡ map present links.old }
+    ensures committed { map committed_link links.new ≡ map present links.old }
     ensures drafts { map draft_of links.new ≡ nothing_at (map present links.old) }
 {
     for i in 0..links.len() {
-        links[i].settle();
+        links[i].commit();
     }
 }
 
 pub fn roll_back_links(links: &mut [Link])
-    ensures present { map present links.new ≡ map settled_link links.old }
-    ensures settled { map settled_link links.new ≡ map settled_link links.old }
-    ensures drafts { map draft_of links.new ≡ nothing_at (map settled_link links.old) }
+    ensures present { map present links.new ≡ map committed_link links.old }
+    ensures committed { map committed_link links.new ≡ map committed_link links.old }
+    ensures drafts { map draft_of links.new ≡ nothing_at (map committed_link links.old) }
 {
     for i in 0..links.len() {
         links[i].roll_back();
@@ -212,7 +212,7 @@ pub fn roll_back_links(links: &mut [Link])
 pub fn take_drafts(alloc: Global, links: &mut [Link]) -> Result<Vec<Draft>, AllocError>
     ensures drafts { IfOk result (λ drafts. drafts.items ≡ map draft_of links.old) }
     ensures present { map present links.new ≡ map present links.old }
-    ensures settled { map settled_link links.new ≡ map settled_link links.old }
+    ensures committed { map committed_link links.new ≡ map committed_link links.old }
     ensures rest { IfOk result (λ _. map draft_of links.new ≡ nothing_at (map present links.old)) }
 {
     let mut drafts = Vec::new(alloc);

@@ -19,5 +19,5 @@ pub use link::timers::{EndLoading, NextRequest, RunOut, SendingAgain};
 pub use on_links::any_exchange_or_loading;
 pub use steps::{LinkChange, LinkStep};
 // Names from the crates below that crates above use.
-pub use adjacency::{DatabaseCopy, Draft, Interface, Lsdb, NeighborState, Saved, Update};
+pub use adjacency::{DatabaseCopy, Draft, Interface, Lsdb, NeighborState, Revertible, Update};
 pub use neighbors::has_passed;

@@ -19,7 +19,7 @@ pub mod packets;
 pub mod timers;
 
 use crate::neighbor_slot::NeighborSlot;
-use adjacency::{DatabaseCopy, Draft, Interface, Saved, Update};
+use adjacency::{DatabaseCopy, Draft, Interface, Revertible, Update};
 use keyed_map::KeyedMap;
 use lsa::Header;
 use std::alloc::{AllocError, Global};
@@ -27,7 +27,7 @@ use std::marker::Model;
 use words::Second;
 
 /// An interface with its neighbor, the delayed acknowledgments, and the moment of the last Hello
-/// that was sent; their state when they were last settled; and what was drafted for the interface
+/// that was sent; their state when they were last committed; and what was drafted for the interface
 /// since. A call that errors may have done a part of its work: `Area` says what its caller then
 /// does.
 #[derive(Drop)]
@@ -36,7 +36,7 @@ pub struct Link {
     slot: NeighborSlot,
     // the latest one for each key
     acknowledgments: KeyedMap<Header>,
-    last_hello_sent: Saved<Option<Second>>,
+    last_hello_sent: Revertible<Option<Second>>,
     // nothing between events
     draft: Draft,
 }
@@ -58,11 +58,11 @@ impl Model for Link {
         acknowledgments = a.acknowledgments.present;
         last_hello_sent = a.last_hello_sent.present;
       };
-      settled = record {
+      committed = record {
         interface = a.interface;
-        neighbor = a.slot.settled;
-        acknowledgments = a.acknowledgments.settled;
-        last_hello_sent = a.last_hello_sent.settled;
+        neighbor = a.slot.committed;
+        acknowledgments = a.acknowledgments.committed;
+        last_hello_sent = a.last_hello_sent.committed;
       };
       drafted = a.draft;
     } };
@@ -73,7 +73,7 @@ impl Link {
     pub fn new(alloc: Global, interface: Interface) -> Self
         ensures { result ≡ record {
           present = fresh_link interface;
-          settled = fresh_link interface;
+          committed = fresh_link interface;
           drafted = nothing_drafted;
         } }
     {
@@ -81,7 +81,7 @@ impl Link {
             interface,
             slot: NeighborSlot::down(),
             acknowledgments: KeyedMap::new(alloc),
-            last_hello_sent: Saved::new(None),
+            last_hello_sent: Revertible::new(None),
             draft: Draft::new(alloc),
         }
     }
@@ -185,24 +185,24 @@ impl Link {
     }
 
     /// Makes the changes so far final, and drops what was drafted.
-    pub fn settle(&mut self)
+    pub fn commit(&mut self)
         ensures { self.new ≡ record {
           present = self.old.present;
-          settled = self.old.present;
+          committed = self.old.present;
           drafted = nothing_drafted;
         } }
     {
-        self.slot.settle();
-        self.acknowledgments.settle();
-        self.last_hello_sent.settle();
+        self.slot.commit();
+        self.acknowledgments.commit();
+        self.last_hello_sent.commit();
         self.draft.clear();
     }
 
-    /// Undoes all changes since the link was last settled, and drops what was drafted.
+    /// Undoes all changes since the link was last committed, and drops what was drafted.
     pub fn roll_back(&mut self)
         ensures { self.new ≡ record {
-          present = self.old.settled;
-          settled = self.old.settled;
+          present = self.old.committed;
+          committed = self.old.committed;
           drafted = nothing_drafted;
         } }
     {

@@ -35,17 +35,17 @@ impl Model for NeighborSlot {
 
     ghost coded = { coded_kept (Prim.hlevel (codes, coded_lists, coded_keys)) };
 
-    ghost use Rattle.adjacency.specs.Views.{present_of, settled_among};
+    ghost use Rattle.adjacency.specs.Views.{committed_among, present_of};
 
     ghost view = { λ a. record {
       present = present_of a.neighbor;
-      settled = settled_among a.before a.neighbor;
+      committed = committed_among a.before a.neighbor;
     } };
 }
 
 impl NeighborSlot {
     pub fn down() -> Self
-        ensures { result ≡ record { present = None; settled = None } }
+        ensures { result ≡ record { present = None; committed = None } }
     {
         NeighborSlot {
             neighbor: None,
@@ -53,12 +53,12 @@ impl NeighborSlot {
         }
     }
 
-    /// A copy of the slot, settled.
+    /// A copy of the slot, committed.
     ///
     /// Errors with `AllocError` if an allocation is refused.
     pub fn copy(&self, alloc: Global) -> Result<Self, AllocError>
         ensures present { IfOk result (λ made. made.present ≡ self.now.present) }
-        ensures settled { IfOk result (λ made. made.settled ≡ self.now.present) }
+        ensures committed { IfOk result (λ made. made.committed ≡ self.now.present) }
     {
         match &self.neighbor {
             None => Ok(NeighborSlot::down()),
@@ -73,7 +73,7 @@ impl NeighborSlot {
     }
 
     /// Replaces the neighbor by another one, or by none if it goes Down. The old one is kept until
-    /// the event is settled. It doesn't allocate.
+    /// the event is committed. It doesn't allocate.
     pub fn replace(&mut self, neighbor: Option<Neighbor>)
         ensures { self.new ≡ record self.old { present = present_of neighbor } }
     {
@@ -153,17 +153,18 @@ impl NeighborSlot {
         }
     }
 
-    pub fn settle(&mut self)
-        ensures { self.new ≡ record { present = self.old.present; settled = self.old.present } }
+    pub fn commit(&mut self)
+        ensures { self.new ≡ record { present = self.old.present; committed = self.old.present } }
     {
         self.before = None;
         if let Some(neighbor) = &mut self.neighbor {
-            neighbor.settle();
+            neighbor.commit();
         }
     }
 
     pub fn roll_back(&mut self)
-        ensures { self.new ≡ record { present = self.old.settled; settled = self.old.settled } }
+        ensures { self.new
+            ≡ record { present = self.old.committed; committed = self.old.committed } }
     {
         if let Some(before) = self.before.take() {
             self.neighbor = before;

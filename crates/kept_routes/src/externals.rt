@@ -127,10 +127,10 @@ fn names_it(router: RouterId, key: &Key) -> bool
 }
 
 /// Whether the candidates by this walk, which was made before the event, are unchanged: since the
-/// database was settled, at the moment `before`, the only LSAs that were added or removed, reached
-/// MaxAge or changed their contents are AS-external-LSAs that offer nothing, whatever they say.
-/// Those are the router's own, and those of routers that aren't reached as AS boundary routers (RFC
-/// 2328, section 16.4). LSAs that were added or removed at MaxAge may or may not count.
+/// database was committed, at the moment `before`, the only LSAs that were added or removed,
+/// reached MaxAge or changed their contents are AS-external-LSAs that offer nothing, whatever they
+/// say. Those are the router's own, and those of routers that aren't reached as AS boundary routers
+/// (RFC 2328, section 16.4). LSAs that were added or removed at MaxAge may or may not count.
 ///
 /// It takes the time of the event's edits and of `Lsdb::aged_keys`.
 ///
@@ -144,10 +144,10 @@ pub fn leave_candidates(
     moment: Second,
 ) -> Result<bool, AllocError>
     requires order { before ≤ moment }
-    requires walk { IsWalkOf (said_at before db.now.settled) walk.now }
+    requires walk { IsWalkOf (said_at before db.now.committed) walk.now }
     ensures same { IfOk result (λ same. IsTrue same → OfferTheSame
-        (said_at before db.now.settled) (said_at moment db.now.present) walk.now.root) }
-    ensures left { IfOk result (λ same. LeaveCandidates before moment db.now.settled
+        (said_at before db.now.committed) (said_at moment db.now.present) walk.now.root) }
+    ensures left { IfOk result (λ same. LeaveCandidates before moment db.now.committed
         db.now.present walk.now → IsTrue same) }
 {
     let rule = OfNoAccount { db, walk, moment };

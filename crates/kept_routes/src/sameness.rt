@@ -13,9 +13,9 @@ use std::alloc::{AllocError, Global};
 use words::{Key, Second};
 
 /// Whether the LSAs of the types up to `last_type`, or of all types if that is `None`, are
-/// unchanged: since the database was settled, at the moment `before`, none of them was added or
+/// unchanged: since the database was committed, at the moment `before`, none of them was added or
 /// removed, reached MaxAge or changed its contents. At `moment` they then say what those of the
-/// settled database said at `before`.
+/// committed database said at `before`.
 ///
 /// Another instance below MaxAge with the same contents is no change (RFC 2328, section 13.2), nor
 /// is a transmission. It takes the time of the event's edits and of `Lsdb::aged_keys`.
@@ -31,10 +31,10 @@ pub fn say_the_same(
 ) -> Result<bool, AllocError>
     requires { before ≤ moment }
     ensures same { IfOk result (λ same. IsTrue same → SayTheSame last_type
-        (said_at before db.now.settled) (said_at moment db.now.present)) }
+        (said_at before db.now.committed) (said_at moment db.now.present)) }
     // It is true whenever that is correct.
     ensures left { IfOk result (λ same. IsTrue same
-        ↔ AreLeft last_type before moment db.now.settled db.now.present) }
+        ↔ AreLeft last_type before moment db.now.committed db.now.present) }
 {
     if !db.keeps(alloc, last_type, moment)? {
         return Ok(false);

@@ -229,16 +229,16 @@ module _ {X : Type 0} where
       ∙ held_same edit.before in
       subst (λ o. S edit.key o (map.get (live m) edit.key)) was (all edit.key)
 
-  -- the slot in the first edit of a key is the settled one
-  pub first_settled : (es : List (Edit X)) (m : ByKey (KeySlot X)) (place : ℕ) (edit : Edit X)
+  -- the slot in the first edit of a key is the committed one
+  pub first_committed : (es : List (Edit X)) (m : ByKey (KeySlot X)) (place : ℕ) (edit : Edit X)
       (q : Key) → slice_get es place ≡ Some edit → edit.key ≡ q → IsFirst es place q
       → held_before edit.before ≡ map.get (live (undone es m)) q
-  first_settled es m place edit q at its first =
+  first_committed es m place edit q at its first =
       let found = first_found es m place edit at (subst (IsFirst es place) (sym its) first) in
       sym (get-live (undone es m) edit.key ∙ ap held_in found ∙ held_same edit.before)
       ∙ ap (map.get (live (undone es m))) its
 
-  -- the value of a key without an edit is the settled one
+  -- the value of a key without an edit is the committed one
   pub unedited : (es : List (Edit X)) (m : ByKey (KeySlot X)) (q : Key) → IsFirst es (length es) q
       → map.get (live m) q ≡ map.get (live (undone es m)) q
   unedited es m q none =
@@ -260,8 +260,8 @@ module _ {X : Type 0} where
 
   -- each of these keys has another value
   abbrev pub Differ : (Key → Option X → Option X → Type 0) → ByKey X → ByKey X → List Key → Type 0
-  Differ S settled present keys =
-      (key : Key) → Contains keys key → S key (map.get settled key) (map.get present key) → ⊥
+  Differ S committed present keys =
+      (key : Key) → Contains keys key → S key (map.get committed key) (map.get present key) → ⊥
 
   -- more keys in the list leave fewer to be kept
   pub still_outside : (S : Key → Option X → Option X → Type 0) (now : ByKey X) (es : List (Edit X))
@@ -271,14 +271,14 @@ module _ {X : Type 0} where
       all place e low at first (λ t. none (Contains-append_left keys more e.key t))
 
   -- one more key that has another value
-  pub one_differs : (S : Key → Option X → Option X → Type 0) (settled present : ByKey X)
-      (keys : List Key) (q : Key) → Differ S settled present keys
-      → (S q (map.get settled q) (map.get present q) → ⊥)
-      → Differ S settled present (keys ++ q ∷ [])
-  one_differs S settled present keys q all one key t =
+  pub one_differs : (S : Key → Option X → Option X → Type 0) (committed present : ByKey X)
+      (keys : List Key) (q : Key) → Differ S committed present keys
+      → (S q (map.get committed q) (map.get present q) → ⊥)
+      → Differ S committed present (keys ++ q ∷ [])
+  one_differs S committed present keys q all one key t =
       elim (Contains-push_cases keys q key t) [
         | inl old ↦ all key old
-        | inr is ↦ let P : Key → Type 0 = λ k. S k (map.get settled k) (map.get present k) → ⊥ in
+        | inr is ↦ let P : Key → Type 0 = λ k. S k (map.get committed k) (map.get present k) → ⊥ in
             subst P is one
       ]
 

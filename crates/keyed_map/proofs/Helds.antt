@@ -1,13 +1,13 @@
--- A map and its settled state, after an edit that may be refused.
+-- A map and its committed state, after an edit that may be refused.
 use Rattle.std.proofs.Common.{◌≡◌, Result, Ok, Err, OnOk, OnErr, sym, subst}
 use Rattle.keyed_map.specs.Keys.{ByKey}
 use Rattle.keyed_map.specs.Held.{Held}
 
 pub held : {X : Type 0} {p q s t : ByKey X} → p ≡ q → s ≡ t → ◌≡◌ {A = Held X} (record {
   present = p;
-  settled = s;
-}) (record { present = q; settled = t })
-held a b i = record { present = a i; settled = b i }
+  committed = s;
+}) (record { present = q; committed = t })
+held a b i = record { present = a i; committed = b i }
 
 -- what holds of both the old and the edited map holds whatever the result
 pub after : {A E V : Type 0} (r : Result A E) (P : V → Type 0) (new old edited : V)

@@ -148,21 +148,21 @@ module _ {X : Type 0} where
   put_back_is m k s None is = same _ _
       (λ q. map.get-remove keys_total _ k q
       ∙ ap (cond (eq_by_cmp key_cmp q k) None) (map.get-insert keys_total m k s q)
-      ∙ settled_at q (eq_by_cmp key_cmp q k) refl)
+      ∙ committed_at q (eq_by_cmp key_cmp q k) refl)
     where
-      settled_at : (q : Key) (b : Bool) → eq_by_cmp key_cmp q k ≡ b
+      committed_at : (q : Key) (b : Bool) → eq_by_cmp key_cmp q k ≡ b
           → cond b None (cond b (Some s) (map.get m q)) ≡ map.get m q
-      settled_at q true tied = is ∙ ap (map.get m) (sym (keys_exact q k (equal _ tied)))
-      settled_at q false tied = refl
+      committed_at q true tied = is ∙ ap (map.get m) (sym (keys_exact q k (equal _ tied)))
+      committed_at q false tied = refl
   put_back_is m k s (Some t) is = same _ _
       (λ q. map.get-insert keys_total _ k t q
       ∙ ap (cond (eq_by_cmp key_cmp q k) (Some t)) (map.get-insert keys_total m k s q)
-      ∙ settled_at q (eq_by_cmp key_cmp q k) refl)
+      ∙ committed_at q (eq_by_cmp key_cmp q k) refl)
     where
-      settled_at : (q : Key) (b : Bool) → eq_by_cmp key_cmp q k ≡ b
+      committed_at : (q : Key) (b : Bool) → eq_by_cmp key_cmp q k ≡ b
           → cond b (Some t) (cond b (Some s) (map.get m q)) ≡ map.get m q
-      settled_at q true tied = is ∙ ap (map.get m) (sym (keys_exact q k (equal _ tied)))
-      settled_at q false tied = refl
+      committed_at q true tied = is ∙ ap (map.get m) (sym (keys_exact q k (equal _ tied)))
+      committed_at q false tied = refl
 
   pub has_place : (m : ByKey (KeySlot X)) (k : Key) (s : KeySlot X) (before : Option (KeySlot X))
       → HasPlace k before (map.insert m k s)

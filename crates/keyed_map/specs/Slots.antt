@@ -63,8 +63,8 @@ module _ {X : Type 0} where
 
   -- the edits can be undone, and the two numbers count the keys now and before the edits
   abbrev pub IsKept : List (Edit X) → ByKey (KeySlot X) → ℕ → ℕ → Type 0
-  IsKept es m len settled =
-      AllFit es m × (len ≡ map.len (live m)) × (settled ≡ map.len (live (undone es m)))
+  IsKept es m len committed =
+      AllFit es m × (len ≡ map.len (live m)) × (committed ≡ map.len (live (undone es m)))
 
 -- the number of keys after one was set or removed, by whether it was held before and is now
 abbrev pub count_after_change : Bool → Bool → ℕ → ℕ

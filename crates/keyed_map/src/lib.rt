@@ -1,4 +1,4 @@
-//! Maps by LSA key whose edits since they were last settled can be undone without allocating, in
+//! Maps by LSA key whose edits since they were last committed can be undone without allocating, in
 //! time proportional to the number of edits.
 #![tactic(auto)]
 

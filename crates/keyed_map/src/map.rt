@@ -21,16 +21,16 @@ use std::marker::Model;
 use std::mem::replace;
 use words::Key;
 
-/// A map by LSA key, which can be rolled back to its state when it was last settled.
+/// A map by LSA key, which can be rolled back to its state when it was last committed.
 #[derive(Drop)]
 pub struct KeyedMap<X> {
     slots: BTreeMap<Key, KeySlot<X>>,
     edits: Vec<Edit<X>>,
     // at least the number of empty slots; only speed depends on it
     gone: usize,
-    // the number of keys, now and when the map was last settled
+    // the number of keys, now and when the map was last committed
     len: usize,
-    settled_len: usize,
+    committed_len: usize,
 }
 
 impl<X> Model for KeyedMap<X> {
@@ -44,10 +44,11 @@ impl<X> Model for KeyedMap<X> {
 
     ghost view = { λ a. record {
       present = live (slots_of a.slots.entries);
-      settled = live (undone a.edits.items (slots_of a.slots.entries));
+      committed = live (undone a.edits.items (slots_of a.slots.entries));
     } };
 
-    ghost invariant = { λ a. IsKept a.edits.items (slots_of a.slots.entries) a.len a.settled_len };
+    ghost invariant = { λ a. IsKept a.edits.items (slots_of a.slots.entries) a.len
+        a.committed_len };
 }
 
 // A copy of the key: a `Copy` struct with a field that has a model counts as moved when it is used.
@@ -244,13 +245,13 @@ fn is_kept<X, T: ChangeTest<X>>(
 }
 
 impl<X: Copied> KeyedMap<X> {
-    /// A copy of the map, settled.
+    /// A copy of the map, committed.
     ///
     /// # Errors
     /// `AllocError` if an allocation is refused.
     pub fn copy(&self, alloc: Global) -> Result<Self, AllocError>
         ensures present { IfOk result (λ made. made.present ≡ self.now.present) }
-        ensures settled { IfOk result (λ made. made.settled ≡ made.present) }
+        ensures committed { IfOk result (λ made. made.committed ≡ made.present) }
     {
         let mut slots = BTreeMap::new(alloc);
         for (key, slot) in self.slots.iter() {
@@ -263,19 +264,19 @@ impl<X: Copied> KeyedMap<X> {
             edits: Vec::new(alloc),
             gone: 0,
             len: self.len,
-            settled_len: self.len,
+            committed_len: self.len,
         })
     }
 }
 
 impl<X: Copy + Drop> KeyedMap<X> {
-    /// A copy of a map of `Copy` values, settled.
+    /// A copy of a map of `Copy` values, committed.
     ///
     /// # Errors
     /// `AllocError` if an allocation is refused.
     pub fn copied(&self, alloc: Global) -> Result<Self, AllocError>
         ensures present { IfOk result (λ made. made.present ≡ self.now.present) }
-        ensures settled { IfOk result (λ made. made.settled ≡ made.present) }
+        ensures committed { IfOk result (λ made. made.committed ≡ made.present) }
     {
         let mut slots = BTreeMap::new(alloc);
         for (key, slot) in self.slots.iter() {
@@ -288,7 +289,7 @@ impl<X: Copy + Drop> KeyedMap<X> {
             edits: Vec::new(alloc),
             gone: 0,
             len: self.len,
-            settled_len: self.len,
+            committed_len: self.len,
         })
     }
 }
@@ -296,14 +297,14 @@ impl<X: Copy + Drop> KeyedMap<X> {
 impl<X: Drop> KeyedMap<X> {
     /// An empty map. It doesn't allocate.
     pub fn new(alloc: Global) -> Self
-        ensures { result ≡ record { present = map.empty; settled = map.empty } }
+        ensures { result ≡ record { present = map.empty; committed = map.empty } }
     {
         KeyedMap {
             slots: BTreeMap::new(alloc),
             edits: Vec::new(alloc),
             gone: 0,
             len: 0,
-            settled_len: 0,
+            committed_len: 0,
         }
     }
 
@@ -332,10 +333,10 @@ impl<X: Drop> KeyedMap<X> {
         }
     }
 
-    /// The value that a key had when the map was last settled, if the map had it. It scans the
+    /// The value that a key had when the map was last committed, if the map had it. It scans the
     /// edits since then.
-    pub fn settled_get(&self, key: &Key) -> Option<&X>
-        ensures { option_copied result ≡ map.get self.now.settled key.now }
+    pub fn committed_get(&self, key: &Key) -> Option<&X>
+        ensures { option_copied result ≡ map.get self.now.committed key.now }
     {
         let edits = self.edits.as_slice();
         for place in 0..edits.len() {
@@ -480,7 +481,7 @@ impl<X: Drop> KeyedMap<X> {
         is_kept(alloc, test, edits, place, now)
     }
 
-    /// Whether each key has the same value, by the test, as when the map was last settled. It
+    /// Whether each key has the same value, by the test, as when the map was last committed. It
     /// visits the keys that were edited since. The first edit of a key has its value then.
     ///
     /// # Errors
@@ -488,7 +489,8 @@ impl<X: Drop> KeyedMap<X> {
     pub fn keeps<T: ChangeTest<X>>(&self, alloc: Global, test: &T) -> Result<bool, AllocError>
         requires { (key : KeyValue) (o : Option X) → T.same test.now key o o }
         ensures { IfOk result (λ keeps. IsTrue keeps ↔ ((key : KeyValue)
-            → T.same test.now key (map.get self.now.settled key) (map.get self.now.present key))) }
+            → T.same test.now key (map.get self.now.committed key)
+            (map.get self.now.present key))) }
     {
         let edits = self.edits.as_slice();
         for place in 0..edits.len() {
@@ -499,8 +501,8 @@ impl<X: Drop> KeyedMap<X> {
         Ok(true)
     }
 
-    /// The keys that have another value, by the test, than when the map was last settled. It visits
-    /// the keys that were edited since.
+    /// The keys that have another value, by the test, than when the map was last committed. It
+    /// visits the keys that were edited since.
     ///
     /// # Errors
     /// `AllocError` if an allocation is refused.
@@ -511,10 +513,10 @@ impl<X: Drop> KeyedMap<X> {
     ) -> Result<Vec<Key>, AllocError>
         requires { (key : KeyValue) (o : Option X) → T.same test.now key o o }
         ensures changed { IfOk result (λ keys. (key : KeyValue) → Contains keys.items key
-            → T.same test.now key (map.get self.now.settled key) (map.get self.now.present key)
+            → T.same test.now key (map.get self.now.committed key) (map.get self.now.present key)
             → ⊥) }
         ensures others { IfOk result (λ keys. (key : KeyValue) → (Contains keys.items key → ⊥)
-            → T.same test.now key (map.get self.now.settled key) (map.get self.now.present key)) }
+            → T.same test.now key (map.get self.now.committed key) (map.get self.now.present key)) }
     {
         let mut keys = Vec::new(alloc);
         let edits = self.edits.as_slice();
@@ -533,7 +535,7 @@ impl<X: Drop> KeyedMap<X> {
     /// `AllocError` if an allocation is refused; the map keeps its values.
     pub fn insert(&mut self, key: Key, x: X) -> Result<(), AllocError>
         ensures ok { OnOk result (self.new.present ≡ map.insert self.old.present key x) }
-        ensures settled { self.new.settled ≡ self.old.settled }
+        ensures committed { self.new.committed ≡ self.old.committed }
         ensures err { OnErr result (self.new.present ≡ self.old.present) }
     {
         self.edits.reserve(1)?;
@@ -551,7 +553,7 @@ impl<X: Drop> KeyedMap<X> {
     /// `AllocError` if an allocation is refused; the map keeps its values.
     pub fn remove(&mut self, key: &Key) -> Result<(), AllocError>
         ensures ok { OnOk result (self.new.present ≡ map.remove self.old.present key.now) }
-        ensures settled { self.new.settled ≡ self.old.settled }
+        ensures committed { self.new.committed ≡ self.old.committed }
         ensures err { OnErr result (self.new.present ≡ self.old.present) }
     {
         self.edits.reserve(1)?;
@@ -568,24 +570,25 @@ impl<X: Drop> KeyedMap<X> {
     }
 
     /// Makes the edits so far final.
-    pub fn settle(&mut self)
-        ensures { self.new ≡ record { present = self.old.present; settled = self.old.present } }
+    pub fn commit(&mut self)
+        ensures { self.new ≡ record { present = self.old.present; committed = self.old.present } }
     {
         self.edits.clear();
-        self.settled_len = self.len;
+        self.committed_len = self.len;
         if self.gone > self.len {
             forget_gone(&mut self.slots, self.len);
             self.gone = 0;
         }
     }
 
-    /// Undoes all edits since the map was last settled.
+    /// Undoes all edits since the map was last committed.
     pub fn roll_back(&mut self)
-        ensures { self.new ≡ record { present = self.old.settled; settled = self.old.settled } }
+        ensures { self.new
+            ≡ record { present = self.old.committed; committed = self.old.committed } }
     {
         while let Some(edit) = self.edits.pop() {
             take_back(&mut self.slots, edit);
         }
-        self.len = self.settled_len;
+        self.len = self.committed_len;
     }
 }

@@ -51,6 +51,6 @@ pub database_is : {r : ℕ} {p q s t : Database} → p ≡ q → s ≡ t
     → ◌≡◌ {A = RouterDatabase} (record {
       router = r;
       present = p;
-      settled = s;
-    }) (record { router = r; present = q; settled = t })
-database_is {r} a b i = record { router = r; present = a i; settled = b i }
+      committed = s;
+    }) (record { router = r; present = q; committed = t })
+database_is {r} a b i = record { router = r; present = a i; committed = b i }

@@ -8,10 +8,10 @@ use Rattle.lsdb.specs.Limits.{count_own_externals}
 use Rattle.lsdb.specs.declared.ages.Ages.{Ages}
 
 -- the two numbers count the self-originated AS-external-LSAs now and when the database was last
--- settled; the ages foresee the copies of both
+-- committed; the ages foresee the copies of both
 pub record AreKept (router : RouterNumber) (copies : Held DatabaseCopy)
-    (externals settled_externals : ℕ) (ages : Ages) : Type 0 where
+    (externals committed_externals : ℕ) (ages : Ages) : Type 0 where
   pub counted : externals ≡ count_own_externals router copies.present
-  pub settled_counted : settled_externals ≡ count_own_externals router copies.settled
+  pub committed_counted : committed_externals ≡ count_own_externals router copies.committed
   pub foreseen : ForeseesAll ages copies.present
-  pub settled_foreseen : ForeseesAll ages copies.settled
+  pub committed_foreseen : ForeseesAll ages copies.committed

@@ -40,7 +40,7 @@ impl Ages {
     {
         if copy.is_aged_out(moment) {
             self.aged.insert(*key, ())?;
-            self.aged.settle();
+            self.aged.commit();
             return Ok(());
         }
         let until = copy.young_until();

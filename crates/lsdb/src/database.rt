@@ -31,7 +31,7 @@ use std::marker::Model;
 use words::{Key, RouterId, Second};
 
 /// The link state database of a router: at most one copy for each key, and the copies when it was
-/// last settled.
+/// last committed.
 ///
 /// Copies of the database share its LSAs, and an edit of a copy's times copies no LSA.
 #[derive(Drop)]
@@ -39,9 +39,9 @@ pub struct Lsdb {
     alloc: Global,
     router: RouterId,
     copies: KeyedMap<StoredLsa>,
-    // the number of self-originated AS-external-LSAs, now and when the database was last settled
+    // the number of self-originated AS-external-LSAs, now and when the database was last committed
     externals: usize,
-    settled_externals: usize,
+    committed_externals: usize,
     ages: Ages,
     // at least the number of keys in `ages.aged` whose copies were removed or replaced since `ages`
     // was made: a hint when to make it anew, on which nothing but time depends
@@ -61,10 +61,10 @@ impl Model for Lsdb {
     ghost view = { λ a. record {
       router = a.router;
       present = a.copies.present;
-      settled = a.copies.settled;
+      committed = a.copies.committed;
     } };
 
-    ghost invariant = { λ a. AreKept a.router a.copies a.externals a.settled_externals a.ages };
+    ghost invariant = { λ a. AreKept a.router a.copies a.externals a.committed_externals a.ages };
 }
 
 // Selects the copies that have reached MaxAge.
@@ -156,7 +156,7 @@ impl Lsdb {
         ensures { result ≡ record {
           router = router;
           present = finite.empty;
-          settled =
+          committed =
               finite.empty;
         } }
     {
@@ -165,19 +165,19 @@ impl Lsdb {
             router,
             copies: KeyedMap::new(alloc),
             externals: 0,
-            settled_externals: 0,
+            committed_externals: 0,
             // There is no copy that could reach MaxAge.
             ages: Ages::new(alloc, Second::new(u64::MAX)),
             past: 0,
         }
     }
 
-    /// A copy of the database, settled.
+    /// A copy of the database, committed.
     ///
     /// # Errors
     /// `AllocError` if an allocation is refused.
     pub fn copy(&self, alloc: Global) -> Result<Self, AllocError>
-        ensures { IfOk result (λ made. made ≡ record self.now { settled = self.now.present }) }
+        ensures { IfOk result (λ made. made ≡ record self.now { committed = self.now.present }) }
     {
         let copies = self.copies.copy(alloc)?;
         Ok(Lsdb {
@@ -185,8 +185,8 @@ impl Lsdb {
             router: self.router,
             copies,
             externals: self.externals,
-            settled_externals: self.externals,
-            // Nothing is foreseen: the first `settle_at` scans all copies.
+            committed_externals: self.externals,
+            // Nothing is foreseen: the first `commit_at` scans all copies.
             ages: Ages::new(alloc, Second::new(0)),
             past: 0,
         })
@@ -288,7 +288,7 @@ impl Lsdb {
 
     /// The keys of the copies that have MaxAge at the moment, in their order.
     ///
-    /// It visits all copies only if one may have reached MaxAge since `settle_at` last scanned
+    /// It visits all copies only if one may have reached MaxAge since `commit_at` last scanned
     /// them. Otherwise it visits only those that had MaxAge then or got it since; at most half
     /// of these have been removed or replaced.
     ///
@@ -308,7 +308,7 @@ impl Lsdb {
     }
 
     /// Whether each copy of an LS type up to this one, or of any type if none is given, says at the
-    /// moment what the copy of its key said when the database was last settled (RFC 2328, section
+    /// moment what the copy of its key said when the database was last committed (RFC 2328, section
     /// 13.2): no copy was added or removed, each has the same body, and neither the earlier copy
     /// nor the present one is at MaxAge at the moment, unless they have the same age. It visits the
     /// edits since then. Another sequence number, checksum, age below MaxAge or Options field
@@ -324,7 +324,7 @@ impl Lsdb {
     ) -> Result<bool, AllocError>
         ensures { IfOk result (λ keeps. IsTrue keeps ↔ ((key : KeyValue) → IsUpTo last_type key
             → SaysTheSame moment
-            (finite.get self.now.settled key) (finite.get self.now.present key))) }
+            (finite.get self.now.committed key) (finite.get self.now.present key))) }
     {
         self.copies.keeps(alloc, &SameUpTo { last_type, moment })
     }
@@ -343,7 +343,7 @@ impl Lsdb {
     ) -> Result<(), AllocError>
         ensures ok { OnOk result (self.new.present ≡ put_copy moment lsa installed
             self.old.present) }
-        ensures settled { self.new.settled ≡ self.old.settled }
+        ensures committed { self.new.committed ≡ self.old.committed }
         ensures router { self.new.router ≡ self.old.router }
     {
         let header = lsa.header();
@@ -371,7 +371,7 @@ impl Lsdb {
     /// `AllocError` if an allocation is refused; the caller then rolls back.
     pub fn mark_sent(&mut self, moment: Second, key: &Key) -> Result<(), AllocError>
         ensures ok { OnOk result (self.new.present ≡ mark_sent moment key.now self.old.present) }
-        ensures settled { self.new.settled ≡ self.old.settled }
+        ensures committed { self.new.committed ≡ self.old.committed }
         ensures router { self.new.router ≡ self.old.router }
     {
         let Some(copy) = self.copies.get(key) else {
@@ -388,7 +388,7 @@ impl Lsdb {
     /// `AllocError` if an allocation is refused; the caller then rolls back.
     pub fn age_out(&mut self, moment: Second, key: &Key) -> Result<(), AllocError>
         ensures ok { OnOk result (self.new.present ≡ age_out moment key.now self.old.present) }
-        ensures settled { self.new.settled ≡ self.old.settled }
+        ensures committed { self.new.committed ≡ self.old.committed }
         ensures router { self.new.router ≡ self.old.router }
     {
         let Some(copy) = self.copies.get(key) else {
@@ -405,7 +405,7 @@ impl Lsdb {
     /// `AllocError` if an allocation is refused; the caller then rolls back.
     pub fn remove(&mut self, key: &Key) -> Result<(), AllocError>
         ensures ok { OnOk result (self.new.present ≡ finite.remove self.old.present key.now) }
-        ensures settled { self.new.settled ≡ self.old.settled }
+        ensures committed { self.new.committed ≡ self.old.committed }
         ensures router { self.new.router ≡ self.old.router }
     {
         let held = holds_own(self.router, &self.copies, key);
@@ -416,22 +416,22 @@ impl Lsdb {
     }
 
     /// Makes the edits so far final.
-    pub fn settle(&mut self)
-        ensures { self.new ≡ record self.old { settled = self.old.present } }
+    pub fn commit(&mut self)
+        ensures { self.new ≡ record self.old { committed = self.old.present } }
     {
-        self.copies.settle();
-        self.settled_externals = self.externals;
+        self.copies.commit();
+        self.committed_externals = self.externals;
     }
 
     /// Makes the edits so far final, and scans all copies if one may have reached MaxAge by this
     /// moment, so that `aged_keys` needn't before another one can. If more than half of the aged
     /// keys have lost their copies or got younger ones, it visits the aged keys only and drops
     /// these. If an allocation is refused, it tries again the next time.
-    pub fn settle_at(&mut self, alloc: Global, moment: Second)
-        ensures { self.new ≡ record self.old { settled = self.old.present } }
+    pub fn commit_at(&mut self, alloc: Global, moment: Second)
+        ensures { self.new ≡ record self.old { committed = self.old.present } }
     {
-        self.copies.settle();
-        self.settled_externals = self.externals;
+        self.copies.commit();
+        self.committed_externals = self.externals;
         if moment < self.ages.due {
             if self.past > self.ages.aged.len() / 2 {
                 if let Ok(ages) = foresee_again(alloc, &self.ages, &self.copies, moment) {
@@ -447,11 +447,11 @@ impl Lsdb {
         }
     }
 
-    /// Undoes all edits since the database was last settled.
+    /// Undoes all edits since the database was last committed.
     pub fn roll_back(&mut self)
-        ensures { self.new ≡ record self.old { present = self.old.settled } }
+        ensures { self.new ≡ record self.old { present = self.old.committed } }
     {
         self.copies.roll_back();
-        self.externals = self.settled_externals;
+        self.externals = self.committed_externals;
     }
 }

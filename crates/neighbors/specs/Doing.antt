@@ -1,7 +1,7 @@
 -- What a call does in an event to a neighbor, to what it drafts for it, and to a list.
 --
 -- It errors only if an allocation is refused, and may have done a part of its work then: the caller
--- rolls back, which drops what was drafted, too. Whatever it answers, what was settled stays the
+-- rolls back, which drops what was drafted, too. Whatever it answers, what was committed stays the
 -- same.
 use Rattle.std.specs.Prelude.{◌≡◌, ℕ, List, OnOk, Result}
 use Rattle.keyed_map.specs.Held.{Held}
@@ -15,13 +15,13 @@ use Rattle.adjacency.specs.Neighbors.{Neighbor}
 pub record Does {A X E : Type 0} (after : A → A) (old new : Kept A) (result : Result X E) : Type 0
   where
     pub ok : OnOk result (new.present ≡ after old.present)
-    pub settled : new.settled ≡ old.settled
+    pub committed : new.committed ≡ old.committed
 
 -- a list becomes what `after` says
 pub record ListDoes {A X E : Type 0} (after : ByKey A → ByKey A) (old new : Held A)
     (result : Result X E) : Type 0 where
   pub ok : OnOk result (new.present ≡ after old.present)
-  pub settled : new.settled ≡ old.settled
+  pub committed : new.committed ≡ old.committed
 
 -- the value becomes what `after` says, and what it sends is drafted: no Link State Update, so
 -- InfTransDelay doesn't matter
@@ -29,14 +29,14 @@ pub record Sends {A X E : Type 0} (after : A → A) (sends : A → List Content)
     (before drafted : Drafted) (result : Result X E) : Type 0 where
   pub ok : OnOk result (new.present ≡ after old.present)
   pub draft : OnOk result ((delay : ℕ) → drafted ≡ drafting delay (sends old.present) before)
-  pub settled : new.settled ≡ old.settled
+  pub committed : new.committed ≡ old.committed
 
 -- the same with Link State Updates, whose ages are incremented by InfTransDelay (`delay`) seconds
 pub record SendsUpdates {A X E : Type 0} (delay : ℕ) (after : A → A) (sends : A → List Content)
     (old new : Kept A) (before drafted : Drafted) (result : Result X E) : Type 0 where
   pub ok : OnOk result (new.present ≡ after old.present)
   pub draft : OnOk result (drafted ≡ drafting delay (sends old.present) before)
-  pub settled : new.settled ≡ old.settled
+  pub committed : new.committed ≡ old.committed
 
 abbrev pub after_step : (Neighbor → Step) → Neighbor → Neighbor
 after_step f n = (f n).neighbor

@@ -23,7 +23,8 @@ mod timers;
 mod verdicts;
 
 use adjacency::{
-    DatabaseCopy, Draft, ListEntry, NeighborState, Saved, Standing, compare, instance_of, newer,
+    DatabaseCopy, Draft, ListEntry, NeighborState, Revertible, Standing, compare, instance_of,
+    newer,
 };
 use keyed_map::KeyedMap;
 use lsa::Header;
@@ -34,13 +35,13 @@ use std::marker::Model;
 pub use timers::has_passed;
 use words::{E_BIT, LARGEST_PACKET, RouterId, Second, Sequence};
 
-/// A neighbor (RFC 2328, section 10), and its state when it was last settled.
+/// A neighbor (RFC 2328, section 10), and its state when it was last committed.
 #[derive(Drop)]
 pub struct Neighbor {
     standing: Standing,
     before: Standing,
     // the last Database Description sent, as long as it may have to be sent again
-    described: Saved<Option<Description>>,
+    described: Revertible<Option<Description>>,
     // the Database summary list, the request list and the retransmission list
     summary: KeyedMap<ListEntry>,
     requests: KeyedMap<ListEntry>,
@@ -64,8 +65,8 @@ impl Model for Neighbor {
     ghost view = { λ a. record {
       present = neighbor_of a.standing a.described.present a.summary.present a.requests.present
           a.outstanding.present a.retransmissions.present;
-      settled = neighbor_of a.before a.described.settled a.summary.settled a.requests.settled
-          a.outstanding.settled a.retransmissions.settled;
+      committed = neighbor_of a.before a.described.committed a.summary.committed
+          a.requests.committed a.outstanding.committed a.retransmissions.committed;
     } };
 }
 
@@ -171,7 +172,7 @@ impl Neighbor {
     {
         let standing = Standing::fresh(router, dd_sequence_start, last_heard);
         let before = Standing::fresh(router, dd_sequence_start, last_heard);
-        let described = Saved::new(None);
+        let described = Revertible::new(None);
         let summary = KeyedMap::new(alloc);
         let requests = KeyedMap::new(alloc);
         let outstanding = KeyedMap::new(alloc);
@@ -202,7 +203,7 @@ impl Neighbor {
         let standing = Standing::started(moment, router, number, last_heard);
         let before = Standing::started(moment, router, number, last_heard);
         let opened = initial_description(alloc, number);
-        let described = Saved::new(Some(opened));
+        let described = Revertible::new(Some(opened));
         let summary = KeyedMap::new(alloc);
         let requests = KeyedMap::new(alloc);
         let outstanding = KeyedMap::new(alloc);
@@ -396,20 +397,21 @@ impl Neighbor {
     }
 
     /// Makes the changes so far final.
-    pub fn settle(&mut self)
-        ensures { self.new ≡ record { present = self.old.present; settled = self.old.present } }
+    pub fn commit(&mut self)
+        ensures { self.new ≡ record { present = self.old.present; committed = self.old.present } }
     {
         self.before = self.standing.same();
-        self.described.settle();
-        self.summary.settle();
-        self.requests.settle();
-        self.outstanding.settle();
-        self.retransmissions.settle();
+        self.described.commit();
+        self.summary.commit();
+        self.requests.commit();
+        self.outstanding.commit();
+        self.retransmissions.commit();
     }
 
-    /// Undoes all changes since the neighbor was last settled.
+    /// Undoes all changes since the neighbor was last committed.
     pub fn roll_back(&mut self)
-        ensures { self.new ≡ record { present = self.old.settled; settled = self.old.settled } }
+        ensures { self.new
+            ≡ record { present = self.old.committed; committed = self.old.committed } }
     {
         self.standing = self.before.same();
         self.described.roll_back();

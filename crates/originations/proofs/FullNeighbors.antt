@@ -86,7 +86,7 @@ links_with [] fs = []
 links_with (i ∷ is) [] = []
 links_with (i ∷ is) (f ∷ fs) = record {
   present = link_with i f;
-  settled = link_with i f;
+  committed = link_with i f;
   drafted = nothing_drafted;
 } ∷ links_with is fs
 

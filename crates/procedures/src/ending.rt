@@ -93,10 +93,10 @@ pub fn end_event(
     moment: Second,
     before: &[Option<RouterId>],
 ) -> Result<(), AllocError>
-    requires before { before.now ≡ full_routers router.old.settled.area.links }
+    requires before { before.now ≡ full_routers router.old.committed.area.links }
     requires interfaces { interfaces_of router.old.present.area.links
-        ≡ interfaces_of router.old.settled.area.links }
-    ensures { Does (end_event router.old.settled moment) router.old router.new result }
+        ≡ interfaces_of router.old.committed.area.links }
+    ensures { Does (end_event router.old.committed moment) router.old router.new result }
 {
     loading_done_then_originate(router, alloc, moment, before)?;
     loading_done_then_put_off(router, alloc)?;

@@ -21,16 +21,16 @@ both (Err e) f p q = tt
 abbrev pub with_area : RouterArea → KeptRouter → KeptRouter
 with_area a r = record {
   present = record r.present { area = a.present };
-  settled = record r.settled { area = a.settled };
+  committed = record r.committed { area = a.committed };
   drafted = a.drafted;
 }
 
 module _ (shown old : KeptRouter) (a b : RouterArea) (view : shown ≡ old)
     (whole : with_area a shown ≡ shown) where
-  pub area_stays : b.settled ≡ a.settled → (with_area b shown).settled ≡ old.settled
-  area_stays settled =
-      (λ i. record shown.settled { area = settled i })
-      ∙ ap (λ (r : KeptRouter). r.settled) (whole ∙ view)
+  pub area_stays : b.committed ≡ a.committed → (with_area b shown).committed ≡ old.committed
+  area_stays committed =
+      (λ i. record shown.committed { area = committed i })
+      ∙ ap (λ (r : KeptRouter). r.committed) (whole ∙ view)
 
   -- the drafts are taken away
   pub drafts_leave : b ≡ record a { drafted = nothing_at a.present.links }
@@ -42,14 +42,14 @@ module _ (shown old : KeptRouter) (a b : RouterArea) (view : shown ≡ old)
 
 module _ (F : Outcome → Outcome) (keeps : KeepsInterfaces F) (appends : Appends F)
     (shown old : KeptRouter) (a b : RouterArea) where
-  area_makes : shown ≡ old → with_area a shown ≡ shown → b.settled ≡ a.settled
+  area_makes : shown ≡ old → with_area a shown ≡ shown → b.committed ≡ a.committed
       → b.present ≡ (F (start a.present)).area
       → b.drafted ≡ drafts_with (F (start a.present)).sends a.present.links a.drafted
       → Makes (on_area F) old (with_area b shown)
-  area_makes view whole settled is drafts =
+  area_makes view whole committed is drafts =
       let same : with_area a shown ≡ old = whole ∙ view in
       makes_on_area F appends keeps old (with_area b shown)
-      (area_stays shown old a b view whole settled)
+      (area_stays shown old a b view whole committed)
       ((λ i. record shown.present { area = is i })
       ∙ ap (λ (r : KeptRouter). record r.present { area = (F (start r.present.area)).area }) same)
       (drafts
@@ -61,8 +61,8 @@ module _ (F : Outcome → Outcome) (keeps : KeepsInterfaces F) (appends : Append
       → with_area a shown ≡ shown → AreaDoes f a b r → f a.present ≡ F (start a.present)
       → Does (on_area F) old (with_area b shown) r
   area_does r view whole does same = record {
-    settled = area_stays shown old a b view whole does.settled;
-    makes = both r (λ is drafts. area_makes view whole does.settled
+    committed = area_stays shown old a b view whole does.committed;
+    makes = both r (λ is drafts. area_makes view whole does.committed
         (is ∙ ap (λ (o : Outcome). o.area) same)
         (drafts ∙ ap (λ (o : Outcome). drafts_with o.sends a.present.links a.drafted) same))
         does.area does.drafts;
@@ -73,7 +73,7 @@ module _ (F : Outcome → Outcome) (keeps : KeepsInterfaces F) (appends : Append
       → b ≡ record a { present = (F (start a.present)).area } → (F (start a.present)).sends ≡ []
       → Makes (on_area F) old (with_area b shown)
   makes_alone view whole to none =
-      area_makes view whole (ap (λ (x : RouterArea). x.settled) to)
+      area_makes view whole (ap (λ (x : RouterArea). x.committed) to)
       (ap (λ (x : RouterArea). x.present) to)
       (ap (λ (x : RouterArea). x.drafted) to ∙ drafted_none 1 a.present.links a.drafted
       ∙ ap (λ sends. drafts_with sends a.present.links a.drafted) (sym none))
@@ -87,9 +87,9 @@ module _ (F : Outcome → Outcome) (keeps : KeepsInterfaces F) (appends : Append
       let middle : KeptRouter = with_area a shown in
       then_does r made
       (record {
-        settled = λ i. record shown.settled { area = does.settled i };
+        committed = λ i. record shown.committed { area = does.committed i };
         makes = both r (λ is drafts. makes_on_area F appends keeps middle (with_area b shown)
-            (λ i. record shown.settled { area = does.settled i })
+            (λ i. record shown.committed { area = does.committed i })
             (λ i. record shown.present { area = (is ∙ ap (λ (o : Outcome). o.area) same) i })
             (drafts ∙ ap (λ (o : Outcome). drafts_with o.sends a.present.links a.drafted) same))
             does.area does.drafts;

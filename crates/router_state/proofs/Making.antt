@@ -31,12 +31,12 @@ making_starts r = record {
 -- ---- one part after another
 
 pub makes_nothing : (r : KeptRouter) → Makes (λ p. p) r r
-makes_nothing r = record { settled = refl; interfaces = refl; part = λ p first is. is }
+makes_nothing r = record { committed = refl; interfaces = refl; part = λ p first is. is }
 
 pub makes_then : {f g : EventState → EventState} {old middle new : KeptRouter}
     → Makes f old middle → Makes g middle new → Makes (λ p. g (f p)) old new
 makes_then {f} {g} {old} {middle} {new} a b = record {
-  settled = b.settled ∙ a.settled;
+  committed = b.committed ∙ a.committed;
   interfaces = b.interfaces ∙ a.interfaces;
   part = λ p first is. b.part (f p) first (a.part p first is);
 }
@@ -45,7 +45,7 @@ makes_then {f} {g} {old} {middle} {new} a b = record {
 pub makes_same : {f g : EventState → EventState} {old new : KeptRouter}
     → ((p : EventState) → p.router ≡ old.present → f p ≡ g p) → Makes f old new → Makes g old new
 makes_same {f} {g} {old} {new} agree a = record {
-  settled = a.settled;
+  committed = a.committed;
   interfaces = a.interfaces;
   part = λ p first is. subst (λ q. IsMaking q first new) (agree p (sym is.router))
       (a.part p first is);
@@ -74,17 +74,17 @@ as_many_links {f} {old} {new} a =
 -- nothing more is to be done
 pub done : {X E : Type 0} {f : EventState → EventState} {old new : KeptRouter} (r : Result X E)
     → Makes f old new → Does f old new r
-done r a = record { settled = a.settled; makes = always r a }
+done r a = record { committed = a.committed; makes = always r a }
 
 pub refused : {X E : Type 0} {f : EventState → EventState} {old new : KeptRouter} (r : Result X E)
-    → IsErr r → new.settled ≡ old.settled → Does f old new r
-refused r is stays = record { settled = stays; makes = on_err r _ is }
+    → IsErr r → new.committed ≡ old.committed → Does f old new r
+refused r is stays = record { committed = stays; makes = on_err r _ is }
 
 -- the call comes after a part
 pub then_does : {X E : Type 0} {f g : EventState → EventState} {old middle new : KeptRouter}
     (r : Result X E) → Makes f old middle → Does g middle new r → Does (λ p. g (f p)) old new r
 then_does r a b = record {
-  settled = b.settled ∙ a.settled;
+  committed = b.committed ∙ a.committed;
   makes = on_ok r (λ m. makes_then a m) b.makes;
 }
 
@@ -92,7 +92,7 @@ pub does_same : {X E : Type 0} {f g : EventState → EventState} {old new : Kept
     (r : Result X E) → ((p : EventState) → p.router ≡ old.present → f p ≡ g p) → Does f old new r
     → Does g old new r
 does_same r agree a = record {
-  settled = a.settled;
+  committed = a.committed;
   makes = on_ok r (λ m. makes_same agree m) a.makes;
 }
 
@@ -100,7 +100,7 @@ pub does_if_true : {X E : Type 0} (f g : EventState → EventState) {old new : K
     (r : Result X E) (test : Router → Bool) → test old.present ≡ true → Does f old new r
     → Does (λ p. cond (test p.router) (f p) (g p)) old new r
 does_if_true f g {old} {new} r test holds a = record {
-  settled = a.settled;
+  committed = a.committed;
   makes = on_ok r (λ m. makes_if_true f g test holds m) a.makes;
 }
 
@@ -108,7 +108,7 @@ pub does_if_false : {X E : Type 0} (f g : EventState → EventState) {old new : 
     (r : Result X E) (test : Router → Bool) → test old.present ≡ false → Does g old new r
     → Does (λ p. cond (test p.router) (f p) (g p)) old new r
 does_if_false f g {old} {new} r test fails a = record {
-  settled = a.settled;
+  committed = a.committed;
   makes = on_ok r (λ m. makes_if_false f g test fails m) a.makes;
 }
 
@@ -116,10 +116,10 @@ does_if_false f g {old} {new} r test fails a = record {
 
 pub makes_on_router : (f : Router → Router) (old new : KeptRouter)
     → interfaces_of (f old.present).area.links ≡ interfaces_of old.present.area.links
-    → new.settled ≡ old.settled → new.present ≡ f old.present → new.drafted ≡ old.drafted
+    → new.committed ≡ old.committed → new.present ≡ f old.present → new.drafted ≡ old.drafted
     → Makes (on_router f) old new
-makes_on_router f old new stays settled is drafted = record {
-  settled = settled;
+makes_on_router f old new stays committed is drafted = record {
+  committed = committed;
   interfaces = ap (λ (r : Router). interfaces_of r.area.links) is ∙ stays;
   part = λ p first made. record {
     router = is ∙ ap f made.router;
@@ -160,13 +160,13 @@ module _ (F : Outcome → Outcome) (appends : Appends F) (keeps : KeepsInterface
       let o : Outcome = record { area = p.router.area; sends = p.sends } in
       ap (λ (q : Outcome). record p.router { area = q.area }) (sym (appends o))
 
-  pub makes_on_area : (old new : KeptRouter) → new.settled ≡ old.settled
+  pub makes_on_area : (old new : KeptRouter) → new.committed ≡ old.committed
       → new.present ≡ record old.present { area = (F (start old.present.area)).area }
       → new.drafted ≡ drafts_with (F (start old.present.area)).sends old.present.area.links
       old.drafted
       → Makes (on_area F) old new
-  makes_on_area old new settled is drafts = record {
-    settled = settled;
+  makes_on_area old new committed is drafts = record {
+    committed = committed;
     interfaces = ap (λ (r : Router). interfaces_of r.area.links) is ∙ keeps old.present.area;
     part = λ p first made. record {
       router = is ∙ ap (λ (r : Router). record r {

@@ -2,7 +2,7 @@
 --
 -- A call errors only if an allocation is refused, and may have done a part of its work then: the
 -- caller rolls the router back, which drops what was drafted, too. Whatever it answers, what was
--- settled stays the same.
+-- committed stays the same.
 use Rattle.std.specs.Prelude.{◌≡◌, List, OnOk, Result}
 use Rattle.flooding.specs.adjacency.Drafts.{Drafted}
 use Rattle.flooding.specs.Drafted.{drafts_with}
@@ -18,7 +18,7 @@ pub record IsMaking (p : EventState) (first : List Drafted) (r : KeptRouter) : T
 
 -- the function f, as a part of any event, leads from the old router to the new one
 pub record Makes (f : EventState → EventState) (old new : KeptRouter) : Type 0 where
-  pub settled : new.settled ≡ old.settled
+  pub committed : new.committed ≡ old.committed
   pub interfaces : interfaces_of new.present.area.links ≡ interfaces_of old.present.area.links
   pub part : (p : EventState) (first : List Drafted) → IsMaking p first old
       → IsMaking (f p) first new
@@ -26,5 +26,5 @@ pub record Makes (f : EventState → EventState) (old new : KeptRouter) : Type 0
 -- a call that may be refused an allocation does this part of an event
 pub record Does {X E : Type 0} (f : EventState → EventState) (old new : KeptRouter)
     (result : Result X E) : Type 0 where
-  pub settled : new.settled ≡ old.settled
+  pub committed : new.committed ≡ old.committed
   pub makes : OnOk result (Makes f old new)

@@ -3,34 +3,34 @@ ghost use Rattle.std.specs.Prelude.{◌≡◌, IfOk};
 ghost use Rattle.flooding.specs.Drafted.{nothing_at};
 
 use crate::router::Router;
-use flooding::Saved;
+use flooding::Revertible;
 use std::alloc::{AllocError, Global};
 use words::{Route, Second, Sequence};
 
 fn copy_answers(
-    saved: &Saved<Sequence<(Route, u64)>>,
-) -> Result<Saved<Sequence<(Route, u64)>>, AllocError>
+    answers: &Revertible<Sequence<(Route, u64)>>,
+) -> Result<Revertible<Sequence<(Route, u64)>>, AllocError>
     ensures { IfOk result (λ made. made
-        ≡ record { present = saved.now.present; settled = saved.now.present }) }
+        ≡ record { present = answers.now.present; committed = answers.now.present }) }
 {
-    let again = saved.get().copy()?;
-    Ok(Saved::new(again))
+    let again = answers.get().copy()?;
+    Ok(Revertible::new(again))
 }
 
-fn copy_moment(saved: &Saved<Second>) -> Saved<Second>
-    ensures { result ≡ record { present = saved.now.present; settled = saved.now.present } }
+fn copy_moment(moment: &Revertible<Second>) -> Revertible<Second>
+    ensures { result ≡ record { present = moment.now.present; committed = moment.now.present } }
 {
-    Saved::new(*saved.get())
+    Revertible::new(*moment.get())
 }
 
 impl Router {
-    /// A copy of the router, settled, with nothing drafted.
+    /// A copy of the router, committed, with nothing drafted.
     ///
     /// Errors with `AllocError` if an allocation is refused.
     pub fn copy(&self, alloc: Global) -> Result<Self, AllocError>
         ensures { IfOk result (λ made. made ≡ record {
           present = self.now.present;
-          settled = self.now.present;
+          committed = self.now.present;
           drafted = nothing_at self.now.present.area.links;
         }) }
     {

@@ -34,7 +34,7 @@ impl KeyTest<Second> for IsOver {
 fn remove_each(keys: &[Key], moments: &mut KeyedMap<Second>) -> Result<(), AllocError>
     ensures ok { OnOk result (moments.new.present
         ≡ fold finite.remove moments.old.present keys.now) }
-    ensures settled { moments.new.settled ≡ moments.old.settled }
+    ensures committed { moments.new.committed ≡ moments.old.committed }
 {
     for i in 0..keys.len() {
         moments.remove(&keys[i])?;

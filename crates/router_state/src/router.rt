@@ -4,17 +4,17 @@ ghost use Rattle.std.specs.FinMap as finite;
 ghost use Rattle.event_rules.specs.Commands.{after_install};
 ghost use Rattle.event_rules.specs.Routers.{with_links};
 ghost use Rattle.flooding.specs.Drafted.{nothing_at};
-ghost use Rattle.flooding.specs.Links.{draft_of, present, settled_link};
+ghost use Rattle.flooding.specs.Links.{committed_link, draft_of, present};
 ghost use Rattle.router_state.specs.Making.{Makes};
 ghost use Rattle.router_state.specs.Owned.{AreOwn};
 
-use flooding::{Area, Draft, Link, Saved};
+use flooding::{Area, Draft, Link, Revertible};
 use keyed_map::KeyedMap;
 use std::alloc::{AllocError, Global};
 use std::marker::Model;
 use words::{External, Key, Route, RouterId, Second, Sequence};
 
-/// A router between and within events, its state when it was last settled, and what was drafted
+/// A router between and within events, its state when it was last committed, and what was drafted
 /// since.
 #[derive(Drop)]
 pub struct Router {
@@ -27,8 +27,8 @@ pub struct Router {
     // when each self-originated LSA was last originated, kept for MinLSInterval
     pub(crate) originated: KeyedMap<Second>,
     // the routes that the last `Install` offered, with the programs' answers
-    pub(crate) answers: Saved<Sequence<(Route, u64)>>,
-    pub(crate) moment: Saved<Second>,
+    pub(crate) answers: Revertible<Sequence<(Route, u64)>>,
+    pub(crate) moment: Revertible<Second>,
 }
 
 impl Model for Router {
@@ -65,23 +65,23 @@ impl Model for Router {
         answers = a.answers.present;
         moment = a.moment.present;
       };
-      settled = record {
+      committed = record {
         id = a.id;
-        area = a.area.settled;
-        announced = a.announced.settled;
-        waiting = keys_of a.waiting.settled;
-        originated = a.originated.settled;
-        answers = a.answers.settled;
-        moment = a.moment.settled;
+        area = a.area.committed;
+        announced = a.announced.committed;
+        waiting = keys_of a.waiting.committed;
+        originated = a.originated.committed;
+        answers = a.answers.committed;
+        moment = a.moment.committed;
       };
       drafted = a.area.drafted;
     } };
 
     ghost invariant = { λ a.
         (a.area.router ≡ a.id)
-        × (length a.area.settled.links ≤ 63)
+        × (length a.area.committed.links ≤ 63)
         × AreOwn a.id a.announced.present
-        × AreOwn a.id a.announced.settled };
+        × AreOwn a.id a.announced.committed };
 }
 
 impl Router {
@@ -90,7 +90,8 @@ impl Router {
     pub fn new(alloc: Global, id: RouterId, links: Vec<Link>, moment: Second) -> Self
         requires few { length links.items ≤ 63 }
         ensures present { result.present ≡ with_links id (map present links.items) moment }
-        ensures settled { result.settled ≡ with_links id (map settled_link links.items) moment }
+        ensures committed { result.committed
+            ≡ with_links id (map committed_link links.items) moment }
         ensures drafted { result.drafted ≡ map draft_of links.items }
     {
         Router {
@@ -99,8 +100,8 @@ impl Router {
             announced: KeyedMap::new(alloc),
             waiting: KeyedMap::new(alloc),
             originated: KeyedMap::new(alloc),
-            answers: Saved::new(Sequence::from_vec(Vec::new(alloc))),
-            moment: Saved::new(moment),
+            answers: Revertible::new(Sequence::from_vec(Vec::new(alloc))),
+            moment: Revertible::new(moment),
         }
     }
 
@@ -116,7 +117,7 @@ impl Router {
         ensures parts { result.now ≡ record {
           router = self.now.present.id;
           present = self.now.present.area;
-          settled = self.now.settled.area;
+          committed = self.now.committed.area;
           drafted = self.now.drafted;
         } }
         ensures few { length self.now.present.area.links ≤ 63 }
@@ -130,7 +131,7 @@ impl Router {
     pub fn announced(&self) -> &KeyedMap<External>
         ensures parts { result.now ≡ record {
           present = self.now.present.announced;
-          settled = self.now.settled.announced;
+          committed = self.now.committed.announced;
         } }
         ensures own { AreOwn self.now.present.id self.now.present.announced }
     {
@@ -170,47 +171,47 @@ impl Router {
     }
 
     /// Makes the changes so far final, and drops what was drafted. It doesn't allocate.
-    pub fn settle(&mut self)
+    pub fn commit(&mut self)
         ensures { self.new ≡ record self.old {
-          settled = self.old.present;
+          committed = self.old.present;
           drafted = nothing_at self.old.present.area.links;
         } }
     {
         // For the prover alone, by what the call ensures.
         let _links = self.area.links();
-        self.area.settle();
-        self.announced.settle();
-        self.waiting.settle();
-        self.originated.settle();
-        self.answers.settle();
-        self.moment.settle();
+        self.area.commit();
+        self.announced.commit();
+        self.waiting.commit();
+        self.originated.commit();
+        self.answers.commit();
+        self.moment.commit();
     }
 
-    /// Like `settle`, and the database scans its copies if one may have reached MaxAge by this
+    /// Like `commit`, and the database scans its copies if one may have reached MaxAge by this
     /// moment, so that the next event needn't. If an allocation for that is refused, it tries again
     /// the next time.
-    pub fn settle_at(&mut self, alloc: Global, moment: Second)
+    pub fn commit_at(&mut self, alloc: Global, moment: Second)
         ensures { self.new ≡ record self.old {
-          settled = self.old.present;
+          committed = self.old.present;
           drafted = nothing_at self.old.present.area.links;
         } }
     {
         // For the prover alone, by what the call ensures.
         let _links = self.area.links();
-        self.area.settle_at(alloc, moment);
-        self.announced.settle();
-        self.waiting.settle();
-        self.originated.settle();
-        self.answers.settle();
-        self.moment.settle();
+        self.area.commit_at(alloc, moment);
+        self.announced.commit();
+        self.waiting.commit();
+        self.originated.commit();
+        self.answers.commit();
+        self.moment.commit();
     }
 
-    /// Undoes all changes since the router was last settled, and drops what was drafted. It doesn't
-    /// allocate.
+    /// Undoes all changes since the router was last committed, and drops what was drafted. It
+    /// doesn't allocate.
     pub fn roll_back(&mut self)
         ensures { self.new ≡ record self.old {
-          present = self.old.settled;
-          drafted = nothing_at self.old.settled.area.links;
+          present = self.old.committed;
+          drafted = nothing_at self.old.committed.area.links;
         } }
     {
         self.area.roll_back();
@@ -229,7 +230,7 @@ impl Router {
         ensures rest { OnOk result (self.new ≡ record self.old {
           drafted = nothing_at self.old.present.area.links;
         }) }
-        ensures settled { self.new.settled ≡ self.old.settled }
+        ensures committed { self.new.committed ≡ self.old.committed }
     {
         self.area.take_drafts(alloc)
     }

@@ -126,7 +126,7 @@ fn install(alloc: Global, db: &mut Lsdb, texts: &[&[u8]]) -> Result<(), Fail> {
             read(alloc, text)?,
             Some(Second::new(1000)),
         )?;
-        db.settle();
+        db.commit();
     }
     Ok(())
 }
@@ -137,7 +137,7 @@ fn is_followed(alloc: Global, db: &mut Lsdb, root: &Root, lsa: Lsa) -> Result<bo
     requires size { finite.len db.old.present ≤ 16384 }
 {
     let (before, now) = (Second::new(1000), Second::new(1001));
-    db.settle();
+    db.commit();
     let graph = AreaGraph::new(alloc, db, root, before)?;
     db.install(now, lsa, Some(now))?;
     let next = follow_graph(alloc, db, graph, before, now)?;

@@ -17,9 +17,9 @@ fn a_key_behind_the_last_one_is_beyond(rt: HostRuntime) -> Result<(), Fail> {
     let mut map = KeyedMap::new(rt.alloc());
     map.insert(key(3), 30_u32)?;
     assert!(rt; map.is_beyond(&key(4)), "the last one is 3");
-    map.settle();
+    map.commit();
     map.remove(&key(3))?;
-    map.settle();
+    map.commit();
     assert!(rt; map.is_beyond(&key(0)), "none is left");
     Ok(())
 }

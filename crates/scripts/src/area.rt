@@ -109,12 +109,12 @@ impl ScriptArea {
         }
     }
 
-    // The LSA of these bytes comes in, and the database is settled; whether it could be read.
+    // The LSA of these bytes comes in, and the database is committed; whether it could be read.
     fn takes_lsa(&mut self, moment: Second, bytes: &[u8]) -> Result<bool, AllocError> {
         match lsa::read(self.alloc, bytes) {
             Ok(lsa) => {
                 self.database.install(moment, lsa, Some(moment))?;
-                self.database.settle();
+                self.database.commit();
                 Ok(true)
             }
             Err(lsa::LsaError::Memory) => Err(AllocError),

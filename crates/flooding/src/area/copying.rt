@@ -1,7 +1,7 @@
 //! Copies of links and database.
 ghost use Rattle.std.specs.Prelude.{◌≡◌, IfOk, map};
 ghost use Rattle.flooding.specs.Drafted.{nothing_at};
-ghost use Rattle.flooding.specs.Links.{draft_of, present, settled_link};
+ghost use Rattle.flooding.specs.Links.{committed_link, draft_of, present};
 
 use super::Area;
 use crate::link::Link;
@@ -9,7 +9,8 @@ use std::alloc::{AllocError, Global};
 
 fn copy_links(alloc: Global, links: &[Link]) -> Result<Vec<Link>, AllocError>
     ensures present { IfOk result (λ made. map present made.items ≡ map present links.now) }
-    ensures settled { IfOk result (λ made. map settled_link made.items ≡ map present links.now) }
+    ensures committed { IfOk result (λ made. map committed_link made.items
+        ≡ map present links.now) }
     ensures drafts { IfOk result (λ made. map draft_of made.items
         ≡ nothing_at (map present links.now)) }
 {
@@ -21,12 +22,12 @@ fn copy_links(alloc: Global, links: &[Link]) -> Result<Vec<Link>, AllocError>
 }
 
 impl Area {
-    /// A copy of the links and the database, settled, with nothing drafted.
+    /// A copy of the links and the database, committed, with nothing drafted.
     ///
     /// Errors with `AllocError` if an allocation is refused.
     pub fn copy(&self, alloc: Global) -> Result<Self, AllocError>
         ensures { IfOk result (λ made. made ≡ record self.now {
-          settled = self.now.present;
+          committed = self.now.present;
           drafted = nothing_at self.now.present.links;
         }) }
     {

@@ -1,4 +1,4 @@
-//! Which copies say something else than when the database was last settled, and what they said
+//! Which copies say something else than when the database was last committed, and what they said
 //! then.
 ghost use Rattle.std.specs.Prelude.{◌≡◌, IfOk, option_copied};
 ghost use Rattle.std.specs.FinMap as finite;
@@ -14,7 +14,7 @@ use words::{Key, Second};
 
 impl Lsdb {
     /// The keys whose copies don't say at the moment what the copies of these keys said when the
-    /// database was last settled, as `keeps` compares them (RFC 2328, section 13.2). A key may be
+    /// database was last committed, as `keeps` compares them (RFC 2328, section 13.2). A key may be
     /// there twice. It visits the edits since then.
     ///
     /// # Errors
@@ -22,11 +22,11 @@ impl Lsdb {
     /// refused.
     pub fn changed_keys(&self, alloc: Global, moment: Second) -> Result<Vec<Key>, AllocError>
         ensures changed { IfOk result (λ keys. (key : KeyValue) → Contains keys.items key
-            → SaysTheSame moment (finite.get self.now.settled key) (finite.get self.now.present key)
-            → ⊥) }
+            → SaysTheSame moment (finite.get self.now.committed key)
+            (finite.get self.now.present key) → ⊥) }
         ensures others { IfOk result (λ keys. (key : KeyValue) → (Contains keys.items key → ⊥)
             → SaysTheSame moment
-            (finite.get self.now.settled key) (finite.get self.now.present key)) }
+            (finite.get self.now.committed key) (finite.get self.now.present key)) }
     {
         let test = SameUpTo {
             last_type: None,
@@ -35,12 +35,12 @@ impl Lsdb {
         self.copies.changed_keys(alloc, &test)
     }
 
-    /// The body that the copy of this key had when the database was last settled, if there was one
-    /// below MaxAge at the moment. It visits the edits since then.
-    pub fn settled_body_at(&self, moment: Second, key: &Key) -> Option<&LsaBody>
-        ensures { option_copied result ≡ said_by moment (finite.get self.now.settled key.now) }
+    /// The body that the copy of this key had when the database was last committed, if there was
+    /// one below MaxAge at the moment. It visits the edits since then.
+    pub fn committed_body_at(&self, moment: Second, key: &Key) -> Option<&LsaBody>
+        ensures { option_copied result ≡ said_by moment (finite.get self.now.committed key.now) }
     {
-        match self.copies.settled_get(key) {
+        match self.copies.committed_get(key) {
             None => None,
             Some(copy) => copy.body_at(moment),
         }

@@ -1,4 +1,4 @@
-//! Comparison of the database with its settled state, except for keys that don't count.
+//! Comparison of the database with its committed state, except for keys that don't count.
 ghost use Rattle.std.specs.Prelude.{◌≡◌, ◌↔◌, IfOk, IsTrue, false, slice_get, take, true};
 ghost use Rattle.std.specs.FinMap as finite;
 ghost use Rattle.keyed_map.specs.Slots.{keys_from};
@@ -68,9 +68,9 @@ impl<'a, T: KeyRule> ChangeTest<StoredLsa> for OthersSayNoMore<'a, T> {
 
 impl Lsdb {
     /// Whether each copy whose key counts says at the moment what the copy of its key said when the
-    /// database was last settled, as `keeps` compares them (RFC 2328, section 13.2). A key that had
-    /// no copy then, or one that had MaxAge at the moment `before`, may have none now, or one at
-    /// MaxAge. It visits the edits since then.
+    /// database was last committed, as `keeps` compares them (RFC 2328, section 13.2). A key that
+    /// had no copy then, or one that had MaxAge at the moment `before`, may have none now, or one
+    /// at MaxAge. It visits the edits since then.
     ///
     /// # Errors
     /// `AllocError` if an allocation for the rule, or for the bytes of LSAs, which are compared, is
@@ -84,10 +84,10 @@ impl Lsdb {
     ) -> Result<bool, AllocError>
         ensures same { IfOk result (λ keeps. IsTrue keeps → (key : KeyValue)
             → (T.leaves_out rule.now key → ⊥) → SaysNoMore before moment
-            (finite.get self.now.settled key) (finite.get self.now.present key)) }
+            (finite.get self.now.committed key) (finite.get self.now.present key)) }
         ensures kept { IfOk result (λ keeps. ((key : KeyValue)
             → (T.leaves_out rule.now key → ⊥) → SaysTheSame moment
-            (finite.get self.now.settled key) (finite.get self.now.present key))
+            (finite.get self.now.committed key) (finite.get self.now.present key))
             → IsTrue keeps) }
     {
         let test = OthersSayNoMore {

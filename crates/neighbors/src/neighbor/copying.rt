@@ -3,7 +3,7 @@ ghost use Rattle.std.specs.Prelude.{◌≡◌, IfOk};
 
 use super::Neighbor;
 use super::descriptions::copy as copy_description;
-use adjacency::Saved;
+use adjacency::Revertible;
 use packet::Description;
 use std::alloc::{AllocError, Global};
 
@@ -20,12 +20,12 @@ fn copy_described(kept: &Option<Description>) -> Result<Option<Description>, All
 }
 
 impl Neighbor {
-    /// A copy of the neighbor, settled.
+    /// A copy of the neighbor, committed.
     ///
     /// Errors with `AllocError` if an allocation is refused.
     pub fn copy(&self, alloc: Global) -> Result<Self, AllocError>
         ensures present { IfOk result (λ made. made.present ≡ self.now.present) }
-        ensures settled { IfOk result (λ made. made.settled ≡ self.now.present) }
+        ensures committed { IfOk result (λ made. made.committed ≡ self.now.present) }
     {
         let described = copy_described(self.described.get())?;
         let summary = self.summary.copied(alloc)?;
@@ -35,7 +35,7 @@ impl Neighbor {
         Ok(Neighbor {
             standing: self.standing.same(),
             before: self.standing.same(),
-            described: Saved::new(described),
+            described: Revertible::new(described),
             summary,
             requests,
             outstanding,

@@ -20,7 +20,7 @@ const MOST_KEYS_REQUESTED: usize = 680;
 fn put_keys(keys_set: &mut KeyedMap<()>, keys: &[Key]) -> Result<(), AllocError>
     requires { keys_set.old.present ≡ finite.empty }
     ensures ok { OnOk result (keys_of keys_set.new.present ≡ set.from_list keys.now) }
-    ensures settled { keys_set.new.settled ≡ keys_set.old.settled }
+    ensures committed { keys_set.new.committed ≡ keys_set.old.committed }
 {
     for key in keys {
         keys_set.insert(*key, ())?;

@@ -15,7 +15,7 @@ use Rattle.area_routes.proofs.following.follow_from.Goals as goal
 
 pub follow_externals-requires-clause-same : goal.follow_externals-requires-clause-same
 follow_externals-requires-clause-same c =
-    subst (λ (d : RouterDatabase). SayTheSame (Some 4) (said_at c.args.before d.settled)
+    subst (λ (d : RouterDatabase). SayTheSame (Some 4) (said_at c.args.before d.committed)
     (said_at c.args.moment d.present)) (sym c.database-db.ensures) c.requires.same
 
 pub follow_externals-requires-clause-inner : goal.follow_externals-requires-clause-inner
@@ -33,8 +33,8 @@ follow_externals-requires-clause-inner c =
 
 pub follow_externals-requires-clause-routes : goal.follow_externals-requires-clause-routes
 follow_externals-requires-clause-routes c =
-    let said = said_at c.args.before c.args.area.now.settled.database in
-    subst (λ (d : RouterDatabase). AreCandidates (said_at c.args.before d.settled)
+    let said = said_at c.args.before c.args.area.now.committed.database in
+    subst (λ (d : RouterDatabase). AreCandidates (said_at c.args.before d.committed)
     c.root-root.result.now c.args.routes.items) (sym c.database-db.ensures)
     (subst (λ (r : Root). AreCandidates said r c.args.routes.items) (sym c.root-root.ensures)
     c.requires.routes)
@@ -65,7 +65,7 @@ pub returns-in-NoneNew-clause-none_new : goal.returns-in-NoneNew-clause-none_new
 returns-in-NoneNew-clause-none_new c on =
     let items = c.follow_externals.new.routes.items in
     let here = c.database-db.result.now in
-    let old = said_at c.args.before c.args.area.now.settled.database in
+    let old = said_at c.args.before c.args.area.now.committed.database in
     let new = said_at c.args.moment c.args.area.now.present.database in
     let done = subst (λ (f : Followed). HaveFollowed (said_at c.args.moment here.present)
     c.root-root.result.now c.args.routes.items items f) c.in-NoneNew.is c.in-Ok.ensures in

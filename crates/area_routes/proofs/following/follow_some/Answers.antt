@@ -9,7 +9,7 @@ use Rattle.area_routes.proofs.following.follow_some.Goals as goal
 pub follow_from-requires-clause-routes : goal.follow_from-requires-clause-routes
 follow_from-requires-clause-routes c =
     subst (λ (o : Option (Vec Route Global)). IfSome o
-    (λ routes. AreCandidates (said_at c.args.before c.args.area.now.settled.database)
+    (λ routes. AreCandidates (said_at c.args.before c.args.area.now.committed.database)
     c.args.walk.now.root routes.items))
     c.in-Some.is c.requires.routes
 

@@ -10,7 +10,7 @@ use Rattle.area_routes.proofs.graph_changes.places_to_renew.Goals.{else-key-le-N
 
 pub loop-key-preserved : goal.loop-key-preserved
 loop-key-preserved c =
-    let old = said_at c.args.before c.args.at.now.db.now.settled in
+    let old = said_at c.args.before c.args.at.now.db.now.committed in
     let new = said_at c.args.at.now.moment c.args.at.now.db.now.present in
     let nodes = c.args.at.now.nodes.now in
     let keys = c.args.keys.now in
@@ -32,7 +32,7 @@ loop-key-preserved c =
 
 pub returns : goal.returns
 returns c =
-    let old = said_at c.args.before c.args.at.now.db.now.settled in
+    let old = said_at c.args.before c.args.at.now.db.now.committed in
     let new = said_at c.args.at.now.moment c.args.at.now.db.now.present in
     front_all (λ (k : Key). k.ls_type ≤ 2
     → IsCovered old new c.args.at.now.nodes.now c.loop-key.places.items k) c.args.keys.now

@@ -8,5 +8,5 @@ use Rattle.area_routes.proofs.graph_changes.places_to_renew.Given as goal
 abbrev pub invariant-loop-key : goal.invariant-loop-key
 invariant-loop-key l =
     OfFront (λ (key : Key). key.ls_type ≤ 2
-    → IsCovered (said_at l.before l.at.db.now.settled) (said_at l.at.moment l.at.db.now.present)
+    → IsCovered (said_at l.before l.at.db.now.committed) (said_at l.at.moment l.at.db.now.present)
     l.at.nodes.now l.places.items key) l.keys l.key-index

@@ -12,7 +12,7 @@ use Rattle.area_routes.proofs.graph_updates.follow_graph.Goals as goal
 
 pub returns-then-branch-clause-graph : goal.returns-then-branch-clause-graph
 returns-then-branch-clause-graph c =
-    let old : Said = said_at c.args.before c.args.db.now.settled in
+    let old : Said = said_at c.args.before c.args.db.now.committed in
     let new : Said = said_at c.args.moment c.args.db.now.present in
     let graph = c.args.graph in
     let same : SayTheSame (Some 2) old new = c.in_ok-say_the_same.ensures.same c.if-branch.true in
@@ -26,7 +26,7 @@ returns-then-branch-clause-graph c =
 
 pub renewed-requires-clause-nodes : goal.renewed-requires-clause-nodes
 renewed-requires-clause-nodes c =
-    let old : Said = said_at c.args.before c.args.db.now.settled in
+    let old : Said = said_at c.args.before c.args.db.now.committed in
     let new : Said = said_at c.args.moment c.args.db.now.present in
     let nodes = c.args.graph.nodes.items in
     let places = c.in-Some.places.items in
@@ -45,7 +45,7 @@ renewed-requires-clause-nodes c =
 
 pub renewed-requires-clause-others : goal.renewed-requires-clause-others
 renewed-requires-clause-others c =
-    let old : Said = said_at c.args.before c.args.db.now.settled in
+    let old : Said = said_at c.args.before c.args.db.now.committed in
     let new : Said = said_at c.args.moment c.args.db.now.present in
     let root = c.args.graph.root in
     let nodes = c.args.graph.nodes.items in

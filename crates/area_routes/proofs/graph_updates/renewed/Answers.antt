@@ -10,7 +10,7 @@ use Rattle.area_routes.proofs.graph_updates.renewed.Goals as goal
 
 pub loop-place-preserved : goal.loop-place-preserved
 loop-place-preserved c =
-    let old : Said = said_at c.args.before c.args.db.now.settled in
+    let old : Said = said_at c.args.before c.args.db.now.committed in
     let new : Said = said_at c.args.moment c.args.db.now.present in
     let root = c.args.graph.root in
     let nodes = c.args.graph.nodes.items in
@@ -30,7 +30,7 @@ loop-place-preserved c =
 
 pub returns-clause-graph : goal.returns-clause-graph
 returns-clause-graph c =
-    let old : Said = said_at c.args.before c.args.db.now.settled in
+    let old : Said = said_at c.args.before c.args.db.now.committed in
     let new : Said = said_at c.args.moment c.args.db.now.present in
     let root = c.args.graph.root in
     let nodes = c.args.graph.nodes.items in

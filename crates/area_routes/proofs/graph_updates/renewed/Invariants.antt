@@ -5,5 +5,5 @@ use Rattle.area_routes.proofs.graph_updates.renewed.Given as goal
 
 abbrev pub invariant-loop-place : goal.invariant-loop-place
 invariant-loop-place l =
-    AreEither (said_at l.fn.before l.fn.db.settled) (said_at l.fn.moment l.fn.db.present)
+    AreEither (said_at l.fn.before l.fn.db.committed) (said_at l.fn.moment l.fn.db.present)
     l.fn.graph.root l.fn.graph.nodes.items (take l.place-index l.places) l.vertices.items

@@ -6,7 +6,7 @@ use Rattle.area_routes.proofs.kept.externals_stay.Goals as goal
 
 pub returns-in-Ok : goal.returns-in-Ok
 returns-in-Ok c stay key is =
-    subst (λ (d : RouterDatabase). said_at c.args.before d.settled key
+    subst (λ (d : RouterDatabase). said_at c.args.before d.committed key
     ≡ said_at c.args.moment d.present key) c.database-db.ensures
     (c.in-Ok.ensures key (λ among. c.are_of_others.ensures.0 stay key
     (subst (λ ks. Contains ks key) (sym c.deref.ensures.value) among) is))

@@ -8,7 +8,7 @@ use Rattle.external_updates.proofs.changes.changed_keys.Goals as goal
 
 pub returns-then-count : goal.returns-then-count
 returns-then-count c key none =
-    let old = c.args.db.now.settled in
+    let old = c.args.db.now.committed in
     let new = c.args.db.now.present in
     let same : c.args.before ≡ c.args.moment = cc in
     says_same c.args.before c.args.moment c.requires (finite.get old key) (finite.get new key)
@@ -17,7 +17,7 @@ returns-then-count c key none =
 
 pub returns : goal.returns
 returns c key none =
-    let old = c.args.db.now.settled in
+    let old = c.args.db.now.committed in
     let new = c.args.db.now.present in
     let all = c.in_ok-extend_from_slice.ensures.items in
     let aged_are = c.deref.ensures.value ∙ c.in_ok-aged.ensures in

@@ -13,7 +13,7 @@ loop-key-init c key prefix among t = absurd (of_empty key among)
 
 pub loop-key-preserved : goal.loop-key-preserved
 loop-key-preserved c key prefix among t =
-    let old = said_at c.args.before c.args.db.now.settled in
+    let old = said_at c.args.before c.args.db.now.committed in
     let new = said_at c.args.moment c.args.db.now.present in
     let xs = c.args.keys.now in
     let i = c.loop-key.key-index in
@@ -27,7 +27,8 @@ loop-key-preserved c key prefix among t =
           let its = subst (λ k. TellsOf old new k prefix) (sym here) t in
           elim its.says [
             | inl was ↦ c.in_ok-note_network-2.ensures.kept prefix
-                (c.in_ok-note_network.ensures.noted its.lsa prefix (c.settled_body_at.ensures ∙ was)
+                (c.in_ok-note_network.ensures.noted its.lsa prefix
+                (c.committed_body_at.ensures ∙ was)
                 its.is_prefix)
             | inr is ↦ c.in_ok-note_network-2.ensures.noted its.lsa prefix (c.body_at.ensures ∙ is)
                 its.is_prefix
@@ -36,7 +37,7 @@ loop-key-preserved c key prefix among t =
 
 pub returns : goal.returns
 returns c =
-    subst (λ ks. AreAllTold (said_at c.args.before c.args.db.now.settled)
+    subst (λ ks. AreAllTold (said_at c.args.before c.args.db.now.committed)
     (said_at c.args.moment c.args.db.now.present) ks c.loop-key.prefixes.items)
     (take_all c.loop-key.key-index c.args.keys.now (omega (arith, c.loop-key-test.false)))
     c.loop-key.invariant

@@ -11,7 +11,7 @@ renew_all-requires-clause-ascend c = c.requires.routes.ascending
 
 pub returns-then-none_new : goal.returns-then-none_new
 returns-then-none_new c =
-    let old = said_at c.args.before c.args.db.now.settled in
+    let old = said_at c.args.before c.args.db.now.committed in
     let new = said_at c.args.moment c.args.db.now.present in
     let root = c.args.root.now in
     let keys = c.deref.result.now in
@@ -27,7 +27,7 @@ returns-then-none_new c =
 
 pub returns : goal.returns
 returns c =
-    let old = said_at c.args.before c.args.db.now.settled in
+    let old = said_at c.args.before c.args.db.now.committed in
     let new = said_at c.args.moment c.args.db.now.present in
     let root = c.args.root.now in
     let keys = c.deref.result.now in

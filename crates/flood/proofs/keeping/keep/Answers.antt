@@ -6,9 +6,9 @@ use Rattle.flood.proofs.keeping.keep.Goals as goal
 
 pub follow-requires-clause-routes : goal.follow-requires-clause-routes
 follow-requires-clause-routes c =
-    subst (λ (a : RouterArea). AreRoutesOf c.id-own.result a.settled c.args.before
+    subst (λ (a : RouterArea). AreRoutesOf c.id-own.result a.committed c.args.before
     c.args.routes.now) (sym c.area-area.ensures.parts)
-    (subst (λ x. AreRoutesOf x c.args.router.now.settled.area c.args.before c.args.routes.now)
+    (subst (λ x. AreRoutesOf x c.args.router.now.committed.area c.args.before c.args.routes.now)
     (sym c.id-own.ensures) c.requires.kept.routes)
 
 pub take_answers-requires : goal.take_answers-requires
@@ -26,12 +26,12 @@ returns-else-brings_answers-clause-kept c =
     let r = c.args.router.now.present in
     let area = c.area-area.result.now.present in
     let knew =
-    subst (λ (a : RouterArea). AreKept c.id-own.result a.settled c.args.before
-    c.args.router.now.settled.answers c.args.routes.now) (sym c.area-area.ensures.parts)
-    (subst (λ x. AreKept x c.args.router.now.settled.area c.args.before
-    c.args.router.now.settled.answers c.args.routes.now) (sym c.id-own.ensures) c.requires.kept)
+    subst (λ (a : RouterArea). AreKept c.id-own.result a.committed c.args.before
+    c.args.router.now.committed.answers c.args.routes.now) (sym c.area-area.ensures.parts)
+    (subst (λ x. AreKept x c.args.router.now.committed.area c.args.before
+    c.args.router.now.committed.answers c.args.routes.now) (sym c.id-own.ensures) c.requires.kept)
     in
-    let knows = c.in_ok-follow.ensures.answered c.args.router.now.settled.answers knew in
+    let knows = c.in_ok-follow.ensures.answered c.args.router.now.committed.answers knew in
     are_kept r c.id-own.result area c.moment-moment.result r.answers c.follow.new.self
     c.id-own.ensures (ap (λ (a : RouterArea). a.present) c.area-area.ensures.parts)
     c.moment-moment.ensures refl
@@ -41,10 +41,10 @@ returns-else-brings_answers-clause-kept c =
 pub returns-then-brings_answers-clause-walks : goal.returns-then-brings_answers-clause-walks
 returns-then-brings_answers-clause-walks c =
     let area = c.area-area.result.now in
-    walks_then c.args.before c.args.router.now.present c.args.router.now.settled.area
-    c.id-own.result c.moment-moment.result area.settled area.present
+    walks_then c.args.before c.args.router.now.present c.args.router.now.committed.area
+    c.id-own.result c.moment-moment.result area.committed area.present
     c.args.routes.now c.follow.new.self c.take_answers.new.self
-    c.id-own.ensures (ap (λ (a : RouterArea). a.settled) c.area-area.ensures.parts)
+    c.id-own.ensures (ap (λ (a : RouterArea). a.committed) c.area-area.ensures.parts)
     (ap (λ (a : RouterArea). a.present) c.area-area.ensures.parts)
     c.moment-moment.ensures c.take_answers.ensures.walk c.take_answers.ensures.behind
     c.in_ok-follow.ensures.walks
@@ -52,9 +52,9 @@ returns-then-brings_answers-clause-walks c =
 pub returns-else-brings_answers-clause-walks : goal.returns-else-brings_answers-clause-walks
 returns-else-brings_answers-clause-walks c =
     let area = c.area-area.result.now in
-    walks_then c.args.before c.args.router.now.present c.args.router.now.settled.area
-    c.id-own.result c.moment-moment.result area.settled area.present
+    walks_then c.args.before c.args.router.now.present c.args.router.now.committed.area
+    c.id-own.result c.moment-moment.result area.committed area.present
     c.args.routes.now c.follow.new.self c.follow.new.self
-    c.id-own.ensures (ap (λ (a : RouterArea). a.settled) c.area-area.ensures.parts)
+    c.id-own.ensures (ap (λ (a : RouterArea). a.committed) c.area-area.ensures.parts)
     (ap (λ (a : RouterArea). a.present) c.area-area.ensures.parts)
     c.moment-moment.ensures refl refl c.in_ok-follow.ensures.walks

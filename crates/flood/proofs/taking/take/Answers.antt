@@ -26,15 +26,15 @@ make_part-requires c = record {
 
 pub end_event-requires-clause-before : goal.end_event-requires-clause-before
 end_event-requires-clause-before c =
-    let kept = c.in_ok-make_part.ensures.settled ∙ c.in_ok-age.ensures.settled
-    ∙ c.requires.settled in
+    let kept = c.in_ok-make_part.ensures.committed ∙ c.in_ok-age.ensures.committed
+    ∙ c.requires.committed in
     c.deref.ensures.value ∙ c.in_ok-full.ensures
     ∙ ap (λ (r : Router). full_routers r.area.links) (sym kept)
 
 pub end_event-requires-clause-interfaces : goal.end_event-requires-clause-interfaces
 end_event-requires-clause-interfaces c =
-    let kept = c.in_ok-make_part.ensures.settled ∙ c.in_ok-age.ensures.settled
-    ∙ c.requires.settled in
+    let kept = c.in_ok-make_part.ensures.committed ∙ c.in_ok-age.ensures.committed
+    ∙ c.requires.committed in
     c.in_ok-make_part.ensures.makes.interfaces ∙ c.in_ok-age.ensures.makes.interfaces
     ∙ ap (λ (r : Router). interfaces_of r.area.links) (sym kept)
 
@@ -44,7 +44,7 @@ pack_and_update_routes-requires-clause-drafts c =
     let old = c.args.router.now in
     let event = occurrence_of c.args.event.now in
     let whole = made_whole old c.age.new.self c.make_part.new.router c.end_event.new.router
-    c.args.moment c.in_ok-part.part c.requires.settled c.in_ok-age.ensures.makes
+    c.args.moment c.in_ok-part.part c.requires.committed c.in_ok-age.ensures.makes
     c.in_ok-make_part.ensures.makes c.in_ok-end_event.ensures.makes in
     let new = c.take_drafts.new.self.present in
     let is = ap (λ (r : KeptRouter). r.present) c.in_ok-drafts.ensures.rest in
@@ -60,7 +60,7 @@ pack_and_update_routes-requires-clause-few c =
     let old = c.args.router.now in
     let event = occurrence_of c.args.event.now in
     let whole = made_whole old c.age.new.self c.make_part.new.router c.end_event.new.router
-    c.args.moment c.in_ok-part.part c.requires.settled c.in_ok-age.ensures.makes
+    c.args.moment c.in_ok-part.part c.requires.committed c.in_ok-age.ensures.makes
     c.in_ok-make_part.ensures.makes c.in_ok-end_event.ensures.makes in
     let new = c.take_drafts.new.self.present in
     let is = ap (λ (r : KeptRouter). r.present) c.in_ok-drafts.ensures.rest in
@@ -76,7 +76,7 @@ pack_and_update_routes-requires-clause-order c =
     let old = c.args.router.now in
     let event = occurrence_of c.args.event.now in
     let whole = made_whole old c.age.new.self c.make_part.new.router c.end_event.new.router
-    c.args.moment c.in_ok-part.part c.requires.settled c.in_ok-age.ensures.makes
+    c.args.moment c.in_ok-part.part c.requires.committed c.in_ok-age.ensures.makes
     c.in_ok-make_part.ensures.makes c.in_ok-end_event.ensures.makes in
     let new = c.take_drafts.new.self.present in
     let is = ap (λ (r : KeptRouter). r.present) c.in_ok-drafts.ensures.rest in
@@ -96,21 +96,21 @@ pack_and_update_routes-requires-clause-kept c =
     let old = c.args.router.now in
     let event = occurrence_of c.args.event.now in
     let whole = made_whole old c.age.new.self c.make_part.new.router c.end_event.new.router
-    c.args.moment c.in_ok-part.part c.requires.settled c.in_ok-age.ensures.makes
+    c.args.moment c.in_ok-part.part c.requires.committed c.in_ok-age.ensures.makes
     c.in_ok-make_part.ensures.makes c.in_ok-end_event.ensures.makes in
     let new = c.take_drafts.new.self.present in
     let is = ap (λ (r : KeptRouter). r.present) c.in_ok-drafts.ensures.rest in
     let at = made_router old c.end_event.new.router new c.in_ok-drafts.drafts.items c.args.moment
     c.in_ok-part.part whole c.requires.drafted is c.in_ok-drafts.ensures.drafts in
     let kept = c.args.routes.now in
-    let settled = c.in_ok-drafts.ensures.settled ∙ c.in_ok-end_event.ensures.settled
-    ∙ c.in_ok-make_part.ensures.settled ∙ c.in_ok-age.ensures.settled
-    ∙ c.requires.settled in
+    let committed = c.in_ok-drafts.ensures.committed ∙ c.in_ok-end_event.ensures.committed
+    ∙ c.in_ok-make_part.ensures.committed ∙ c.in_ok-age.ensures.committed
+    ∙ c.requires.committed in
     let same = ap (λ (r : Router). r.id) at
     ∙ made_id old.present c.args.moment event c.in_ok-part.part c.in_ok-part.ensures.part
     c.requires.order.own in
     subst (λ (s : Router). AreKept new.id s.area c.moment-before.result s.answers kept)
-    (sym settled)
+    (sym committed)
     (subst (λ m. AreKept new.id old.present.area m old.present.answers kept)
     (sym c.moment-before.ensures)
     (subst (λ x. AreKept x old.present.area old.present.moment old.present.answers kept) (sym same)
@@ -122,25 +122,25 @@ pack_and_update_routes-requires-clause-answers c none =
     let old = c.args.router.now in
     let event = occurrence_of c.args.event.now in
     let whole = made_whole old c.age.new.self c.make_part.new.router c.end_event.new.router
-    c.args.moment c.in_ok-part.part c.requires.settled c.in_ok-age.ensures.makes
+    c.args.moment c.in_ok-part.part c.requires.committed c.in_ok-age.ensures.makes
     c.in_ok-make_part.ensures.makes c.in_ok-end_event.ensures.makes in
     let new = c.take_drafts.new.self.present in
     let is = ap (λ (r : KeptRouter). r.present) c.in_ok-drafts.ensures.rest in
     let at = made_router old c.end_event.new.router new c.in_ok-drafts.drafts.items c.args.moment
     c.in_ok-part.part whole c.requires.drafted is c.in_ok-drafts.ensures.drafts in
-    let settled = c.in_ok-drafts.ensures.settled ∙ c.in_ok-end_event.ensures.settled
-    ∙ c.in_ok-make_part.ensures.settled ∙ c.in_ok-age.ensures.settled
-    ∙ c.requires.settled in
+    let committed = c.in_ok-drafts.ensures.committed ∙ c.in_ok-end_event.ensures.committed
+    ∙ c.in_ok-make_part.ensures.committed ∙ c.in_ok-age.ensures.committed
+    ∙ c.requires.committed in
     ap (λ (r : Router). r.answers) at
     ∙ made_answers old.present c.args.moment event c.in_ok-part.part c.in_ok-part.ensures.part none
-    ∙ sym (ap (λ (s : Router). s.answers) settled)
+    ∙ sym (ap (λ (s : Router). s.answers) committed)
 
 pub returns-clause-ok : goal.returns-clause-ok
 returns-clause-ok c =
     let old = c.args.router.now in
     let event = occurrence_of c.args.event.now in
     let whole = made_whole old c.age.new.self c.make_part.new.router c.end_event.new.router
-    c.args.moment c.in_ok-part.part c.requires.settled c.in_ok-age.ensures.makes
+    c.args.moment c.in_ok-part.part c.requires.committed c.in_ok-age.ensures.makes
     c.in_ok-make_part.ensures.makes c.in_ok-end_event.ensures.makes in
     let new = c.take_drafts.new.self.present in
     let is = ap (λ (r : KeptRouter). r.present) c.in_ok-drafts.ensures.rest in
@@ -162,7 +162,7 @@ returns-clause-keeps c =
     let old = c.args.router.now in
     let event = occurrence_of c.args.event.now in
     let whole = made_whole old c.age.new.self c.make_part.new.router c.end_event.new.router
-    c.args.moment c.in_ok-part.part c.requires.settled c.in_ok-age.ensures.makes
+    c.args.moment c.in_ok-part.part c.requires.committed c.in_ok-age.ensures.makes
     c.in_ok-make_part.ensures.makes c.in_ok-end_event.ensures.makes in
     let new = c.take_drafts.new.self.present in
     let is = ap (λ (r : KeptRouter). r.present) c.in_ok-drafts.ensures.rest in
@@ -188,7 +188,7 @@ returns-clause-order c =
     let old = c.args.router.now in
     let event = occurrence_of c.args.event.now in
     let whole = made_whole old c.age.new.self c.make_part.new.router c.end_event.new.router
-    c.args.moment c.in_ok-part.part c.requires.settled c.in_ok-age.ensures.makes
+    c.args.moment c.in_ok-part.part c.requires.committed c.in_ok-age.ensures.makes
     c.in_ok-make_part.ensures.makes c.in_ok-end_event.ensures.makes in
     let new = c.take_drafts.new.self.present in
     let is = ap (λ (r : KeptRouter). r.present) c.in_ok-drafts.ensures.rest in
@@ -211,7 +211,7 @@ returns-clause-holds c =
     let old = c.args.router.now in
     let event = occurrence_of c.args.event.now in
     let whole = made_whole old c.age.new.self c.make_part.new.router c.end_event.new.router
-    c.args.moment c.in_ok-part.part c.requires.settled c.in_ok-age.ensures.makes
+    c.args.moment c.in_ok-part.part c.requires.committed c.in_ok-age.ensures.makes
     c.in_ok-make_part.ensures.makes c.in_ok-end_event.ensures.makes in
     let new = c.take_drafts.new.self.present in
     let is = ap (λ (r : KeptRouter). r.present) c.in_ok-drafts.ensures.rest in
@@ -235,7 +235,7 @@ returns-clause-refused c =
     let old = c.args.router.now in
     let event = occurrence_of c.args.event.now in
     let whole = made_whole old c.age.new.self c.make_part.new.router c.end_event.new.router
-    c.args.moment c.in_ok-part.part c.requires.settled c.in_ok-age.ensures.makes
+    c.args.moment c.in_ok-part.part c.requires.committed c.in_ok-age.ensures.makes
     c.in_ok-make_part.ensures.makes c.in_ok-end_event.ensures.makes in
     let new = c.take_drafts.new.self.present in
     let is = ap (λ (r : KeptRouter). r.present) c.in_ok-drafts.ensures.rest in
@@ -253,10 +253,10 @@ returns-clause-limit c =
     stays_within c.pack_and_update_routes.result c.take_drafts.new.self.present
     c.pack_and_update_routes.ensures.limit
 
-pub returns-clause-settled : goal.returns-clause-settled
-returns-clause-settled c =
-    c.in_ok-drafts.ensures.settled ∙ c.in_ok-end_event.ensures.settled
-    ∙ c.in_ok-make_part.ensures.settled ∙ c.in_ok-age.ensures.settled
+pub returns-clause-committed : goal.returns-clause-committed
+returns-clause-committed c =
+    c.in_ok-drafts.ensures.committed ∙ c.in_ok-end_event.ensures.committed
+    ∙ c.in_ok-make_part.ensures.committed ∙ c.in_ok-age.ensures.committed
 
 pub returns-clause-kept : goal.returns-clause-kept
 returns-clause-kept c = c.pack_and_update_routes.ensures.kept
@@ -265,14 +265,14 @@ pub returns-clause-walks : goal.returns-clause-walks
 returns-clause-walks c =
     let new = c.take_drafts.new.self.present in
     let old = c.args.routes.now in
-    let settled = c.in_ok-drafts.ensures.settled ∙ c.in_ok-end_event.ensures.settled
-    ∙ c.in_ok-make_part.ensures.settled ∙ c.in_ok-age.ensures.settled
-    ∙ c.requires.settled in
+    let committed = c.in_ok-drafts.ensures.committed ∙ c.in_ok-end_event.ensures.committed
+    ∙ c.in_ok-make_part.ensures.committed ∙ c.in_ok-age.ensures.committed
+    ∙ c.requires.committed in
     on_ok c.pack_and_update_routes.result
     (λ walks. subst (λ m. ServesOnlyThen m new.moment new.id c.args.router.now.present.area
     new.area old c.pack_and_update_routes.new.routes) c.moment-before.ensures
     (subst (λ (s : Router). ServesOnlyThen c.moment-before.result new.moment new.id s.area new.area
-    old c.pack_and_update_routes.new.routes) settled walks))
+    old c.pack_and_update_routes.new.routes) committed walks))
     c.pack_and_update_routes.ensures.walks
 
 pub returns-clause-err : goal.returns-clause-err

@@ -5,7 +5,7 @@ use Rattle.adjacency.specs.Drafts.{drafting}
 use Rattle.adjacency.specs.Floods.{flood_step, is_any}
 use Rattle.received.specs.Outcomes.{stepped_links, stepping_sends}
 use Rattle.flooding.specs.Drafted.{drafted_from}
-use Rattle.flooding.specs.Links.{draft_of, present, settled_link, with_neighbor}
+use Rattle.flooding.specs.Links.{committed_link, draft_of, present, with_neighbor}
 use Rattle.flooding.proofs.Doing.{on_err}
 use Rattle.flooding.proofs.Finish.{finished_counts, finished_drafts, finished_items, finishes_next}
 use Rattle.flooding.proofs.Flooded.{after_draft, after_step, begins, counts, sent_is, step, step_is}
@@ -16,17 +16,17 @@ pub loop-i-init : goal.loop-i-init
 loop-i-init c = record {
   floods = begins c.args.moment c.args.sender (lsa_now c.args.moment c.args.copy.now)
       c.args.links.now;
-  settled = refl;
+  committed = refl;
 }
 
 pub returns-in_err-one-clause-does : goal.returns-in_err-one-clause-does
 returns-in_err-one-clause-does c = record {
   links = on_err c.from_residual.result _ c.from_residual.ensures.0;
   drafts = on_err c.from_residual.result _ c.from_residual.ensures.0;
-  settled =
-      shows_kept settled_link c.loop-i.links c.loop-i.i c.index-links-i.result c.flood.new.self
-      c.index-links-i.is c.in_err-one.ensures.does.settled
-      ∙ c.loop-i.invariant.settled;
+  committed =
+      shows_kept committed_link c.loop-i.links c.loop-i.i c.index-links-i.result c.flood.new.self
+      c.index-links-i.is c.in_err-one.ensures.does.committed
+      ∙ c.loop-i.invariant.committed;
 }
 
 pub loop-i-preserved : goal.loop-i-preserved
@@ -55,9 +55,9 @@ loop-i-preserved c =
           ∙ ap (λ cs. drafting old.present.interface.delay cs old.drafted) sending)
           (c.in_ok-one.ensures.sent ∙ ap is_any sending)
           c.was_sent-sent.ensures c.loop-i.invariant.floods;
-      settled = shows_kept settled_link c.loop-i.links c.loop-i.i c.index-links-i.result
-          c.flood.new.self c.index-links-i.is c.in_ok-one.ensures.does.settled
-          ∙ c.loop-i.invariant.settled;
+      committed = shows_kept committed_link c.loop-i.links c.loop-i.i c.index-links-i.result
+          c.flood.new.self c.index-links-i.is c.in_ok-one.ensures.does.committed
+          ∙ c.loop-i.invariant.committed;
     }
 
 pub returns-clause-does : goal.returns-clause-does
@@ -81,7 +81,7 @@ returns-clause-does c =
           (is_any (stepping_sends F P))
           (omega (arith, c.loop-i-test.false, c.loop-i.auto.i-end, c.loop-i.auto.links))
           c.loop-i.invariant.floods;
-      settled = c.loop-i.invariant.settled;
+      committed = c.loop-i.invariant.committed;
     }
 
 pub returns-clause-sent : goal.returns-clause-sent

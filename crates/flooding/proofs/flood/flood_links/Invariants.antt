@@ -1,6 +1,6 @@
 use Rattle.std.proofs.Common.{◌≡◌, map}
 use Rattle.adjacency.specs.lsdb.Copies.{lsa_now}
-use Rattle.flooding.specs.Links.{draft_of, present, settled_link}
+use Rattle.flooding.specs.Links.{committed_link, draft_of, present}
 use Rattle.flooding.proofs.Flooded.{Floods}
 use Rattle.flooding.proofs.flood.flood_links.Given as goal
 
@@ -8,5 +8,5 @@ abbrev pub invariant-loop-i : goal.invariant-loop-i
 invariant-loop-i l = record {
   floods : Floods l.moment l.sender (lsa_now l.moment l.copy) l.i l.links l.sent
       (map present l.fn.links) (map draft_of l.fn.links);
-  settled : map settled_link l.links ≡ map settled_link l.fn.links;
+  committed : map committed_link l.links ≡ map committed_link l.fn.links;
 }

@@ -1,7 +1,7 @@
 use Rattle.std.proofs.Common.{◌+◌, ◌++◌, [], ◌∷◌, get_or, set, refl, sym, ap, ◌∙◌}
 use Rattle.std.proofs.Common.{append-nil, append_assoc, arith}
 use Rattle.adjacency.specs.Drafts.{Drafted}
-use Rattle.flooding.specs.Links.{draft_of, present, settled_link}
+use Rattle.flooding.specs.Links.{committed_link, draft_of, present}
 use Rattle.flooding.proofs.Kept.{mixed_all, mixed_next, mixed_none, shows_kept}
 use Rattle.flooding.proofs.Taken.{drafts_from, emptied, from_first, from_last, from_next}
 use Rattle.flooding.proofs.Taken.{nothing_each}
@@ -35,8 +35,8 @@ loop-i-preserved c =
           ∙ c.loop-i.invariant.taken;
       shown = shows_kept present links i d y c.index-links-i.is
           (ap present c.take_draft-draft.ensures.link) ∙ c.loop-i.invariant.shown;
-      stays = shows_kept settled_link links i d y c.index-links-i.is
-          (ap settled_link c.take_draft-draft.ensures.link) ∙ c.loop-i.invariant.stays;
+      stays = shows_kept committed_link links i d y c.index-links-i.is
+          (ap committed_link c.take_draft-draft.ensures.link) ∙ c.loop-i.invariant.stays;
       rest = mixed_next draft_of emptied i links y d
           (ap draft_of c.take_draft-draft.ensures.link)
           (omega (arith, c.loop-i-test.true, c.loop-i.auto.links)) ∙ c.loop-i.invariant.rest;
@@ -48,10 +48,11 @@ returns-in_err-push-clause-present c =
     c.take_draft-draft.new.self c.index-links-i.is (ap present c.take_draft-draft.ensures.link)
     ∙ c.loop-i.invariant.shown
 
-pub returns-in_err-push-clause-settled : goal.returns-in_err-push-clause-settled
-returns-in_err-push-clause-settled c =
-    shows_kept settled_link c.loop-i.links c.loop-i.i c.index-links-i.result
-    c.take_draft-draft.new.self c.index-links-i.is (ap settled_link c.take_draft-draft.ensures.link)
+pub returns-in_err-push-clause-committed : goal.returns-in_err-push-clause-committed
+returns-in_err-push-clause-committed c =
+    shows_kept committed_link c.loop-i.links c.loop-i.i c.index-links-i.result
+    c.take_draft-draft.new.self c.index-links-i.is
+    (ap committed_link c.take_draft-draft.ensures.link)
     ∙ c.loop-i.invariant.stays
 
 pub returns-clause-drafts : goal.returns-clause-drafts

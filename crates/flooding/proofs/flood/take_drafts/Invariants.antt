@@ -1,5 +1,5 @@
 use Rattle.std.proofs.Common.{◌≡◌, ◌++◌, map}
-use Rattle.flooding.specs.Links.{draft_of, present, settled_link}
+use Rattle.flooding.specs.Links.{committed_link, draft_of, present}
 use Rattle.flooding.proofs.Kept.{mixed}
 use Rattle.flooding.proofs.Taken.{drafts_from, emptied}
 use Rattle.flooding.proofs.flood.take_drafts.Given as goal
@@ -8,6 +8,6 @@ abbrev pub invariant-loop-i : goal.invariant-loop-i
 invariant-loop-i l = record {
   taken : l.drafts.items ++ drafts_from l.i l.links ≡ map draft_of l.fn.links;
   shown : map present l.links ≡ map present l.fn.links;
-  stays : map settled_link l.links ≡ map settled_link l.fn.links;
+  stays : map committed_link l.links ≡ map committed_link l.fn.links;
   rest : mixed draft_of emptied l.i l.links ≡ map emptied l.fn.links;
 }

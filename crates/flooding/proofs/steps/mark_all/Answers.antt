@@ -33,7 +33,7 @@ loop-i-preserved c =
           (omega (arith, c.loop-i-test.true, c.requires))
           (omega (arith, c.loop-i-test.true, length-map ls draft_of))))
           ∙ c.loop-i.invariant.marks;
-      settled = c.in_ok-mark_behind.ensures.settled ∙ c.loop-i.invariant.settled;
+      committed = c.in_ok-mark_behind.ensures.committed ∙ c.loop-i.invariant.committed;
       router = c.in_ok-mark_behind.ensures.router ∙ c.loop-i.invariant.router;
     }
 
@@ -44,6 +44,6 @@ returns c = record {
       (sym (behind_end c.args.counts.now (map draft_of c.args.links.now) c.loop-i.i
       (omega (arith, c.loop-i-test.false, c.loop-i.auto.i-end, c.requires))))
       ∙ c.loop-i.invariant.marks;
-  settled = c.loop-i.invariant.settled;
+  committed = c.loop-i.invariant.committed;
   router = c.loop-i.invariant.router;
 }

@@ -8,6 +8,6 @@ invariant-loop-i l = record {
   marks : mark_each l.moment l.database.present
       (keys_behind (drop l.i l.counts) (drop l.i (map draft_of l.links)))
       ≡ mark_each l.moment l.fn.database.present (keys_behind l.counts (map draft_of l.links));
-  settled : l.database.settled ≡ l.fn.database.settled;
+  committed : l.database.committed ≡ l.fn.database.committed;
   router : l.database.router ≡ l.fn.database.router;
 }

@@ -16,7 +16,7 @@ loop-i-preserved c =
           ∙ ap (λ xs. mark_each moment d (map key_of_update xs))
           (sym (drop_next i us c.index-updates-i.result (omega (arith, c.loop-i-test.true))))
           ∙ c.loop-i.invariant.marks;
-      settled = c.in_ok-mark_sent.ensures.settled ∙ c.loop-i.invariant.settled;
+      committed = c.in_ok-mark_sent.ensures.committed ∙ c.loop-i.invariant.committed;
       router = c.in_ok-mark_sent.ensures.router ∙ c.loop-i.invariant.router;
     }
 
@@ -26,6 +26,6 @@ returns c = record {
       ap (λ xs. mark_each c.args.moment c.loop-i.database.present (map key_of_update xs))
       (sym (drop_end c.loop-i.i c.args.updates.now (omega (arith, c.loop-i-test.false))))
       ∙ c.loop-i.invariant.marks;
-  settled = c.loop-i.invariant.settled;
+  committed = c.loop-i.invariant.committed;
   router = c.loop-i.invariant.router;
 }

@@ -6,6 +6,6 @@ abbrev pub invariant-loop-i : goal.invariant-loop-i
 invariant-loop-i l = record {
   marks : mark_each l.moment l.database.present (map key_of_update (drop l.i l.updates))
       ≡ mark_each l.moment l.fn.database.present (map key_of_update (drop l.count l.updates));
-  settled : l.database.settled ≡ l.fn.database.settled;
+  committed : l.database.committed ≡ l.fn.database.committed;
   router : l.database.router ≡ l.fn.database.router;
 }

@@ -1,6 +1,6 @@
 use Rattle.std.proofs.Common.{false, map, refl, ◌∙◌, arith}
 use Rattle.flooding.specs.Drafted.{drafts_with}
-use Rattle.flooding.specs.Links.{draft_of, present, settled_link}
+use Rattle.flooding.specs.Links.{committed_link, draft_of, present}
 use Rattle.received.specs.Outcomes.{sends_of}
 use Rattle.flooding.proofs.Changes.{after, after_draft, begins, counts}
 use Rattle.flooding.proofs.Doing.{on_err}
@@ -12,7 +12,7 @@ pub loop-i-init : goal.loop-i-init
 loop-i-init g c = record {
   steps = begins (g.S.LinkStep.after c.args.step.now c.args.database.now.present)
       (g.S.LinkStep.sends c.args.step.now c.args.database.now.present) c.args.links.now;
-  settled = refl;
+  committed = refl;
 }
 
 pub loop-i-preserved : goal.loop-i-preserved
@@ -27,9 +27,9 @@ loop-i-preserved g c =
           c.take.new.link c.index-links-i.result false false
           (omega (arith, c.loop-i-test.true, c.loop-i.auto.links))
           c.in_ok-take.ensures.link c.in_ok-take.ensures.draft refl refl c.loop-i.invariant.steps;
-      settled = shows_kept settled_link c.loop-i.links c.loop-i.i c.index-links-i.result
-          c.take.new.link c.index-links-i.is c.in_ok-take.ensures.settled
-          ∙ c.loop-i.invariant.settled;
+      committed = shows_kept committed_link c.loop-i.links c.loop-i.i c.index-links-i.result
+          c.take.new.link c.index-links-i.is c.in_ok-take.ensures.committed
+          ∙ c.loop-i.invariant.committed;
     }
 
 pub returns : goal.returns
@@ -47,14 +47,14 @@ returns g c =
           c.loop-i.i c.loop-i.links false (map A P) (drafts_with (sends_of S P) P D) false
           (omega (arith, c.loop-i-test.false, c.loop-i.auto.i-end, c.loop-i.auto.links))
           c.loop-i.invariant.steps;
-      settled = c.loop-i.invariant.settled;
+      committed = c.loop-i.invariant.committed;
     }
 
 pub returns-in_err-take : goal.returns-in_err-take
 returns-in_err-take g c = record {
   links = on_err c.from_residual.result _ c.from_residual.ensures.0;
   drafts = on_err c.from_residual.result _ c.from_residual.ensures.0;
-  settled =
-      shows_kept settled_link c.loop-i.links c.loop-i.i c.index-links-i.result c.take.new.link
-      c.index-links-i.is c.in_err-take.ensures.settled ∙ c.loop-i.invariant.settled;
+  committed =
+      shows_kept committed_link c.loop-i.links c.loop-i.i c.index-links-i.result c.take.new.link
+      c.index-links-i.is c.in_err-take.ensures.committed ∙ c.loop-i.invariant.committed;
 }

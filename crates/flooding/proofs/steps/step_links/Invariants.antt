@@ -1,5 +1,5 @@
 use Rattle.std.proofs.Common.{◌≡◌, map}
-use Rattle.flooding.specs.Links.{draft_of, present, settled_link}
+use Rattle.flooding.specs.Links.{committed_link, draft_of, present}
 use Rattle.flooding.proofs.Changes.{Steps}
 use Rattle.flooding.proofs.steps.step_links.Given as goal
 
@@ -8,5 +8,5 @@ invariant-loop-i g l = record {
   steps : Steps (g.S.LinkStep.after l.step l.database.present)
       (g.S.LinkStep.sends l.step l.database.present) l.i l.links (map present l.fn.links)
       (map draft_of l.fn.links);
-  settled : map settled_link l.links ≡ map settled_link l.fn.links;
+  committed : map committed_link l.links ≡ map committed_link l.fn.links;
 }

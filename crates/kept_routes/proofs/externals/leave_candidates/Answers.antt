@@ -7,7 +7,7 @@ use Rattle.kept_routes.proofs.externals.leave_candidates.Goals as goal
 
 pub returns-clause-same : goal.returns-clause-same
 returns-clause-same c =
-    let old = c.args.db.now.settled in
+    let old = c.args.db.now.committed in
     let new = c.args.db.now.present in
     let walk = c.args.walk.now in
     let keys = c.deref.ensures.value ∙ c.in_ok-keys.ensures in
@@ -19,7 +19,7 @@ returns-clause-same c =
 
 pub returns-clause-left : goal.returns-clause-left
 returns-clause-left c =
-    let old = c.args.db.now.settled in
+    let old = c.args.db.now.committed in
     let new = c.args.db.now.present in
     let walk = c.args.walk.now in
     IfOk-weaker c.are_old_or_left_out.result _ _ (λ are is left.
@@ -29,12 +29,12 @@ returns-clause-left c =
 pub returns-then-not-branch-clause-left : goal.returns-then-not-branch-clause-left
 returns-then-not-branch-clause-left c left =
     sym c.if-not-branch.true ∙ c.in_ok-keeps_others.ensures.kept
-    (others_keep c.args.before c.args.moment c.args.db.now.settled c.args.db.now.present
+    (others_keep c.args.before c.args.moment c.args.db.now.committed c.args.db.now.present
     c.args.walk.now left)
 
 pub returns-then-count-clause-same : goal.returns-then-count-clause-same
 returns-then-count-clause-same c = λ t.
-    let old = c.args.db.now.settled in
+    let old = c.args.db.now.committed in
     let new = c.args.db.now.present in
     let walk = c.args.walk.now in
     offer_the_same c.args.before c.args.moment old new walk c.requires.order

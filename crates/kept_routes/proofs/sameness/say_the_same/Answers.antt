@@ -5,7 +5,7 @@ use Rattle.kept_routes.proofs.sameness.say_the_same.Goals as goal
 
 pub returns-clause-same : goal.returns-clause-same
 returns-clause-same c = λ t.
-    let old = c.args.db.now.settled in
+    let old = c.args.db.now.committed in
     let new = c.args.db.now.present in
     let keys = c.deref.ensures.value ∙ c.in_ok-keys.ensures in
     all_same c.args.last_type c.args.before c.args.moment old new c.requires
@@ -15,7 +15,7 @@ returns-clause-same c = λ t.
 
 pub returns-clause-left : goal.returns-clause-left
 returns-clause-left c =
-    let old = c.args.db.now.settled in
+    let old = c.args.db.now.committed in
     let new = c.args.db.now.present in
     let keys = c.deref.ensures.value ∙ c.in_ok-keys.ensures in (
       (λ t. all_left c.args.last_type c.args.before c.args.moment old new
@@ -31,12 +31,12 @@ returns-then-not-branch-clause-left c = (
   (λ t. absurd cc),
   (λ left. sym c.if-not-branch.true
       ∙ c.in_ok-keeps.ensures.1 (keeps_all c.args.last_type c.args.before c.args.moment
-      c.args.db.now.settled c.args.db.now.present left)),
+      c.args.db.now.committed c.args.db.now.present left)),
 )
 
 pub returns-then-count-clause-same : goal.returns-then-count-clause-same
 returns-then-count-clause-same c = λ t.
-    let old = c.args.db.now.settled in
+    let old = c.args.db.now.committed in
     let new = c.args.db.now.present in
     all_same c.args.last_type c.args.before c.args.moment old new c.requires
     (all_left c.args.last_type c.args.before c.args.moment old new
@@ -45,7 +45,7 @@ returns-then-count-clause-same c = λ t.
 
 pub returns-then-count-clause-left : goal.returns-then-count-clause-left
 returns-then-count-clause-left c =
-    let old = c.args.db.now.settled in
+    let old = c.args.db.now.committed in
     let new = c.args.db.now.present in (
       (λ t. all_left c.args.last_type c.args.before c.args.moment old new
           (c.in_ok-keeps.ensures.0 c.if-not-branch.false)

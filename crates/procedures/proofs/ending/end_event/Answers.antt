@@ -7,23 +7,23 @@ use Rattle.procedures.proofs.ending.end_event.Goals as goal
 pub returns-in_err-loading_done_then_originate : goal.returns-in_err-loading_done_then_originate
 returns-in_err-loading_done_then_originate c =
     refused c.from_residual.result c.from_residual.ensures.0
-    (c.in_err-loading_done_then_originate.ensures c.args.router.now.settled.area.links
+    (c.in_err-loading_done_then_originate.ensures c.args.router.now.committed.area.links
     (sym c.requires.interfaces)
-    (sym c.requires.before)).settled
+    (sym c.requires.before)).committed
 
 pub returns-in_err-loading_done_then_put_off : goal.returns-in_err-loading_done_then_put_off
 returns-in_err-loading_done_then_put_off c =
     refused c.from_residual-in_err-loading_done_then_put_off.result
     c.from_residual-in_err-loading_done_then_put_off.ensures.0
-    (c.in_err-loading_done_then_put_off.ensures.settled
-    ∙ (c.in_ok-loading_done_then_originate.ensures c.args.router.now.settled.area.links
+    (c.in_err-loading_done_then_put_off.ensures.committed
+    ∙ (c.in_ok-loading_done_then_originate.ensures c.args.router.now.committed.area.links
     (sym c.requires.interfaces)
-    (sym c.requires.before)).settled)
+    (sym c.requires.before)).committed)
 
 pub returns : goal.returns
 returns c =
     let m = c.args.moment in
-    let before = c.args.router.now.settled.area.links in
+    let before = c.args.router.now.committed.area.links in
     let filled = (c.in_ok-loading_done_then_originate.ensures before (sym c.requires.interfaces)
     (sym c.requires.before)).makes in
     then_does {f = λ p. loading_done_then_put_off (loading_done_then_originate before m p)}

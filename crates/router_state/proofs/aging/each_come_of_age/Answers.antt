@@ -12,7 +12,7 @@ use Rattle.router_state.proofs.OfAge.{drafted_after}
 use Rattle.router_state.proofs.aging.each_come_of_age.Goals as goal
 
 pub loop-i-init : goal.loop-i-init
-loop-i-init c = record { area = refl; drafts = refl; settled = refl; router = refl }
+loop-i-init c = record { area = refl; drafts = refl; committed = refl; router = refl }
 
 pub loop-i-preserved : goal.loop-i-preserved
 loop-i-preserved c =
@@ -39,7 +39,7 @@ loop-i-preserved c =
           (λ j. drafts_with (each_come_of_age b m later (is j)).sends (is j).links (drafts j))
           ∙ drafted_after b m a ds rest.sends key
           ∙ ap (λ o. drafts_with o.sends a.links ds) next ∙ c.loop-i.invariant.drafts;
-      settled = does.settled ∙ c.loop-i.invariant.settled;
+      committed = does.committed ∙ c.loop-i.invariant.committed;
       router = does.router ∙ c.loop-i.invariant.router;
     }
 
@@ -47,7 +47,7 @@ pub returns-in_err-come_of_age : goal.returns-in_err-come_of_age
 returns-in_err-come_of_age c = record {
   area = on_err c.from_residual.result _ c.from_residual.ensures.0;
   drafts = on_err c.from_residual.result _ c.from_residual.ensures.0;
-  settled = c.in_err-come_of_age.ensures.settled ∙ c.loop-i.invariant.settled;
+  committed = c.in_err-come_of_age.ensures.committed ∙ c.loop-i.invariant.committed;
   router = c.in_err-come_of_age.ensures.router ∙ c.loop-i.invariant.router;
 }
 
@@ -65,6 +65,6 @@ returns c =
           drafted_none 1 a.links ds
           ∙ ap (λ ks. drafts_with (each_come_of_age b m ks a).sends a.links ds) (sym end)
           ∙ c.loop-i.invariant.drafts;
-      settled = c.loop-i.invariant.settled;
+      committed = c.loop-i.invariant.committed;
       router = c.loop-i.invariant.router;
     }

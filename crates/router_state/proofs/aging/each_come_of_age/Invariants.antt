@@ -12,6 +12,6 @@ invariant-loop-i l = record {
       l.area.present.links l.area.drafted
       ≡ drafts_with (each_come_of_age l.before l.moment l.keys l.fn.area.present).sends
       l.fn.area.present.links l.fn.area.drafted;
-  settled : l.area.settled ≡ l.fn.area.settled;
+  committed : l.area.committed ≡ l.fn.area.committed;
   router : l.area.router ≡ l.fn.area.router;
 }

@@ -27,7 +27,7 @@ loop-i-preserved c =
       drafts = does.drafts
           ∙ sym (drafted_none 1 c.loop-i.area.present.links c.loop-i.area.drafted)
           ∙ c.loop-i.invariant.drafts;
-      settled = does.settled ∙ c.loop-i.invariant.settled;
+      committed = does.committed ∙ c.loop-i.invariant.committed;
       router = does.router ∙ c.loop-i.invariant.router;
     }
 
@@ -35,7 +35,7 @@ pub returns-in_err-remove_acknowledged : goal.returns-in_err-remove_acknowledged
 returns-in_err-remove_acknowledged c = record {
   area = on_err c.from_residual.result _ c.from_residual.ensures.0;
   drafts = on_err c.from_residual.result _ c.from_residual.ensures.0;
-  settled = c.in_err-remove_acknowledged.ensures.settled ∙ c.loop-i.invariant.settled;
+  committed = c.in_err-remove_acknowledged.ensures.committed ∙ c.loop-i.invariant.committed;
   router = c.in_err-remove_acknowledged.ensures.router ∙ c.loop-i.invariant.router;
 }
 
@@ -49,6 +49,6 @@ returns c =
           (omega (arith, c.loop-i-test.false, c.loop-i.auto.i-end))))
           ∙ c.loop-i.invariant.leaves);
       drafts = c.loop-i.invariant.drafts ∙ drafted_none 1 L c.args.area.now.drafted;
-      settled = c.loop-i.invariant.settled;
+      committed = c.loop-i.invariant.committed;
       router = c.loop-i.invariant.router;
     }

@@ -9,6 +9,6 @@ invariant-loop-i l = record {
   leaves : without_each l.fn.area.present.links l.area.present.database (from l.i l.keys)
       ≡ without_each l.fn.area.present.links l.fn.area.present.database l.keys;
   drafts : l.area.drafted ≡ l.fn.area.drafted;
-  settled : l.area.settled ≡ l.fn.area.settled;
+  committed : l.area.committed ≡ l.fn.area.committed;
   router : l.area.router ≡ l.fn.area.router;
 }

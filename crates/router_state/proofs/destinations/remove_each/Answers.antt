@@ -17,7 +17,7 @@ loop-i-preserved c =
           ∙ ap (fold finite.remove m) (sym
           (from_next i keys c.index-keys-i.result (omega (arith, c.loop-i-test.true))))
           ∙ c.loop-i.invariant.leaves;
-      settled = c.in_ok-remove.ensures.settled ∙ c.loop-i.invariant.settled;
+      committed = c.in_ok-remove.ensures.committed ∙ c.loop-i.invariant.committed;
     }
 
 pub returns-clause-ok : goal.returns-clause-ok

@@ -8,5 +8,5 @@ abbrev pub invariant-loop-i : goal.invariant-loop-i
 invariant-loop-i l = record {
   leaves : fold finite.remove l.moments.present (from l.i l.keys)
       ≡ fold finite.remove l.fn.moments.present l.keys;
-  settled : l.moments.settled ≡ l.fn.moments.settled;
+  committed : l.moments.committed ≡ l.fn.moments.committed;
 }

@@ -5,12 +5,12 @@ use Rattle.router_state.proofs.Texts.{goes_further, goes_no_further, goes_to_the
 use Rattle.router_state.proofs.updates.receive_lsas.Goals as goal
 
 pub loop-i-init : goal.loop-i-init
-loop-i-init c = record { goes = λ new makes. makes; links = refl; settled = refl }
+loop-i-init c = record { goes = λ new makes. makes; links = refl; committed = refl }
 
 pub returns-in_err-goes : goal.returns-in_err-goes
 returns-in_err-goes c =
     refused c.from_residual.result c.from_residual.ensures.0
-    (c.in_err-goes.ensures.does.settled ∙ c.loop-i.invariant.settled)
+    (c.in_err-goes.ensures.does.committed ∙ c.loop-i.invariant.committed)
 
 pub returns-then-not-goes : goal.returns-then-not-goes
 returns-then-not-goes c =
@@ -36,7 +36,7 @@ loop-i-preserved c =
           (sym c.in_ok-goes.ensures.goes_on ∙ c.if-not-goes.false) does.makes
           c.loop-i.invariant.goes;
       links = as_many_links does.makes ∙ c.loop-i.invariant.links;
-      settled = does.settled ∙ c.loop-i.invariant.settled;
+      committed = does.committed ∙ c.loop-i.invariant.committed;
     }
 
 pub returns : goal.returns

@@ -6,5 +6,5 @@ abbrev pub invariant-loop-i : goal.invariant-loop-i
 invariant-loop-i l = record {
   goes : Going l.moment l.number l.lsas l.fn.router l.i l.router;
   links : length l.router.present.area.links ≡ length l.fn.router.present.area.links;
-  settled : l.router.settled ≡ l.fn.router.settled;
+  committed : l.router.committed ≡ l.fn.router.committed;
 }

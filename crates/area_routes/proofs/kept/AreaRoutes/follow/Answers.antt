@@ -18,7 +18,7 @@ follow_routes-requires-clause-routes c = record {
 
 pub returns-clause-routes : goal.returns-clause-routes
 returns-clause-routes c =
-    let old = said_at c.args.before c.args.area.now.settled.database in
+    let old = said_at c.args.before c.args.area.now.committed.database in
     let new = said_at c.args.moment c.args.area.now.present.database in
     let router = c.args.router in
     let area = c.args.area.now.present in
@@ -63,7 +63,7 @@ returns-clause-walks c =
     let same = both_else c.follow_routes.new.self c.keep_externals.new.self c.follow_graph.new.self
     c.keep_externals.ensures.others c.follow_graph.ensures.others in
     subst (λ (k : KeptRoutes). ServesOnlyThen c.args.before c.args.moment c.args.router
-    c.args.area.now.settled c.args.area.now.present c.args.self.now k) (sym same)
+    c.args.area.now.committed c.args.area.now.present c.args.self.now k) (sym same)
     (record {
       walk = served.walk;
       serves = served.serves;

@@ -27,7 +27,7 @@ followed-next-requires-clause-inner c =
 
 pub followed-next-requires-clause-routes : goal.followed-next-requires-clause-routes
 followed-next-requires-clause-routes c =
-    let old = said_at c.args.before c.args.area.now.settled.database in
+    let old = said_at c.args.before c.args.area.now.committed.database in
     let knew = subst (λ (k : KeptRoutes). KnowsCandidates old k.walk.root k) (sym c.self.view_is)
     c.requires.candidates in
     subst (λ (o : Option (Vec Route Global)). IfSome o
@@ -52,7 +52,7 @@ returns-clause-inner c =
 
 pub returns-clause-answered : goal.returns-clause-answered
 returns-clause-answered c answers knew on stale =
-    let old = said_at c.args.before c.args.area.now.settled.database in
+    let old = said_at c.args.before c.args.area.now.committed.database in
     let new = said_at c.args.moment c.args.area.now.present.database in
     let root = c.self.inside.walk.root in
     let same = ap (λ (k : KeptRoutes). k.walk.root) c.self.view_is in

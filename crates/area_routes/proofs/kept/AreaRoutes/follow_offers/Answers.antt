@@ -8,7 +8,7 @@ follow_externals-requires-clause-same c = c.in-Ok.ensures.same c.if-same.true
 
 pub follow_externals-requires-clause-inner : goal.follow_externals-requires-clause-inner
 follow_externals-requires-clause-inner c =
-    let old = said_at c.args.before c.args.area.now.settled.database in
+    let old = said_at c.args.before c.args.area.now.committed.database in
     let new = said_at c.args.moment c.args.area.now.present.database in
     let kept = c.args.self.now in
     inner_carried c.inner_routes_are_kept.ensures old new kept.walk.root kept.walk

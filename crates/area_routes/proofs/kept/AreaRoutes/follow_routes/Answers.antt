@@ -12,16 +12,16 @@ use Rattle.area_routes.proofs.kept.AreaRoutes.follow_routes.Goals as goal
 
 pub leaves_candidates-requires-clause-walk : goal.leaves_candidates-requires-clause-walk
 leaves_candidates-requires-clause-walk c =
-    let old = said_at c.args.before c.args.area.now.settled.database in
+    let old = said_at c.args.before c.args.area.now.committed.database in
     let on = ap (λ (k : KeptRoutes). k.behind) (sym c.self.view_is) ∙ c.if-self.false in
     subst (λ (k : KeptRoutes). IsWalkOf old k.walk) (sym c.self.view_is)
     (c.requires.routes.walk.walk on)
 
 pub returns-then-branch-2-clause-routes : goal.returns-then-branch-2-clause-routes
 returns-then-branch-2-clause-routes c =
-    let old = said_at c.args.before c.args.area.now.settled.database in
+    let old = said_at c.args.before c.args.area.now.committed.database in
     let new = said_at c.args.moment c.args.area.now.present.database in
-    let was = root_by c.args.router c.args.area.now.settled.links in
+    let was = root_by c.args.router c.args.area.now.committed.links in
     let is = root_by c.args.router c.args.area.now.present.links in
     let kept = c.args.self.now in
     let serves : kept.behind ≡ false =
@@ -47,9 +47,9 @@ returns-then-branch-2-clause-routes c =
 
 pub returns-then-branch-2-clause-answered : goal.returns-then-branch-2-clause-answered
 returns-then-branch-2-clause-answered c answers knows =
-    let old = said_at c.args.before c.args.area.now.settled.database in
+    let old = said_at c.args.before c.args.area.now.committed.database in
     let new = said_at c.args.moment c.args.area.now.present.database in
-    let was = root_by c.args.router c.args.area.now.settled.links in
+    let was = root_by c.args.router c.args.area.now.committed.links in
     let is = root_by c.args.router c.args.area.now.present.links in
     let kept = c.args.self.now in
     let serves : kept.behind ≡ false =
@@ -79,7 +79,7 @@ returns-then-branch-2-clause-walks c = record {
 
 pub follow_offers-requires-clause-walk : goal.follow_offers-requires-clause-walk
 follow_offers-requires-clause-walk c =
-    let old = said_at c.args.before c.args.area.now.settled.database in
+    let old = said_at c.args.before c.args.area.now.committed.database in
     let new = said_at c.args.moment c.args.area.now.present.database in
     let on = ap (λ (k : KeptRoutes). k.behind) (sym c.self.view_is) ∙ c.if-self.false in
     c.walks_are_kept.ensures old new c.args.self.now.walk
@@ -87,21 +87,21 @@ follow_offers-requires-clause-walk c =
 
 pub follow_offers-requires-clause-candidates : goal.follow_offers-requires-clause-candidates
 follow_offers-requires-clause-candidates c =
-    let old = said_at c.args.before c.args.area.now.settled.database in
+    let old = said_at c.args.before c.args.area.now.committed.database in
     let on = ap (λ (k : KeptRoutes). k.behind) (sym c.self.view_is) ∙ c.if-self.false in
     subst (λ (r : Root). KnowsCandidates old r c.args.self.now)
     (sym (c.requires.routes.walk.root on)) c.requires.routes.candidates
 
 pub follow_offers-requires-clause-inner : goal.follow_offers-requires-clause-inner
 follow_offers-requires-clause-inner c =
-    let old = said_at c.args.before c.args.area.now.settled.database in
+    let old = said_at c.args.before c.args.area.now.committed.database in
     let on = ap (λ (k : KeptRoutes). k.behind) (sym c.self.view_is) ∙ c.if-self.false in
     subst (λ (r : Root). KnowsInner old r c.args.self.now) (sym (c.requires.routes.walk.root on))
     c.requires.routes.inner
 
 pub returns-then-branch-clause-routes : goal.returns-then-branch-clause-routes
 returns-then-branch-clause-routes c =
-    let old = said_at c.args.before c.args.area.now.settled.database in
+    let old = said_at c.args.before c.args.area.now.committed.database in
     let new = said_at c.args.moment c.args.area.now.present.database in
     let is = root_by c.args.router c.args.area.now.present.links in
     let on = ap (λ (k : KeptRoutes). k.behind) (sym c.self.view_is) ∙ c.if-self.false in
@@ -124,7 +124,7 @@ returns-then-branch-clause-routes c =
 
 pub returns-then-branch-clause-answered : goal.returns-then-branch-clause-answered
 returns-then-branch-clause-answered c answers knows =
-    let old = said_at c.args.before c.args.area.now.settled.database in
+    let old = said_at c.args.before c.args.area.now.committed.database in
     let new = said_at c.args.moment c.args.area.now.present.database in
     let is = root_by c.args.router c.args.area.now.present.links in
     let kept = c.args.self.now in
@@ -166,6 +166,6 @@ returns-then-branch-clause-candidates c on stayed =
     let before = c.args.before in
     let moment = c.args.moment in
     let area = c.args.area.now in
-    let left = subst (λ (k : KeptRoutes). LeaveCandidates before moment area.settled.database
+    let left = subst (λ (k : KeptRoutes). LeaveCandidates before moment area.committed.database
     area.present.database k.walk) (sym c.self.view_is) stayed.lsas in
     absurd (false≢true (sym c.if-branch-2.false ∙ c.in_ok-leaves_candidates.ensures.left left))

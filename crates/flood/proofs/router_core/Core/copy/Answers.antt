@@ -14,7 +14,7 @@ use Rattle.flood.proofs.router_core.Core.copy.Goals as goal
 pub invariant_of-result : goal.invariant_of-result
 invariant_of-result c =
     let present = ap (λ k. k.present) c.in_ok-router.ensures in (
-      ap (λ k. k.settled) c.in_ok-router.ensures ∙ sym present,
+      ap (λ k. k.committed) c.in_ok-router.ensures ∙ sym present,
       subst IsRoomy (sym present) c.self.invariant.1,
       ap exceeds present ∙ c.self.invariant.2,
       subst IsInOrder (sym present) c.self.invariant.3,

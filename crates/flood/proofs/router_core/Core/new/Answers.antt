@@ -19,21 +19,21 @@ use Rattle.flood.proofs.router_core.Core.new.Goals as goal
 pub invariant_of-result : goal.invariant_of-result
 invariant_of-result c =
     let fine : in_profile c.args.config.now ≡ true = search rules in
-    let is = ap (λ k. k.present) c.settle.ensures ∙ c.in_ok-router.ensures in
-    let settled = ap (λ k. k.settled) c.settle.ensures
-    ∙ sym (ap (λ k. k.present) c.settle.ensures) in
+    let is = ap (λ k. k.present) c.commit.ensures ∙ c.in_ok-router.ensures in
+    let committed = ap (λ k. k.committed) c.commit.ensures
+    ∙ sym (ap (λ k. k.present) c.commit.ensures) in
     let router = c.in_profile.ensures.router in (
-      settled,
+      committed,
       subst IsRoomy (sym is) (every_packet_has_room.first c.args.config.now fine),
       ap exceeds is ∙ others_stay_within_limits.start c.args.config.now,
       subst IsInOrder (sym is) (routers_stay_in_order.first c.args.config.now),
       subst HoldsInstances (sym is) (instances_stay_in_range.first c.args.config.now router),
-      begun c.settle.new.self.present c.id.result c.area.result.now.present c.moment.result
+      begun c.commit.new.self.present c.id.result c.area.result.now.present c.moment.result
           c.in-Ok.routes
           c.id.ensures (ap (λ (a : RouterArea). a.present) c.area.ensures.parts) c.moment.ensures
           c.in-Ok.ensures.routes c.in-Ok.ensures.answered,
-      ap (λ k. k.drafted) c.settle.ensures
-          ∙ sym (ap (λ (k : KeptRouter). nothing_at k.present.area.links) c.settle.ensures),
+      ap (λ k. k.drafted) c.commit.ensures
+          ∙ sym (ap (λ (k : KeptRouter). nothing_at k.present.area.links) c.commit.ensures),
     )
 
 pub new-requires-clause-few : goal.new-requires-clause-few
@@ -42,7 +42,7 @@ new-requires-clause-few c = subst (λ (a : RouterArea). length a.present.links �
 
 pub new-requires-clause-size : goal.new-requires-clause-size
 new-requires-clause-size c =
-    let is = ap (λ k. k.present) c.settle.ensures ∙ c.in_ok-router.ensures in
+    let is = ap (λ k. k.present) c.commit.ensures ∙ c.in_ok-router.ensures in
     let fine = ap exceeds is ∙ others_stay_within_limits.start c.args.config.now in
     subst (λ (a : RouterArea). finite.len a.present.database ≤ 16384) (sym c.area.ensures.parts)
-    (within c.settle.new.self.present.id c.settle.new.self.present.area.database fine)
+    (within c.commit.new.self.present.id c.commit.new.self.present.area.database fine)

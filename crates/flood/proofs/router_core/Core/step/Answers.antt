@@ -13,8 +13,8 @@ use Rattle.flood.proofs.router_core.Core.step.Goals as goal
 
 pub invariant_of-self : goal.invariant_of-self
 invariant_of-self c =
-    let is = ap (λ k. k.present) c.settle_at.ensures in (
-      ap (λ k. k.settled) c.settle_at.ensures ∙ sym is,
+    let is = ap (λ k. k.present) c.commit_at.ensures in (
+      ap (λ k. k.committed) c.commit_at.ensures ∙ sym is,
       subst IsRoomy (sym is)
           (stays_roomy c.self.inside.router.present c.args.moment (occurrence_of c.args.event.now)
           c.in-Ok.outs.items c.take.new.router.present c.in-Ok.ensures.ok
@@ -23,6 +23,6 @@ invariant_of-self c =
       subst IsInOrder (sym is) c.in-Ok.ensures.order,
       subst HoldsInstances (sym is) c.in-Ok.ensures.holds,
       subst (λ (s : Router). AreKeptNow s c.take.new.routes) (sym is) c.in-Ok.ensures.kept,
-      ap (λ k. k.drafted) c.settle_at.ensures
-          ∙ sym (ap (λ (k : KeptRouter). nothing_at k.present.area.links) c.settle_at.ensures),
+      ap (λ k. k.drafted) c.commit_at.ensures
+          ∙ sym (ap (λ (k : KeptRouter). nothing_at k.present.area.links) c.commit_at.ensures),
     )

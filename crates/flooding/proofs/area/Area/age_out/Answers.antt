@@ -6,7 +6,7 @@ use Rattle.received.specs.Outcomes.{Outcome}
 use Rattle.flooding.specs.Drafted.{drafts_with}
 use Rattle.flooding.specs.Kept.{RouterArea}
 use Rattle.flooding.specs.Links.{age_outcome, area_of, draft_of, flooded_copy, present}
-use Rattle.flooding.specs.Links.{settled_link, start}
+use Rattle.flooding.specs.Links.{committed_link, start}
 use Rattle.flooding.proofs.Installed.{aged_is}
 use Rattle.flooding.proofs.Marking.{area_is}
 use Rattle.flooding.proofs.area.Area.age_out.Goals as goal
@@ -27,9 +27,9 @@ returns c =
           is ∙ ap (λ (o : Outcome). drafts_with o.sends (map present ls) (map draft_of ls)) whole
           ∙ ap (λ (v : RouterArea). drafts_with (age_outcome m k v.present).sends
           v.present.links v.drafted) c.self.view_is) c.flood.ensures.drafts;
-      settled = c.flood.ensures.settled
-          ∙ area_is (λ i. map settled_link ls) c.in_ok-age_out.ensures.settled
-          ∙ ap (λ (v : RouterArea). v.settled) c.self.view_is;
+      committed = c.flood.ensures.committed
+          ∙ area_is (λ i. map committed_link ls) c.in_ok-age_out.ensures.committed
+          ∙ ap (λ (v : RouterArea). v.committed) c.self.view_is;
       router = c.flood.ensures.router ∙ c.in_ok-age_out.ensures.router
           ∙ ap (λ (v : RouterArea). v.router) c.self.view_is;
     }

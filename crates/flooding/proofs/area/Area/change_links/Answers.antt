@@ -1,7 +1,7 @@
 use Rattle.std.proofs.Common.{◌≡◌, ◌<◌, length, map, refl, sym, ap, ◌∙◌, arith}
 use Rattle.std.proofs.lemmas.List.{length-set}
 use Rattle.flooding.specs.Kept.{RouterArea}
-use Rattle.flooding.specs.Links.{draft_of, present, settled_link}
+use Rattle.flooding.specs.Links.{committed_link, draft_of, present}
 use Rattle.flooding.proofs.Changes.{changes_begin}
 use Rattle.flooding.proofs.Kept.{mixed_all, mixed_next, shows_kept}
 use Rattle.flooding.proofs.Marking.{area_is, router_area_is}
@@ -25,8 +25,8 @@ loop-i-preserved g c =
     omega (arith, c.loop-i-test.true, c.loop-i.invariant.count, c.self.inside.links.ok.0) in
     record {
       count = length-set links i c.change.new.link ∙ c.loop-i.invariant.count;
-      stays = shows_kept settled_link links i link c.change.new.link c.index_mut.ensures.value
-          (ap settled_link c.change.ensures ∙ ap settled_link c.index_mut.ensures.value)
+      stays = shows_kept committed_link links i link c.change.new.link c.index_mut.ensures.value
+          (ap committed_link c.change.ensures ∙ ap committed_link c.index_mut.ensures.value)
           ∙ c.loop-i.invariant.stays;
       drafts = shows_kept draft_of links i link c.change.new.link c.index_mut.ensures.value
           (ap draft_of c.change.ensures ∙ ap draft_of c.index_mut.ensures.value)
@@ -56,7 +56,7 @@ returns g c =
     router_area_is (ap (λ d. d.router) same)
     (area_is (sym (mixed_all present (λ n. A (present n)) i links all)
     ∙ c.loop-i.invariant.comes) (ap (λ d. d.present) same))
-    (area_is c.loop-i.invariant.stays (ap (λ d. d.settled) same)) c.loop-i.invariant.drafts
+    (area_is c.loop-i.invariant.stays (ap (λ d. d.committed) same)) c.loop-i.invariant.drafts
     ∙ ap (λ (v : RouterArea). record v {
       present = record v.present { links = map A v.present.links };
     })

@@ -9,7 +9,7 @@ use Rattle.flooding.specs.Kept.{KeptLink, RouterArea}
 use Rattle.flooding.specs.Links.{area_of, draft_of, flooded_copy, flooded_key, present, start}
 use Rattle.flooding.proofs.Doing.{area_rests, on_err}
 use Rattle.flooding.proofs.Flooded.{marks_once}
-use Rattle.flooding.proofs.Lent.{given_back, settled_back}
+use Rattle.flooding.proofs.Lent.{committed_back, given_back}
 use Rattle.flooding.proofs.Marking.{area_is}
 use Rattle.flooding.proofs.area.Area.flood.Goals as goal
 
@@ -24,10 +24,10 @@ pub returns-in_err-sent : goal.returns-in_err-sent
 returns-in_err-sent c = record {
   area = on_err c.from_residual.result _ c.from_residual.ensures.0;
   drafts = on_err c.from_residual.result _ c.from_residual.ensures.0;
-  settled = area_is (settled_back c.self.inside.links.items c.deref_mut.result.now
+  committed = area_is (committed_back c.self.inside.links.items c.deref_mut.result.now
       c.flood_links.new.links c.self.inside.links.len c.deref_mut.ensures.value
-      c.deref_mut.ensures.len c.in_err-sent.ensures.does.settled) refl
-      ∙ ap (λ (v : RouterArea). v.settled) c.self.view_is;
+      c.deref_mut.ensures.len c.in_err-sent.ensures.does.committed) refl
+      ∙ ap (λ (v : RouterArea). v.committed) c.self.view_is;
   router = ap (λ (v : RouterArea). v.router) c.self.view_is;
 }
 
@@ -42,7 +42,7 @@ returns-then-sent c =
     let d = c.self.inside.database.present in
     let lsa = lsa_now m c.in-Some.copy in
     let does = c.in_ok-sent.ensures.does in
-    let back = given_back items lent made n c.deref_mut.ensures.len does.settled in
+    let back = given_back items lent made n c.deref_mut.ensures.len does.committed in
     let mark = ap (λ b. cond b (mark_sent m (lsa_key lsa) d) d)
     (sym c.if-sent.true ∙ c.in_ok-sent.ensures.sent)
     ∙ sym (marks_once m None lsa (map present lent) d) in
@@ -64,9 +64,9 @@ returns-then-sent c =
           (map present ls) (map draft_of ls)) c.deref_mut.ensures.value
           ∙ ap (λ (v : RouterArea). drafts_with (flooded_key m None k v.present).sends
           v.present.links v.drafted) c.self.view_is) c.mark_sent.ensures.ok;
-      settled = area_is (settled_back items lent made n c.deref_mut.ensures.value
-          c.deref_mut.ensures.len does.settled) c.mark_sent.ensures.settled
-          ∙ ap (λ (v : RouterArea). v.settled) c.self.view_is;
+      committed = area_is (committed_back items lent made n c.deref_mut.ensures.value
+          c.deref_mut.ensures.len does.committed) c.mark_sent.ensures.committed
+          ∙ ap (λ (v : RouterArea). v.committed) c.self.view_is;
       router = c.mark_sent.ensures.router ∙ ap (λ (v : RouterArea). v.router) c.self.view_is;
     }
 
@@ -81,7 +81,7 @@ returns c =
     let d = c.self.inside.database.present in
     let lsa = lsa_now m c.in-Some.copy in
     let does = c.in_ok-sent.ensures.does in
-    let back = given_back items lent made n c.deref_mut.ensures.len does.settled in
+    let back = given_back items lent made n c.deref_mut.ensures.len does.committed in
     let mark = ap (λ b. cond b (mark_sent m (lsa_key lsa) d) d)
     (sym c.if-sent.false ∙ c.in_ok-sent.ensures.sent)
     ∙ sym (marks_once m None lsa (map present lent) d) in
@@ -100,8 +100,8 @@ returns c =
           (map present ls) (map draft_of ls)) c.deref_mut.ensures.value
           ∙ ap (λ (v : RouterArea). drafts_with (flooded_key m None k v.present).sends
           v.present.links v.drafted) c.self.view_is;
-      settled = area_is (settled_back items lent made n c.deref_mut.ensures.value
-          c.deref_mut.ensures.len does.settled) refl
-          ∙ ap (λ (v : RouterArea). v.settled) c.self.view_is;
+      committed = area_is (committed_back items lent made n c.deref_mut.ensures.value
+          c.deref_mut.ensures.len does.committed) refl
+          ∙ ap (λ (v : RouterArea). v.committed) c.self.view_is;
       router = ap (λ (v : RouterArea). v.router) c.self.view_is;
     }

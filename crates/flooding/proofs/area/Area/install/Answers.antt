@@ -14,7 +14,7 @@ use Rattle.flooding.specs.Kept.{KeptLink, RouterArea}
 use Rattle.flooding.specs.Links.{area_of, draft_of, present, start}
 use Rattle.flooding.proofs.Doing.{on_err}
 use Rattle.flooding.proofs.Flooded.{marks_once}
-use Rattle.flooding.proofs.Lent.{given_back, settled_back}
+use Rattle.flooding.proofs.Lent.{committed_back, given_back}
 use Rattle.flooding.proofs.Marking.{area_is}
 use Rattle.flooding.proofs.Sends.{drafted_none}
 use Rattle.flooding.proofs.area.Area.install.Goals as goal
@@ -37,10 +37,10 @@ pub returns-in_err-sent : goal.returns-in_err-sent
 returns-in_err-sent c = record {
   area = on_err c.from_residual.result _ c.from_residual.ensures.0;
   drafts = on_err c.from_residual.result _ c.from_residual.ensures.0;
-  settled = area_is (settled_back c.self.inside.links.items c.deref_mut.result.now
+  committed = area_is (committed_back c.self.inside.links.items c.deref_mut.result.now
       c.flood_received.new.links c.self.inside.links.len c.deref_mut.ensures.value
-      c.deref_mut.ensures.len c.in_err-sent.ensures.does.settled) refl
-      ∙ ap (λ (v : RouterArea). v.settled) c.self.view_is;
+      c.deref_mut.ensures.len c.in_err-sent.ensures.does.committed) refl
+      ∙ ap (λ (v : RouterArea). v.committed) c.self.view_is;
   router = ap (λ (v : RouterArea). v.router) c.self.view_is;
 }
 
@@ -54,12 +54,13 @@ returns-in_err-acknowledge_later c =
     record {
       area = on_err away.result _ away.ensures.0;
       drafts = on_err away.result _ away.ensures.0;
-      settled = area_is (settled_back between c.deref_mut-2.result.now c.acknowledge_later.new.links
+      committed = area_is (committed_back between c.deref_mut-2.result.now
+          c.acknowledge_later.new.links
           n c.deref_mut-2.ensures.value c.deref_mut-2.ensures.len
-          c.in_err-acknowledge_later.ensures.settled
-          ∙ settled_back items c.deref_mut.result.now made n c.deref_mut.ensures.value
-          c.deref_mut.ensures.len c.in_ok-sent.ensures.does.settled) refl
-          ∙ ap (λ (v : RouterArea). v.settled) c.self.view_is;
+          c.in_err-acknowledge_later.ensures.committed
+          ∙ committed_back items c.deref_mut.result.now made n c.deref_mut.ensures.value
+          c.deref_mut.ensures.len c.in_ok-sent.ensures.does.committed) refl
+          ∙ ap (λ (v : RouterArea). v.committed) c.self.view_is;
       router = ap (λ (v : RouterArea). v.router) c.self.view_is;
     }
 
@@ -73,13 +74,14 @@ returns-in_err-install c =
     record {
       area = on_err away.result _ away.ensures.0;
       drafts = on_err away.result _ away.ensures.0;
-      settled = area_is (settled_back between c.deref_mut-2.result.now c.acknowledge_later.new.links
+      committed = area_is (committed_back between c.deref_mut-2.result.now
+          c.acknowledge_later.new.links
           n c.deref_mut-2.ensures.value c.deref_mut-2.ensures.len
-          c.in_ok-acknowledge_later.ensures.settled
-          ∙ settled_back items c.deref_mut.result.now made n c.deref_mut.ensures.value
-          c.deref_mut.ensures.len c.in_ok-sent.ensures.does.settled)
-          c.in_err-install.ensures.settled
-          ∙ ap (λ (v : RouterArea). v.settled) c.self.view_is;
+          c.in_ok-acknowledge_later.ensures.committed
+          ∙ committed_back items c.deref_mut.result.now made n c.deref_mut.ensures.value
+          c.deref_mut.ensures.len c.in_ok-sent.ensures.does.committed)
+          c.in_err-install.ensures.committed
+          ∙ ap (λ (v : RouterArea). v.committed) c.self.view_is;
       router = c.in_err-install.ensures.router
           ∙ ap (λ (v : RouterArea). v.router) c.self.view_is;
     }
@@ -101,8 +103,8 @@ returns-then-sent c =
     let db = install_flooded m lsa d in
     let floods = c.in_ok-sent.ensures.does in
     let later = c.in_ok-acknowledge_later.ensures in
-    let first = given_back items lent made n c.deref_mut.ensures.len floods.settled in
-    let back = given_back between lent2 made2 n c.deref_mut-2.ensures.len later.settled in
+    let first = given_back items lent made n c.deref_mut.ensures.len floods.committed in
+    let back = given_back between lent2 made2 n c.deref_mut-2.ensures.len later.committed in
     let again = c.deref_mut-2.ensures.value ∙ first in
     let mark = ap (λ b. cond b (mark_sent m (lsa_key lsa) db) db)
     (sym c.if-sent.true ∙ c.in_ok-sent.ensures.sent) ∙ sym (marks_once m (Some k) lsa P db) in
@@ -129,12 +131,12 @@ returns-then-sent c =
           (map present ls) (map draft_of ls)) c.deref_mut.ensures.value
           ∙ ap (λ (v : RouterArea). drafts_with (install m k lsa (start v.present)).sends
           v.present.links v.drafted) c.self.view_is) c.mark_sent.ensures.ok;
-      settled = area_is (settled_back between lent2 made2 n c.deref_mut-2.ensures.value
-          c.deref_mut-2.ensures.len later.settled
-          ∙ settled_back items lent made n c.deref_mut.ensures.value c.deref_mut.ensures.len
-          floods.settled)
-          (c.mark_sent.ensures.settled ∙ c.in_ok-install.ensures.settled)
-          ∙ ap (λ (v : RouterArea). v.settled) c.self.view_is;
+      committed = area_is (committed_back between lent2 made2 n c.deref_mut-2.ensures.value
+          c.deref_mut-2.ensures.len later.committed
+          ∙ committed_back items lent made n c.deref_mut.ensures.value c.deref_mut.ensures.len
+          floods.committed)
+          (c.mark_sent.ensures.committed ∙ c.in_ok-install.ensures.committed)
+          ∙ ap (λ (v : RouterArea). v.committed) c.self.view_is;
       router = c.mark_sent.ensures.router ∙ c.in_ok-install.ensures.router
           ∙ ap (λ (v : RouterArea). v.router) c.self.view_is;
     }
@@ -156,8 +158,8 @@ returns c =
     let db = install_flooded m lsa d in
     let floods = c.in_ok-sent.ensures.does in
     let later = c.in_ok-acknowledge_later.ensures in
-    let first = given_back items lent made n c.deref_mut.ensures.len floods.settled in
-    let back = given_back between lent2 made2 n c.deref_mut-2.ensures.len later.settled in
+    let first = given_back items lent made n c.deref_mut.ensures.len floods.committed in
+    let back = given_back between lent2 made2 n c.deref_mut-2.ensures.len later.committed in
     let again = c.deref_mut-2.ensures.value ∙ first in
     let mark = ap (λ b. cond b (mark_sent m (lsa_key lsa) db) db)
     (sym c.if-sent.false ∙ c.in_ok-sent.ensures.sent) ∙ sym (marks_once m (Some k) lsa P db) in
@@ -181,12 +183,12 @@ returns c =
           (map present ls) (map draft_of ls)) c.deref_mut.ensures.value
           ∙ ap (λ (v : RouterArea). drafts_with (install m k lsa (start v.present)).sends
           v.present.links v.drafted) c.self.view_is;
-      settled = area_is (settled_back between lent2 made2 n c.deref_mut-2.ensures.value
-          c.deref_mut-2.ensures.len later.settled
-          ∙ settled_back items lent made n c.deref_mut.ensures.value c.deref_mut.ensures.len
-          floods.settled)
-          c.in_ok-install.ensures.settled
-          ∙ ap (λ (v : RouterArea). v.settled) c.self.view_is;
+      committed = area_is (committed_back between lent2 made2 n c.deref_mut-2.ensures.value
+          c.deref_mut-2.ensures.len later.committed
+          ∙ committed_back items lent made n c.deref_mut.ensures.value c.deref_mut.ensures.len
+          floods.committed)
+          c.in_ok-install.ensures.committed
+          ∙ ap (λ (v : RouterArea). v.committed) c.self.view_is;
       router = c.in_ok-install.ensures.router
           ∙ ap (λ (v : RouterArea). v.router) c.self.view_is;
     }

@@ -9,7 +9,7 @@ use Rattle.keyed_map.proofs.Helds.{on_ok}
 use Rattle.flooding.specs.Drafted.{drafts_with}
 use Rattle.flooding.specs.Kept.{RouterArea}
 use Rattle.flooding.specs.Links.{area_of, draft_of, flooded_copy, originate_outcome, present}
-use Rattle.flooding.specs.Links.{settled_link, start}
+use Rattle.flooding.specs.Links.{committed_link, start}
 use Rattle.flooding.proofs.Installed.{at_once, installed}
 use Rattle.flooding.proofs.Marking.{area_is}
 use Rattle.flooding.proofs.area.Area.originate.Goals as goal
@@ -41,9 +41,9 @@ returns c =
           is ∙ ap (λ (o : Outcome). drafts_with o.sends (map present ls) (map draft_of ls)) whole
           ∙ ap (λ (v : RouterArea). drafts_with (originate_outcome m lsa v.present).sends
           v.present.links v.drafted) c.self.view_is) c.flood.ensures.drafts;
-      settled = c.flood.ensures.settled
-          ∙ area_is (λ i. map settled_link ls) c.in_ok-install.ensures.settled
-          ∙ ap (λ (v : RouterArea). v.settled) c.self.view_is;
+      committed = c.flood.ensures.committed
+          ∙ area_is (λ i. map committed_link ls) c.in_ok-install.ensures.committed
+          ∙ ap (λ (v : RouterArea). v.committed) c.self.view_is;
       router = c.flood.ensures.router ∙ c.in_ok-install.ensures.router
           ∙ ap (λ (v : RouterArea). v.router) c.self.view_is;
     }

@@ -35,8 +35,8 @@ returns c =
       drafts = on_ok c.remove.result (λ _.
           ap (λ (v : RouterArea). v.drafted) c.self.view_is
           ∙ drafted_none 1 a.links old.drafted) c.remove.ensures.ok;
-      settled = area_is (ap (λ (v : RouterArea). v.settled.links) c.self.view_is)
-          (c.remove.ensures.settled
-          ∙ ap (λ (v : RouterArea). v.settled.database) c.self.view_is);
+      committed = area_is (ap (λ (v : RouterArea). v.committed.links) c.self.view_is)
+          (c.remove.ensures.committed
+          ∙ ap (λ (v : RouterArea). v.committed.database) c.self.view_is);
       router = c.remove.ensures.router ∙ ap (λ (v : RouterArea). v.router) c.self.view_is;
     }

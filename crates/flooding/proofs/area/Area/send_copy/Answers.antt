@@ -9,7 +9,7 @@ use Rattle.flooding.specs.Drafted.{drafts_with}
 use Rattle.flooding.specs.Kept.{KeptLink, RouterArea}
 use Rattle.flooding.specs.Links.{area_of, draft_of, present, start}
 use Rattle.flooding.proofs.Doing.{area_rests, on_err}
-use Rattle.flooding.proofs.Lent.{given_back, settled_back}
+use Rattle.flooding.proofs.Lent.{committed_back, given_back}
 use Rattle.flooding.proofs.Marking.{area_is}
 use Rattle.flooding.proofs.area.Area.send_copy.Goals as goal
 
@@ -27,10 +27,10 @@ pub returns-in_err-send_update : goal.returns-in_err-send_update
 returns-in_err-send_update c = record {
   area = on_err c.from_residual.result _ c.from_residual.ensures.0;
   drafts = on_err c.from_residual.result _ c.from_residual.ensures.0;
-  settled = area_is (settled_back c.self.inside.links.items c.deref_mut.result.now
+  committed = area_is (committed_back c.self.inside.links.items c.deref_mut.result.now
       c.send_update.new.links c.self.inside.links.len c.deref_mut.ensures.value
-      c.deref_mut.ensures.len c.in_err-send_update.ensures.settled) refl
-      ∙ ap (λ (v : RouterArea). v.settled) c.self.view_is;
+      c.deref_mut.ensures.len c.in_err-send_update.ensures.committed) refl
+      ∙ ap (λ (v : RouterArea). v.committed) c.self.view_is;
   router = ap (λ (v : RouterArea). v.router) c.self.view_is;
 }
 
@@ -45,7 +45,7 @@ returns c =
     let made = c.send_update.new.links in
     let d = c.self.inside.database.present in
     let does = c.in_ok-send_update.ensures in
-    let back = given_back items lent made len c.deref_mut.ensures.len does.settled in
+    let back = given_back items lent made len c.deref_mut.ensures.len does.committed in
     record {
       area = on_ok c.mark_sent.result (λ is.
           area_is (ap (map present) back ∙ does.links) (is ∙ ap (λ j. mark_sent m j d)
@@ -65,8 +65,8 @@ returns c =
           ∙ ap (λ (v : RouterArea). drafts_with (send_copy m n
           (finite.get v.present.database k) (start v.present)).sends v.present.links v.drafted)
           c.self.view_is) c.mark_sent.ensures.ok;
-      settled = area_is (settled_back items lent made len c.deref_mut.ensures.value
-          c.deref_mut.ensures.len does.settled) c.mark_sent.ensures.settled
-          ∙ ap (λ (v : RouterArea). v.settled) c.self.view_is;
+      committed = area_is (committed_back items lent made len c.deref_mut.ensures.value
+          c.deref_mut.ensures.len does.committed) c.mark_sent.ensures.committed
+          ∙ ap (λ (v : RouterArea). v.committed) c.self.view_is;
       router = c.mark_sent.ensures.router ∙ ap (λ (v : RouterArea). v.router) c.self.view_is;
     }

@@ -8,7 +8,7 @@ use Rattle.received.specs.Links.{Link, link_at}
 use Rattle.received.specs.Outcomes.{sends_at}
 use Rattle.flooding.specs.Drafted.{drafts_with}
 use Rattle.flooding.specs.Kept.{KeptLink, RouterArea}
-use Rattle.flooding.specs.Links.{draft_of, present, settled_link, start}
+use Rattle.flooding.specs.Links.{committed_link, draft_of, present, start}
 use Rattle.flooding.specs.Steps.{key_of_update, mark_each, one_link, sent_by}
 use Rattle.flooding.proofs.Doing.{on_err}
 use Rattle.flooding.proofs.Kept.{shows_kept}
@@ -60,10 +60,10 @@ pub returns-in_err-take : goal.returns-in_err-take
 returns-in_err-take g c = record {
   area = on_err c.from_residual.result _ c.from_residual.ensures.0;
   drafts = on_err c.from_residual.result _ c.from_residual.ensures.0;
-  settled = area_is (shows_kept settled_link c.self.inside.links.items (c.args.number - 1)
+  committed = area_is (shows_kept committed_link c.self.inside.links.items (c.args.number - 1)
       c.index_mut.result.now c.take.new.link c.index_mut.ensures.value
-      (c.in_err-take.ensures.settled ∙ ap settled_link c.index_mut.ensures.value)) refl
-      ∙ ap (λ (v : RouterArea). v.settled) c.self.view_is;
+      (c.in_err-take.ensures.committed ∙ ap committed_link c.index_mut.ensures.value)) refl
+      ∙ ap (λ (v : RouterArea). v.committed) c.self.view_is;
   router = ap (λ (v : RouterArea). v.router) c.self.view_is;
 }
 
@@ -119,8 +119,8 @@ returns g c =
           ∙ ap (λ (v : RouterArea). drafts_with (one_link m k A S (start v.present)).sends
           v.present.links v.drafted) c.self.view_is)
           c.mark_behind.ensures.ok;
-      settled = area_is (shows_kept settled_link items i link after value
-          (does.settled ∙ ap settled_link value)) c.mark_behind.ensures.settled
-          ∙ ap (λ (v : RouterArea). v.settled) c.self.view_is;
+      committed = area_is (shows_kept committed_link items i link after value
+          (does.committed ∙ ap committed_link value)) c.mark_behind.ensures.committed
+          ∙ ap (λ (v : RouterArea). v.committed) c.self.view_is;
       router = c.mark_behind.ensures.router ∙ ap (λ (v : RouterArea). v.router) c.self.view_is;
     }

@@ -3,10 +3,10 @@ use Rattle.std.proofs.lemmas.List.{length-map}
 use Rattle.keyed_map.proofs.Helds.{on_ok}
 use Rattle.flooding.specs.Drafted.{drafts_with}
 use Rattle.flooding.specs.Kept.{KeptLink, RouterArea}
-use Rattle.flooding.specs.Links.{area_of, draft_of, present, settled_link, start}
+use Rattle.flooding.specs.Links.{area_of, committed_link, draft_of, present, start}
 use Rattle.flooding.specs.Steps.{all_links, keys_behind, mark_each, update_count, update_count_on}
 use Rattle.flooding.proofs.Doing.{on_err}
-use Rattle.flooding.proofs.Lent.{given_back, settled_back}
+use Rattle.flooding.proofs.Lent.{committed_back, given_back}
 use Rattle.flooding.proofs.Marked.{counts_on, marks_are, sent_at}
 use Rattle.flooding.proofs.Marking.{area_is}
 use Rattle.flooding.proofs.Sends.{drafts_are}
@@ -17,14 +17,14 @@ mark_all-requires g c =
     let items = c.self.inside.links.items in
     let lent = c.deref_mut.result.now in
     let made = c.step_links.new.links in
-    let kept = c.in_ok-step_links.ensures.settled in
+    let kept = c.in_ok-step_links.ensures.committed in
     let back = given_back items lent made c.self.inside.links.len c.deref_mut.ensures.len kept in
     let counted : length c.deref-2.result.now ≡ length items =
     ap length (c.deref-2.ensures.value ∙ c.in_ok-counts.ensures)
     ∙ length-map c.deref.result.now update_count_on ∙ ap length c.deref.ensures.value in
     let linked : length c.deref-3.result.now ≡ length items =
-    ap length (c.deref-3.ensures.value ∙ back) ∙ sym (length-map made settled_link)
-    ∙ ap length kept ∙ length-map lent settled_link ∙ ap length c.deref_mut.ensures.value in
+    ap length (c.deref-3.ensures.value ∙ back) ∙ sym (length-map made committed_link)
+    ∙ ap length kept ∙ length-map lent committed_link ∙ ap length c.deref_mut.ensures.value in
     counted ∙ sym linked
 
 pub returns-in_err-step_links : goal.returns-in_err-step_links
@@ -33,10 +33,10 @@ returns-in_err-step_links g c = record {
       c.from_residual-in_err-step_links.ensures.0;
   drafts = on_err c.from_residual-in_err-step_links.result _
       c.from_residual-in_err-step_links.ensures.0;
-  settled = area_is (settled_back c.self.inside.links.items c.deref_mut.result.now
+  committed = area_is (committed_back c.self.inside.links.items c.deref_mut.result.now
       c.step_links.new.links c.self.inside.links.len c.deref_mut.ensures.value
-      c.deref_mut.ensures.len c.in_err-step_links.ensures.settled) refl
-      ∙ ap (λ (v : RouterArea). v.settled) c.self.view_is;
+      c.deref_mut.ensures.len c.in_err-step_links.ensures.committed) refl
+      ∙ ap (λ (v : RouterArea). v.committed) c.self.view_is;
   router = ap (λ (v : RouterArea). v.router) c.self.view_is;
 }
 
@@ -54,7 +54,7 @@ returns g c =
     let does = c.in_ok-step_links.ensures in
     let count : length ds ≡ length ls = length-map lent draft_of ∙ sym (length-map lent present) in
     let back = given_back items lent made c.self.inside.links.len c.deref_mut.ensures.len
-    does.settled in
+    does.committed in
     let counts : c.deref-2.result.now ≡ map update_count ds =
     c.deref-2.ensures.value ∙ c.in_ok-counts.ensures
     ∙ ap (map update_count_on) (c.deref.ensures.value ∙ sym c.deref_mut.ensures.value)
@@ -78,8 +78,8 @@ returns g c =
           ∙ ap (λ (v : RouterArea). drafts_with (all_links m A S (start v.present)).sends
           v.present.links v.drafted) c.self.view_is)
           c.mark_all.ensures.ok;
-      settled = area_is (settled_back items lent made c.self.inside.links.len
-          c.deref_mut.ensures.value c.deref_mut.ensures.len does.settled)
-          c.mark_all.ensures.settled ∙ ap (λ (v : RouterArea). v.settled) c.self.view_is;
+      committed = area_is (committed_back items lent made c.self.inside.links.len
+          c.deref_mut.ensures.value c.deref_mut.ensures.len does.committed)
+          c.mark_all.ensures.committed ∙ ap (λ (v : RouterArea). v.committed) c.self.view_is;
       router = c.mark_all.ensures.router ∙ ap (λ (v : RouterArea). v.router) c.self.view_is;
     }

@@ -2,7 +2,7 @@ use Rattle.std.proofs.Common.{◌≡◌, ◌-◌, ◌<◌, ◌+◌, length, map,
 use Rattle.std.proofs.lemmas.List.{length-map}
 use Rattle.received.specs.Links.{change_link, taken_down}
 use Rattle.flooding.specs.Kept.{RouterArea}
-use Rattle.flooding.specs.Links.{draft_of, present, settled_link}
+use Rattle.flooding.specs.Links.{committed_link, draft_of, present}
 use Rattle.flooding.proofs.Kept.{shows_kept}
 use Rattle.flooding.proofs.Marking.{area_is, router_area_is}
 use Rattle.flooding.proofs.OneLink.{changed_at}
@@ -36,8 +36,8 @@ returns c =
     (area_is (changed_at present taken_down 1 n i items c.take_down.new.self link lt at
     (ap present c.take_down.ensures
     ∙ ap (λ k. taken_down (present k)) c.index_mut.ensures.value)) refl)
-    (area_is (shows_kept settled_link items i link c.take_down.new.self c.index_mut.ensures.value
-    (ap settled_link c.take_down.ensures ∙ ap settled_link c.index_mut.ensures.value)) refl)
+    (area_is (shows_kept committed_link items i link c.take_down.new.self c.index_mut.ensures.value
+    (ap committed_link c.take_down.ensures ∙ ap committed_link c.index_mut.ensures.value)) refl)
     (shows_kept draft_of items i link c.take_down.new.self c.index_mut.ensures.value
     (ap draft_of c.take_down.ensures ∙ ap draft_of c.index_mut.ensures.value))
     ∙ ap (λ (v : RouterArea). record v {

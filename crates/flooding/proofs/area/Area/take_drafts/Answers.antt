@@ -4,7 +4,7 @@ use Rattle.flooding.specs.Drafted.{nothing_at}
 use Rattle.flooding.specs.Kept.{KeptLink, RouterArea}
 use Rattle.flooding.specs.Links.{draft_of, present}
 use Rattle.flooding.proofs.Doing.{if_ok}
-use Rattle.flooding.proofs.Lent.{given_back, settled_back}
+use Rattle.flooding.proofs.Lent.{committed_back, given_back}
 use Rattle.flooding.proofs.Marking.{area_is, router_area_is}
 use Rattle.flooding.proofs.area.Area.take_drafts.Goals as goal
 
@@ -23,13 +23,13 @@ returns-clause-rest c =
     let n = c.self.inside.links.len in
     let value = c.deref_mut.ensures.value in
     let back = given_back items lent made n c.deref_mut.ensures.len
-    c.take_drafts.ensures.settled in
+    c.take_drafts.ensures.committed in
     on_ok c.take_drafts.result
     (λ is.
     router_area_is refl
     (area_is (ap (map present) back ∙ c.take_drafts.ensures.present ∙ ap (map present) value) refl)
-    (area_is (settled_back items lent made n value c.deref_mut.ensures.len
-    c.take_drafts.ensures.settled) refl)
+    (area_is (committed_back items lent made n value c.deref_mut.ensures.len
+    c.take_drafts.ensures.committed) refl)
     (ap (map draft_of) back ∙ is ∙ ap (λ (ls : List KeptLink). nothing_at (map present ls)) value)
     ∙ ap (λ (v : RouterArea). record v { drafted = nothing_at v.present.links }) c.self.view_is)
     c.take_drafts.ensures.rest
@@ -38,14 +38,14 @@ pub returns-clause-present : goal.returns-clause-present
 returns-clause-present c =
     let items = c.self.inside.links.items in
     let back = given_back items c.deref_mut.result.now c.take_drafts.new.links
-    c.self.inside.links.len c.deref_mut.ensures.len c.take_drafts.ensures.settled in
+    c.self.inside.links.len c.deref_mut.ensures.len c.take_drafts.ensures.committed in
     area_is (ap (map present) back ∙ c.take_drafts.ensures.present
     ∙ ap (map present) c.deref_mut.ensures.value) refl
     ∙ ap (λ (v : RouterArea). v.present) c.self.view_is
 
-pub returns-clause-settled : goal.returns-clause-settled
-returns-clause-settled c =
-    area_is (settled_back c.self.inside.links.items c.deref_mut.result.now
+pub returns-clause-committed : goal.returns-clause-committed
+returns-clause-committed c =
+    area_is (committed_back c.self.inside.links.items c.deref_mut.result.now
     c.take_drafts.new.links c.self.inside.links.len c.deref_mut.ensures.value
-    c.deref_mut.ensures.len c.take_drafts.ensures.settled) refl
-    ∙ ap (λ (v : RouterArea). v.settled) c.self.view_is
+    c.deref_mut.ensures.len c.take_drafts.ensures.committed) refl
+    ∙ ap (λ (v : RouterArea). v.committed) c.self.view_is

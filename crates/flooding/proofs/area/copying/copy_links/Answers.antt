@@ -1,6 +1,6 @@
 use Rattle.std.proofs.Common.{map, ◌∙◌, arith}
 use Rattle.std.proofs.lemmas.List.{length-map, take_all}
-use Rattle.flooding.specs.Links.{draft_of, present, settled_link}
+use Rattle.flooding.specs.Links.{committed_link, draft_of, present}
 use Rattle.flooding.proofs.Copies.{copied_next}
 use Rattle.flooding.proofs.Taken.{emptied, nothing_each}
 use Rattle.flooding.proofs.area.copying.copy_links.Goals as goal
@@ -15,9 +15,9 @@ loop-i-preserved c =
       shown = copied_next present present links made longer c.loop-i.i link c.in_ok-copy.field-0
           c.loop-i-test.true c.index-links-i.is c.in_ok-push.ensures.items
           c.in_ok-copy.ensures.present c.loop-i.invariant.shown;
-      fresh = copied_next present settled_link links made longer c.loop-i.i link
+      fresh = copied_next present committed_link links made longer c.loop-i.i link
           c.in_ok-copy.field-0 c.loop-i-test.true c.index-links-i.is c.in_ok-push.ensures.items
-          c.in_ok-copy.ensures.settled c.loop-i.invariant.fresh;
+          c.in_ok-copy.ensures.committed c.loop-i.invariant.fresh;
       empty = copied_next emptied draft_of links made longer c.loop-i.i link c.in_ok-copy.field-0
           c.loop-i-test.true c.index-links-i.is c.in_ok-push.ensures.items
           c.in_ok-copy.ensures.draft c.loop-i.invariant.empty;

@@ -14,5 +14,5 @@ returns c = record {
       ∙ ap (λ (k : KeptLink). drafting k.present.interface.delay
       (Acknowledges c.args.header ∷ []) k.drafted) c.self.view_is)
       c.add_acknowledgment.ensures;
-  settled = ap (λ (k : KeptLink). k.settled) c.self.view_is;
+  committed = ap (λ (k : KeptLink). k.committed) c.self.view_is;
 }

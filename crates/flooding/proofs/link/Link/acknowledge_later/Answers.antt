@@ -19,9 +19,9 @@ returns c =
     } in
     let before : Link = record {
       interface = inside.interface;
-      neighbor = inside.slot.settled;
-      acknowledgments = inside.acknowledgments.settled;
-      last_hello_sent = inside.last_hello_sent.settled;
+      neighbor = inside.slot.committed;
+      acknowledgments = inside.acknowledgments.committed;
+      last_hello_sent = inside.last_hello_sent.committed;
     } in
     record {
       link = on_ok c.insert.result
@@ -31,6 +31,6 @@ returns c =
           c.insert.ensures.ok;
       draft = on_ok c.insert.result
           (λ _. stays_drafted _ c.args.self.now c.self.view_is) c.insert.ensures.ok;
-      settled = ap (λ a. record before { acknowledgments = a }) c.insert.ensures.settled
-          ∙ ap (λ (k : KeptLink). k.settled) c.self.view_is;
+      committed = ap (λ a. record before { acknowledgments = a }) c.insert.ensures.committed
+          ∙ ap (λ (k : KeptLink). k.committed) c.self.view_is;
     }

@@ -19,7 +19,7 @@ returns-then-exchanging c =
     let delay = c.self.inside.interface.delay in
     let is = sym c.is_exchange_or_later-exchanging.ensures ∙ c.if-exchanging.true in
     place_becomes (step_on F) (sent_on F) _ c.args.self.now c.attempt.new.self.present
-    c.attempt.new.self.settled c.attempt.new.draft c.attempt.result c.self.view_is
+    c.attempt.new.self.committed c.attempt.new.draft c.attempt.result c.self.view_is
     (on_ok c.attempt.result
     (λ made. made ∙ begins_anew m o is
     ∙ ap (λ (k : KeptLink). step_on F k.present.neighbor) c.self.view_is)
@@ -29,7 +29,7 @@ returns-then-exchanging c =
     ∙ ap (λ (k : KeptLink). drafting k.present.interface.delay (sent_on F k.present.neighbor)
     k.drafted) c.self.view_is)
     c.attempt.ensures.draft)
-    (c.attempt.ensures.settled ∙ ap (λ (k : KeptLink). k.settled.neighbor) c.self.view_is)
+    (c.attempt.ensures.committed ∙ ap (λ (k : KeptLink). k.committed.neighbor) c.self.view_is)
 
 pub returns : goal.returns
 returns c =
@@ -54,5 +54,5 @@ returns c =
           ∙ ap (λ cs. drafting l.present.interface.delay cs l.drafted) (rests_unsent m o is)
           ∙ ap (λ (k : KeptLink). drafting l.present.interface.delay
           (sent_on F k.present.neighbor) l.drafted) c.self.view_is;
-      settled = refl;
+      committed = refl;
     }

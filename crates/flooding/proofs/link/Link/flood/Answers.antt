@@ -18,5 +18,5 @@ returns-in_default-clause-does c =
     record {
       link = first_of (search rules, grind (arith, common_steps));
       draft = ap (λ v. v.draft) c.self-inside.view_is ∙ same ∙ sent;
-      settled = first_of (search rules, grind (arith, common_steps));
+      committed = first_of (search rules, grind (arith, common_steps));
     }

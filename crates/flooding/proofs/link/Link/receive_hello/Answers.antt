@@ -6,7 +6,7 @@ use Rattle.adjacency.specs.Adjacencies.{after_hello}
 use Rattle.adjacency.specs.Contents.{Step}
 use Rattle.adjacency.specs.Drafts.{drafting}
 use Rattle.adjacency.specs.Neighbors.{Neighbor}
-use Rattle.adjacency.specs.Views.{begins, begun, settled_among}
+use Rattle.adjacency.specs.Views.{begins, begun, committed_among}
 use Rattle.adjacency.proofs.Floods.{drafting-none}
 use Rattle.adjacency.proofs.Neighbors.{none_begins, some_begins, some_rests}
 use Rattle.flooding.specs.Kept.{KeptLink}
@@ -23,7 +23,7 @@ returns-in_default c =
     let starts = none_begins c.args.moment c.args.from c.args.names ∙ ap after (sym none) in
     place_becomes (λ (o : Option Neighbor). Some (after o).neighbor)
     (λ (o : Option Neighbor). (after o).sends) _ old c.begin.new.self.present
-    c.begin.new.self.settled c.begin.new.draft c.begin.result
+    c.begin.new.self.committed c.begin.new.draft c.begin.result
     (ap shown c.self-inside.view_is ∙ c.self.view_is)
     (on_ok c.begin.result (λ is. is ∙ ap (λ (s : Step). Some s.neighbor) starts)
     c.begin.ensures.ok)
@@ -33,8 +33,8 @@ returns-in_default c =
     ((ap (λ v. v.draft) c.self-inside.view_is ∙ ap (λ (k : KeptLink). k.drafted) c.self.view_is)
     i)))
     c.begin.ensures.draft)
-    (c.begin.ensures.settled ∙ ap (λ v. v.slot.settled) c.self-inside.view_is
-    ∙ ap (λ (k : KeptLink). k.settled.neighbor) c.self.view_is)
+    (c.begin.ensures.committed ∙ ap (λ v. v.slot.committed) c.self-inside.view_is
+    ∙ ap (λ (k : KeptLink). k.committed.neighbor) c.self.view_is)
 
 pub returns-then-begins : goal.returns-then-begins
 returns-then-begins c =
@@ -50,7 +50,7 @@ returns-then-begins c =
     ∙ c.if-begins.true) ∙ ap after (sym some) in
     place_becomes (λ (o : Option Neighbor). Some (after o).neighbor)
     (λ (o : Option Neighbor). (after o).sends) _ old c.begin-then-begins.new.self.present
-    c.begin-then-begins.new.self.settled c.begin-then-begins.new.draft c.begin-then-begins.result
+    c.begin-then-begins.new.self.committed c.begin-then-begins.new.draft c.begin-then-begins.result
     (ap shown c.self-inside.view_is ∙ c.self.view_is)
     (on_ok c.begin-then-begins.result
     (λ is. is
@@ -66,10 +66,10 @@ returns-then-begins c =
     i))
     ∙ ap (λ (s : Step). drafting delay s.sends old.drafted) starts)
     c.begin-then-begins.ensures.draft)
-    (c.begin-then-begins.ensures.settled
-    ∙ ap (settled_among c.self-inside.inside.0.1.0.before) (sym c.in-Some.is)
-    ∙ ap (λ v. v.slot.settled) c.self-inside.view_is
-    ∙ ap (λ (k : KeptLink). k.settled.neighbor) c.self.view_is)
+    (c.begin-then-begins.ensures.committed
+    ∙ ap (committed_among c.self-inside.inside.0.1.0.before) (sym c.in-Some.is)
+    ∙ ap (λ v. v.slot.committed) c.self-inside.view_is
+    ∙ ap (λ (k : KeptLink). k.committed.neighbor) c.self.view_is)
 
 pub returns : goal.returns
 returns c =
@@ -99,5 +99,5 @@ returns c =
           ap (λ v. v.draft) c.self-inside.view_is ∙ ap (λ (k : KeptLink). k.drafted) c.self.view_is
           ∙ drafting-none delay old.drafted
           ∙ ap (λ (s : Step). drafting delay s.sends old.drafted) rests;
-      settled = first_of (search rules, grind (arith, common_steps));
+      committed = first_of (search rules, grind (arith, common_steps));
     }

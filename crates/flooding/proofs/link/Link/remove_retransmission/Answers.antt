@@ -14,7 +14,7 @@ returns-in-None c =
     record {
       link = first_of (search rules, grind (arith, common_steps));
       draft = ap (λ v. v.draft) c.self-inside.view_is ∙ same ∙ sent;
-      settled = first_of (search rules, grind (arith, common_steps));
+      committed = first_of (search rules, grind (arith, common_steps));
     }
 
 pub returns-in-Some : goal.returns-in-Some
@@ -23,5 +23,5 @@ returns-in-Some c = record {
   draft = on_ok c.remove_retransmission.result
       (λ _. stays_drafted _ c.args.self.now (ap shown c.self-inside.view_is ∙ c.self.view_is))
       c.remove_retransmission.ensures.ok;
-  settled = first_of (search rules, grind (arith, common_steps));
+  committed = first_of (search rules, grind (arith, common_steps));
 }

@@ -16,5 +16,5 @@ returns c =
           (λ sent. sent ∙ ap (λ (k : KeptLink). drafting k.present.interface.delay cs k.drafted)
           c.self.view_is)
           c.add_update.ensures;
-      settled = ap (λ (k : KeptLink). k.settled) c.self.view_is;
+      committed = ap (λ (k : KeptLink). k.committed) c.self.view_is;
     }

@@ -20,9 +20,9 @@ returns c =
     } in
     let before : Link = record {
       interface = inside.interface;
-      neighbor = inside.slot.settled;
-      acknowledgments = inside.acknowledgments.settled;
-      last_hello_sent = inside.last_hello_sent.settled;
+      neighbor = inside.slot.committed;
+      acknowledgments = inside.acknowledgments.committed;
+      last_hello_sent = inside.last_hello_sent.committed;
     } in
     let none = all_left m c.deref.result.now c.len-count.result c.len-count.ensures
     (c.deref.ensures.value ∙ c.in_ok-keys.ensures) in
@@ -37,6 +37,6 @@ returns c =
           ∙ ap (λ (k : KeptLink). drafting k.present.interface.delay
           (map Acknowledges (finite.values k.present.acknowledgments)) k.drafted) c.self.view_is)
           c.remove_headers.ensures.ok;
-      settled = ap (λ a. record before { acknowledgments = a }) c.remove_headers.ensures.settled
-          ∙ ap (λ (k : KeptLink). k.settled) c.self.view_is;
+      committed = ap (λ a. record before { acknowledgments = a }) c.remove_headers.ensures.committed
+          ∙ ap (λ (k : KeptLink). k.committed) c.self.view_is;
     }

@@ -18,9 +18,9 @@ returns c =
     } in
     let before : Link = record {
       interface = inside.interface;
-      neighbor = inside.slot.settled;
-      acknowledgments = inside.acknowledgments.settled;
-      last_hello_sent = inside.last_hello_sent.settled;
+      neighbor = inside.slot.committed;
+      acknowledgments = inside.acknowledgments.committed;
+      last_hello_sent = inside.last_hello_sent.committed;
     } in
     record {
       link = on_ok c.add_hello.result
@@ -34,7 +34,9 @@ returns c =
           ∙ ap (λ (k : KeptLink). drafting k.present.interface.delay
           (SendsHello c.args.hello ∷ []) k.drafted) c.self.view_is)
           c.add_hello.ensures;
-      settled =
-          ap (λ (s : Kept (Option ℕ)). record before { last_hello_sent = s.settled }) c.set.ensures
-          ∙ ap (λ (k : KeptLink). k.settled) c.self.view_is;
+      committed =
+          ap (λ (s : Kept (Option ℕ)). record before {
+            last_hello_sent = s.committed;
+          }) c.set.ensures
+          ∙ ap (λ (k : KeptLink). k.committed) c.self.view_is;
     }

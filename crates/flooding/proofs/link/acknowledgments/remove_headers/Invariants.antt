@@ -8,5 +8,5 @@ abbrev pub invariant-loop-i : goal.invariant-loop-i
 invariant-loop-i l = record {
   leaves : fold finite.remove l.headers.present (from l.i l.keys)
       ≡ fold finite.remove l.fn.headers.present l.keys;
-  settled : l.headers.settled ≡ l.fn.headers.settled;
+  committed : l.headers.committed ≡ l.fn.headers.committed;
 }

@@ -19,14 +19,14 @@ returns-then-names c =
           (c.initial_description-opened.ensures
           ∙ ap initial_description c.next_dd_sequence_start-number.ensures)
           ∙ ap (λ s. drafting delay s.sends c.args.draft.now) is;
-      settled = ap (λ h. h.settled) c.replace.ensures;
+      committed = ap (λ h. h.committed) c.replace.ensures;
     }
 
 pub returns : goal.returns
 returns c =
     let is = begun_unnamed c.args.moment c.args.router c.args.dd_sequence_start c.args.names
     c.if-names.false in
-    nothing_sent _ (ap (λ h. h.settled) c.replace-2.ensures)
+    nothing_sent _ (ap (λ h. h.committed) c.replace-2.ensures)
     (ap (λ h. h.present) c.replace-2.ensures ∙ ap (λ n. Some n) c.fresh-neighbor.ensures
     ∙ ap (λ s. Some s.neighbor) is)
     (ap (λ s. s.sends) is)

@@ -13,7 +13,7 @@ pub returns-in_default : goal.returns-in_default
 returns-in_default c =
     let F = judging c.args.own c.args.moment c.args.database.now.present c.args.description.now in
     let none = ap present_of (sym c.in_default.is) ∙ ap (λ h. h.present) c.self.view_is in
-    nothing_sent _ (ap (λ h. h.settled) c.self.view_is)
+    nothing_sent _ (ap (λ h. h.committed) c.self.view_is)
     (ap present_of c.in_default.is ∙ ap (step_on F) none) (ap (sent_on F) none)
 
 pub returns-then-over : goal.returns-then-over
@@ -50,5 +50,5 @@ returns c =
           ∙ ap (λ cs. drafting delay cs c.args.draft.now)
           (goes_on_sent c.args.own c.args.moment db d v (Some n) c.verdict-verdict.ensures is
           ∙ ap (sent_on F) shown)) c.proceed.ensures.draft;
-      settled = first_of (search rules, grind (arith, common_steps));
+      committed = first_of (search rules, grind (arith, common_steps));
     }

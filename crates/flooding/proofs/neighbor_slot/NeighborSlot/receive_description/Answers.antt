@@ -32,5 +32,5 @@ returns c =
           ∙ sent_after c.args.own c.args.moment c.args.database.now.present
           c.args.description.now c.args.self.now.present delay c.args.draft.now is)
           c.judge.ensures.draft;
-      settled = c.judge.ensures.settled ∙ c.two_way.ensures.settled;
+      committed = c.judge.ensures.committed ∙ c.two_way.ensures.committed;
     }

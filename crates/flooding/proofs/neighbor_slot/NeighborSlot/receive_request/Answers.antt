@@ -18,7 +18,7 @@ returns-then-there c =
           ∙ ap (λ cs. drafting c.args.delay cs c.args.draft.now)
           (answers_sent c.args.moment c.args.database.now.present c.args.keys.now
           c.args.self.now.present is all)) c.send_copies.ensures;
-      settled = refl;
+      committed = refl;
     }
 
 pub returns-then-exchanging : goal.returns-then-exchanging
@@ -33,7 +33,7 @@ returns-then-exchanging c =
           ∙ ap (λ cs. drafting c.args.delay cs c.args.draft.now)
           (fails_sent c.args.moment c.args.database.now.present c.args.keys.now
           c.args.self.now.present is some)) c.attempt.ensures.draft;
-      settled = c.attempt.ensures.settled;
+      committed = c.attempt.ensures.committed;
     }
 
 pub returns : goal.returns

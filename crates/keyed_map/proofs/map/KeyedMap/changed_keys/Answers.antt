@@ -16,7 +16,7 @@ use Rattle.keyed_map.proofs.map.KeyedMap.changed_keys.Goals.{else-not-branch}
 pub loop-place-preserved : goal.loop-place-preserved
 loop-place-preserved g c =
     let S = g.T.ChangeTest.same c.args.test.now in
-    let settled = c.args.self.now.settled in
+    let committed = c.args.self.now.committed in
     let present = c.args.self.now.present in
     let es = c.as_slice-edits.result.now in
     let n = c.loop-place.place in
@@ -32,8 +32,9 @@ loop-place-preserved g c =
           let slots = slots_of c.self.inside.slots.entries in
           let value = c.as_slice-edits.ensures.value in
           let in_items = subst (λ xs. slice_get xs n ≡ Some edit) value at in
-          let differs = λ (same : S edit.key (map.get settled edit.key) (map.get present edit.key)).
-          let inside = subst (λ (h : Held _). S edit.key (map.get h.settled edit.key)
+          let differs = λ (same : S edit.key (map.get committed edit.key)
+          (map.get present edit.key)).
+          let inside = subst (λ (h : Held _). S edit.key (map.get h.committed edit.key)
           (map.get h.present edit.key)) (sym c.self.view_is) same in
           let t = kept_here.1 (λ first.
           let one = kept_there S items slots n edit in_items
@@ -43,7 +44,7 @@ loop-place-preserved g c =
           absurd cc in
           let still = still_outside S present es n keys (edit.key ∷ [])
           c.loop-place.invariant.others in
-          let changed = one_differs S settled present keys edit.key c.loop-place.invariant.changed
+          let changed = one_differs S committed present keys edit.key c.loop-place.invariant.changed
           differs in
           let others = one_more (Outside (keys ++ edit.key ∷ []) S) present es n edit at
           (λ first none. absurd (none (Contains-push keys edit.key))) still in
@@ -61,7 +62,7 @@ returns-clause-others g c key none =
     let slots = slots_of c.self.inside.slots.entries in
     let value = c.as_slice-edits.ensures.value in
     let keys = c.loop-place.keys.items in
-    subst (λ (h : Held _). S key (map.get h.settled key) (map.get h.present key)) c.self.view_is
+    subst (λ (h : Held _). S key (map.get h.committed key) (map.get h.present key)) c.self.view_is
     (kept (Outside keys S) (λ k o out. c.requires k o) items slots (λ place e low at first.
     subst (λ (h : Held _). Keeps (Outside keys S) h.present e) (sym c.self.view_is)
     (c.loop-place.invariant.others place e

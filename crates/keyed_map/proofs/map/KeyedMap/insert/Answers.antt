@@ -36,11 +36,11 @@ invariant_of-self-2 g c =
     (AllFit-push edits edit slots (map.insert slots c.args.key (Holds c.args.x)) back
     (has_place slots c.args.key (Holds c.args.x) c.in_ok-before.before) c.self.invariant.0))
     in
-    let settled = ap (λ es. live (undone es (slots_of c.insert.new.self.entries))) pushed
+    let committed = ap (λ es. live (undone es (slots_of c.insert.new.self.entries))) pushed
     ∙ ap (λ m. live (undone (edits ++ edit ∷ []) m)) now
     ∙ ap live (undone-push edits edit slots (map.insert slots c.args.key (Holds c.args.x))
     back) in
-    (fit, c.count-self-inside.ensures, c.self.invariant.2 ∙ sym (ap map.len settled))
+    (fit, c.count-self-inside.ensures, c.self.invariant.2 ∙ sym (ap map.len committed))
 
 pub returns-clause-ok : goal.returns-clause-ok
 returns-clause-ok g c =
@@ -50,8 +50,8 @@ returns-clause-ok g c =
     ap live now ∙ live_put slots c.args.key (Holds c.args.x)
     ∙ ap (λ h. map.insert h.present c.args.key c.args.x) c.self.view_is
 
-pub returns-clause-settled : goal.returns-clause-settled
-returns-clause-settled g c =
+pub returns-clause-committed : goal.returns-clause-committed
+returns-clause-committed g c =
     let slots = slots_of c.self.inside.slots.entries in
     let edits = c.self.inside.edits.items in
     let edit : Edit _ = record { key = c.args.key; before = c.in_ok-before.before } in
@@ -75,7 +75,7 @@ returns-clause-settled g c =
     ap (λ es. live (undone es (slots_of c.insert.new.self.entries))) pushed
     ∙ ap (λ m. live (undone (edits ++ edit ∷ []) m)) now
     ∙ ap live (undone-push edits edit slots (map.insert slots c.args.key (Holds c.args.x))
-    back) ∙ ap (λ h. h.settled) c.self.view_is
+    back) ∙ ap (λ h. h.committed) c.self.view_is
 
 pub count-self-inside-requires : goal.count-self-inside-requires
 count-self-inside-requires g c =

@@ -33,7 +33,7 @@ returns-then-not-branch g c =
       (λ t. absurd cc),
       (λ all. absurd (
           let inside = subst (λ (h : Held _). (key : Key)
-          → S key (map.get h.settled key) (map.get h.present key)) (sym c.self.view_is) all in
+          → S key (map.get h.committed key) (map.get h.present key)) (sym c.self.view_is) all in
           let same = λ (first : IsFirst es n edit.key).
           let one = first_kept S items slots n edit in_items
           (subst (λ xs. IsFirst xs n edit.key) c.as_slice-edits.ensures.value first) inside in
@@ -50,7 +50,7 @@ returns g c = (
       let items = c.self.inside.edits.items in
       let slots = slots_of c.self.inside.slots.entries in
       let value = c.as_slice-edits.ensures.value in
-      subst (λ (h : Held _). S key (map.get h.settled key) (map.get h.present key)) c.self.view_is
+      subst (λ (h : Held _). S key (map.get h.committed key) (map.get h.present key)) c.self.view_is
       (kept S c.requires items slots (λ place e low at first.
       subst (λ (h : Held _). Keeps S h.present e) (sym c.self.view_is)
       (c.loop-place.invariant place e (omega

@@ -39,10 +39,10 @@ invariant_of-self-in-Some g c =
     ∙ ap (λ b. count_after_change b false (map.len (live slots))) there
     ∙ sym (ap (λ m. map.len (live m)) now ∙ ap map.len (live_put slots key Gone)
     ∙ len_put (live slots) key Gone) in
-    let settled = ap (λ es. live (undone es (slots_of c.take_out.new.slots.entries))) pushed
+    let committed = ap (λ es. live (undone es (slots_of c.take_out.new.slots.entries))) pushed
     ∙ ap (λ m. live (undone (edits ++ edit ∷ []) m)) now
     ∙ ap live (undone-push edits edit slots (map.insert slots key Gone) back) in
-    (fit, len, c.self.invariant.2 ∙ sym (ap map.len settled))
+    (fit, len, c.self.invariant.2 ∙ sym (ap map.len committed))
 
 pub returns-in-Some-clause-ok : goal.returns-in-Some-clause-ok
 returns-in-Some-clause-ok g c =
@@ -50,8 +50,8 @@ returns-in-Some-clause-ok g c =
     ap live c.in-Some.ensures.some ∙ live_put slots c.args.key.now Gone
     ∙ ap (λ h. map.remove h.present c.args.key.now) c.self.view_is
 
-pub returns-in-Some-clause-settled : goal.returns-in-Some-clause-settled
-returns-in-Some-clause-settled g c =
+pub returns-in-Some-clause-committed : goal.returns-in-Some-clause-committed
+returns-in-Some-clause-committed g c =
     let slots = slots_of c.self.inside.slots.entries in
     let edits = c.self.inside.edits.items in
     let key = c.args.key.now in
@@ -74,7 +74,7 @@ returns-in-Some-clause-settled g c =
     ap (λ es. live (undone es (slots_of c.take_out.new.slots.entries))) pushed
     ∙ ap (λ m. live (undone (edits ++ edit ∷ []) m)) now
     ∙ ap live (undone-push edits edit slots (map.insert slots key Gone) back)
-    ∙ ap (λ h. h.settled) c.self.view_is
+    ∙ ap (λ h. h.committed) c.self.view_is
 
 pub returns-in_default-clause-ok : goal.returns-in_default-clause-ok
 returns-in_default-clause-ok g c =

@@ -20,10 +20,10 @@ loop-edit-preserved g c =
           (popped c.pop.new.self.items c.in-Some.edit slots
           (subst (λ es. AllFit es slots) c.in-Some.ensures.items c.loop-edit.invariant.fit)).1;
       len = c.loop-edit.invariant.len;
-      settled = ap (λ m. live (undone edits m)) c.take_back.ensures
+      committed = ap (λ m. live (undone edits m)) c.take_back.ensures
           ∙ ap live (sym (undone-push edits edit (undo edit slots) slots refl))
           ∙ ap (λ es. live (undone es slots)) (sym c.in-Some.ensures.items)
-          ∙ c.loop-edit.invariant.settled;
+          ∙ c.loop-edit.invariant.committed;
     }
 
 pub invariant_of-self : goal.invariant_of-self
@@ -32,7 +32,7 @@ invariant_of-self g c =
     let none = c.in_default.ensures.rest
     ∙ ap (λ n. take (n - 1) c.loop-edit.self-inside.edits.items) c.in_default.ensures.cases.0 in
     let emptied = c.in_default.ensures.items ∙ ap (λ es. es ++ []) none in
-    let len = c.loop-edit.invariant.len ∙ sym (ap map.len c.loop-edit.invariant.settled)
+    let len = c.loop-edit.invariant.len ∙ sym (ap map.len c.loop-edit.invariant.committed)
     ∙ ap (λ es. map.len (live (undone es slots))) emptied in (
       subst (λ es. AllFit es slots) (sym none) tt,
       len,

@@ -4,13 +4,13 @@ use Rattle.std.specs.FinMap as map
 use Rattle.keyed_map.specs.Slots.{AllFit, live, slots_of, undone}
 use Rattle.keyed_map.proofs.map.KeyedMap.roll_back.Given as goal
 
--- undoing the remaining edits restores the settled map
+-- undoing the remaining edits restores the committed map
 abbrev pub invariant-loop-edit : goal.invariant-loop-edit
 invariant-loop-edit g l = record {
   fit : AllFit l.self-inside.edits.items (slots_of l.self-inside.slots.entries);
-  settled : live (undone l.self-inside.edits.items (slots_of l.self-inside.slots.entries))
-      ≡ l.fn.self.settled;
-  len : l.self-inside.settled_len ≡ map.len l.fn.self.settled;
+  committed : live (undone l.self-inside.edits.items (slots_of l.self-inside.slots.entries))
+      ≡ l.fn.self.committed;
+  len : l.self-inside.committed_len ≡ map.len l.fn.self.committed;
 }
 
 abbrev pub decreases-loop-edit : goal.decreases-loop-edit

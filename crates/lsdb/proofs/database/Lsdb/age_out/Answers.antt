@@ -25,12 +25,12 @@ invariant_of-self-2 c =
           (c.self.invariant.counted ∙ sym
           (count_change (is_own_external router) copies.present key aged there))
           c.self.invariant.counted;
-      settled_counted = c.self.invariant.settled_counted
-          ∙ sym (ap (count_own_externals router) c.insert.ensures.settled);
+      committed_counted = c.self.invariant.committed_counted
+          ∙ sym (ap (count_own_externals router) c.insert.ensures.committed);
       foreseen = after c.insert.result (ForeseesAll ages) c.insert.new.self.present copies.present
           edited c.insert.ensures.ok c.insert.ensures.err
           (foresees_put ages copies.present key stays aged c.in_ok-note.ensures.there) stays;
-      settled_foreseen = subst (ForeseesAll ages) (sym c.insert.ensures.settled)
-          (λ q. c.note.ensures.more q (finite.get copies.settled q)
-          (c.self.invariant.settled_foreseen q));
+      committed_foreseen = subst (ForeseesAll ages) (sym c.insert.ensures.committed)
+          (λ q. c.note.ensures.more q (finite.get copies.committed q)
+          (c.self.invariant.committed_foreseen q));
     }

@@ -25,13 +25,13 @@ invariant_of-self-2 c =
     let key = c.key-name.result in
     let ages = c.note.new.self in record {
       counted = c.recount-self-inside.ensures;
-      settled_counted = c.self.invariant.settled_counted
-          ∙ sym (ap (count_own_externals c.self.inside.router) c.insert.ensures.settled);
+      committed_counted = c.self.invariant.committed_counted
+          ∙ sym (ap (count_own_externals c.self.inside.router) c.insert.ensures.committed);
       foreseen = subst (ForeseesAll ages) (sym c.in_ok-insert.ensures.ok)
           (foresees_put ages copies.present key
           (λ q. c.note.ensures.more q (finite.get copies.present q)
           (c.self.invariant.foreseen q)) c.in_ok-copy.copy c.in_ok-note.ensures.there);
-      settled_foreseen = subst (ForeseesAll ages) (sym c.insert.ensures.settled)
-          (λ q. c.note.ensures.more q (finite.get copies.settled q)
-          (c.self.invariant.settled_foreseen q));
+      committed_foreseen = subst (ForeseesAll ages) (sym c.insert.ensures.committed)
+          (λ q. c.note.ensures.more q (finite.get copies.committed q)
+          (c.self.invariant.committed_foreseen q));
     }

@@ -13,9 +13,9 @@ pub returns : goal.returns
 returns c =
     let moment = c.args.moment in
     IfOk-weaker c.keeps.result _ _ (λ same is. (
-      (λ t key of. subst (λ (d : RouterDatabase). SaysTheSame moment (finite.get d.settled key)
+      (λ t key of. subst (λ (d : RouterDatabase). SaysTheSame moment (finite.get d.committed key)
           (finite.get d.present key)) c.self.view_is (is.0 t key of)),
       (λ all. is.1 (λ key of. subst (λ (d : RouterDatabase). SaysTheSame moment
-          (finite.get d.settled key) (finite.get d.present key)) (sym c.self.view_is)
+          (finite.get d.committed key) (finite.get d.present key)) (sym c.self.view_is)
           (all key of))),
     )) c.keeps.ensures

@@ -13,11 +13,12 @@ keeps-requires g c key o of = inl (says_as_itself c.args.moment o)
 pub returns-clause-same : goal.returns-clause-same
 returns-clause-same g c =
     IfOk-weaker c.keeps.result _ _ (λ keeps is t key of.
-    subst (λ (d : RouterDatabase). SaysNoMore c.args.before c.args.moment (finite.get d.settled key)
+    subst (λ (d : RouterDatabase). SaysNoMore c.args.before c.args.moment
+    (finite.get d.committed key)
     (finite.get d.present key)) c.self.view_is (is.0 t key of)) c.keeps.ensures
 
 pub returns-clause-kept : goal.returns-clause-kept
 returns-clause-kept g c =
     IfOk-weaker c.keeps.result _ _ (λ keeps is all. is.1 (λ key of. inl (
-    subst (λ (d : RouterDatabase). SaysTheSame c.args.moment (finite.get d.settled key)
+    subst (λ (d : RouterDatabase). SaysTheSame c.args.moment (finite.get d.committed key)
     (finite.get d.present key)) (sym c.self.view_is) (all key of)))) c.keeps.ensures

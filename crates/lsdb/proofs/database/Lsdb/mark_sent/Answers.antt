@@ -36,12 +36,12 @@ invariant_of-self c =
           (c.self.invariant.counted ∙ sym
           (count_change (is_own_external router) copies key marked there))
           c.self.invariant.counted;
-      settled_counted = c.self.invariant.settled_counted
-          ∙ sym (ap (count_own_externals router) c.insert.ensures.settled);
+      committed_counted = c.self.invariant.committed_counted
+          ∙ sym (ap (count_own_externals router) c.insert.ensures.committed);
       foreseen = after c.insert.result (ForeseesAll ages) c.insert.new.self.present copies edited
           c.insert.ensures.ok c.insert.ensures.err
           (foresees_put ages copies key c.self.invariant.foreseen marked stays)
           c.self.invariant.foreseen;
-      settled_foreseen = subst (ForeseesAll ages) (sym c.insert.ensures.settled)
-          c.self.invariant.settled_foreseen;
+      committed_foreseen = subst (ForeseesAll ages) (sym c.insert.ensures.committed)
+          c.self.invariant.committed_foreseen;
     }

@@ -11,13 +11,13 @@ pub invariant_of-result : goal.invariant_of-result
 invariant_of-result c = record {
   counted = sym (ap (λ h. count_own_externals c.args.router h.present) c.new.ensures
       ∙ count_empty DatabaseCopy (is_own_external c.args.router));
-  settled_counted = sym (ap (λ h. count_own_externals c.args.router h.settled) c.new.ensures
+  committed_counted = sym (ap (λ h. count_own_externals c.args.router h.committed) c.new.ensures
       ∙ count_empty DatabaseCopy (is_own_external c.args.router));
   foreseen = subst (λ h. ForeseesAll c.new-3.result h.present) (sym c.new.ensures)
       (foresees_nothing c.new-3.result);
-  settled_foreseen = subst (λ h. ForeseesAll c.new-3.result h.settled) (sym c.new.ensures)
+  committed_foreseen = subst (λ h. ForeseesAll c.new-3.result h.committed) (sym c.new.ensures)
       (foresees_nothing c.new-3.result);
 }
 
 pub returns : goal.returns
-returns c = database_is (ap (λ h. h.present) c.new.ensures) (ap (λ h. h.settled) c.new.ensures)
+returns c = database_is (ap (λ h. h.present) c.new.ensures) (ap (λ h. h.committed) c.new.ensures)

@@ -24,10 +24,10 @@ invariant_of-self-2 c =
     let copies = c.self.inside.copies.present in
     let ages = c.self.inside.ages in record {
       counted = c.recount-self-inside.ensures;
-      settled_counted = c.self.invariant.settled_counted
-          ∙ sym (ap (count_own_externals c.self.inside.router) c.remove.ensures.settled);
+      committed_counted = c.self.invariant.committed_counted
+          ∙ sym (ap (count_own_externals c.self.inside.router) c.remove.ensures.committed);
       foreseen = subst (ForeseesAll ages) (sym c.in_ok-remove.ensures.ok)
           (foresees_taken ages copies c.args.key.now c.self.invariant.foreseen);
-      settled_foreseen = subst (ForeseesAll ages) (sym c.remove.ensures.settled)
-          c.self.invariant.settled_foreseen;
+      committed_foreseen = subst (ForeseesAll ages) (sym c.remove.ensures.committed)
+          c.self.invariant.committed_foreseen;
     }

@@ -40,5 +40,5 @@ returns c =
           ∙ has_retransmission s des sum req out retr c.args.moment c.args.header.now
           ∙ ap (λ h. add_retransmission c.args.moment c.args.header.now h.present) c.self.view_is)
           c.insert.ensures.ok;
-      settled = search rules;
+      committed = search rules;
     }

@@ -9,4 +9,4 @@ returns c =
     c.self.inside.summary.present c.self.inside.requests.present
     c.self.inside.outstanding.present c.self.inside.retransmissions.present c.args.sequence
     ∙ ap (λ h. record h.present { sequence = c.args.sequence }) c.self.view_is)
-    (ap (λ h. h.settled) c.self.view_is)
+    (ap (λ h. h.committed) c.self.view_is)

@@ -19,4 +19,4 @@ returns c =
     }) des sum req out retr) (c.full_where-self-inside.ensures
     ∙ ap (full_where s.state) c.is_empty-unrequested.ensures)
     ∙ ends_loading s des sum req out retr ∙ ap (λ h. loading_done h.present) c.self.view_is)
-    (ap (λ h. h.settled) c.self.view_is)
+    (ap (λ h. h.committed) c.self.view_is)

@@ -17,4 +17,4 @@ returns c =
           c.args.sequence;
       retransmitted_at = c.args.moment;
     }) c.self.view_is)
-    (ap (λ h. h.settled) c.self.view_is)
+    (ap (λ h. h.committed) c.self.view_is)

@@ -13,4 +13,4 @@ returns c =
     c.done_state-state.result (c.done_state-state.ensures
     ∙ ap (λ b. cond b Full Loading) c.is_empty-nothing.ensures)
     ∙ ap (λ h. exchange_done c.args.moment h.present) c.self.view_is)
-    (ap (λ h. h.settled) c.self.view_is)
+    (ap (λ h. h.committed) c.self.view_is)

@@ -28,7 +28,7 @@ returns-then-gets-clause-does c =
           c.in_ok-passes.ensures.does.ok ∙ ap (λ s. s.neighbor) is;
       draft = c.in_ok-add_update.ensures
           ∙ ap (λ s. drafting c.args.delay s.sends c.args.draft.now) is;
-      settled = c.add_retransmission.ensures.settled ∙ c.meet.ensures.does.settled;
+      committed = c.add_retransmission.ensures.committed ∙ c.meet.ensures.does.committed;
     }
 
 pub returns-then-gets-clause-sent : goal.returns-then-gets-clause-sent
@@ -63,7 +63,7 @@ returns-clause-does c =
           c.in_ok-passes.ensures.does.ok ∙ ap (λ s. s.neighbor) is;
       draft = drafting-none c.args.delay c.args.draft.now
           ∙ ap (λ s. drafting c.args.delay s.sends c.args.draft.now) is;
-      settled = c.remove_retransmission.ensures.settled ∙ c.meet.ensures.does.settled;
+      committed = c.remove_retransmission.ensures.committed ∙ c.meet.ensures.does.committed;
     }
 
 pub returns-clause-sent : goal.returns-clause-sent

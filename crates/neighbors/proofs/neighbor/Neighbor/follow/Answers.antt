@@ -5,6 +5,6 @@ use Rattle.neighbors.proofs.neighbor.Neighbor.follow.Goals as goal
 
 pub returns : goal.returns
 returns c =
-    sends_after c.accept.result c.negotiate.ensures.settled
+    sends_after c.accept.result c.negotiate.ensures.committed
     (ap (accept_description c.args.moment c.args.database.now.present c.args.description.now)
     c.in_ok-negotiate.ensures.ok) c.accept.ensures

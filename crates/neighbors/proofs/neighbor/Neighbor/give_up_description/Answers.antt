@@ -31,7 +31,7 @@ returns c =
     ∙ forgets s des sum req out retr
     ∙ ap (λ h. record h.present { described = None }) c.self.view_is
     ∙ ap (λ b. cond b (record n { described = None }) n) (sym c.if-not-over.false ∙ is))
-    (ap (λ k. neighbor_of c.self.inside.before k.settled c.self.inside.summary.settled
-    c.self.inside.requests.settled c.self.inside.outstanding.settled
-    c.self.inside.retransmissions.settled) c.set.ensures
-    ∙ ap (λ h. h.settled) c.self.view_is)
+    (ap (λ k. neighbor_of c.self.inside.before k.committed c.self.inside.summary.committed
+    c.self.inside.requests.committed c.self.inside.outstanding.committed
+    c.self.inside.retransmissions.committed) c.set.ensures
+    ∙ ap (λ h. h.committed) c.self.view_is)

@@ -8,7 +8,7 @@ pub returns : goal.returns
 returns c =
     let moment = c.args.moment in
     let db = c.args.database.now.present in
-    sends_after c.accept.result c.negotiate.ensures.settled
+    sends_after c.accept.result c.negotiate.ensures.committed
     (ap (accept_description moment db c.args.description.now)
     (c.in_ok-negotiate.ensures.ok
     ∙ ap (λ q. negotiated_neighbor true q moment db c.args.self.now.present)

@@ -17,5 +17,5 @@ returns c =
           c.self.inside.outstanding.present c.self.inside.retransmissions.present young aged
           ∙ ap (λ h. record h.present { summary = young; retransmissions = aged }) c.self.view_is)
           c.list_copies.ensures.young.ok c.list_copies.ensures.aged.ok;
-      settled = search rules;
+      committed = search rules;
     }

@@ -14,5 +14,6 @@ returns c =
                 aged_copies c.args.moment c.args.database.now.present;
           }) c.enter_exchange.ensures)
           c.list_database.ensures.ok;
-      settled = c.list_database.ensures.settled ∙ ap (λ h. h.settled) c.enter_exchange.ensures;
+      committed = c.list_database.ensures.committed
+          ∙ ap (λ h. h.committed) c.enter_exchange.ensures;
     }

@@ -11,5 +11,5 @@ loop-header-preserved c = record {
       ∙ sym (fold_more (acknowledged_neighbor c.args.moment) c.args.self.now.present
       c.args.headers.now c.loop-header.header-index c.header-item.result
       c.loop-header-test.true);
-  settled = c.remove_acknowledged.ensures.settled ∙ c.loop-header.invariant.settled;
+  committed = c.remove_acknowledged.ensures.committed ∙ c.loop-header.invariant.committed;
 }

@@ -6,5 +6,5 @@ abbrev pub invariant-loop-header : goal.invariant-loop-header
 invariant-loop-header l = record {
   present : l.self.present ≡ after_acknowledgment l.moment (take l.header-index l.headers)
       l.fn.self.present;
-  settled : l.self.settled ≡ l.fn.self.settled;
+  committed : l.self.committed ≡ l.fn.self.committed;
 }

@@ -27,7 +27,7 @@ returns-then-same c =
           ∙ ap (λ h. remove_retransmission key h.present) c.self.view_is
           ∙ ap (λ b. cond b (remove_retransmission key n) n) (sym c.if-same.true ∙ is))
           c.remove.ensures.ok;
-      settled = search rules;
+      committed = search rules;
     }
 
 pub returns : goal.returns
@@ -42,5 +42,5 @@ returns c =
     ∙ ap (λ h. finite.get h.present.retransmissions key) c.self.view_is) in
     record {
       ok = ap (λ b. cond b (remove_retransmission key n) n) (sym c.if-same.false ∙ is);
-      settled = refl;
+      committed = refl;
     }

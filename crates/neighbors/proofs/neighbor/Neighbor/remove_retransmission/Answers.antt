@@ -21,5 +21,5 @@ returns c =
           ∙ releases s des sum req out retr (key_of c.args.header.now)
           ∙ ap (λ h. remove_retransmission (key_of c.args.header.now) h.present) c.self.view_is)
           c.remove.ensures.ok;
-      settled = search rules;
+      committed = search rules;
     }

@@ -28,5 +28,5 @@ returns c =
       draft = on_ok c.add_description.result (λ sent delay. sent delay
           ∙ ap (λ d. drafting delay (Describes d ∷ []) c.args.draft.now) c.in_ok-again.ensures
           ∙ ap (λ s. drafting delay s.sends c.args.draft.now) is) c.add_description.ensures;
-      settled = ap (λ h. h.settled) c.self.view_is;
+      committed = ap (λ h. h.committed) c.self.view_is;
     }

@@ -36,5 +36,5 @@ returns c =
           c.self.inside.summary.present c.self.inside.requests.present
           c.self.inside.outstanding.present c.self.inside.retransmissions.present
           ∙ ap (λ h. next_request h.present) c.self.view_is)) c.add_request.ensures;
-      settled = search rules;
+      committed = search rules;
     }

@@ -10,12 +10,13 @@ returns c =
     record {
       ok = on_ok c.add_request.result (λ sent.
           requests_at c.self.inside.standing c.self.inside.described.present
-          c.self.inside.summary.present c.self.inside.requests.present c.self.inside.outstanding.present
+          c.self.inside.summary.present c.self.inside.requests.present
+          c.self.inside.outstanding.present
           c.self.inside.retransmissions.present c.args.moment
           ∙ ap (λ h. record h.present { requested_at = c.args.moment }) c.self.view_is)
           c.add_request.ensures;
       draft = on_ok c.add_request.result (λ sent delay. sent delay
           ∙ ap (λ ks. drafting delay (Requests ks ∷ []) c.args.draft.now)
           (c.from_vec.ensures ∙ c.in_ok-keys.ensures)) c.add_request.ensures;
-      settled = ap (λ h. h.settled) c.self.view_is;
+      committed = ap (λ h. h.committed) c.self.view_is;
     }

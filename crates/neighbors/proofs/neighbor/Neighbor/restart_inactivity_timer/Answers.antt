@@ -8,4 +8,4 @@ returns c =
     c.self.inside.summary.present c.self.inside.requests.present
     c.self.inside.outstanding.present c.self.inside.retransmissions.present c.args.moment
     ∙ ap (λ h. record h.present { last_heard = c.args.moment }) c.self.view_is)
-    (ap (λ h. h.settled) c.self.view_is)
+    (ap (λ h. h.committed) c.self.view_is)

@@ -25,5 +25,5 @@ returns c =
           c.self.inside.summary.present c.self.inside.requests.present
           c.self.inside.outstanding.present c.self.inside.retransmissions.present
           ∙ ap (λ h. h.present.retransmissions) c.self.view_is)) c.send_that_fit.ensures;
-      settled = ap (λ h. h.settled) c.self.view_is;
+      committed = ap (λ h. h.committed) c.self.view_is;
     }

@@ -31,6 +31,6 @@ returns c =
           (first.draft delay))
           ∙ drafting-three delay s (request_again moment interval)
           (update_again moment interval db) d) c.update_again.ensures.draft;
-      settled = c.update_again.ensures.settled ∙ c.request_again.ensures.settled
-          ∙ c.describe_again.ensures.settled;
+      committed = c.update_again.ensures.committed ∙ c.request_again.ensures.committed
+          ∙ c.describe_again.ensures.committed;
     }

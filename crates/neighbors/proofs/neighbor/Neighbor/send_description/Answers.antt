@@ -47,5 +47,5 @@ returns c =
       draft = on_ok c.add_description.result (λ sent delay. sent delay
           ∙ ap (λ d. drafting delay (Describes d ∷ []) c.args.draft.now) c.in_ok-next.ensures)
           c.add_description.ensures;
-      settled = search rules;
+      committed = search rules;
     }

@@ -16,7 +16,7 @@ returns-then-more c =
     let now = c.in_ok-send_description.ensures.ok ∙ ap (λ s. s.neighbor) counted in
     let is = c.either-more.ensures ∙ ap (λ b. b || d.more)
     (c.announced_more-announced.ensures ∙ ap (λ m. announced_more m.described) now) in
-    sends_after _ (ap (λ h. h.settled) c.count_on.ensures)
+    sends_after _ (ap (λ h. h.committed) c.count_on.ensures)
     (counted ∙ ap (λ b. cond b replied done) (sym c.if-more.true ∙ is))
     c.in_ok-send_description.ensures
 
@@ -39,6 +39,6 @@ returns c =
           ∙ ap (λ s. drafting delay s.sends c.args.draft.now) counted
           ∙ ap (λ b. drafting delay (cond b replied done).sends c.args.draft.now)
           (sym c.if-more.false ∙ is);
-      settled = ap (λ h. h.settled) c.finish.ensures ∙ c.send_description.ensures.settled
-          ∙ ap (λ h. h.settled) c.count_on.ensures;
+      committed = ap (λ h. h.committed) c.finish.ensures ∙ c.send_description.ensures.committed
+          ∙ ap (λ h. h.committed) c.count_on.ensures;
     }

@@ -24,5 +24,5 @@ returns c =
           ∙ withdraws s des sum req out retr (key_of c.args.header.now)
           ∙ ap (λ h. without_request (key_of c.args.header.now) h.present) c.self.view_is)
           c.remove-2.ensures.ok;
-      settled = search rules;
+      committed = search rules;
     }

@@ -11,5 +11,5 @@ loop-header-preserved c = record {
       ∙ sym (fold_more (with_request c.args.moment c.args.database.now.present)
       c.args.requests.now.present c.args.headers.now c.loop-header.header-index
       c.header-item.result c.loop-header-test.true);
-  settled = c.want.ensures.settled ∙ c.loop-header.invariant.settled;
+  committed = c.want.ensures.committed ∙ c.loop-header.invariant.committed;
 }

@@ -7,5 +7,5 @@ abbrev pub invariant-loop-header : goal.invariant-loop-header
 invariant-loop-header l = record {
   present : l.requests.present ≡ fold (with_request l.moment l.database.present)
       l.fn.requests.present (take l.header-index l.headers);
-  settled : l.requests.settled ≡ l.fn.requests.settled;
+  committed : l.requests.committed ≡ l.fn.requests.committed;
 }

@@ -12,5 +12,5 @@ returns c =
       ok = on_ok c.remove_keys.result (λ is. is
           ∙ ap (fold finite.remove m) (c.deref.ensures.value ∙ c.in_ok-keys.ensures)
           ∙ left_none c.len.result m c.len.ensures) c.remove_keys.ensures.ok;
-      settled = c.remove_keys.ensures.settled;
+      committed = c.remove_keys.ensures.committed;
     }

@@ -13,7 +13,7 @@ returns-clause-young c =
           ap (fold (with_key (is_young c.args.moment) c.args.moment db) c.loop-key.young.present)
           (sym c.in-None.ensures.steps.0)
           ∙ c.loop-key.invariant.young ∙ filled_where (is_young c.args.moment) c.args.moment db;
-      settled = c.loop-key.invariant.young_settled;
+      committed = c.loop-key.invariant.young_committed;
     }
 
 pub returns-clause-aged : goal.returns-clause-aged
@@ -24,5 +24,5 @@ returns-clause-aged c =
           ap (fold (with_key (is_aged_out c.args.moment) c.args.moment db) c.loop-key.aged.present)
           (sym c.in-None.ensures.steps.0)
           ∙ c.loop-key.invariant.aged ∙ filled_where (is_aged_out c.args.moment) c.args.moment db;
-      settled = c.loop-key.invariant.aged_settled;
+      committed = c.loop-key.invariant.aged_committed;
     }

@@ -14,6 +14,6 @@ invariant-loop-key l = record {
   aged : fold (with_key (is_aged_out l.moment) l.moment l.database.present) l.aged.present
       l.key-iterator ≡ fold (with_key (is_aged_out l.moment) l.moment l.database.present)
       finite.empty (finite.keys l.database.present);
-  young_settled : l.young.settled ≡ l.fn.young.settled;
-  aged_settled : l.aged.settled ≡ l.fn.aged.settled;
+  young_committed : l.young.committed ≡ l.fn.young.committed;
+  aged_committed : l.aged.committed ≡ l.fn.aged.committed;
 }

@@ -9,5 +9,5 @@ loop-key-preserved c = record {
       ∙ (λ i. finite.remove (c.loop-key.invariant.present i) (c.key-item.is i))
       ∙ sym (fold_more finite.remove c.args.list.now.present c.args.keys.now c.loop-key.key-index
       c.key-item.result c.loop-key-test.true);
-  settled = c.remove.ensures.settled ∙ c.loop-key.invariant.settled;
+  committed = c.remove.ensures.committed ∙ c.loop-key.invariant.committed;
 }

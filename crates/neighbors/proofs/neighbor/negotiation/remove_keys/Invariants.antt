@@ -6,5 +6,5 @@ use Rattle.neighbors.proofs.neighbor.negotiation.remove_keys.Given as goal
 abbrev pub invariant-loop-key : goal.invariant-loop-key
 invariant-loop-key l = record {
   present : l.list.present ≡ fold finite.remove l.fn.list.present (take l.key-index l.keys);
-  settled : l.list.settled ≡ l.fn.list.settled;
+  committed : l.list.committed ≡ l.fn.list.committed;
 }

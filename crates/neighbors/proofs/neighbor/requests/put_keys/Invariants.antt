@@ -6,5 +6,5 @@ use Rattle.neighbors.proofs.neighbor.requests.put_keys.Given as goal
 abbrev pub invariant-loop-key : goal.invariant-loop-key
 invariant-loop-key l = record {
   present : keys_of l.keys_set.present ≡ set.from_list (take l.key-index l.keys);
-  settled : l.keys_set.settled ≡ l.fn.keys_set.settled;
+  committed : l.keys_set.committed ≡ l.fn.keys_set.committed;
 }

@@ -25,7 +25,7 @@ returns-then-accepted c =
           (after_hello a.moment a.from b l.neighbor).sends d) c.names-named.ensures
           ∙ accepted_sends a.own a.moment a.from a.hello.now l delay d accepts)
           c.receive_hello.ensures.draft;
-      settled = c.receive_hello.ensures.settled;
+      committed = c.receive_hello.ensures.committed;
     }
 
 pub returns : goal.returns
@@ -37,5 +37,5 @@ returns c =
       link = ignored a.own a.moment a.from a.hello.now l ignores;
       draft = ignored_sends a.own a.moment a.from a.hello.now l l.interface.delay
           c.args.link.now.drafted ignores;
-      settled = refl;
+      committed = refl;
     }

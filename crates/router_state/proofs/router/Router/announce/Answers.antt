@@ -25,7 +25,7 @@ invariant_of-self c =
             key = c.external_key-key.ensures;
             metric = c.requires.metric;
           })) c.self.invariant.2,
-      subst (AreOwn id) (sym c.insert.ensures.settled) c.self.invariant.3,
+      subst (AreOwn id) (sym c.insert.ensures.committed) c.self.invariant.3,
     )
 
 pub returns : goal.returns
@@ -35,5 +35,5 @@ returns c =
     (λ p is. ap (λ (k : Key). on_router (announce k e) p) (c.external_key-key.ensures
     ∙ ap (λ v. external_key v.present.id e.prefix) c.self.view_is))
     (announces _ c.args.self.now c.insert.result c.self.view_is c.insert.new.self.present
-    c.insert.new.self.settled c.insert.ensures.settled c.external_key-key.result e
+    c.insert.new.self.committed c.insert.ensures.committed c.external_key-key.result e
     c.insert.ensures.ok)

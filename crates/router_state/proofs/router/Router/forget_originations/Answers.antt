@@ -10,8 +10,8 @@ pub returns : goal.returns
 returns c =
     let m = c.self.inside.originated.present in
     forgets _ c.args.self.now c.remove_each.result c.self.view_is c.args.moment
-    c.remove_each.new.moments.present c.remove_each.new.moments.settled
-    c.remove_each.ensures.settled
+    c.remove_each.new.moments.present c.remove_each.new.moments.committed
+    c.remove_each.ensures.committed
     (on_ok c.remove_each.result
     (λ is. is ∙ ap (fold finite.remove m) (c.deref.ensures.value ∙ c.in_ok-keys.ensures)
     ∙ forgotten c.args.moment m)

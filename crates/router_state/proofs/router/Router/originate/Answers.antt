@@ -15,24 +15,24 @@ pub returns-in_err-originate : goal.returns-in_err-originate
 returns-in_err-originate c =
     refused c.from_residual.result c.from_residual.ensures.0
     (area_stays _ c.args.self.now c.self.inside.area c.originate.new.self c.self.view_is refl
-    c.in_err-originate.ensures.settled)
+    c.in_err-originate.ensures.committed)
 
 pub returns-in_err-remove : goal.returns-in_err-remove
 returns-in_err-remove c =
     let inside = c.self.inside in
     let flooded : Router = record {
       id = inside.id;
-      area = c.originate.new.self.settled;
-      announced = inside.announced.settled;
-      waiting = keys_of inside.waiting.settled;
-      originated = inside.originated.settled;
-      answers = inside.answers.settled;
-      moment = inside.moment.settled;
+      area = c.originate.new.self.committed;
+      announced = inside.announced.committed;
+      waiting = keys_of inside.waiting.committed;
+      originated = inside.originated.committed;
+      answers = inside.answers.committed;
+      moment = inside.moment.committed;
     } in
     refused c.from_residual-in_err-remove.result c.from_residual-in_err-remove.ensures.0
-    ((λ i. record flooded { waiting = keys_of (c.in_err-remove.ensures.settled i) })
+    ((λ i. record flooded { waiting = keys_of (c.in_err-remove.ensures.committed i) })
     ∙ area_stays _ c.args.self.now inside.area c.originate.new.self c.self.view_is refl
-    c.in_ok-originate.ensures.settled)
+    c.in_ok-originate.ensures.committed)
 
 pub returns : goal.returns
 returns c =
@@ -50,14 +50,14 @@ returns c =
         answers = inside.answers.present;
         moment = inside.moment.present;
       };
-      settled = record {
+      committed = record {
         id = inside.id;
-        area = c.originate.new.self.settled;
-        announced = inside.announced.settled;
-        waiting = keys_of inside.waiting.settled;
-        originated = inside.originated.settled;
-        answers = inside.answers.settled;
-        moment = inside.moment.settled;
+        area = c.originate.new.self.committed;
+        announced = inside.announced.committed;
+        waiting = keys_of inside.waiting.committed;
+        originated = inside.originated.committed;
+        answers = inside.answers.committed;
+        moment = inside.moment.committed;
       };
       drafted = c.originate.new.self.drafted;
     } in
@@ -67,7 +67,7 @@ returns c =
     c.args.self.now c.self.inside.area c.originate.new.self _ c.self.view_is refl
     c.in_ok-originate.ensures refl).makes
     (notes flooded flooded c.insert.result refl (keys_of c.remove.new.self.present)
-    (keys_of c.remove.new.self.settled) (ap keys_of c.in_ok-remove.ensures.settled) k m
-    c.insert.new.self.present c.insert.new.self.settled c.insert.ensures.settled
+    (keys_of c.remove.new.self.committed) (ap keys_of c.in_ok-remove.ensures.committed) k m
+    c.insert.new.self.present c.insert.new.self.committed c.insert.ensures.committed
     (ap keys_of c.in_ok-remove.ensures.ok ∙ keys_remove inside.waiting.present k)
     c.insert.ensures.ok)

@@ -9,6 +9,6 @@ pub returns : goal.returns
 returns c =
     let k = c.args.key.now in
     waits _ c.args.self.now c.insert.result c.self.view_is (keys_of c.insert.new.self.present)
-    (keys_of c.insert.new.self.settled) (ap keys_of c.insert.ensures.settled) k
+    (keys_of c.insert.new.self.committed) (ap keys_of c.insert.ensures.committed) k
     (on_ok c.insert.result (λ is. ap keys_of is ∙ keys_insert c.self.inside.waiting.present k tt)
     c.insert.ensures.ok)

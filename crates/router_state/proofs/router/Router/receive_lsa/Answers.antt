@@ -31,7 +31,7 @@ returns-in_err-install-clause-does c =
     let away = c.from_residual-in_err-install in
     refused away.result away.ensures.0
     (area_stays _ c.args.self.now c.self.inside.area c.install.new.self c.self.view_is refl
-    c.in_err-install.ensures.settled)
+    c.in_err-install.ensures.committed)
 
 pub returns-then-newer-clause-goes_on : goal.returns-then-newer-clause-goes_on
 returns-then-newer-clause-goes_on c =
@@ -50,9 +50,10 @@ pub returns-in_err-receive_self_originated-clause-does
 returns-in_err-receive_self_originated-clause-does c =
     let away = c.from_residual-in_err-receive_self_originated in
     refused away.result away.ensures.0
-    ((c.in_err-receive_self_originated.ensures c.in-Some.lsa (sym c.header-header.ensures)).settled
+    ((c.in_err-receive_self_originated.ensures c.in-Some.lsa
+    (sym c.header-header.ensures)).committed
     ∙ area_stays _ c.args.self.now c.self.inside.area c.install.new.self c.self.view_is refl
-    c.in_ok-install.ensures.settled)
+    c.in_ok-install.ensures.committed)
 
 pub returns-then-newer-clause-does : goal.returns-then-newer-clause-does
 returns-then-newer-clause-does c =
@@ -78,7 +79,7 @@ returns-in_err-after_case-clause-does c =
     let away = c.from_residual-in_err-after_case in
     refused away.result away.ensures.0
     (area_stays _ c.args.self.now c.self.inside.area c.after_case.new.self c.self.view_is refl
-    c.in_err-after_case.ensures.settled)
+    c.in_err-after_case.ensures.committed)
 
 pub returns-clause-goes_on : goal.returns-clause-goes_on
 returns-clause-goes_on c =

@@ -19,13 +19,13 @@ pub returns-in_err-step_links : goal.returns-in_err-step_links
 returns-in_err-step_links c =
     refused c.from_residual.result c.from_residual.ensures.0
     (area_stays _ c.args.self.now c.self.inside.area c.step_links.new.self c.self.view_is refl
-    c.in_err-step_links.ensures.settled)
+    c.in_err-step_links.ensures.committed)
 
 pub returns-in_err-remove_aged : goal.returns-in_err-remove_aged
 returns-in_err-remove_aged c =
     refused c.from_residual-in_err-remove_aged.result c.from_residual-in_err-remove_aged.ensures.0
     (area_stays _ c.args.self.now c.self.inside.area c.remove_aged.new.area c.self.view_is refl
-    (c.in_err-remove_aged.ensures.settled ∙ c.in_ok-step_links.ensures.settled))
+    (c.in_err-remove_aged.ensures.committed ∙ c.in_ok-step_links.ensures.committed))
 
 pub returns : goal.returns
 returns c =
@@ -42,14 +42,14 @@ returns c =
         answers = inside.answers.present;
         moment = inside.moment.present;
       };
-      settled = record {
+      committed = record {
         id = inside.id;
-        area = c.remove_aged.new.area.settled;
-        announced = inside.announced.settled;
-        waiting = keys_of inside.waiting.settled;
-        originated = inside.originated.settled;
-        answers = inside.answers.settled;
-        moment = inside.moment.settled;
+        area = c.remove_aged.new.area.committed;
+        announced = inside.announced.committed;
+        waiting = keys_of inside.waiting.committed;
+        originated = inside.originated.committed;
+        answers = inside.answers.committed;
+        moment = inside.moment.committed;
       };
       drafted = c.remove_aged.new.area.drafted;
     } in
@@ -63,5 +63,5 @@ returns c =
     (all_are m (λ (d : Database) (l : Link). request_next m) a)).makes
     c.in_ok-remove_aged.ensures refl).makes
     (edit_makes (at_moment m) (λ x. refl) left left _ refl
-    (λ i. record left.settled { moment = (set i).settled })
+    (λ i. record left.committed { moment = (set i).committed })
     (λ i. record left.present { moment = (set i).present }) refl))

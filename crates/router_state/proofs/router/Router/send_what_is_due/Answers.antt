@@ -14,14 +14,14 @@ pub returns-in_err-step_links : goal.returns-in_err-step_links
 returns-in_err-step_links c =
     refused c.from_residual.result c.from_residual.ensures.0
     (area_stays _ c.args.self.now c.self.inside.area c.step_links.new.self c.self.view_is refl
-    c.in_err-step_links.ensures.settled)
+    c.in_err-step_links.ensures.committed)
 
 pub returns-in_err-step_links-2 : goal.returns-in_err-step_links-2
 returns-in_err-step_links-2 c =
     refused c.from_residual-in_err-step_links-2.result
     c.from_residual-in_err-step_links-2.ensures.0
     (area_stays _ c.args.self.now c.self.inside.area c.step_links-2.new.self c.self.view_is refl
-    (c.in_err-step_links-2.ensures.settled ∙ c.in_ok-step_links.ensures.settled))
+    (c.in_err-step_links-2.ensures.committed ∙ c.in_ok-step_links.ensures.committed))
 
 pub returns : goal.returns
 returns c =

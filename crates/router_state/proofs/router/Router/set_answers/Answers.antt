@@ -4,5 +4,5 @@ use Rattle.router_state.proofs.router.Router.set_answers.Goals as goal
 
 pub returns : goal.returns
 returns c =
-    answers_are _ c.args.self.now c.args.answers c.set.new.self.present c.set.new.self.settled
-    c.self.view_is (ap (λ k. k.present) c.set.ensures) (ap (λ k. k.settled) c.set.ensures)
+    answers_are _ c.args.self.now c.args.answers c.set.new.self.present c.set.new.self.committed
+    c.self.view_is (ap (λ k. k.present) c.set.ensures) (ap (λ k. k.committed) c.set.ensures)

@@ -17,7 +17,7 @@ returns-clause-rest c =
     (drafts_leave _ c.args.self.now c.self.inside.area c.take_drafts.new.self c.self.view_is refl)
     c.take_drafts.ensures.rest
 
-pub returns-clause-settled : goal.returns-clause-settled
-returns-clause-settled c =
+pub returns-clause-committed : goal.returns-clause-committed
+returns-clause-committed c =
     area_stays _ c.args.self.now c.self.inside.area c.take_drafts.new.self c.self.view_is refl
-    c.take_drafts.ensures.settled
+    c.take_drafts.ensures.committed

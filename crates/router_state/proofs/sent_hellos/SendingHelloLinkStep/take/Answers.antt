@@ -17,7 +17,7 @@ returns-then-due c =
       draft = on_ok c.send_hello.result (λ sent.
           sent ∙ ap (λ h. drafting delay (SendsHello h ∷ []) d) c.in_ok-hello.ensures
           ∙ greeting_sent m l delay d due) c.send_hello.ensures.draft;
-      settled = c.send_hello.ensures.settled;
+      committed = c.send_hello.ensures.committed;
     }
 
 pub returns : goal.returns
@@ -28,5 +28,5 @@ returns c =
     record {
       link = silent m l early;
       draft = nothing_sent m l l.interface.delay c.args.link.now.drafted early;
-      settled = refl;
+      committed = refl;
     }

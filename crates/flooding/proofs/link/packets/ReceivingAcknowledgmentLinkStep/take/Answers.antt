@@ -16,7 +16,7 @@ returns-in_default c =
     record {
       link = first_of (search rules, grind (arith, common_steps));
       draft = ap (λ v. v.draft) c.link-inside.view_is ∙ same ∙ sent;
-      settled = first_of (search rules, grind (arith, common_steps));
+      committed = first_of (search rules, grind (arith, common_steps));
     }
 
 pub returns : goal.returns
@@ -31,5 +31,5 @@ returns c =
           ∙ silent (after_acknowledgment a.moment a.headers.now) l.present.neighbor
           l.present.interface.delay l.drafted)
           c.receive_acknowledgment.ensures.ok;
-      settled = first_of (search rules, grind (arith, common_steps));
+      committed = first_of (search rules, grind (arith, common_steps));
     }

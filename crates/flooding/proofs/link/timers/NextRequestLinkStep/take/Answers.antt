@@ -19,7 +19,7 @@ returns-in_default c =
     record {
       link = first_of (search rules, grind (arith, common_steps));
       draft = ap (λ v. v.draft) c.link-inside.view_is ∙ same ∙ sent;
-      settled = first_of (search rules, grind (arith, common_steps));
+      committed = first_of (search rules, grind (arith, common_steps));
     }
 
 pub returns : goal.returns
@@ -35,5 +35,5 @@ returns c =
           ((ap (λ v. v.draft) c.link-inside.view_is
           ∙ ap (λ (k : KeptLink). k.drafted) c.link.view_is) i)))
           c.request.ensures.draft;
-      settled = first_of (search rules, grind (arith, common_steps));
+      committed = first_of (search rules, grind (arith, common_steps));
     }

@@ -16,5 +16,5 @@ returns-in_default c =
     record {
       link = first_of (search rules, grind (arith, common_steps));
       draft = ap (λ v. v.draft) c.link-inside.view_is ∙ same ∙ sent;
-      settled = first_of (search rules, grind (arith, common_steps));
+      committed = first_of (search rules, grind (arith, common_steps));
     }

@@ -3,15 +3,15 @@ ghost use Rattle.std.specs.Prelude.{◌≡◌};
 
 use std::marker::Model;
 
-/// A value, and the settled one: the first replacement moves it away, so that neither settling nor
-/// rolling back allocates.
+/// A value, and the committed one: the first replacement moves it away, so that neither committing
+/// nor rolling back allocates.
 #[derive(Drop)]
-pub struct Saved<X> {
+pub struct Revertible<X> {
     value: X,
     before: Option<X>,
 }
 
-impl<X> Model for Saved<X> {
+impl<X> Model for Revertible<X> {
     ghost use Rattle.adjacency.specs.Kept.{Kept};
     ghost use Rattle.adjacency.specs.Codes.{coded_kept};
 
@@ -19,16 +19,17 @@ impl<X> Model for Saved<X> {
 
     ghost coded = { coded_kept X.code };
 
-    ghost use Rattle.adjacency.specs.Views.{settled_value};
+    ghost use Rattle.adjacency.specs.Views.{committed_value};
 
-    ghost view = { λ a. record { present = a.value; settled = settled_value a.before a.value } };
+    ghost view = { λ a.
+        record { present = a.value; committed = committed_value a.before a.value } };
 }
 
-impl<X: Drop> Saved<X> {
+impl<X: Drop> Revertible<X> {
     pub fn new(value: X) -> Self
-        ensures { result ≡ record { present = value; settled = value } }
+        ensures { result ≡ record { present = value; committed = value } }
     {
-        Saved {
+        Revertible {
             value,
             before: None,
         }
@@ -51,15 +52,16 @@ impl<X: Drop> Saved<X> {
     }
 
     /// Makes the changes so far final.
-    pub fn settle(&mut self)
-        ensures { self.new ≡ record { present = self.old.present; settled = self.old.present } }
+    pub fn commit(&mut self)
+        ensures { self.new ≡ record { present = self.old.present; committed = self.old.present } }
     {
         self.before = None;
     }
 
-    /// Undoes all changes since the value was last settled.
+    /// Undoes all changes since the value was last committed.
     pub fn roll_back(&mut self)
-        ensures { self.new ≡ record { present = self.old.settled; settled = self.old.settled } }
+        ensures { self.new
+            ≡ record { present = self.old.committed; committed = self.old.committed } }
     {
         if let Some(before) = self.before.take() {
             self.value = before;

@@ -7,8 +7,8 @@ use Rattle.keyed_map.specs.Changes.{IsFirst}
 use Rattle.keyed_map.specs.Held.{Held}
 use Rattle.keyed_map.specs.Keys.{key_cmp}
 use Rattle.keyed_map.specs.Slots.{slots_of}
-use Rattle.keyed_map.proofs.Changes.{another, first_settled, first_still, same_key, unedited}
-use Rattle.keyed_map.proofs.map.KeyedMap.settled_get.Goals as goal
+use Rattle.keyed_map.proofs.Changes.{another, first_committed, first_still, same_key, unedited}
+use Rattle.keyed_map.proofs.map.KeyedMap.committed_get.Goals as goal
 
 pub loop-place-preserved : goal.loop-place-preserved
 loop-place-preserved g c =
@@ -38,9 +38,9 @@ returns-then-is_eq g c =
     let first = subst (λ xs. IsFirst xs n key) value c.loop-place.invariant in
     let equal : is_eq (key_cmp edit.key key) ≡ true =
     ap is_eq (sym c.compare.ensures) ∙ sym c.is_eq.ensures ∙ c.if-is_eq.true in
-    c.held_before.ensures ∙ first_settled items slots n edit key in_items
+    c.held_before.ensures ∙ first_committed items slots n edit key in_items
     (same_key edit.key key equal) first
-    ∙ ap (λ (h : Held _). map.get h.settled key) c.self.view_is
+    ∙ ap (λ (h : Held _). map.get h.committed key) c.self.view_is
 
 pub returns : goal.returns
 returns g c =
@@ -54,4 +54,4 @@ returns g c =
     (subst (λ xs. slice_get xs at ≡ Some e) (sym value) is) in
     c.get.ensures ∙ ap (λ (h : Held _). map.get h.present key) (sym c.self.view_is)
     ∙ unedited items slots key none
-    ∙ ap (λ (h : Held _). map.get h.settled key) c.self.view_is
+    ∙ ap (λ (h : Held _). map.get h.committed key) c.self.view_is
