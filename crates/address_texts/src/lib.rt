@@ -3,4 +3,4 @@
 
 mod reading;
 
-pub use reading::{read_address, read_place, read_prefix, read_within};
+pub use reading::{read_address, read_address_and_length, read_prefix, read_within};

@@ -76,7 +76,7 @@ pub fn read_address(word: &str) -> Option<Address>
 }
 
 /// The address and the length that the word spells, separated by a slash. Host bits may be set.
-pub fn read_place(word: &str) -> Option<(Address, u8)>
+pub fn read_address_and_length(word: &str) -> Option<(Address, u8)>
     ensures { MatchOption result
         ((n : Network) → n.address < 2 ^ 32 → n.length ≤ 32 → word.now ≢ prefix_text n)
         (λ p. (word.now ≡ prefix_text (record { address = p.0; length = p.1 })) × (p.0 < 2 ^ 32)
@@ -100,6 +100,6 @@ pub fn read_prefix(word: &str) -> Option<Prefix>
         ((n : Network) → IsNetwork n → word.now ≢ prefix_text n)
         (λ n. (word.now ≡ prefix_text n) × IsNetwork n) }
 {
-    let (address, length) = read_place(word)?;
+    let (address, length) = read_address_and_length(word)?;
     Prefix::new(address, length)
 }

@@ -12,7 +12,7 @@ ghost use Rattle.words.specs.Text.{dotted_address, prefix_text};
 ghost use Rattle.console.specs.declared.configuration.ConfiguredInterface.{ConfiguredInterface};
 
 use crate::reading::{is_text, words_of};
-use address_texts::{read_address, read_place, read_within};
+use address_texts::{read_address, read_address_and_length, read_within};
 use adjacency::Interface;
 use std::alloc::{AllocError, AllocFailed, Global};
 use thiserror::Error;
@@ -127,7 +127,7 @@ fn read_where(number: u64, name: &str, at: &str, place: &str) -> Option<(Address
         return None;
     }
     match read_within(at, number, number) {
-        Some(_) => read_place(place),
+        Some(_) => read_address_and_length(place),
         None => None,
     }
 }

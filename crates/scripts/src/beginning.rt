@@ -1,5 +1,5 @@
 //! How the router of a script begins: what its first line says, or a later line `router`.
-use address_texts::{read_address, read_place, read_within};
+use address_texts::{read_address, read_address_and_length, read_within};
 use flood::{Config, Interface};
 use std::alloc::{AllocError, Global};
 use words::{Address, RouterId, Second, Sequence};
@@ -74,7 +74,7 @@ fn interfaces_at(
 ) -> Result<Option<Vec<Interface>>, AllocError> {
     let mut taken = Vec::new(alloc);
     for place in places {
-        match read_place(place) {
+        match read_address_and_length(place) {
             Some((address, length)) => taken.push(interface_at(address, length, intervals))?,
             None => return Ok(None),
         }
