@@ -12,7 +12,8 @@ use Rattle.adjacency.specs.Kept.{Kept}
 use Rattle.adjacency.specs.Neighbors.{Neighbor}
 
 -- the value becomes what `after` says
-pub record Does {A X E : Type 0} (after : A → A) (old new : Kept A) (result : Result X E) : Type 0
+pub record NeighborDoes {A X E : Type 0} (after : A → A) (old new : Kept A) (result : Result X E) :
+    Type 0
   where
     pub ok : OnOk result (new.present ≡ after old.present)
     pub committed : new.committed ≡ old.committed

@@ -13,7 +13,7 @@ ghost use Rattle.adjacency.specs.Requests.{without_request};
 ghost use Rattle.adjacency.specs.Retransmissions.{acknowledged_neighbor, after_acknowledgment};
 ghost use Rattle.adjacency.specs.Retransmissions.{is_entry};
 ghost use Rattle.adjacency.specs.Retransmissions.{add_retransmission, remove_retransmission};
-ghost use Rattle.neighbors.specs.Doing.{Does, NeighborUpdates};
+ghost use Rattle.neighbors.specs.Doing.{NeighborDoes, NeighborUpdates};
 
 mod copying;
 mod descriptions;
@@ -267,7 +267,7 @@ impl Neighbor {
 
     // Removes this key from the request list.
     fn withdraw(&mut self, header: &Header) -> Result<(), AllocError>
-        ensures { Does (without_request (key_of header.now)) self.old self.new result }
+        ensures { NeighborDoes (without_request (key_of header.now)) self.old self.new result }
     {
         self.requests.remove(&header.key())?;
         self.outstanding.remove(&header.key())
@@ -277,14 +277,15 @@ impl Neighbor {
     ///
     /// Errors with `AllocError` if an allocation is refused; the caller then rolls back.
     pub fn remove_retransmission(&mut self, header: &Header) -> Result<(), AllocError>
-        ensures { Does (remove_retransmission (key_of header.now)) self.old self.new result }
+        ensures { NeighborDoes (remove_retransmission (key_of header.now)) self.old self.new
+            result }
     {
         self.retransmissions.remove(&header.key())
     }
 
     // Adds the instance to the retransmission list.
     fn add_retransmission(&mut self, moment: Second, header: &Header) -> Result<(), AllocError>
-        ensures { Does (add_retransmission moment header.now) self.old self.new result }
+        ensures { NeighborDoes (add_retransmission moment header.now) self.old self.new result }
     {
         self.retransmissions.remove(&header.key())?;
         let first = self.retransmissions.is_empty();
@@ -299,8 +300,8 @@ impl Neighbor {
     // Removes the request that the copy satisfies. Returns whether the copy may be sent: nothing
     // newer or equal is requested.
     fn meet(&mut self, moment: Second, copy: &DatabaseCopy<'_>) -> Result<bool, AllocError>
-        ensures does { Does (without_met_request moment (lsa_now moment copy.now)) self.old self.new
-            result }
+        ensures does { NeighborDoes (without_met_request moment (lsa_now moment copy.now)) self.old
+            self.new result }
         ensures passes { IfOk result (λ p. p ≡ passes moment (lsa_now moment copy.now)
             (request_of self.old.present (lsa_now moment copy.now))) }
     {
@@ -369,7 +370,8 @@ impl Neighbor {
 
     // Removes the instance from the retransmission list if it is the same.
     fn remove_acknowledged(&mut self, moment: Second, header: &Header) -> Result<(), AllocError>
-        ensures { Does (λ n. acknowledged_neighbor moment n header.now) self.old self.new result }
+        ensures { NeighborDoes (λ n. acknowledged_neighbor moment n header.now) self.old self.new
+            result }
     {
         let key = header.key();
         let same = is_entry(moment, header, self.retransmissions.get(&key));
@@ -388,7 +390,7 @@ impl Neighbor {
         moment: Second,
         headers: &[Header],
     ) -> Result<(), AllocError>
-        ensures { Does (after_acknowledgment moment headers.now) self.old self.new result }
+        ensures { NeighborDoes (after_acknowledgment moment headers.now) self.old self.new result }
     {
         for header in headers {
             self.remove_acknowledged(moment, header)?;

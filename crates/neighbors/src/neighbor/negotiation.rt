@@ -5,7 +5,7 @@ ghost use Rattle.std.specs.List.{fold};
 ghost use Rattle.adjacency.specs.lsdb.Copies.{is_aged_out};
 ghost use Rattle.adjacency.specs.Descriptions.{aged_copies, negotiated_neighbor, young_copies};
 ghost use Rattle.adjacency.specs.Exchanges.{is_young, with_key};
-ghost use Rattle.neighbors.specs.Doing.{Does, ListDoes};
+ghost use Rattle.neighbors.specs.Doing.{ListDoes, NeighborDoes};
 
 use super::Neighbor;
 use adjacency::{ListEntry, Lsdb, NeighborState};
@@ -89,7 +89,7 @@ impl Neighbor {
         moment: Second,
         database: &Lsdb,
     ) -> Result<(), AllocError>
-        ensures { Does (λ n. record n {
+        ensures { NeighborDoes (λ n. record n {
           summary = young_copies moment database.now.present;
           retransmissions = aged_copies moment database.now.present;
         }) self.old self.new result }
@@ -133,8 +133,8 @@ impl Neighbor {
         moment: Second,
         database: &Lsdb,
     ) -> Result<(), AllocError>
-        ensures { Does (negotiated_neighbor is_master sequence moment database.now.present) self.old
-            self.new result }
+        ensures { NeighborDoes (negotiated_neighbor is_master sequence moment database.now.present)
+            self.old self.new result }
     {
         self.enter_exchange(moment, is_master, sequence);
         self.list_database(alloc, moment, database)
