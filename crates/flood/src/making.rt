@@ -1,6 +1,6 @@
 //! What an event's own part does to the router.
 ghost use Rattle.std.specs.Prelude.{length};
-ghost use Rattle.procedures.specs.Making.{Does};
+ghost use Rattle.procedures.specs.Making.{RouterDoes};
 ghost use Rattle.flood.specs.Parts.{HasInterface, after_part};
 
 use crate::part::Part;
@@ -18,7 +18,7 @@ pub fn make_part(
     part: Part,
 ) -> Result<(), AllocError>
     requires interface { HasInterface part (length router.old.present.area.links) }
-    ensures { Does (after_part part moment) router.old router.new result }
+    ensures { RouterDoes (after_part part moment) router.old router.new result }
 {
     match part {
         Part::Packet(number, packet) => { receive_packet(router, alloc, moment, number, &packet) }

@@ -4,7 +4,7 @@ ghost use Rattle.event_rules.specs.Commands.{after_redistribute, after_withdraw,
 ghost use Rattle.event_rules.specs.Commands.{answered_external, end_want, is_announced_as, is_for};
 ghost use Rattle.event_rules.specs.Commands.{same_external, same_kind, same_network};
 ghost use Rattle.event_rules.specs.Originations.{external_key};
-ghost use Rattle.procedures.specs.Making.{Does};
+ghost use Rattle.procedures.specs.Making.{RouterDoes};
 
 use router_state::{Router, originate};
 use std::alloc::{AllocError, Global};
@@ -73,7 +73,7 @@ fn answered(external: External, tag: u64, price: u32) -> External
 
 // The destination is no longer announced, and its LSA is flushed.
 fn end_want(router: &mut Router, alloc: Global, moment: Second, key: &Key) -> Result<(), AllocError>
-    ensures { Does (end_want moment key.now) router.old router.new result }
+    ensures { RouterDoes (end_want moment key.now) router.old router.new result }
 {
     router.unannounce(key)?;
     router.flush(alloc, moment, key)
@@ -89,7 +89,7 @@ fn announce_as(
 ) -> Result<(), AllocError>
     requires key { key.now ≡ external_key router.old.present.id external.prefix }
     requires metric { external.metric < 2 ^ 24 }
-    ensures { Does (announce_as moment key.now external) router.old router.new result }
+    ensures { RouterDoes (announce_as moment key.now external) router.old router.new result }
 {
     let announced = is_announced_as(&external, router.announced().get(key));
     if announced {
@@ -112,7 +112,8 @@ pub fn redistribute(
     tag: u64,
     price: u64,
 ) -> Result<(), AllocError>
-    ensures { Does (after_redistribute moment external tag price) router.old router.new result }
+    ensures { RouterDoes (after_redistribute moment external tag price) router.old router.new
+        result }
 {
     let key = external_key(router.id(), external.prefix);
     if u64::from(LS_INFINITY) <= price {
@@ -132,7 +133,7 @@ pub fn withdraw(
     moment: Second,
     prefix: Prefix,
 ) -> Result<(), AllocError>
-    ensures { Does (after_withdraw moment prefix) router.old router.new result }
+    ensures { RouterDoes (after_withdraw moment prefix) router.old router.new result }
 {
     let key = external_key(router.id(), prefix);
     let is_announced = is_for(prefix, router.announced().get(&key));

@@ -1,7 +1,7 @@
 //! The self-originated LSAs that a Tick originates.
 ghost use Rattle.std.specs.Prelude.{◌≡◌, ◌++◌, [], ◌∷◌, IfOk, OnOk, if◌then◌else◌};
 ghost use Rattle.event_rules.specs.Originations.{due_keys, is_due, originate_due};
-ghost use Rattle.router_state.specs.Making.{Does};
+ghost use Rattle.router_state.specs.Making.{RouterDoes};
 
 use router_state::{Router, originate_or_put_off};
 use std::alloc::{AllocError, Global};
@@ -43,7 +43,7 @@ pub fn originate_due(
     moment: Second,
     keys: &[Key],
 ) -> Result<(), AllocError>
-    ensures { Does (originate_due moment keys.now) router.old router.new result }
+    ensures { RouterDoes (originate_due moment keys.now) router.old router.new result }
 {
     for key in keys {
         originate_or_put_off(router, alloc, moment, key)?;

@@ -4,7 +4,7 @@ ghost use Rattle.event_rules.specs.received.Links.{Link};
 ghost use Rattle.event_rules.specs.Endings.{end_event, originate_router_lsa, put_off_router_lsa};
 ghost use Rattle.procedures.specs.Full.{full_routers};
 ghost use Rattle.procedures.specs.EndingParts.{loading_done_then_originate, loading_done_then_put_off};
-ghost use Rattle.procedures.specs.Making.{Does, interfaces_of};
+ghost use Rattle.procedures.specs.Making.{RouterDoes, interfaces_of};
 
 use crate::telling::{full_routers, has_changed, is_untold};
 use router_state::{Router, originate_or_put_off};
@@ -22,7 +22,7 @@ fn originate_router_lsa(
     ensures { (old : List Link)
         → interfaces_of old ≡ interfaces_of router.old.present.area.links
         → full_routers old ≡ before.now
-        → Does (originate_router_lsa old moment) router.old router.new result }
+        → RouterDoes (originate_router_lsa old moment) router.old router.new result }
 {
     let untold = is_untold(router, alloc, moment, before)?;
     if !untold {
@@ -42,7 +42,7 @@ fn put_off_router_lsa(
     ensures { (old : List Link)
         → interfaces_of old ≡ interfaces_of router.old.present.area.links
         → full_routers old ≡ before.now
-        → Does (put_off_router_lsa old) router.old router.new result }
+        → RouterDoes (put_off_router_lsa old) router.old router.new result }
 {
     let differ = has_changed(router, alloc, before)?;
     if !differ {
@@ -64,7 +64,7 @@ fn loading_done_then_originate(
     ensures { (old : List Link)
         → interfaces_of old ≡ interfaces_of router.old.present.area.links
         → full_routers old ≡ before.now
-        → Does (loading_done_then_originate old moment) router.old router.new result }
+        → RouterDoes (loading_done_then_originate old moment) router.old router.new result }
 {
     router.end_loading();
     originate_router_lsa(router, alloc, moment, before)
@@ -73,7 +73,7 @@ fn loading_done_then_originate(
 // LoadingDone once more, since flooding the router-LSA may have satisfied requests; what that
 // changes waits for a Tick.
 fn loading_done_then_put_off(router: &mut Router, alloc: Global) -> Result<(), AllocError>
-    ensures { Does loading_done_then_put_off router.old router.new result }
+    ensures { RouterDoes loading_done_then_put_off router.old router.new result }
 {
     let before = full_routers(router, alloc)?;
     router.end_loading();
@@ -96,7 +96,7 @@ pub fn end_event(
     requires before { before.now ≡ full_routers router.old.committed.area.links }
     requires interfaces { interfaces_of router.old.present.area.links
         ≡ interfaces_of router.old.committed.area.links }
-    ensures { Does (end_event router.old.committed moment) router.old router.new result }
+    ensures { RouterDoes (end_event router.old.committed moment) router.old router.new result }
 {
     loading_done_then_originate(router, alloc, moment, before)?;
     loading_done_then_put_off(router, alloc)?;

@@ -1,7 +1,7 @@
 //! A Tick (RFC 2328, sections 9.5, 10.3, 12.4, 13.5 and 13.6).
 ghost use Rattle.event_rules.specs.Originations.{due_keys};
 ghost use Rattle.event_rules.specs.Ticks.{after_tick};
-ghost use Rattle.procedures.specs.Making.{Does};
+ghost use Rattle.procedures.specs.Making.{RouterDoes};
 ghost use Rattle.procedures.specs.TickParts.{originate_what_is_due, run_out_all};
 
 use crate::due::{due_keys, originate_due};
@@ -11,7 +11,7 @@ use words::Second;
 
 // Expired timers: inactive neighbors go Down, and originations are forgotten after MinLSInterval.
 fn run_out(router: &mut Router, alloc: Global, moment: Second) -> Result<(), AllocError>
-    ensures { Does (run_out_all moment) router.old router.new result }
+    ensures { RouterDoes (run_out_all moment) router.old router.new result }
 {
     router.run_out(moment);
     router.forget_originations(alloc, moment)
@@ -24,7 +24,7 @@ fn originate_what_is_due(
     alloc: Global,
     moment: Second,
 ) -> Result<(), AllocError>
-    ensures { Does (originate_what_is_due moment) router.old router.new result }
+    ensures { RouterDoes (originate_what_is_due moment) router.old router.new result }
 {
     let keys = due_keys(router, alloc, moment)?;
     originate_due(router, alloc, moment, &keys)
@@ -36,7 +36,7 @@ fn originate_what_is_due(
 ///
 /// Errors with `AllocError` if an allocation is refused.
 pub fn tick(router: &mut Router, alloc: Global, moment: Second) -> Result<(), AllocError>
-    ensures { Does (after_tick moment) router.old router.new result }
+    ensures { RouterDoes (after_tick moment) router.old router.new result }
 {
     run_out(router, alloc, moment)?;
     originate_what_is_due(router, alloc, moment)?;

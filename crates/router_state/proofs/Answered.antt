@@ -10,7 +10,7 @@ use Rattle.flooding.specs.Kept.{RouterArea}
 use Rattle.flooding.specs.Links.{start}
 use Rattle.flooding.proofs.Sends.{drafted_none}
 use Rattle.router_state.specs.Kept.{KeptRouter}
-use Rattle.router_state.specs.Making.{Does, Makes}
+use Rattle.router_state.specs.Making.{Makes, RouterDoes}
 use Rattle.router_state.proofs.Making.{Appends, KeepsInterfaces, makes_on_area, then_does}
 
 pub both : {A E P Q S : Type 0} (r : Result A E) → (P → Q → S) → OnOk r P → OnOk r Q → OnOk r S
@@ -59,7 +59,7 @@ module _ (F : Outcome → Outcome) (keeps : KeepsInterfaces F) (appends : Append
   -- what the call does to these links and this database is F
   pub area_does : {X E : Type 0} {f : Area → Outcome} (r : Result X E) → shown ≡ old
       → with_area a shown ≡ shown → AreaDoes f a b r → f a.present ≡ F (start a.present)
-      → Does (on_area F) old (with_area b shown) r
+      → RouterDoes (on_area F) old (with_area b shown) r
   area_does r view whole does same = record {
     committed = area_stays shown old a b view whole does.committed;
     makes = both r (λ is drafts. area_makes view whole does.committed
@@ -82,7 +82,7 @@ module _ (F : Outcome → Outcome) (keeps : KeepsInterfaces F) (appends : Append
   pub area_then : {X E : Type 0} {f : Area → Outcome} {first : EventState → EventState}
       (r : Result X E) → shown ≡ old → Makes first old (with_area a shown) → AreaDoes f a b r
       → f a.present ≡ F (start a.present)
-      → Does (λ p. on_area F (first p)) old (with_area b shown) r
+      → RouterDoes (λ p. on_area F (first p)) old (with_area b shown) r
   area_then {X} {E} {f} {first} r view made does same =
       let middle : KeptRouter = with_area a shown in
       then_does r made

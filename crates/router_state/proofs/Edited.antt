@@ -12,7 +12,7 @@ use Rattle.event_rules.specs.EventState.{on_router}
 use Rattle.event_rules.specs.Originations.{as_originated, forget_originations, is_recent, put_off}
 use Rattle.event_rules.specs.Routers.{Router}
 use Rattle.router_state.specs.Kept.{KeptRouter}
-use Rattle.router_state.specs.Making.{Does, Makes, interfaces_of}
+use Rattle.router_state.specs.Making.{Makes, RouterDoes, interfaces_of}
 use Rattle.router_state.proofs.Making.{makes_on_router}
 
 abbrev KeepsLinks : (Router → Router) → Type 0
@@ -30,7 +30,7 @@ edit_makes f keeps shown old new view committed is drafted =
 edit_does : {X E : Type 0} (f : Router → Router) → KeepsLinks f → (shown old new : KeptRouter)
     (r : Result X E) → shown ≡ old → new.committed ≡ shown.committed
     → OnOk r (new.present ≡ f shown.present) → new.drafted ≡ shown.drafted
-    → Does (on_router f) old new r
+    → RouterDoes (on_router f) old new r
 edit_does f keeps shown old new r view committed is drafted = record {
   committed = committed ∙ ap (λ (k : KeptRouter). k.committed) view;
   makes = on_ok r (λ to. edit_makes f keeps shown old new view committed to drafted) is;
@@ -40,7 +40,7 @@ module _ {X E : Type 0} (shown old : KeptRouter) (r : Result X E) (view : shown 
   -- the destinations that are announced, and as they were when last committed
   module _ (m s : ByKey External) (stays : s ≡ shown.committed.announced) (key : Key) where
     pub announces : (e : External) → OnOk r (m ≡ finite.insert shown.present.announced key e)
-        → Does (on_router (announce key e)) old (record {
+        → RouterDoes (on_router (announce key e)) old (record {
           present = record shown.present { announced = m };
           committed = record shown.committed { announced = s };
           drafted = shown.drafted;
@@ -56,7 +56,7 @@ module _ {X E : Type 0} (shown old : KeptRouter) (r : Result X E) (view : shown 
     pub withdraws : (w v : KeySet) → v ≡ shown.committed.waiting
         → m ≡ finite.remove shown.present.announced key
         → OnOk r (w ≡ set.remove shown.present.waiting key)
-        → Does (on_router (unannounce key)) old (record {
+        → RouterDoes (on_router (unannounce key)) old (record {
           present = record shown.present { announced = m; waiting = w };
           committed = record shown.committed { announced = s; waiting = v };
           drafted = shown.drafted;
@@ -72,7 +72,7 @@ module _ {X E : Type 0} (shown old : KeptRouter) (r : Result X E) (view : shown 
   -- the keys that wait, and as they were when last committed
   module _ (w v : KeySet) (rests : v ≡ shown.committed.waiting) (key : Key) where
     pub waits : OnOk r (w ≡ set.insert shown.present.waiting key)
-        → Does (on_router (put_off key)) old (record {
+        → RouterDoes (on_router (put_off key)) old (record {
           present = record shown.present { waiting = w };
           committed = record shown.committed { waiting = v };
           drafted = shown.drafted;
@@ -88,7 +88,7 @@ module _ {X E : Type 0} (shown old : KeptRouter) (r : Result X E) (view : shown 
     pub notes : (moment : ℕ) (m s : ByKey ℕ) → s ≡ shown.committed.originated
         → w ≡ set.remove shown.present.waiting key
         → OnOk r (m ≡ finite.insert shown.present.originated key moment)
-        → Does (on_router (as_originated moment key)) old (record {
+        → RouterDoes (on_router (as_originated moment key)) old (record {
           present = record shown.present { waiting = w; originated = m };
           committed = record shown.committed { waiting = v; originated = s };
           drafted = shown.drafted;
@@ -104,7 +104,7 @@ module _ {X E : Type 0} (shown old : KeptRouter) (r : Result X E) (view : shown 
   pub forgets : (moment : ℕ) (m s : ByKey ℕ) → s ≡ shown.committed.originated
       → OnOk r (m ≡ finite.retain_keys shown.present.originated
       (λ key. is_recent moment (finite.get shown.present.originated key)))
-      → Does (on_router (forget_originations moment)) old (record {
+      → RouterDoes (on_router (forget_originations moment)) old (record {
         present = record shown.present { originated = m };
         committed = record shown.committed { originated = s };
         drafted = shown.drafted;

@@ -20,7 +20,7 @@ use Rattle.event_rules.specs.Packets.{receive_description}
 use Rattle.event_rules.specs.Packets.{receive_request}
 use Rattle.event_rules.specs.Routers.{Router}
 use Rattle.router_state.specs.Kept.{KeptRouter}
-use Rattle.router_state.specs.Making.{Does, Makes}
+use Rattle.router_state.specs.Making.{Makes, RouterDoes}
 use Rattle.router_state.proofs.Making.{does_if_true, does_same, makes_nothing, makes_same}
 use Rattle.router_state.specs.Received.{counts_before_exchange, is_exchange_or_later_named}
 use Rattle.router_state.specs.Received.{is_from_named}
@@ -88,8 +88,8 @@ module _ (moment number : ℕ) (packet : Packet) where
 
   is_taken : {X E : Type 0} {old new : KeptRouter} (r : Result X E) (b : Bool)
       → is_processed_at old.present ≡ true → exchanges_at old.present ≡ b
-      → Does (from_neighbor moment number packet.router b packet.body) old new r
-      → Does (after_packet moment number packet) old new r
+      → RouterDoes (from_neighbor moment number packet.router b packet.body) old new r
+      → RouterDoes (after_packet moment number packet) old new r
   is_taken {old = old} r b holds exchanges a =
       does_if_true heard discarded r is_heard_at
       (first_holds (is_heard_at old.present)
@@ -108,8 +108,8 @@ module _ (moment number : ℕ) (packet : Packet) where
 
   pub greets : {X E : Type 0} {old new : KeptRouter} (r : Result X E) (h : Hello)
       → is_processed_at old.present ≡ true → packet.body ≡ body.Hello h
-      → Does (on_area (receive_hello old.present.id moment number packet.router h)) old new r
-      → Does (after_packet moment number packet) old new r
+      → RouterDoes (on_area (receive_hello old.present.id moment number packet.router h)) old new r
+      → RouterDoes (after_packet moment number packet) old new r
   greets {old = old} r h holds is a =
       is_taken r (exchanges_at old.present) holds refl
       (does_same r
@@ -122,8 +122,8 @@ module _ (moment number : ℕ) (packet : Packet) where
 
   pub describes : {X E : Type 0} {old new : KeptRouter} (r : Result X E) (d : Description)
       → is_processed_at old.present ≡ true → packet.body ≡ body.Description d
-      → Does (on_area (receive_description old.present.id moment number d)) old new r
-      → Does (after_packet moment number packet) old new r
+      → RouterDoes (on_area (receive_description old.present.id moment number d)) old new r
+      → RouterDoes (after_packet moment number packet) old new r
   describes {old = old} r d holds is a =
       is_taken r (exchanges_at old.present) holds refl
       (does_same r
@@ -137,8 +137,8 @@ module _ (moment number : ℕ) (packet : Packet) where
   pub requests : {X E : Type 0} {old new : KeptRouter} (r : Result X E)
       (keys read : List Key)
       → is_processed_at old.present ≡ true → packet.body ≡ body.Request keys → read ≡ keys
-      → Does (on_area (receive_request moment number read)) old new r
-      → Does (after_packet moment number packet) old new r
+      → RouterDoes (on_area (receive_request moment number read)) old new r
+      → RouterDoes (after_packet moment number packet) old new r
   requests {old = old} r keys read holds is same a =
       is_taken r true holds (came_in_exchange old.present holds (ap counts_before_exchange is))
       (does_same r
@@ -150,8 +150,8 @@ module _ (moment number : ℕ) (packet : Packet) where
   pub updates : {X E : Type 0} {old new : KeptRouter} (r : Result X E)
       (lsas read : List (List ℕ))
       → is_processed_at old.present ≡ true → packet.body ≡ body.Update lsas → read ≡ lsas
-      → Does (after_lsas moment number read) old new r
-      → Does (after_packet moment number packet) old new r
+      → RouterDoes (after_lsas moment number read) old new r
+      → RouterDoes (after_packet moment number packet) old new r
   updates {old = old} r lsas read holds is same a =
       is_taken r true holds (came_in_exchange old.present holds (ap counts_before_exchange is))
       (does_same r
@@ -163,8 +163,8 @@ module _ (moment number : ℕ) (packet : Packet) where
   pub acknowledges : {X E : Type 0} {old new : KeptRouter} (r : Result X E)
       (headers read : List Header) → is_processed_at old.present ≡ true
       → packet.body ≡ body.Acknowledgment headers → read ≡ headers
-      → Does (on_area (receive_acknowledgment moment number read)) old new r
-      → Does (after_packet moment number packet) old new r
+      → RouterDoes (on_area (receive_acknowledgment moment number read)) old new r
+      → RouterDoes (after_packet moment number packet) old new r
   acknowledges {old = old} r headers read holds is same a =
       is_taken r true holds (came_in_exchange old.present holds (ap counts_before_exchange is))
       (does_same r

@@ -14,7 +14,7 @@ use Rattle.flooding.proofs.Doing.{always, on_err}
 use Rattle.flooding.proofs.Sends.{drafted_none}
 use Rattle.router_state.specs.Aging.{outcomes_in_turn}
 use Rattle.router_state.specs.Kept.{KeptRouter}
-use Rattle.router_state.specs.Making.{Does, IsMaking, Makes, interfaces_of}
+use Rattle.router_state.specs.Making.{IsMaking, Makes, RouterDoes, interfaces_of}
 use Rattle.router_state.proofs.Drafts.{drafted_append, drafted_same}
 
 -- ---- the start of an event: nothing was sent yet
@@ -73,40 +73,41 @@ as_many_links {f} {old} {new} a =
 
 -- nothing more is to be done
 pub done : {X E : Type 0} {f : EventState → EventState} {old new : KeptRouter} (r : Result X E)
-    → Makes f old new → Does f old new r
+    → Makes f old new → RouterDoes f old new r
 done r a = record { committed = a.committed; makes = always r a }
 
 pub refused : {X E : Type 0} {f : EventState → EventState} {old new : KeptRouter} (r : Result X E)
-    → IsErr r → new.committed ≡ old.committed → Does f old new r
+    → IsErr r → new.committed ≡ old.committed → RouterDoes f old new r
 refused r is stays = record { committed = stays; makes = on_err r _ is }
 
 -- the call comes after a part
 pub then_does : {X E : Type 0} {f g : EventState → EventState} {old middle new : KeptRouter}
-    (r : Result X E) → Makes f old middle → Does g middle new r → Does (λ p. g (f p)) old new r
+    (r : Result X E) → Makes f old middle → RouterDoes g middle new r
+    → RouterDoes (λ p. g (f p)) old new r
 then_does r a b = record {
   committed = b.committed ∙ a.committed;
   makes = on_ok r (λ m. makes_then a m) b.makes;
 }
 
 pub does_same : {X E : Type 0} {f g : EventState → EventState} {old new : KeptRouter}
-    (r : Result X E) → ((p : EventState) → p.router ≡ old.present → f p ≡ g p) → Does f old new r
-    → Does g old new r
+    (r : Result X E) → ((p : EventState) → p.router ≡ old.present → f p ≡ g p)
+    → RouterDoes f old new r → RouterDoes g old new r
 does_same r agree a = record {
   committed = a.committed;
   makes = on_ok r (λ m. makes_same agree m) a.makes;
 }
 
 pub does_if_true : {X E : Type 0} (f g : EventState → EventState) {old new : KeptRouter}
-    (r : Result X E) (test : Router → Bool) → test old.present ≡ true → Does f old new r
-    → Does (λ p. cond (test p.router) (f p) (g p)) old new r
+    (r : Result X E) (test : Router → Bool) → test old.present ≡ true → RouterDoes f old new r
+    → RouterDoes (λ p. cond (test p.router) (f p) (g p)) old new r
 does_if_true f g {old} {new} r test holds a = record {
   committed = a.committed;
   makes = on_ok r (λ m. makes_if_true f g test holds m) a.makes;
 }
 
 pub does_if_false : {X E : Type 0} (f g : EventState → EventState) {old new : KeptRouter}
-    (r : Result X E) (test : Router → Bool) → test old.present ≡ false → Does g old new r
-    → Does (λ p. cond (test p.router) (f p) (g p)) old new r
+    (r : Result X E) (test : Router → Bool) → test old.present ≡ false → RouterDoes g old new r
+    → RouterDoes (λ p. cond (test p.router) (f p) (g p)) old new r
 does_if_false f g {old} {new} r test fails a = record {
   committed = a.committed;
   makes = on_ok r (λ m. makes_if_false f g test fails m) a.makes;

@@ -24,7 +24,7 @@ pub record Makes (f : EventState → EventState) (old new : KeptRouter) : Type 0
       → IsMaking (f p) first new
 
 -- a call that may be refused an allocation does this part of an event
-pub record Does {X E : Type 0} (f : EventState → EventState) (old new : KeptRouter)
+pub record RouterDoes {X E : Type 0} (f : EventState → EventState) (old new : KeptRouter)
     (result : Result X E) : Type 0 where
   pub committed : new.committed ≡ old.committed
   pub makes : OnOk result (Makes f old new)

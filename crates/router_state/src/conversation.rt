@@ -6,7 +6,7 @@ ghost use Rattle.event_rules.specs.EventState.{on_area};
 ghost use Rattle.event_rules.specs.Packets.{any_exchange_or_later, receive_acknowledgment};
 ghost use Rattle.event_rules.specs.Packets.{receive_description, receive_hello};
 ghost use Rattle.event_rules.specs.Packets.{receive_request};
-ghost use Rattle.router_state.specs.Making.{Does};
+ghost use Rattle.router_state.specs.Making.{RouterDoes};
 
 use crate::received_hellos::ReceivingHello;
 use crate::router::Router;
@@ -32,8 +32,8 @@ impl Router {
     ) -> Result<(), AllocError>
         requires first { 1 ≤ number }
         requires last { number ≤ length self.old.present.area.links }
-        ensures { Does (on_area (receive_hello self.old.present.id moment number from hello.now))
-            self.old self.new result }
+        ensures { RouterDoes (on_area (receive_hello self.old.present.id moment number from
+            hello.now)) self.old self.new result }
     {
         let receiving = ReceivingHello {
             own: self.id,
@@ -57,7 +57,7 @@ impl Router {
     ) -> Result<(), AllocError>
         requires first { 1 ≤ number }
         requires last { number ≤ length self.old.present.area.links }
-        ensures { Does
+        ensures { RouterDoes
             (on_area (receive_description self.old.present.id moment number description.now))
             self.old self.new result }
     {
@@ -85,7 +85,8 @@ impl Router {
         requires last { number ≤ length self.old.present.area.links }
         requires exchange { any_exchange_or_later
             (neighbor_at number self.old.present.area.links) ≡ true }
-        ensures { Does (on_area (receive_request moment number keys.now)) self.old self.new result }
+        ensures { RouterDoes (on_area (receive_request moment number keys.now)) self.old self.new
+            result }
     {
         let receiving = ReceivingRequest { moment, keys };
         self.area.step_link(alloc, moment, number, &receiving)
@@ -104,7 +105,7 @@ impl Router {
     ) -> Result<(), AllocError>
         requires first { 1 ≤ number }
         requires last { number ≤ length self.old.present.area.links }
-        ensures { Does (on_area (receive_acknowledgment moment number headers.now))
+        ensures { RouterDoes (on_area (receive_acknowledgment moment number headers.now))
             self.old self.new result }
     {
         let receiving = ReceivingAcknowledgment { moment, headers };

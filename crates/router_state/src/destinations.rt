@@ -6,7 +6,7 @@ ghost use Rattle.std.specs.FinMap as finite;
 ghost use Rattle.event_rules.specs.Commands.{announce, unannounce};
 ghost use Rattle.event_rules.specs.EventState.{on_router};
 ghost use Rattle.event_rules.specs.Originations.{external_key, forget_originations, put_off};
-ghost use Rattle.router_state.specs.Making.{Does};
+ghost use Rattle.router_state.specs.Making.{RouterDoes};
 
 use crate::router::Router;
 use keyed_map::{KeyTest, KeyedMap};
@@ -49,7 +49,7 @@ impl Router {
     pub fn announce(&mut self, external: External) -> Result<(), AllocError>
         // A metric has 24 bits.
         requires metric { external.metric < 2 ^ 24 }
-        ensures { Does (on_router (announce
+        ensures { RouterDoes (on_router (announce
             (external_key self.old.present.id external.prefix) external))
             self.old self.new result }
     {
@@ -61,7 +61,7 @@ impl Router {
     ///
     /// Errors with `AllocError` if an allocation is refused.
     pub fn unannounce(&mut self, key: &Key) -> Result<(), AllocError>
-        ensures { Does (on_router (unannounce key.now)) self.old self.new result }
+        ensures { RouterDoes (on_router (unannounce key.now)) self.old self.new result }
     {
         self.announced.remove(key)?;
         self.waiting.remove(key)
@@ -71,7 +71,7 @@ impl Router {
     ///
     /// Errors with `AllocError` if an allocation is refused.
     pub fn put_off(&mut self, key: &Key) -> Result<(), AllocError>
-        ensures { Does (on_router (put_off key.now)) self.old self.new result }
+        ensures { RouterDoes (on_router (put_off key.now)) self.old self.new result }
     {
         self.waiting.insert(*key, ())
     }
@@ -80,7 +80,7 @@ impl Router {
     ///
     /// Errors with `AllocError` if an allocation is refused.
     pub fn forget_originations(&mut self, alloc: Global, moment: Second) -> Result<(), AllocError>
-        ensures { Does (on_router (forget_originations moment)) self.old self.new result }
+        ensures { RouterDoes (on_router (forget_originations moment)) self.old self.new result }
     {
         let keys = self.originated.keys_where(alloc, &IsOver { moment })?;
         remove_each(&keys, &mut self.originated)

@@ -4,9 +4,9 @@
 //!
 //! Each call that is a part of an event says by `Makes` which part it is: wherever in an event it
 //! comes, it does to the router, and adds to what was sent, what that part of the rules does. A
-//! call that may be refused an allocation says by `Does` that it is that part if it answers `Ok`.
-//! If it errors with `AllocError`, it may have done a part of its work; its caller then rolls the
-//! router back, which drops what was drafted, too.
+//! call that may be refused an allocation says by `RouterDoes` that it is that part if it answers
+//! `Ok`. If it errors with `AllocError`, it may have done a part of its work; its caller then rolls
+//! the router back, which drops what was drafted, too.
 #![tactic(auto)]
 
 mod aging;

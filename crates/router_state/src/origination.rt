@@ -3,7 +3,7 @@ ghost use Rattle.std.specs.Prelude.{◌≡◌};
 ghost use Rattle.event_rules.specs.Originations.{originate_or_put_off, receive_self_originated};
 ghost use Rattle.flooding.specs.adjacency.lsdb.Headers.{Lsa};
 ghost use Rattle.originations.specs.Decisions.{after_origination};
-ghost use Rattle.router_state.specs.Making.{Does};
+ghost use Rattle.router_state.specs.Making.{RouterDoes};
 ghost use Rattle.router_state.specs.Wanted.{originate_wanted};
 
 use crate::router::Router;
@@ -21,7 +21,7 @@ fn carry_out(
     key: &Key,
     found: Origination,
 ) -> Result<(), AllocError>
-    ensures { Does (after_origination moment key.now found) router.old router.new result }
+    ensures { RouterDoes (after_origination moment key.now found) router.old router.new result }
 {
     match found {
         Origination::Flushes => router.flush(alloc, moment, key),
@@ -41,7 +41,7 @@ pub fn originate(
     moment: Second,
     key: &Key,
 ) -> Result<(), AllocError>
-    ensures { Does (originate_wanted may_now moment key.now) router.old router.new result }
+    ensures { RouterDoes (originate_wanted may_now moment key.now) router.old router.new result }
 {
     let found = wanted_origination(router, alloc, may_now, moment, key)?;
     let Some(found) = found else {
@@ -61,7 +61,7 @@ pub fn originate_or_put_off(
     moment: Second,
     key: &Key,
 ) -> Result<(), AllocError>
-    ensures { Does (originate_or_put_off moment key.now) router.old router.new result }
+    ensures { RouterDoes (originate_or_put_off moment key.now) router.old router.new result }
 {
     let has_room = router.area().database().has_room(key);
     originate(router, alloc, has_room, moment, key)
@@ -79,7 +79,7 @@ pub fn receive_self_originated(
     header: &Header,
 ) -> Result<(), AllocError>
     ensures { (lsa : Lsa) → lsa.header ≡ header.now
-        → Does (receive_self_originated moment lsa) router.old router.new result }
+        → RouterDoes (receive_self_originated moment lsa) router.old router.new result }
 {
     if header.advertising_router != router.id() {
         return Ok(());

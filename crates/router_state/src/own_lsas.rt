@@ -1,7 +1,7 @@
 //! Self-originated LSAs (RFC 2328, sections 12.4 and 14.1).
 ghost use Rattle.std.specs.Prelude.{◌≡◌};
 ghost use Rattle.event_rules.specs.Originations.{flush, is_due, refresh_time_is_over};
-ghost use Rattle.router_state.specs.Making.{Does};
+ghost use Rattle.router_state.specs.Making.{RouterDoes};
 ghost use Rattle.router_state.specs.Parts.{put_out};
 
 use crate::router::Router;
@@ -47,7 +47,7 @@ impl Router {
         key: &Key,
         lsa: Lsa,
     ) -> Result<(), AllocError>
-        ensures { Does (put_out moment key.now lsa) self.old self.new result }
+        ensures { RouterDoes (put_out moment key.now lsa) self.old self.new result }
     {
         self.area.originate(alloc, moment, lsa)?;
         self.waiting.remove(key)?;
@@ -59,7 +59,7 @@ impl Router {
     ///
     /// Errors with `AllocError` if an allocation is refused.
     pub fn flush(&mut self, alloc: Global, moment: Second, key: &Key) -> Result<(), AllocError>
-        ensures { Does (flush moment key.now) self.old self.new result }
+        ensures { RouterDoes (flush moment key.now) self.old self.new result }
     {
         let Some(copy) = self.area.database().get(key) else {
             return Ok(());

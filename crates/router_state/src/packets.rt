@@ -4,7 +4,7 @@ ghost use Rattle.flooding.specs.adjacency.Steps.{named_neighbor};
 ghost use Rattle.event_rules.specs.received.Links.{neighbor_at};
 ghost use Rattle.event_rules.specs.Packets.{after_packet, any_exchange_or_later, is_from, is_heard};
 ghost use Rattle.event_rules.specs.Packets.{is_hello};
-ghost use Rattle.router_state.specs.Making.{Does};
+ghost use Rattle.router_state.specs.Making.{RouterDoes};
 ghost use Rattle.router_state.specs.Received.{counts_before_exchange, is_from_named};
 ghost use Rattle.router_state.specs.Received.{is_exchange_or_later_named, is_processed};
 
@@ -134,7 +134,7 @@ pub fn receive_packet(
 ) -> Result<(), AllocError>
     requires first { 1 ≤ number }
     requires last { number ≤ length router.old.present.area.links }
-    ensures { Does (after_packet moment number packet.now) router.old router.new result }
+    ensures { RouterDoes (after_packet moment number packet.now) router.old router.new result }
 {
     if !is_processed(packet, router, number) {
         return Ok(());

@@ -6,7 +6,7 @@ ghost use Rattle.event_rules.specs.Commands.{after_link_down};
 ghost use Rattle.event_rules.specs.EventState.{on_area};
 ghost use Rattle.event_rules.specs.Endings.{loading_done, with_ages};
 ghost use Rattle.event_rules.specs.Ticks.{run_out};
-ghost use Rattle.router_state.specs.Making.{Does, Makes};
+ghost use Rattle.router_state.specs.Making.{Makes, RouterDoes};
 ghost use Rattle.router_state.specs.Parts.{request_and_remove_aged, send_what_is_due};
 
 use crate::aging::{remove_aged, with_ages};
@@ -38,7 +38,7 @@ impl Router {
     ///
     /// Errors with `AllocError` if an allocation is refused.
     pub fn age(&mut self, alloc: Global, moment: Second) -> Result<(), AllocError>
-        ensures { Does (on_area (with_ages self.old.present.moment moment))
+        ensures { RouterDoes (on_area (with_ages self.old.present.moment moment))
             self.old self.new result }
     {
         let before = self.moment();
@@ -51,7 +51,7 @@ impl Router {
     ///
     /// Errors with `AllocError` if an allocation is refused.
     pub fn send_what_is_due(&mut self, alloc: Global, moment: Second) -> Result<(), AllocError>
-        ensures { Does (send_what_is_due moment) self.old self.new result }
+        ensures { RouterDoes (send_what_is_due moment) self.old self.new result }
     {
         let again = SendingAgain { moment };
         self.area.step_links(alloc, moment, &again)?;
@@ -72,7 +72,7 @@ impl Router {
         alloc: Global,
         moment: Second,
     ) -> Result<(), AllocError>
-        ensures { Does (request_and_remove_aged moment) self.old self.new result }
+        ensures { RouterDoes (request_and_remove_aged moment) self.old self.new result }
     {
         let requests = NextRequest { moment };
         self.area.step_links(alloc, moment, &requests)?;

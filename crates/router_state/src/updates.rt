@@ -4,7 +4,7 @@ ghost use Rattle.lsa.specs.Reading.{lsa_in};
 ghost use Rattle.event_rules.specs.received.Updates.{goes_on};
 ghost use Rattle.event_rules.specs.Packets.{after_lsas, after_unread};
 ghost use Rattle.flooding.specs.Cases.{case_of, is_newer};
-ghost use Rattle.router_state.specs.Making.{Does};
+ghost use Rattle.router_state.specs.Making.{RouterDoes};
 ghost use Rattle.router_state.specs.Received.{goes_on_at};
 
 use crate::origination::receive_self_originated;
@@ -74,7 +74,7 @@ impl Router {
         requires last { number ≤ length self.old.present.area.links }
         ensures goes_on { IfOk result (λ goes. goes
             ≡ goes_on_at moment number (lsa_in bytes.now) self.old.present) }
-        ensures does { Does (after_unread moment number (lsa_in bytes.now))
+        ensures does { RouterDoes (after_unread moment number (lsa_in bytes.now))
             self.old self.new result }
     {
         let unread = read_lsa(alloc, bytes)?;
@@ -109,7 +109,7 @@ pub fn receive_lsas(
 ) -> Result<(), AllocError>
     requires first { 1 ≤ number }
     requires last { number ≤ length router.old.present.area.links }
-    ensures { Does (after_lsas moment number lsas.now) router.old router.new result }
+    ensures { RouterDoes (after_lsas moment number lsas.now) router.old router.new result }
 {
     for i in 0..lsas.len() {
         let bytes = lsas[i].as_slice();

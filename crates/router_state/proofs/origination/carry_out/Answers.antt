@@ -1,16 +1,16 @@
 use Rattle.std.proofs.Common.{sym, subst}
 use Rattle.originations.specs.Decisions.{after_origination}
 use Rattle.originations.specs.declared.origination.Origination.{Origination}
-use Rattle.router_state.specs.Making.{Does}
+use Rattle.router_state.specs.Making.{RouterDoes}
 use Rattle.router_state.proofs.origination.carry_out.Goals as goal
 
 pub returns-in-Waits : goal.returns-in-Waits
 returns-in-Waits c =
-    subst (λ (x : Origination). Does (after_origination c.args.moment c.args.key.now x)
+    subst (λ (x : Origination). RouterDoes (after_origination c.args.moment c.args.key.now x)
     c.args.router.now c.put_off.new.self c.put_off.result) (sym c.in-Waits.is) c.put_off.ensures
 
 pub returns-in-Originates : goal.returns-in-Originates
 returns-in-Originates c =
-    subst (λ (x : Origination). Does (after_origination c.args.moment c.args.key.now x)
+    subst (λ (x : Origination). RouterDoes (after_origination c.args.moment c.args.key.now x)
     c.args.router.now c.originate.new.self c.originate.result) (sym c.in-Originates.is)
     c.originate.ensures
