@@ -24,7 +24,7 @@ use Rattle.adjacency.proofs.Kept.{chosen}
 use Rattle.received.specs.Cases.{Case}
 use Rattle.received.specs.Flooding.{flood, flood_to, is_sender}
 use Rattle.received.specs.Holds.{Holds}
-use Rattle.received.specs.Links.{Link, acknowledge_later, change_link, link_at, neighbor_at}
+use Rattle.received.specs.Links.{Link, change_link, delay_acknowledgment, link_at, neighbor_at}
 use Rattle.received.specs.Links.{neighbor_on}
 use Rattle.received.specs.Outcomes.{Outcome, Send, Stepping, each_neighbor, on_database, on_links}
 use Rattle.received.specs.Outcomes.{one_neighbor, only_at, sending, sends_at, sent_on, step_on}
@@ -380,7 +380,7 @@ module _ (own : ℕ) (Acc : Description → Type 0) (Began : Conversation → Ty
   cases Case.TooSoon place lsa o h = h
   cases Case.Newer place lsa o h =
       let p : Outcome = on_database (install_flooded moment lsa) o in
-      change_at place (acknowledge_later lsa.header) (flood moment (Some place) lsa p)
+      change_at place (delay_acknowledgment lsa.header) (flood moment (Some place) lsa p)
       (λ link at. at) (floods (Some place) lsa p h)
   cases Case.BadRequest place lsa o h = mismatches place o h
   cases Case.ImpliedAcknowledgment place lsa o h =

@@ -38,7 +38,7 @@ use Rattle.adjacency.proofs.Kept.{chosen}
 use Rattle.received.specs.Cases.{Case}
 use Rattle.received.specs.Flooding.{flood, flood_to, is_sender}
 use Rattle.received.specs.Holds.{Holds, HoldsOfEach}
-use Rattle.received.specs.Links.{Link, acknowledge_later, link_at, neighbor_at, neighbor_on}
+use Rattle.received.specs.Links.{Link, delay_acknowledgment, link_at, neighbor_at, neighbor_on}
 use Rattle.received.specs.Outcomes.{Outcome, on_database}
 use Rattle.received.specs.Updates.{after_case, copy_of, install, send_copy}
 use Rattle.received.proofs.Holding.{changed_keeps, each_keeps, each_link_keeps, one_holds}
@@ -261,7 +261,7 @@ install_kept : (moment number : ℕ) (lsa : Lsa) (o : Outcome) → OnOutcome o
     → OnOutcome (install moment number lsa o)
 install_kept moment number lsa o h =
     let p : Outcome = on_database (install_flooded moment lsa) o in
-    changed_keeps IsDone number (acknowledge_later lsa.header) (λ link at. at)
+    changed_keeps IsDone number (delay_acknowledgment lsa.header) (λ link at. at)
     (flood moment (Some number) lsa p).area.links (flood_kept moment (Some number) lsa p h)
 
 copy_kept : (moment number : ℕ) (c : Option DatabaseCopy) (o : Outcome) → OnOutcome o

@@ -25,7 +25,7 @@ use Rattle.adjacency.specs.Descriptions.{after_description}
 use Rattle.received.specs.Cases.{Case}
 use Rattle.received.specs.Flooding.{flood, flood_to, is_sender}
 use Rattle.received.specs.Holds.{Holds}
-use Rattle.received.specs.Links.{Link, acknowledge_later, change_link, link_at, neighbor_at}
+use Rattle.received.specs.Links.{Link, change_link, delay_acknowledgment, link_at, neighbor_at}
 use Rattle.received.specs.Outcomes.{Outcome, Stepping, each_neighbor, on_database, on_links}
 use Rattle.received.specs.Outcomes.{one_neighbor, only_at, step_on, stepped_links}
 use Rattle.received.specs.Updates.{after_case, copy_of, send_copy}
@@ -161,7 +161,7 @@ module _ (old : Router) (moment : ℕ) (event : Occurrence) (number : ℕ) (n : 
   cases Case.NothingToFlush place lsa o h = h
   cases Case.TooSoon place lsa o h = h
   cases Case.Newer place lsa o h =
-      change_at place (acknowledge_later lsa.header)
+      change_at place (delay_acknowledgment lsa.header)
       (flood moment (Some place) lsa (on_database (install_flooded moment lsa) o))
       (λ link at. at)
       (floods (Some place) lsa (on_database (install_flooded moment lsa) o) h)

@@ -31,7 +31,7 @@ use Rattle.adjacency.proofs.Kept.{chosen}
 use Rattle.received.specs.Cases.{Case}
 use Rattle.received.specs.Flooding.{flood, flood_to, is_sender}
 use Rattle.received.specs.Holds.{Holds}
-use Rattle.received.specs.Links.{Link, acknowledge_later, change_link}
+use Rattle.received.specs.Links.{Link, change_link, delay_acknowledgment}
 use Rattle.received.specs.Links.{link_at, neighbor_at, neighbor_on}
 use Rattle.received.specs.Outcomes.{Outcome, Send, Stepping, each_neighbor, marked_database}
 use Rattle.received.specs.Outcomes.{sends_at, on_database, on_links, one_neighbor, only_at, sending}
@@ -386,7 +386,7 @@ module _ (key : Key) (moment : ℕ) (number : ℕ) (There : Type 0) (Of : ℕ �
     installs : (place : ℕ) (lsa : Lsa) (o : Outcome) → lsa.header.age ≤ 3600 → Says place lsa.header
         → Stands o → Stands (install moment place lsa o)
     installs place lsa o most says h =
-        change_at place (acknowledge_later lsa.header)
+        change_at place (delay_acknowledgment lsa.header)
         (flood moment (Some place) lsa (on_database (install_flooded moment lsa) o))
         (λ link at. at) (by_key (same_key key (lsa_key lsa)) refl)
       where

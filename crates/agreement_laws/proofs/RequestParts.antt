@@ -23,7 +23,7 @@ use Rattle.adjacency.proofs.Maps.{OfEntry}
 use Rattle.received.specs.Cases.{Case}
 use Rattle.received.specs.Flooding.{flood, flood_to, is_sender}
 use Rattle.received.specs.Holds.{Holds}
-use Rattle.received.specs.Links.{Link, acknowledge_later, change_link, link_at, neighbor_at}
+use Rattle.received.specs.Links.{Link, change_link, delay_acknowledgment, link_at, neighbor_at}
 use Rattle.received.specs.Outcomes.{Outcome, Send, Stepping, each_neighbor, on_database, on_links}
 use Rattle.received.specs.Outcomes.{one_neighbor, only_at, sending, sends_at, step_on, sends_of}
 use Rattle.received.specs.Outcomes.{stepped_links, stepping_sends}
@@ -253,7 +253,7 @@ module _ (ranks : RanksFollowTheComparison) (key : Key) (moment : ℕ) (first : 
       → newer_than_copy moment lsa.header (copy_of lsa o.area) ≡ true → Stands o
       → Stands (install moment place lsa o)
   installs place lsa o is h =
-      change_at place (acknowledge_later lsa.header)
+      change_at place (delay_acknowledgment lsa.header)
       (flood moment (Some place) lsa (on_database (install_flooded moment lsa) o))
       (λ link at. at)
       (floods (Some place) lsa (on_database (install_flooded moment lsa) o)

@@ -31,7 +31,7 @@ use Rattle.adjacency.proofs.Maps.{IfThere, OfEntry, entries_in, inserted_in, non
 use Rattle.received.specs.Cases.{Case}
 use Rattle.received.specs.Flooding.{flood, flood_to, is_sender}
 use Rattle.received.specs.Holds.{Holds}
-use Rattle.received.specs.Links.{Area, Link, acknowledge_later, change_link, link_at}
+use Rattle.received.specs.Links.{Area, Link, change_link, delay_acknowledgment, link_at}
 use Rattle.received.specs.Outcomes.{Outcome, Send, Stepping, each_neighbor, marked_database}
 use Rattle.received.specs.Outcomes.{on_database, on_links, one_neighbor, only_at, sending, sends_at}
 use Rattle.received.specs.Outcomes.{sent_on, step_on, stepped_links, stepping_sends, sends_of}
@@ -407,7 +407,7 @@ module _ (old : Router) (moment : ℕ) where
       let still : AsNew q.area.database (lsa_key lsa) (instance_of lsa.header) =
       mark_grows (stepping_sends (flood_to moment (Some place) lsa) p.area.links)
       p.area.database (lsa_key lsa) (instance_of lsa.header) there in
-      on_one place (acknowledge_later lsa.header) q
+      on_one place (delay_acknowledgment lsa.header) q
       (λ number link e so. record {
         acknowledgments = inserted_in (OfWaiting old (AsNew q.area.database) number)
             link.acknowledgments (key_of lsa.header) lsa.header so.acknowledgments (inr still);

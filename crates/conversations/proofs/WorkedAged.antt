@@ -15,7 +15,7 @@ use Rattle.adjacency.specs.Neighbors.{Neighbor, is_exchange_or_loading, is_excha
 use Rattle.adjacency.specs.Retransmissions.{add_retransmission, remove_retransmission}
 use Rattle.received.specs.Cases.{Case, case_of_readable}
 use Rattle.received.specs.Flooding.{flood_to, gets, passes, request_of, without_met_request}
-use Rattle.received.specs.Links.{Area, Link, acknowledge_later, any_has_retransmission}
+use Rattle.received.specs.Links.{Area, Link, any_has_retransmission, delay_acknowledgment}
 use Rattle.received.specs.Links.{any_exchange_or_loading, change_link, link_at, neighbor_at}
 use Rattle.received.specs.Links.{neighbor_on, neighbor_is_exchange_or_loading}
 use Rattle.received.specs.Outcomes.{Send, sends_at, sent_on, step_on, stepped_links, stepping_sends}
@@ -141,7 +141,7 @@ module _ (moment number other : ℕ) (lsa : Lsa) (another : Link) (m : Neighbor)
         content = Content.Updates lsa;
       })))
 
-  neighbor_of : (b : Bool) (h : Header) (l : Link) → (cond b (acknowledge_later h l) l).neighbor
+  neighbor_of : (b : Bool) (h : Header) (l : Link) → (cond b (delay_acknowledgment h l) l).neighbor
       ≡ l.neighbor
   neighbor_of true h l = refl
   neighbor_of false h l = refl
@@ -160,11 +160,12 @@ module _ (moment number other : ℕ) (lsa : Lsa) (another : Link) (m : Neighbor)
       let one : link_at other (stepped_links f r.area.links) ≡ Some stepped_link =
       link_changed (λ (e : ℕ × Link). record e.1 { neighbor = step_on (f e.0 e.1) e.1.neighbor })
       other r.area.links another there.link_there in
-      let two : link_at other (change_link number (acknowledge_later lsa.header)
+      let two : link_at other (change_link number (delay_acknowledgment lsa.header)
       (stepped_links f r.area.links))
-      ≡ Some (cond (other == number) (acknowledge_later lsa.header stepped_link)
+      ≡ Some (cond (other == number) (delay_acknowledgment lsa.header stepped_link)
       stepped_link) =
-      link_changed (λ (e : ℕ × Link). cond (e.0 == number) (acknowledge_later lsa.header e.1) e.1)
+      link_changed (λ (e : ℕ × Link). cond (e.0 == number) (delay_acknowledgment lsa.header e.1)
+      e.1)
       other (stepped_links f r.area.links) stepped_link one in (
         (f other another m).neighbor,
         ap neighbor_on two ∙ neighbor_of (other == number) lsa.header stepped_link

@@ -19,7 +19,7 @@ use Rattle.adjacency.specs.Retransmissions.{add_retransmission, remove_retransmi
 use Rattle.adjacency.specs.declared.interface.Interface.{Interface}
 use Rattle.adjacency.specs.declared.state.NeighborState.{NeighborState}
 use Rattle.received.specs.Flooding.{flood_to, gets, meets, request_of, without_met_request}
-use Rattle.received.specs.Links.{Link, acknowledge_later, any_exchange_or_loading, change_link}
+use Rattle.received.specs.Links.{Link, any_exchange_or_loading, change_link, delay_acknowledgment}
 use Rattle.received.specs.Links.{link_at, neighbor_is_exchange_or_loading}
 use Rattle.received.specs.Outcomes.{Outcome, Stepping, each_neighbor, marked_database, sends_at}
 use Rattle.received.specs.Outcomes.{sent_on, step_on, stepped_links}
@@ -137,19 +137,20 @@ pub stepped_seen : (f : Stepping) → Keeps f → (xs : List Link) → map seen 
     ≡ map seen xs
 stepped_seen f keeps xs = stepped_from f keeps 1 xs
 
-chosen_seen : (b : Bool) (h : Header) (x : Link) → seen (cond b (acknowledge_later h x) x) ≡ seen x
+chosen_seen : (b : Bool) (h : Header) (x : Link)
+    → seen (cond b (delay_acknowledgment h x) x) ≡ seen x
 chosen_seen true h x = refl
 chosen_seen false h x = refl
 
 changed_from : (number : ℕ) (h : Header) (k : ℕ) (xs : List Link)
-    → map seen (map (λ (e : ℕ × Link). cond (e.0 == number) (acknowledge_later h e.1) e.1)
+    → map seen (map (λ (e : ℕ × Link). cond (e.0 == number) (delay_acknowledgment h e.1) e.1)
     (enumerate_from k xs)) ≡ map seen xs
 changed_from number h k [] = refl
 changed_from number h k (x ∷ xs) = λ i. chosen_seen (k == number) h x i
     ∷ changed_from number h (k + 1) xs i
 
 pub acknowledged_seen : (number : ℕ) (h : Header) (xs : List Link)
-    → map seen (change_link number (acknowledge_later h) xs) ≡ map seen xs
+    → map seen (change_link number (delay_acknowledgment h) xs) ≡ map seen xs
 acknowledged_seen number h xs = changed_from number h 1 xs
 
 -- ---- steps that change nothing

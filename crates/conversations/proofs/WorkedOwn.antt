@@ -20,7 +20,7 @@ use Rattle.adjacency.specs.Requests.{requested_entry, without_request}
 use Rattle.adjacency.specs.Retransmissions.{remove_retransmission}
 use Rattle.adjacency.specs.declared.state.NeighborState.TheVariants.{Full}
 use Rattle.received.specs.Flooding.{meets}
-use Rattle.received.specs.Links.{Link, acknowledge_later}
+use Rattle.received.specs.Links.{Link, delay_acknowledgment}
 use Rattle.received.specs.Updates.{install}
 use Rattle.event_rules.specs.declared.model.Out.{Out}
 use Rattle.event_rules.specs.Endings.{copy_has_body, originate_router_lsa, put_off_router_lsa}
@@ -65,7 +65,7 @@ abbrev pub put : Router → Link → ℕ → Lsa → Neighbor → EventState
 put r link moment lsa n = record {
   router = record r {
     area = record {
-      links = acknowledge_later lsa.header (record link {
+      links = delay_acknowledgment lsa.header (record link {
         neighbor = Some n;
       }) ∷ [];
       database = install_flooded moment lsa r.area.database;

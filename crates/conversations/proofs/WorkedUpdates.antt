@@ -26,7 +26,7 @@ use Rattle.adjacency.specs.Requests.{requested_entry, without_request}
 use Rattle.adjacency.specs.Retransmissions.{is_entry, add_retransmission, remove_retransmission}
 use Rattle.received.specs.Cases.{Case, case_of_readable, first_case, is_wrapping}
 use Rattle.received.specs.Flooding.{flood_to, meets, passes, request_of, without_met_request}
-use Rattle.received.specs.Links.{Area, Link, acknowledge_later, any_has_retransmission}
+use Rattle.received.specs.Links.{Area, Link, any_has_retransmission, delay_acknowledgment}
 use Rattle.received.specs.Links.{any_exchange_or_loading, link_at, neighbor_at, neighbor_on}
 use Rattle.received.specs.Outcomes.{Outcome, step_on, stepped_links, stepping_sends}
 use Rattle.received.specs.Updates.{case_at, goes_on, install}
@@ -177,7 +177,7 @@ first_seen r moment number lsa =
     r.area.links
 
 abbrev pub sender_after : Lsa → Link → Neighbor → Link
-sender_after lsa link n = acknowledge_later lsa.header (record link {
+sender_after lsa link n = delay_acknowledgment lsa.header (record link {
   neighbor = Some (remove_retransmission (lsa_key lsa) n);
 })
 
@@ -195,9 +195,9 @@ sender_there r moment number lsa link n from =
     ∙ ap (λ (s : Step). Some s.neighbor)
     (sender_step moment number lsa link n (ap is_exchange_or_later from.is_full)
     (ap is_exchange_or_loading from.is_full)) in
-    link_changed (λ (e : ℕ × Link). cond (e.0 == number) (acknowledge_later lsa.header e.1) e.1)
+    link_changed (λ (e : ℕ × Link). cond (e.0 == number) (delay_acknowledgment lsa.header e.1) e.1)
     number (stepped_links f r.area.links) stepped_link one
-    ∙ (λ i. Some (cond (itself number i) (acknowledge_later lsa.header (record link {
+    ∙ (λ i. Some (cond (itself number i) (delay_acknowledgment lsa.header (record link {
       neighbor = two i;
     })) (record link { neighbor = two i })))
 

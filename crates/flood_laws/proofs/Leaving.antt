@@ -42,7 +42,7 @@ use Rattle.received.specs.Cases.{Case, case_of_readable, first_case, is_on_sende
 use Rattle.received.specs.Cases.{is_wrapping, was_requested}
 use Rattle.received.specs.Flooding.{flood, flood_to, is_sender}
 use Rattle.received.specs.Holds.{Holds}
-use Rattle.received.specs.Links.{Area, Link, acknowledge_later, any_exchange_or_loading}
+use Rattle.received.specs.Links.{Area, Link, any_exchange_or_loading, delay_acknowledgment}
 use Rattle.received.specs.Links.{change_link, link_at, neighbor_at, neighbor_on}
 use Rattle.received.specs.Outcomes.{Outcome, Send, Stepping, each_neighbor, sends_at, on_database}
 use Rattle.received.specs.Outcomes.{on_links, one_neighbor, only_at, sending, step_on, sends_of}
@@ -737,7 +737,7 @@ module _ (old : Router) (moment : ℕ) (event : Occurrence) (number : ℕ) (befo
               installed = Some moment;
               sent = None;
             } in
-            change_became place (acknowledge_later lsa.header) (λ link at. at)
+            change_became place (delay_acknowledgment lsa.header) (λ link at. at)
             (flood moment (Some place) lsa (on_database (install_flooded moment lsa) o)) t
             (flood_other_became (Some place) lsa (on_database (install_flooded moment lsa) o) t
             other (put_became (lsa_key lsa) c o t other h))

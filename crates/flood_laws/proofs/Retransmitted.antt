@@ -35,7 +35,8 @@ use Rattle.adjacency.proofs.Maps.{none_in, removed_in, retained_in}
 use Rattle.received.specs.Cases.{Case}
 use Rattle.received.specs.Flooding.{flood, flood_to, gets, meets, request_of, without_met_request}
 use Rattle.received.specs.Holds.{Holds, HoldsOfEach}
-use Rattle.received.specs.Links.{Area, Link, acknowledge_later, any_has_retransmission, change_link}
+use Rattle.received.specs.Links.{Area, Link, any_has_retransmission, change_link}
+use Rattle.received.specs.Links.{delay_acknowledgment}
 use Rattle.received.specs.Links.{has_retransmission, link_at, neighbor_on}
 use Rattle.received.specs.Outcomes.{Outcome, Send, Stepping, each_neighbor, marked_database}
 use Rattle.received.specs.Outcomes.{sends_at, on_database, on_links, one_neighbor, only_at, sending}
@@ -453,7 +454,8 @@ install_kept moment number lsa o h =
     let so : OfOutcome flooded = put_kept moment (Some number) lsa (Some moment) o h in
     record {
       keys = so.keys;
-      each = changed_keeps (Of (OfIt flooded.area.database)) number (acknowledge_later lsa.header)
+      each = changed_keeps (Of (OfIt flooded.area.database)) number
+          (delay_acknowledgment lsa.header)
           (λ link at. at) flooded.area.links so.each;
     }
 

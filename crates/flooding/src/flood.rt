@@ -13,7 +13,7 @@ ghost use Rattle.flooding.specs.Links.{committed_link, originate_outcome, presen
 
 use crate::area::Area;
 use crate::link::Link;
-use crate::on_links::acknowledge_later;
+use crate::on_links::delay_acknowledgment;
 use adjacency::{DatabaseCopy, Draft};
 use lsa::Lsa;
 use lsdb::CopyTimes;
@@ -131,7 +131,7 @@ impl Area {
         let header = lsa.header();
         let key = header.key();
         let sent = flood_received(alloc, moment, Some(number), &lsa, &mut self.links)?;
-        acknowledge_later(number, header, &mut self.links)?;
+        delay_acknowledgment(number, header, &mut self.links)?;
         self.database.install(moment, lsa, Some(moment))?;
         if sent {
             return self.database.mark_sent(moment, &key);

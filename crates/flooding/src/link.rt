@@ -7,7 +7,7 @@ ghost use Rattle.adjacency.specs.Contents.{Updates, no_sends, sent_on};
 ghost use Rattle.adjacency.specs.Drafts.{nothing_drafted};
 ghost use Rattle.adjacency.specs.Floods.{flood_step, is_any};
 ghost use Rattle.adjacency.specs.Retransmissions.{remove_retransmission};
-ghost use Rattle.received.specs.Links.{acknowledge_later, fresh_link};
+ghost use Rattle.received.specs.Links.{delay_acknowledgment, fresh_link};
 ghost use Rattle.flooding.specs.Doing.{LinkDoes};
 ghost use Rattle.flooding.specs.Links.{neighbor_sends, neighbor_step};
 
@@ -178,8 +178,8 @@ impl Link {
     /// 2328, section 13.5).
     ///
     /// Errors with `AllocError` if an allocation is refused.
-    pub fn acknowledge_later(&mut self, header: Header) -> Result<(), AllocError>
-        ensures { LinkDoes (acknowledge_later header) (λ link. []) self.old self.new result }
+    pub fn delay_acknowledgment(&mut self, header: Header) -> Result<(), AllocError>
+        ensures { LinkDoes (delay_acknowledgment header) (λ link. []) self.old self.new result }
     {
         self.acknowledgments.insert(header.key(), header)
     }

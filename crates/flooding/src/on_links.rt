@@ -5,7 +5,7 @@ ghost use Rattle.adjacency.specs.lsdb.Copies.{lsa_now};
 ghost use Rattle.adjacency.specs.Adjacencies.{mismatch_step};
 ghost use Rattle.adjacency.specs.Contents.{Acknowledges, Updates, no_sends};
 ghost use Rattle.adjacency.specs.Retransmissions.{remove_retransmission};
-ghost use Rattle.received.specs.Links.{acknowledge_later, any_exchange_or_loading};
+ghost use Rattle.received.specs.Links.{any_exchange_or_loading, delay_acknowledgment};
 ghost use Rattle.received.specs.Links.{any_has_retransmission, change_link};
 ghost use Rattle.received.specs.Outcomes.{sends_at, only_at, stepped_links, stepping_sends};
 ghost use Rattle.flooding.specs.Doing.{LinksDo};
@@ -79,22 +79,22 @@ pub fn remove_retransmission(
 }
 
 /// Adds a delayed acknowledgment at one interface.
-pub fn acknowledge_later(
+pub fn delay_acknowledgment(
     number: usize,
     header: Header,
     links: &mut [Link],
 ) -> Result<(), AllocError>
     requires first { 1 ≤ number }
     requires last { number ≤ length links.old }
-    ensures { LinksDo (change_link number (acknowledge_later header)) (λ ls. []) links.old
+    ensures { LinksDo (change_link number (delay_acknowledgment header)) (λ ls. []) links.old
         links.new result }
 {
     let i = number - 1;
-    links[i].acknowledge_later(header)
+    links[i].delay_acknowledgment(header)
 }
 
-/// Sends a direct acknowledgment at one interface.
-pub fn acknowledge_at_once(
+/// Drafts a direct acknowledgment at one interface.
+pub fn draft_direct_acknowledgment(
     number: usize,
     header: Header,
     links: &mut [Link],
@@ -105,7 +105,7 @@ pub fn acknowledge_at_once(
         links.new result }
 {
     let i = number - 1;
-    links[i].acknowledge_at_once(header)
+    links[i].draft_direct_acknowledgment(header)
 }
 
 /// Sends the copy in a Link State Update at one interface.

@@ -9,7 +9,8 @@ ghost use Rattle.flooding.specs.Links.{start};
 use crate::area::Area;
 use crate::cases::{Case, case_on};
 use crate::on_links::{
-    acknowledge_at_once, any_exchange_or_loading, bad_request, remove_retransmission, send_update,
+    any_exchange_or_loading, bad_request, draft_direct_acknowledgment, remove_retransmission,
+    send_update,
 };
 use lsa::Lsa;
 use std::alloc::{AllocError, Global};
@@ -80,13 +81,13 @@ impl Area {
     {
         let header = lsa.header();
         match case {
-            Case::NothingToFlush => acknowledge_at_once(number, header, &mut self.links),
+            Case::NothingToFlush => draft_direct_acknowledgment(number, header, &mut self.links),
             Case::TooSoon => Ok(()),
             // Excluded by what is required.
             Case::Newer => Ok(()),
             Case::BadRequest => bad_request(alloc, moment, number, &mut self.links),
             Case::ImpliedAcknowledgment => remove_retransmission(number, &header, &mut self.links),
-            Case::Duplicate => acknowledge_at_once(number, header, &mut self.links),
+            Case::Duplicate => draft_direct_acknowledgment(number, header, &mut self.links),
             Case::SequenceWraps => Ok(()),
             Case::SentJustNow => Ok(()),
             Case::Older => {

@@ -29,7 +29,7 @@ use Rattle.adjacency.specs.Retransmissions.{repeats_description, request_again, 
 use Rattle.adjacency.proofs.Kept.{chosen}
 use Rattle.received.specs.Cases.{Case}
 use Rattle.received.specs.Flooding.{flood, flood_to, is_sender}
-use Rattle.received.specs.Links.{Link, acknowledge_later}
+use Rattle.received.specs.Links.{Link, delay_acknowledgment}
 use Rattle.received.specs.Outcomes.{Outcome, Stepping, each_neighbor, on_database, only_at, step_on}
 use Rattle.received.specs.Updates.{after_case, goes_on, send_copy}
 use Rattle.event_rules.specs.Endings.{with_age}
@@ -219,7 +219,7 @@ case_faces Case.Newer moment number lsa o on =
       installed = Some moment;
       sent = None;
     })) o in
-    changed_faces number (acknowledge_later lsa.header) (λ link. refl) 1
+    changed_faces number (delay_acknowledgment lsa.header) (λ link. refl) 1
     (flood moment (Some number) lsa p).area.links ∙ flood_faces moment (Some number) lsa p
 case_faces Case.BadRequest moment number lsa o on = absurd cc
 case_faces Case.ImpliedAcknowledgment moment number lsa o on =

@@ -16,7 +16,7 @@ use Rattle.adjacency.proofs.Kept.{released_kept}
 use Rattle.received.specs.Cases.{Case}
 use Rattle.received.specs.Flooding.{flood, flood_to, gets, meets, request_of, without_met_request}
 use Rattle.received.specs.Holds.{Holds, HoldsOfEach}
-use Rattle.received.specs.Links.{Link, acknowledge_later, change_link, link_at, neighbor_on}
+use Rattle.received.specs.Links.{Link, change_link, delay_acknowledgment, link_at, neighbor_on}
 use Rattle.received.specs.Outcomes.{Outcome, Stepping, each_neighbor, on_database, one_neighbor}
 use Rattle.received.specs.Outcomes.{only_at, step_on}
 use Rattle.received.specs.Updates.{after_case, copy_of, install, send_copy}
@@ -115,7 +115,7 @@ module _ (Q : Fact) (kept : IsKept Q) where
       → HoldsOfEach (Of Q) (install moment number lsa o).area.links
   install_kept moment number lsa o h =
       let p : Outcome = on_database (install_flooded moment lsa) o in
-      changed_keeps (Of Q) number (acknowledge_later lsa.header) (λ link at. at)
+      changed_keeps (Of Q) number (delay_acknowledgment lsa.header) (λ link at. at)
       (flood moment (Some number) lsa p).area.links (flood_kept moment (Some number) lsa p h)
 
   copy_kept : (moment number : ℕ) (c : Option DatabaseCopy) (o : Outcome)

@@ -24,11 +24,11 @@ use Rattle.adjacency.proofs.Roomy.{released_roomy}
 use Rattle.received.specs.Cases.{Case}
 use Rattle.received.specs.Flooding.{flood, flood_to, gets, meets, request_of, without_met_request}
 use Rattle.received.specs.Holds.{Holds, HoldsOfEach}
-use Rattle.received.specs.Links.{Area, Link, acknowledge_later, change_link}
+use Rattle.received.specs.Links.{Area, Link, change_link, delay_acknowledgment}
 use Rattle.received.specs.Outcomes.{Outcome, Send, Stepping, each_neighbor, marked_database}
 use Rattle.received.specs.Outcomes.{sends_at, on_database, on_links, one_neighbor, only_at, sending}
 use Rattle.received.specs.Outcomes.{sent_on, step_on, stepped_links}
-use Rattle.received.specs.Updates.{acknowledge_at_once, after_case, copy_of, install, send_copy}
+use Rattle.received.specs.Updates.{acknowledge_directly, after_case, copy_of, install, send_copy}
 use Rattle.received.proofs.Holding.{changed_keeps, each_keeps}
 use Rattle.received.proofs.Marks.{changed_by}
 
@@ -227,7 +227,7 @@ flood_roomy moment sender lsa o fits h =
 -- ---- a received LSA
 
 at_once_roomy : (moment number : ℕ) (lsa : Lsa) (o : Outcome) → IsRoomyOutcome o
-    → IsRoomyOutcome (acknowledge_at_once moment number lsa.header o)
+    → IsRoomyOutcome (acknowledge_directly moment number lsa.header o)
 at_once_roomy moment number lsa o h =
     sending_roomy moment (sends_at number (Acknowledges lsa.header ∷ [])) o (tt, tt) h
 
@@ -243,7 +243,7 @@ install_roomy moment number lsa o fits h =
       installed = Some moment;
       sent = None;
     }) h.fit fits) h in
-    changed_roomy number (acknowledge_later lsa.header) (λ link at. at)
+    changed_roomy number (delay_acknowledgment lsa.header) (λ link at. at)
     (flood moment (Some number) lsa p) (flood_roomy moment (Some number) lsa p fits installed)
 
 copy_roomy : (moment number : ℕ) (c : Option DatabaseCopy) (o : Outcome) → FitsIfThere c

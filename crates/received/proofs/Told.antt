@@ -21,11 +21,12 @@ use Rattle.adjacency.proofs.Told.{lsa_now_told, mismatched_told, owed_told, quie
 use Rattle.adjacency.proofs.Told.{released_told}
 use Rattle.received.specs.Cases.{Case}
 use Rattle.received.specs.Flooding.{flood, flood_to, gets, meets, request_of, without_met_request}
-use Rattle.received.specs.Links.{Area, Link, acknowledge_later, change_link, link_at, neighbor_on}
+use Rattle.received.specs.Links.{Area, Link, change_link, delay_acknowledgment, link_at}
+use Rattle.received.specs.Links.{neighbor_on}
 use Rattle.received.specs.Outcomes.{Outcome, Send, Stepping, each_neighbor, marked_database}
 use Rattle.received.specs.Outcomes.{sends_at, on_database, on_links, one_neighbor, only_at, sending}
 use Rattle.received.specs.Outcomes.{sent_on, step_on, stepped_links}
-use Rattle.received.specs.Updates.{acknowledge_at_once, after_case, copy_of, install, send_copy}
+use Rattle.received.specs.Updates.{acknowledge_directly, after_case, copy_of, install, send_copy}
 use Rattle.received.proofs.Marks.{changed_by}
 use Rattle.received.proofs.Roomy.{joined, same_number}
 
@@ -240,7 +241,7 @@ module _ (t : Telling) where
   -- ---- a received LSA
 
   at_once_told : (moment number : ℕ) (lsa : Lsa) (o : Outcome) → t.of_lsa lsa → OfOutcome t o
-      → OfOutcome t (acknowledge_at_once moment number lsa.header o)
+      → OfOutcome t (acknowledge_directly moment number lsa.header o)
   at_once_told moment number lsa o so h =
       sending_told moment (sends_at number (Acknowledges lsa.header ∷ [])) o (t.header lsa so, tt) h
 
@@ -256,7 +257,7 @@ module _ (t : Telling) where
         installed = Some moment;
         sent = None;
       }) h.copies so) h in
-      change_told number (acknowledge_later lsa.header)
+      change_told number (delay_acknowledgment lsa.header)
       (λ link at. record {
         neighbor = at.neighbor;
         acknowledgments = inserted_in (OfWaiting t) link.acknowledgments (key_of lsa.header)

@@ -17,7 +17,7 @@ use Rattle.flooding.specs.adjacency.Requests.{request_next}
 use Rattle.flooding.specs.adjacency.Retransmissions.{remove_retransmission}
 use Rattle.flooding.specs.received.Cases.{Case}
 use Rattle.flooding.specs.received.Flooding.{flood_to}
-use Rattle.flooding.specs.received.Links.{Area, acknowledge_later, any_exchange_or_loading}
+use Rattle.flooding.specs.received.Links.{Area, any_exchange_or_loading, delay_acknowledgment}
 use Rattle.flooding.specs.received.Links.{change_link}
 use Rattle.flooding.specs.received.Outcomes.{Outcome, on_database, on_links, only_at, stepped_links}
 use Rattle.flooding.specs.received.Updates.{after_case, copy_of, install, send_copy}
@@ -123,7 +123,7 @@ module _ (moment number : ℕ) (lsa : Lsa) where
   keeps_case Case.NothingToFlush a = refl
   keeps_case Case.TooSoon a = refl
   keeps_case Case.Newer a =
-      change_interfaces number (acknowledge_later lsa.header) (λ l. refl)
+      change_interfaces number (delay_acknowledgment lsa.header) (λ l. refl)
       (stepped_links (flood_to moment (Some number) lsa) a.links)
       ∙ keeps_neighbors moment (flood_to moment (Some number) lsa) a
   keeps_case Case.BadRequest a = keeps_neighbors moment (only_at number (mismatch_step moment)) a

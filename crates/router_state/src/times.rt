@@ -28,7 +28,7 @@ impl LinkStep for SendingAcknowledgments {
     ghost sends = { λ a database link. acknowledgments_on link };
 
     fn take(&self, alloc: Global, _database: &Lsdb, link: &mut Link) -> Result<(), AllocError> {
-        link.send_delayed_acknowledgments(alloc)
+        link.draft_delayed_acknowledgments(alloc)
     }
 }
 

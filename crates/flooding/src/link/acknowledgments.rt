@@ -1,4 +1,4 @@
-//! Sending delayed acknowledgments (RFC 2328, section 13.5).
+//! Drafting direct and delayed acknowledgments (RFC 2328, section 13.5).
 ghost use Rattle.std.specs.Prelude.{◌≡◌, ◌∷◌, [], ℕ, OnOk, map};
 ghost use Rattle.std.specs.List.{fold};
 ghost use Rattle.std.specs.FinMap as finite;
@@ -36,11 +36,11 @@ fn remove_headers(keys: &[Key], headers: &mut KeyedMap<Header>) -> Result<(), Al
 }
 
 impl Link {
-    /// Sends the delayed acknowledgments, in the order of their keys, and clears them (RFC 2328,
+    /// Drafts the delayed acknowledgments, in the order of their keys, and clears them (RFC 2328,
     /// section 13.5).
     ///
     /// Errors with `AllocError` if an allocation is refused.
-    pub fn send_delayed_acknowledgments(&mut self, alloc: Global) -> Result<(), AllocError>
+    pub fn draft_delayed_acknowledgments(&mut self, alloc: Global) -> Result<(), AllocError>
         ensures { LinkDoes (λ link. record link { acknowledgments = finite.empty })
             (λ link. map Acknowledges (finite.values link.acknowledgments))
             self.old self.new result }
@@ -51,10 +51,10 @@ impl Link {
         remove_headers(&keys, &mut self.acknowledgments)
     }
 
-    /// Sends an acknowledgment of the instance at once (RFC 2328, section 13.5).
+    /// Drafts a direct acknowledgment of the instance (RFC 2328, section 13.5).
     ///
     /// Errors with `AllocError` if an allocation is refused.
-    pub fn acknowledge_at_once(&mut self, header: Header) -> Result<(), AllocError>
+    pub fn draft_direct_acknowledgment(&mut self, header: Header) -> Result<(), AllocError>
         ensures { LinkDoes (λ link. link) (λ link. Acknowledges header ∷ []) self.old self.new
             result }
     {

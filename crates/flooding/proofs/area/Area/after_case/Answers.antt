@@ -10,7 +10,7 @@ use Rattle.adjacency.specs.Neighbors.{Neighbor}
 use Rattle.adjacency.specs.Retransmissions.{remove_retransmission}
 use Rattle.received.specs.Links.{Area, Link}
 use Rattle.received.specs.Outcomes.{one_neighbor, only_at, sends_at, stepped_links, stepping_sends}
-use Rattle.received.specs.Updates.{acknowledge_at_once, after_case, send_copy}
+use Rattle.received.specs.Updates.{acknowledge_directly, after_case, send_copy}
 use Rattle.flooding.specs.Cases.{case_of, is_newer}
 use Rattle.flooding.specs.Kept.{KeptLink, RouterArea}
 use Rattle.flooding.specs.Links.{area_of, start}
@@ -28,13 +28,14 @@ returns-in-NothingToFlush c =
     let cs = Acknowledges c.header-header.result ∷ [] in
     area_same (on_links_alone (λ (ls : List Link). ls) (λ (ls : List Link). sends_at n cs))
     (λ (a : Area). after_case (case_of c.args.case) m n lsa (start a)) old _
-    c.acknowledge_at_once.result
-    (ap (λ (h : Header). acknowledge_at_once m n h (start old.present)) c.header-header.ensures
+    c.draft_direct_acknowledgment.result
+    (ap (λ (h : Header). acknowledge_directly m n h (start old.present)) c.header-header.ensures
     ∙ ap (λ k. after_case (case_of k) m n lsa (start old.present)) (sym c.in-NothingToFlush.is))
     (lent_do (λ (ls : List Link). ls) (λ (ls : List Link). sends_at n cs)
-    c.self.inside.links.items c.deref_mut.result.now c.acknowledge_at_once.new.links
-    c.self.inside.links.len c.self.inside.database old c.acknowledge_at_once.result
-    c.deref_mut.ensures.value c.deref_mut.ensures.len c.self.view_is c.acknowledge_at_once.ensures)
+    c.self.inside.links.items c.deref_mut.result.now c.draft_direct_acknowledgment.new.links
+    c.self.inside.links.len c.self.inside.database old c.draft_direct_acknowledgment.result
+    c.deref_mut.ensures.value c.deref_mut.ensures.len c.self.view_is
+    c.draft_direct_acknowledgment.ensures)
 
 pub returns-in-TooSoon : goal.returns-in-TooSoon
 returns-in-TooSoon c =
@@ -120,11 +121,11 @@ returns-in-Duplicate c =
     let old = c.args.self.now in
     let it = c.self-in-Duplicate in
     let lend = c.deref_mut-in-Duplicate in
-    let call = c.acknowledge_at_once-in-Duplicate in
+    let call = c.draft_direct_acknowledgment-in-Duplicate in
     let cs = Acknowledges c.header-header.result ∷ [] in
     area_same (on_links_alone (λ (ls : List Link). ls) (λ (ls : List Link). sends_at n cs))
     (λ (a : Area). after_case (case_of c.args.case) m n lsa (start a)) old _ call.result
-    (ap (λ (h : Header). acknowledge_at_once m n h (start old.present)) c.header-header.ensures
+    (ap (λ (h : Header). acknowledge_directly m n h (start old.present)) c.header-header.ensures
     ∙ ap (λ k. after_case (case_of k) m n lsa (start old.present)) (sym c.in-Duplicate.is))
     (lent_do (λ (ls : List Link). ls) (λ (ls : List Link). sends_at n cs) it.inside.links.items
     lend.result.now call.new.links it.inside.links.len it.inside.database old call.result

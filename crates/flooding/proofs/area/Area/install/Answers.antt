@@ -6,7 +6,7 @@ use Rattle.adjacency.specs.lsdb.Copies.{install_flooded, mark_sent}
 use Rattle.adjacency.specs.lsdb.Headers.{Header, key_of, lsa_key}
 use Rattle.keyed_map.proofs.Helds.{on_ok}
 use Rattle.received.specs.Flooding.{flood_to}
-use Rattle.received.specs.Links.{acknowledge_later, change_link}
+use Rattle.received.specs.Links.{change_link, delay_acknowledgment}
 use Rattle.received.specs.Outcomes.{stepped_links}
 use Rattle.received.specs.Updates.{install}
 use Rattle.flooding.specs.Drafted.{drafts_with}
@@ -19,8 +19,8 @@ use Rattle.flooding.proofs.Marking.{area_is}
 use Rattle.flooding.proofs.Sends.{drafted_none}
 use Rattle.flooding.proofs.area.Area.install.Goals as goal
 
-pub acknowledge_later-requires-clause-last : goal.acknowledge_later-requires-clause-last
-acknowledge_later-requires-clause-last c =
+pub delay_acknowledgment-requires-clause-last : goal.delay_acknowledgment-requires-clause-last
+delay_acknowledgment-requires-clause-last c =
     let shown : length (map present c.self.inside.links.items)
     ≡ length c.args.self.now.present.links = ap (λ v. length v.present.links) c.self.view_is in
     omega (
@@ -44,9 +44,9 @@ returns-in_err-sent c = record {
   router = ap (λ (v : RouterArea). v.router) c.self.view_is;
 }
 
-pub returns-in_err-acknowledge_later : goal.returns-in_err-acknowledge_later
-returns-in_err-acknowledge_later c =
-    let away = c.from_residual-in_err-acknowledge_later in
+pub returns-in_err-delay_acknowledgment : goal.returns-in_err-delay_acknowledgment
+returns-in_err-delay_acknowledgment c =
+    let away = c.from_residual-in_err-delay_acknowledgment in
     let items = c.self.inside.links.items in
     let n = c.self.inside.links.len in
     let made = c.flood_received.new.links in
@@ -55,9 +55,9 @@ returns-in_err-acknowledge_later c =
       area = on_err away.result _ away.ensures.0;
       drafts = on_err away.result _ away.ensures.0;
       committed = area_is (committed_back between c.deref_mut-2.result.now
-          c.acknowledge_later.new.links
+          c.delay_acknowledgment.new.links
           n c.deref_mut-2.ensures.value c.deref_mut-2.ensures.len
-          c.in_err-acknowledge_later.ensures.committed
+          c.in_err-delay_acknowledgment.ensures.committed
           ∙ committed_back items c.deref_mut.result.now made n c.deref_mut.ensures.value
           c.deref_mut.ensures.len c.in_ok-sent.ensures.does.committed) refl
           ∙ ap (λ (v : RouterArea). v.committed) c.self.view_is;
@@ -75,9 +75,9 @@ returns-in_err-install c =
       area = on_err away.result _ away.ensures.0;
       drafts = on_err away.result _ away.ensures.0;
       committed = area_is (committed_back between c.deref_mut-2.result.now
-          c.acknowledge_later.new.links
+          c.delay_acknowledgment.new.links
           n c.deref_mut-2.ensures.value c.deref_mut-2.ensures.len
-          c.in_ok-acknowledge_later.ensures.committed
+          c.in_ok-delay_acknowledgment.ensures.committed
           ∙ committed_back items c.deref_mut.result.now made n c.deref_mut.ensures.value
           c.deref_mut.ensures.len c.in_ok-sent.ensures.does.committed)
           c.in_err-install.ensures.committed
@@ -97,12 +97,12 @@ returns-then-sent c =
     let made = c.flood_received.new.links in
     let between = take n (made ++ drop (length made) items) in
     let lent2 = c.deref_mut-2.result.now in
-    let made2 = c.acknowledge_later.new.links in
+    let made2 = c.delay_acknowledgment.new.links in
     let P = map present lent in
     let d = c.self.inside.database.present in
     let db = install_flooded m lsa d in
     let floods = c.in_ok-sent.ensures.does in
-    let later = c.in_ok-acknowledge_later.ensures in
+    let later = c.in_ok-delay_acknowledgment.ensures in
     let first = given_back items lent made n c.deref_mut.ensures.len floods.committed in
     let back = given_back between lent2 made2 n c.deref_mut-2.ensures.len later.committed in
     let again = c.deref_mut-2.ensures.value ∙ first in
@@ -112,9 +112,9 @@ returns-then-sent c =
       area = on_ok c.mark_sent.result (λ is.
           area_is
           (ap (map present) back ∙ later.links
-          ∙ ap (change_link k (acknowledge_later c.header-header.result))
+          ∙ ap (change_link k (delay_acknowledgment c.header-header.result))
           (ap (map present) again ∙ floods.links)
-          ∙ ap (λ (h : Header). change_link k (acknowledge_later h)
+          ∙ ap (λ (h : Header). change_link k (delay_acknowledgment h)
           (stepped_links (flood_to m (Some k) lsa) P)) c.header-header.ensures)
           (is ∙ ap (mark_sent m c.key-key.result) c.in_ok-install.ensures.ok
           ∙ ap (λ j. mark_sent m j db) (c.key-key.ensures ∙ ap key_of c.header-header.ensures)
@@ -152,12 +152,12 @@ returns c =
     let made = c.flood_received.new.links in
     let between = take n (made ++ drop (length made) items) in
     let lent2 = c.deref_mut-2.result.now in
-    let made2 = c.acknowledge_later.new.links in
+    let made2 = c.delay_acknowledgment.new.links in
     let P = map present lent in
     let d = c.self.inside.database.present in
     let db = install_flooded m lsa d in
     let floods = c.in_ok-sent.ensures.does in
-    let later = c.in_ok-acknowledge_later.ensures in
+    let later = c.in_ok-delay_acknowledgment.ensures in
     let first = given_back items lent made n c.deref_mut.ensures.len floods.committed in
     let back = given_back between lent2 made2 n c.deref_mut-2.ensures.len later.committed in
     let again = c.deref_mut-2.ensures.value ∙ first in
@@ -167,9 +167,9 @@ returns c =
       area =
           area_is
           (ap (map present) back ∙ later.links
-          ∙ ap (change_link k (acknowledge_later c.header-header.result))
+          ∙ ap (change_link k (delay_acknowledgment c.header-header.result))
           (ap (map present) again ∙ floods.links)
-          ∙ ap (λ (h : Header). change_link k (acknowledge_later h)
+          ∙ ap (λ (h : Header). change_link k (delay_acknowledgment h)
           (stepped_links (flood_to m (Some k) lsa) P)) c.header-header.ensures)
           (c.in_ok-install.ensures.ok ∙ mark)
           ∙ ap (λ (ls : List KeptLink). (install m k lsa (start (area_of ls d))).area)

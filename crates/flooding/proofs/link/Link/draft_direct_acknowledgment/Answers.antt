@@ -3,7 +3,7 @@ use Rattle.keyed_map.proofs.Helds.{on_ok}
 use Rattle.adjacency.specs.Contents.{Acknowledges}
 use Rattle.adjacency.specs.Drafts.{drafting}
 use Rattle.flooding.specs.Kept.{KeptLink}
-use Rattle.flooding.proofs.link.Link.acknowledge_at_once.Goals as goal
+use Rattle.flooding.proofs.link.Link.draft_direct_acknowledgment.Goals as goal
 
 pub returns : goal.returns
 returns c = record {

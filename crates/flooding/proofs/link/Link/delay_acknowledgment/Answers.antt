@@ -2,10 +2,10 @@ use Rattle.std.proofs.Common.{ap, ◌∙◌}
 use Rattle.std.specs.FinMap as finite
 use Rattle.keyed_map.proofs.Helds.{on_ok}
 use Rattle.words.specs.declared.key.Key.{Key}
-use Rattle.received.specs.Links.{Link, acknowledge_later}
+use Rattle.received.specs.Links.{Link, delay_acknowledgment}
 use Rattle.flooding.specs.Kept.{KeptLink}
 use Rattle.flooding.proofs.Shown.{stays_drafted}
-use Rattle.flooding.proofs.link.Link.acknowledge_later.Goals as goal
+use Rattle.flooding.proofs.link.Link.delay_acknowledgment.Goals as goal
 
 pub returns : goal.returns
 returns c =
@@ -27,7 +27,7 @@ returns c =
       link = on_ok c.insert.result
           (λ is. ap (λ a. record base { acknowledgments = a })
           (is ∙ ap (λ (k : Key). finite.insert inside.acknowledgments.present k h) c.key.ensures)
-          ∙ ap (λ (k : KeptLink). acknowledge_later h k.present) c.self.view_is)
+          ∙ ap (λ (k : KeptLink). delay_acknowledgment h k.present) c.self.view_is)
           c.insert.ensures.ok;
       draft = on_ok c.insert.result
           (λ _. stays_drafted _ c.args.self.now c.self.view_is) c.insert.ensures.ok;

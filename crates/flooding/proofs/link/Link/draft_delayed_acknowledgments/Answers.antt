@@ -6,7 +6,7 @@ use Rattle.adjacency.specs.Drafts.{drafting}
 use Rattle.received.specs.Links.{Link}
 use Rattle.flooding.specs.Kept.{KeptLink}
 use Rattle.flooding.proofs.Acknowledged.{all_left}
-use Rattle.flooding.proofs.link.Link.send_delayed_acknowledgments.Goals as goal
+use Rattle.flooding.proofs.link.Link.draft_delayed_acknowledgments.Goals as goal
 
 pub returns : goal.returns
 returns c =
