@@ -130,7 +130,7 @@ impl Link {
     /// it on the neighbor's retransmission list.
     ///
     /// Errors with `AllocError` if an allocation is refused.
-    pub fn send_copy(
+    pub fn draft_copy(
         &mut self,
         alloc: Global,
         moment: Second,

@@ -108,8 +108,8 @@ pub fn draft_direct_acknowledgment(
     links[i].draft_direct_acknowledgment(header)
 }
 
-/// Sends the copy in a Link State Update at one interface.
-pub fn send_update(
+/// Drafts a Link State Update with the copy at one interface.
+pub fn draft_update(
     alloc: Global,
     moment: Second,
     number: usize,
@@ -123,5 +123,5 @@ pub fn send_update(
         links.old links.new result }
 {
     let i = number - 1;
-    links[i].send_copy(alloc, moment, copy)
+    links[i].draft_copy(alloc, moment, copy)
 }

@@ -9,8 +9,8 @@ ghost use Rattle.flooding.specs.Links.{start};
 use crate::area::Area;
 use crate::cases::{Case, case_on};
 use crate::on_links::{
-    any_exchange_or_loading, bad_request, draft_direct_acknowledgment, remove_retransmission,
-    send_update,
+    any_exchange_or_loading, bad_request, draft_direct_acknowledgment, draft_update,
+    remove_retransmission,
 };
 use lsa::Lsa;
 use std::alloc::{AllocError, Global};
@@ -35,7 +35,7 @@ impl Area {
 
     // Sends the copy of this key, if there is one, to the sender, without putting it on the
     // retransmission list.
-    fn send_copy(
+    fn draft_copy(
         &mut self,
         alloc: Global,
         moment: Second,
@@ -52,7 +52,7 @@ impl Area {
             return Ok(());
         };
         let header = copy.header(moment);
-        send_update(alloc, moment, number, &copy, &mut self.links)?;
+        draft_update(alloc, moment, number, &copy, &mut self.links)?;
         let sent_key = header.key();
         self.database.mark_sent(moment, &sent_key)
     }
@@ -92,7 +92,7 @@ impl Area {
             Case::SentJustNow => Ok(()),
             Case::Older => {
                 let key = header.key();
-                self.send_copy(alloc, moment, number, &key)
+                self.draft_copy(alloc, moment, number, &key)
             }
         }
     }

@@ -98,7 +98,7 @@ impl LinkStep for SendingHello {
         let due = hello_is_due(self.moment, link);
         if due {
             let hello = hello_on(alloc, link)?;
-            return link.send_hello(self.moment, hello);
+            return link.draft_hello(self.moment, hello);
         }
         Ok(())
     }

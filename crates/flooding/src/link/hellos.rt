@@ -16,10 +16,10 @@ impl Link {
         *self.last_hello_sent.get()
     }
 
-    /// Sends a Hello at this moment.
+    /// Drafts a Hello at this moment.
     ///
     /// Errors with `AllocError` if an allocation is refused.
-    pub fn send_hello(&mut self, moment: Second, hello: Hello) -> Result<(), AllocError>
+    pub fn draft_hello(&mut self, moment: Second, hello: Hello) -> Result<(), AllocError>
         ensures { LinkDoes (λ link. record link { last_hello_sent = Some moment })
             (λ link. SendsHello hello ∷ [])
             self.old self.new result }

@@ -34,7 +34,7 @@ fn are_there(database: &Lsdb, keys: &[Key]) -> bool
 }
 
 // Sends the copy of this key, if there is one.
-fn send_copy(
+fn draft_copy(
     alloc: Global,
     moment: Second,
     delay: u16,
@@ -51,7 +51,7 @@ fn send_copy(
     }
 }
 
-fn send_copies(
+fn draft_copies(
     alloc: Global,
     moment: Second,
     delay: u16,
@@ -63,7 +63,7 @@ fn send_copies(
         (map Updates (lsas_of moment database.now.present keys.now)) draft.old) }
 {
     for key in keys {
-        send_copy(alloc, moment, delay, database, key, draft)?;
+        draft_copy(alloc, moment, delay, database, key, draft)?;
     }
     Ok(())
 }
@@ -91,7 +91,7 @@ impl NeighborSlot {
         if exchanging {
             let there = are_there(database, keys);
             if there {
-                return send_copies(alloc, moment, delay, database, keys, draft);
+                return draft_copies(alloc, moment, delay, database, keys, draft);
             }
             return self.attempt(alloc, moment, draft);
         }

@@ -94,7 +94,7 @@ impl<'a> KeyTest<()> for StillRequested<'a> {
 
 // Sends the copy if it fits into a Link State Update after the given number of bytes. Returns the
 // number of bytes then, or `None` if it doesn't fit.
-fn send_if_it_fits(
+fn draft_if_it_fits(
     alloc: Global,
     moment: Second,
     delay: u16,
@@ -117,7 +117,7 @@ fn send_if_it_fits(
 }
 
 // The same for the copy of this key, if there is one.
-fn send_key_if_it_fits(
+fn draft_key_if_it_fits(
     alloc: Global,
     moment: Second,
     delay: u16,
@@ -134,13 +134,13 @@ fn send_key_if_it_fits(
 {
     match database.get(key) {
         None => Ok(Some(used)),
-        Some(copy) => send_if_it_fits(alloc, moment, delay, &copy, used, draft),
+        Some(copy) => draft_if_it_fits(alloc, moment, delay, &copy, used, draft),
     }
 }
 
 // Sends the copies of the entries' keys in order, as many as fit into one Link State Update, and
 // stops there.
-fn send_that_fit(
+fn draft_that_fit(
     alloc: Global,
     moment: Second,
     delay: u16,
@@ -154,7 +154,7 @@ fn send_that_fit(
 {
     let mut used = BEFORE_LSAS;
     for key in entries.keys() {
-        let next = send_key_if_it_fits(alloc, moment, delay, database, &key, used, draft)?;
+        let next = draft_key_if_it_fits(alloc, moment, delay, database, &key, used, draft)?;
         let Some(filled) = next else {
             return Ok(());
         };
@@ -295,7 +295,7 @@ impl Neighbor {
             self.old self.new draft.old draft.new result }
     {
         self.standing.retransmitted_at = moment;
-        send_that_fit(alloc, moment, delay, database, &self.retransmissions, draft)
+        draft_that_fit(alloc, moment, delay, database, &self.retransmissions, draft)
     }
 
     // Retransmits the first LSAs of the retransmission list if RxmtInterval (`interval`, in

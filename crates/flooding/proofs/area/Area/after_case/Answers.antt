@@ -157,8 +157,8 @@ returns-in-Older c =
     let old = c.args.self.now in
     area_same (λ (a : Area). send_copy m n (finite.get a.database c.key-key.result) (start a))
     (λ (a : Area). after_case (case_of c.args.case) m n lsa (start a)) old
-    c.send_copy.new.self c.send_copy.result
+    c.draft_copy.new.self c.draft_copy.result
     (ap (λ (k : Key). send_copy m n (finite.get old.present.database k) (start old.present))
     (c.key-key.ensures ∙ ap key_of c.header-header.ensures)
     ∙ ap (λ k. after_case (case_of k) m n lsa (start old.present)) (sym c.in-Older.is))
-    c.send_copy.ensures
+    c.draft_copy.ensures

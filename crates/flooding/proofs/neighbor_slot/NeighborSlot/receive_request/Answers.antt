@@ -11,13 +11,13 @@ returns-then-there c =
     let is = sym c.is_exchange_or_later-exchanging.ensures ∙ c.if-exchanging.true in
     let all = sym c.are_there-there.ensures ∙ c.if-there.true in
     record {
-      ok = on_ok c.send_copies.result (λ sent. answers_on c.args.moment
+      ok = on_ok c.draft_copies.result (λ sent. answers_on c.args.moment
           c.args.database.now.present c.args.keys.now c.args.self.now.present is all)
-          c.send_copies.ensures;
-      draft = on_ok c.send_copies.result (λ sent. sent
+          c.draft_copies.ensures;
+      draft = on_ok c.draft_copies.result (λ sent. sent
           ∙ ap (λ cs. drafting c.args.delay cs c.args.draft.now)
           (answers_sent c.args.moment c.args.database.now.present c.args.keys.now
-          c.args.self.now.present is all)) c.send_copies.ensures;
+          c.args.self.now.present is all)) c.draft_copies.ensures;
       committed = refl;
     }
 

@@ -11,19 +11,19 @@ use Rattle.neighbors.proofs.neighbor.Neighbor.retransmit.Goals as goal
 pub returns : goal.returns
 returns c =
     record {
-      ok = on_ok c.send_that_fit.result (λ sent.
+      ok = on_ok c.draft_that_fit.result (λ sent.
           retransmits_at c.self.inside.standing c.self.inside.described.present
           c.self.inside.summary.present c.self.inside.requests.present
           c.self.inside.outstanding.present c.self.inside.retransmissions.present c.args.moment
           ∙ ap (λ h. record h.present { retransmitted_at = c.args.moment }) c.self.view_is)
-          c.send_that_fit.ensures;
-      draft = on_ok c.send_that_fit.result (λ sent.
+          c.draft_that_fit.ensures;
+      draft = on_ok c.draft_that_fit.result (λ sent.
           sent ∙ ap (λ m. drafting c.args.delay
           (map Updates (that_fit 28 (lsas_of c.args.moment c.args.database.now.present
           (finite.keys m)))) c.args.draft.now)
           (retransmissions_now c.self.inside.standing c.self.inside.described.present
           c.self.inside.summary.present c.self.inside.requests.present
           c.self.inside.outstanding.present c.self.inside.retransmissions.present
-          ∙ ap (λ h. h.present.retransmissions) c.self.view_is)) c.send_that_fit.ensures;
+          ∙ ap (λ h. h.present.retransmissions) c.self.view_is)) c.draft_that_fit.ensures;
       committed = ap (λ h. h.committed) c.self.view_is;
     }

@@ -13,11 +13,11 @@ returns-then-due c =
     let d = c.args.link.now.drafted in
     let due = sym c.hello_is_due-due.ensures ∙ c.if-due.true in
     record {
-      link = on_ok c.send_hello.result (λ is. is ∙ greeted m l due) c.send_hello.ensures.link;
-      draft = on_ok c.send_hello.result (λ sent.
+      link = on_ok c.draft_hello.result (λ is. is ∙ greeted m l due) c.draft_hello.ensures.link;
+      draft = on_ok c.draft_hello.result (λ sent.
           sent ∙ ap (λ h. drafting delay (SendsHello h ∷ []) d) c.in_ok-hello.ensures
-          ∙ greeting_sent m l delay d due) c.send_hello.ensures.draft;
-      committed = c.send_hello.ensures.committed;
+          ∙ greeting_sent m l delay d due) c.draft_hello.ensures.draft;
+      committed = c.draft_hello.ensures.committed;
     }
 
 pub returns : goal.returns

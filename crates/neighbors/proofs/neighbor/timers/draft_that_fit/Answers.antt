@@ -5,13 +5,13 @@ use Rattle.adjacency.specs.Retransmissions.{that_fit}
 use Rattle.adjacency.specs.Steps.{lsas_of}
 use Rattle.adjacency.specs.Timers.{that_fit_after}
 use Rattle.adjacency.proofs.Floods.{drafting-none}
-use Rattle.neighbors.proofs.neighbor.timers.send_that_fit.Goals as goal
+use Rattle.neighbors.proofs.neighbor.timers.draft_that_fit.Goals as goal
 
 pub returns-in_default : goal.returns-in_default
 returns-in_default c =
     let moment = c.args.moment in
     let db = c.args.database.now.present in
-    let drafted = c.send_key_if_it_fits.new.draft in
+    let drafted = c.draft_key_if_it_fits.new.draft in
     drafting-none c.args.delay drafted
     ∙ ap (λ o. drafting c.args.delay (map Updates
     (that_fit_after o (lsas_of moment db c.next.new.self))) drafted) (sym c.in_default.is)

@@ -5,7 +5,7 @@ use Rattle.adjacency.specs.Drafts.{drafting}
 use Rattle.adjacency.specs.Kept.{Kept}
 use Rattle.received.specs.Links.{Link}
 use Rattle.flooding.specs.Kept.{KeptLink}
-use Rattle.flooding.proofs.link.Link.send_hello.Goals as goal
+use Rattle.flooding.proofs.link.Link.draft_hello.Goals as goal
 
 pub returns : goal.returns
 returns c =

@@ -6,7 +6,7 @@ use Rattle.adjacency.specs.Contents.{Updates}
 use Rattle.adjacency.specs.Drafts.{drafting}
 use Rattle.adjacency.specs.Retransmissions.{that_fit}
 use Rattle.adjacency.proofs.Timers.{fits_one}
-use Rattle.neighbors.proofs.neighbor.timers.send_if_it_fits.Goals as goal
+use Rattle.neighbors.proofs.neighbor.timers.draft_if_it_fits.Goals as goal
 
 pub returns-then-fits : goal.returns-then-fits
 returns-then-fits c = λ rest.

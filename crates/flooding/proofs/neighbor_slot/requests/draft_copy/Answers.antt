@@ -4,7 +4,7 @@ use Rattle.adjacency.specs.Contents.{Updates}
 use Rattle.adjacency.specs.Drafts.{drafting}
 use Rattle.adjacency.specs.Retransmissions.{lsa_of}
 use Rattle.adjacency.proofs.Floods.{drafting-none}
-use Rattle.flooding.proofs.neighbor_slot.requests.send_copy.Goals as goal
+use Rattle.flooding.proofs.neighbor_slot.requests.draft_copy.Goals as goal
 
 pub returns-in-None : goal.returns-in-None
 returns-in-None c =

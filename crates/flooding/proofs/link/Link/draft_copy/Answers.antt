@@ -4,7 +4,7 @@ use Rattle.adjacency.specs.lsdb.Copies.{lsa_now}
 use Rattle.adjacency.specs.Contents.{Updates}
 use Rattle.adjacency.specs.Drafts.{drafting}
 use Rattle.flooding.specs.Kept.{KeptLink}
-use Rattle.flooding.proofs.link.Link.send_copy.Goals as goal
+use Rattle.flooding.proofs.link.Link.draft_copy.Goals as goal
 
 pub returns : goal.returns
 returns c =

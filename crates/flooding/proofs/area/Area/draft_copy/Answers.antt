@@ -11,7 +11,7 @@ use Rattle.flooding.specs.Links.{area_of, draft_of, present, start}
 use Rattle.flooding.proofs.Doing.{area_rests, on_err}
 use Rattle.flooding.proofs.Lent.{committed_back, given_back}
 use Rattle.flooding.proofs.Marking.{area_is}
-use Rattle.flooding.proofs.area.Area.send_copy.Goals as goal
+use Rattle.flooding.proofs.area.Area.draft_copy.Goals as goal
 
 pub returns-in_default : goal.returns-in_default
 returns-in_default c =
@@ -23,13 +23,13 @@ returns-in_default c =
     (ap (λ q. send_copy c.args.moment c.args.number q (start a)) (c.in_default.ensures
     ∙ ap (λ (v : RouterArea). finite.get v.present.database k) c.self.view_is))
 
-pub returns-in_err-send_update : goal.returns-in_err-send_update
-returns-in_err-send_update c = record {
+pub returns-in_err-draft_update : goal.returns-in_err-draft_update
+returns-in_err-draft_update c = record {
   area = on_err c.from_residual.result _ c.from_residual.ensures.0;
   drafts = on_err c.from_residual.result _ c.from_residual.ensures.0;
   committed = area_is (committed_back c.self.inside.links.items c.deref_mut.result.now
-      c.send_update.new.links c.self.inside.links.len c.deref_mut.ensures.value
-      c.deref_mut.ensures.len c.in_err-send_update.ensures.committed) refl
+      c.draft_update.new.links c.self.inside.links.len c.deref_mut.ensures.value
+      c.deref_mut.ensures.len c.in_err-draft_update.ensures.committed) refl
       ∙ ap (λ (v : RouterArea). v.committed) c.self.view_is;
   router = ap (λ (v : RouterArea). v.router) c.self.view_is;
 }
@@ -42,9 +42,9 @@ returns c =
     let items = c.self.inside.links.items in
     let len = c.self.inside.links.len in
     let lent = c.deref_mut.result.now in
-    let made = c.send_update.new.links in
+    let made = c.draft_update.new.links in
     let d = c.self.inside.database.present in
-    let does = c.in_ok-send_update.ensures in
+    let does = c.in_ok-draft_update.ensures in
     let back = given_back items lent made len c.deref_mut.ensures.len does.committed in
     record {
       area = on_ok c.mark_sent.result (λ is.

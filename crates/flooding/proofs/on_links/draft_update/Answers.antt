@@ -2,11 +2,11 @@ use Rattle.std.proofs.Common.{◌-◌, [], ◌∷◌, arith}
 use Rattle.adjacency.specs.lsdb.Copies.{lsa_now}
 use Rattle.adjacency.specs.Contents.{Updates}
 use Rattle.flooding.proofs.AtLink.{one_sends}
-use Rattle.flooding.proofs.on_links.send_update.Goals as goal
+use Rattle.flooding.proofs.on_links.draft_update.Goals as goal
 
 pub returns : goal.returns
 returns c =
     one_sends c.args.links.now (c.args.number - 1) c.args.number c.index-links-i.result
-    c.send_copy.new.self (omega (arith, c.requires.first, c.requires.last))
-    (omega (arith, c.requires.first)) c.index-links-i.is c.send_copy.result
-    (Updates (lsa_now c.args.moment c.args.copy.now) ∷ []) c.send_copy.ensures
+    c.draft_copy.new.self (omega (arith, c.requires.first, c.requires.last))
+    (omega (arith, c.requires.first)) c.index-links-i.is c.draft_copy.result
+    (Updates (lsa_now c.args.moment c.args.copy.now) ∷ []) c.draft_copy.ensures

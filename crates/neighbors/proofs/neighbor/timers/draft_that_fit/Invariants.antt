@@ -4,7 +4,7 @@ use Rattle.adjacency.specs.Contents.{Updates}
 use Rattle.adjacency.specs.Drafts.{drafting}
 use Rattle.adjacency.specs.Retransmissions.{that_fit}
 use Rattle.adjacency.specs.Steps.{lsas_of}
-use Rattle.neighbors.proofs.neighbor.timers.send_that_fit.Given as goal
+use Rattle.neighbors.proofs.neighbor.timers.draft_that_fit.Given as goal
 
 -- continuing from here gives the whole result
 abbrev pub invariant-loop-key : goal.invariant-loop-key
