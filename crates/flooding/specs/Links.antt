@@ -68,15 +68,15 @@ age_outcome moment key a = aged_copy moment key (finite.get a.database key) (sta
 
 -- a copy that has reached MaxAge since the moment `before` is flooded to every neighbor (section
 -- 14)
-abbrev pub come_of_age_copy : (before : Moment) → (moment : Moment) → Option DatabaseCopy → Outcome
-    → Outcome
-come_of_age_copy before moment None o = o
-come_of_age_copy before moment (Some c) o =
+abbrev pub flood_new_max_age_copy : (before : Moment) → (moment : Moment) → Option DatabaseCopy
+    → Outcome → Outcome
+flood_new_max_age_copy before moment None o = o
+flood_new_max_age_copy before moment (Some c) o =
     if has_just_aged_out before moment c then flood moment None (lsa_now moment c) o else o
 
-abbrev pub come_of_age : (before : Moment) → (moment : Moment) → Key → Area → Outcome
-come_of_age before moment key a =
-    come_of_age_copy before moment (finite.get a.database key) (start a)
+abbrev pub flood_new_max_age : (before : Moment) → (moment : Moment) → Key → Area → Outcome
+flood_new_max_age before moment key a =
+    flood_new_max_age_copy before moment (finite.get a.database key) (start a)
 
 -- the copy of this key is removed unless the key is on some retransmission list (section 14)
 abbrev pub without_acknowledged : List Link → Database → Key → Database

@@ -8,7 +8,7 @@ ghost use Rattle.received.specs.Outcomes.{stepped_links, stepping_sends};
 ghost use Rattle.received.specs.Updates.{install};
 ghost use Rattle.flooding.specs.Doing.{AreaDoes, LinksDo};
 ghost use Rattle.flooding.specs.Drafted.{nothing_at};
-ghost use Rattle.flooding.specs.Links.{age_outcome, come_of_age, draft_of, flooded_key};
+ghost use Rattle.flooding.specs.Links.{age_outcome, draft_of, flood_new_max_age, flooded_key};
 ghost use Rattle.flooding.specs.Links.{committed_link, originate_outcome, present, start};
 
 use crate::area::Area;
@@ -168,14 +168,14 @@ impl Area {
     /// neighbor (RFC 2328, section 14). Without such a copy nothing changes.
     ///
     /// Errors with `AllocError` if an allocation is refused.
-    pub fn come_of_age(
+    pub fn flood_new_max_age(
         &mut self,
         alloc: Global,
         before: Second,
         moment: Second,
         key: &Key,
     ) -> Result<(), AllocError>
-        ensures { AreaDoes (come_of_age before moment key.now) self.old self.new result }
+        ensures { AreaDoes (flood_new_max_age before moment key.now) self.old self.new result }
     {
         let Some(copy) = self.database.get(key) else {
             return Ok(());

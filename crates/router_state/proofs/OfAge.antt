@@ -16,9 +16,9 @@ use Rattle.flooding.proofs.received.Marks.{IsStill, StillThere, all_there, still
 use Rattle.flooding.proofs.received.Marks.{still_marked}
 use Rattle.event_rules.specs.Endings.{with_age, with_ages}
 use Rattle.flooding.specs.Drafted.{drafts_with}
-use Rattle.flooding.specs.Links.{come_of_age, come_of_age_copy, start}
+use Rattle.flooding.specs.Links.{flood_new_max_age, flood_new_max_age_copy, start}
 use Rattle.flooding.proofs.Sends.{append_none}
-use Rattle.router_state.specs.Aging.{each_come_of_age, outcomes_in_turn}
+use Rattle.router_state.specs.Aging.{flood_each_new_max_age, outcomes_in_turn}
 use Rattle.router_state.specs.Making.{interfaces_of}
 use Rattle.router_state.proofs.Areas.{keeps_neighbors}
 use Rattle.router_state.proofs.Drafts.{drafted_append, drafted_same}
@@ -37,11 +37,11 @@ module _ (before moment : ℕ) where
   by_age e o false = nothing_followed o
 
   aged_by_key : (e : Key × DatabaseCopy) (o : Outcome) → IsStill o.area.database e.0 e.1
-      → with_age before moment o e ≡ outcomes_in_turn o (come_of_age before moment e.0 o.area)
+      → with_age before moment o e ≡ outcomes_in_turn o (flood_new_max_age before moment e.0 o.area)
   aged_by_key e o still =
       by_age e o (has_just_aged_out before moment e.1)
       ∙ ap (λ (c : Option DatabaseCopy). outcomes_in_turn o
-      (come_of_age_copy before moment c (start o.area))) (sym still.1)
+      (flood_new_max_age_copy before moment c (start o.area))) (sym still.1)
 
   still_aged : (e : Key × DatabaseCopy) (es : List (Key × DatabaseCopy)) (o : Outcome) (b : Bool)
       → AllByRecursion (StillThere o.area.database) es
@@ -55,7 +55,7 @@ module _ (before moment : ℕ) where
   keys_of es = map (λ e. e.0) (filter (λ e. is_aged_out moment e.1) es)
 
   abbrev going_on : List Key → Outcome → Outcome
-  going_on keys o = outcomes_in_turn o (each_come_of_age before moment keys o.area)
+  going_on keys o = outcomes_in_turn o (flood_each_new_max_age before moment keys o.area)
 
   by_test : (e : Key × DatabaseCopy) (es : List (Key × DatabaseCopy)) (o : Outcome)
       → IsStill o.area.database e.0 e.1 → (b : Bool) → is_aged_out moment e.1 ≡ b
@@ -63,8 +63,8 @@ module _ (before moment : ℕ) where
       ≡ going_on (map (λ e. e.0) (cond b (e ∷ filter (λ e. is_aged_out moment e.1) es)
       (filter (λ e. is_aged_out moment e.1) es))) o
   by_test e es o still true is =
-      let p : Outcome = come_of_age before moment e.0 o.area in
-      let q : Outcome = each_come_of_age before moment (keys_of es) p.area in
+      let p : Outcome = flood_new_max_age before moment e.0 o.area in
+      let q : Outcome = flood_each_new_max_age before moment (keys_of es) p.area in
       ap (going_on (keys_of es)) (aged_by_key e o still) ∙ (λ i. record {
         area = q.area;
         sends = append_assoc o.sends p.sends q.sends i;
@@ -82,7 +82,7 @@ module _ (before moment : ℕ) where
       (still_aged e es o (has_just_aged_out before moment e.1) h.1)
       ∙ by_test e es o h.0 (is_aged_out moment e.1) refl
 
-  pub ages_are : (a : Area) → each_come_of_age before moment (aged_keys moment a.database) a
+  pub ages_are : (a : Area) → flood_each_new_max_age before moment (aged_keys moment a.database) a
       ≡ with_ages before moment (start a)
   ages_are a = sym (ages_by_keys (finite.entries a.database) (start a)
       (still_all a.database (finite.entries a.database) (all_there a.database)))
@@ -97,17 +97,17 @@ module _ (before moment : ℕ) (a : Area) (ds : List Drafted) where
   kept_by_test lsa false = refl
 
   kept_by_copy : (c : Option DatabaseCopy)
-      → interfaces_of (come_of_age_copy before moment c (start a)).area.links
+      → interfaces_of (flood_new_max_age_copy before moment c (start a)).area.links
       ≡ interfaces_of a.links
   kept_by_copy None = refl
   kept_by_copy (Some c) = kept_by_test (lsa_now moment c) (has_just_aged_out before moment c)
 
   pub drafted_after : (more : List Send) (key : Key)
-      → drafts_with more (come_of_age before moment key a).area.links
-      (drafts_with (come_of_age before moment key a).sends a.links ds)
-      ≡ drafts_with ((come_of_age before moment key a).sends ++ more) a.links ds
+      → drafts_with more (flood_new_max_age before moment key a).area.links
+      (drafts_with (flood_new_max_age before moment key a).sends a.links ds)
+      ≡ drafts_with ((flood_new_max_age before moment key a).sends ++ more) a.links ds
   drafted_after more key =
-      let p : Outcome = come_of_age before moment key a in
+      let p : Outcome = flood_new_max_age before moment key a in
       drafted_same more p.area.links a.links (drafts_with p.sends a.links ds)
       (kept_by_copy (finite.get a.database key))
       ∙ drafted_append 1 p.sends more a.links ds

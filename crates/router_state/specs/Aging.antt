@@ -7,7 +7,7 @@ use Rattle.words.specs.declared.key.Key.{Key}
 use Rattle.flooding.specs.lsdb.Copies.{Database}
 use Rattle.flooding.specs.received.Links.{Area, Link}
 use Rattle.flooding.specs.received.Outcomes.{Outcome}
-use Rattle.flooding.specs.Links.{come_of_age, start, without_acknowledged}
+use Rattle.flooding.specs.Links.{flood_new_max_age, start, without_acknowledged}
 
 abbrev pub without_each : List Link → Database → List Key → Database
 without_each links db keys = fold (without_acknowledged links) db keys
@@ -17,8 +17,9 @@ abbrev pub outcomes_in_turn : Outcome → Outcome → Outcome
 outcomes_in_turn p q = record { area = q.area; sends = p.sends ++ q.sends }
 
 -- the copies of these keys that have reached MaxAge since the moment `before` are flooded in turn
-abbrev pub each_come_of_age : (before : Moment) → (moment : Moment) → List Key → Area → Outcome
-each_come_of_age before moment [] a = start a
-each_come_of_age before moment (key ∷ keys) a =
-    outcomes_in_turn (come_of_age before moment key a)
-    (each_come_of_age before moment keys (come_of_age before moment key a).area)
+abbrev pub flood_each_new_max_age : (before : Moment) → (moment : Moment) → List Key → Area
+    → Outcome
+flood_each_new_max_age before moment [] a = start a
+flood_each_new_max_age before moment (key ∷ keys) a =
+    outcomes_in_turn (flood_new_max_age before moment key a)
+    (flood_each_new_max_age before moment keys (flood_new_max_age before moment key a).area)

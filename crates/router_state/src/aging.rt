@@ -2,7 +2,7 @@
 ghost use Rattle.flooding.specs.Doing.{AreaDoes};
 ghost use Rattle.flooding.specs.Links.{start};
 ghost use Rattle.event_rules.specs.Endings.{remove_aged, with_ages};
-ghost use Rattle.router_state.specs.Aging.{each_come_of_age, without_each};
+ghost use Rattle.router_state.specs.Aging.{flood_each_new_max_age, without_each};
 
 use flooding::{Area, any_exchange_or_loading};
 use std::alloc::{AllocError, Global};
@@ -37,17 +37,17 @@ pub fn remove_aged(area: &mut Area, alloc: Global, moment: Second) -> Result<(),
 }
 
 // Floods in turn the copies of these keys that have reached MaxAge since the moment `before`.
-fn each_come_of_age(
+fn flood_each_new_max_age(
     area: &mut Area,
     alloc: Global,
     before: Second,
     moment: Second,
     keys: &[Key],
 ) -> Result<(), AllocError>
-    ensures { AreaDoes (each_come_of_age before moment keys.now) area.old area.new result }
+    ensures { AreaDoes (flood_each_new_max_age before moment keys.now) area.old area.new result }
 {
     for i in 0..keys.len() {
-        area.come_of_age(alloc, before, moment, &keys[i])?;
+        area.flood_new_max_age(alloc, before, moment, &keys[i])?;
     }
     Ok(())
 }
@@ -70,5 +70,5 @@ pub fn with_ages(
         return Ok(());
     }
     let aged = area.database().aged_keys(alloc, moment)?;
-    each_come_of_age(area, alloc, before, moment, &aged)
+    flood_each_new_max_age(area, alloc, before, moment, &aged)
 }

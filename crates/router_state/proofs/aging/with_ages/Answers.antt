@@ -4,7 +4,7 @@ use Rattle.flooding.specs.received.Links.{Area}
 use Rattle.flooding.specs.Links.{start}
 use Rattle.flooding.proofs.Doing.{area_rests, area_same}
 use Rattle.event_rules.specs.Endings.{with_ages}
-use Rattle.router_state.specs.Aging.{each_come_of_age}
+use Rattle.router_state.specs.Aging.{flood_each_new_max_age}
 use Rattle.router_state.proofs.OfAge.{ages_are}
 use Rattle.router_state.proofs.Within.{nothing_ages}
 use Rattle.router_state.proofs.aging.with_ages.Goals as goal
@@ -16,9 +16,11 @@ returns c =
     let a : Area = c.args.area.now.present in
     let keys = c.deref.ensures.value ∙ c.in_ok-aged.ensures
     ∙ ap (λ d. aged_keys m d.present) c.database.ensures in
-    area_same (each_come_of_age b m c.deref.result.now) (λ (x : Area). with_ages b m (start x))
-    c.args.area.now _ c.each_come_of_age.result
-    (ap (λ ks. each_come_of_age b m ks a) keys ∙ ages_are b m a) c.each_come_of_age.ensures
+    area_same (flood_each_new_max_age b m c.deref.result.now)
+    (λ (x : Area). with_ages b m (start x))
+    c.args.area.now _ c.flood_each_new_max_age.result
+    (ap (λ ks. flood_each_new_max_age b m ks a) keys ∙ ages_are b m a)
+    c.flood_each_new_max_age.ensures
 
 pub returns-then-count : goal.returns-then-count
 returns-then-count c =
