@@ -73,12 +73,12 @@ judged_on own None d = Verdict.Discarded
 judged_on own (Some n) d = verdict_of_description own n d
 
 -- this router becomes the slave: the other side has the larger Router ID and starts the negotiation
-abbrev pub follows : RouterNumber → RouterNumber → Description → Bool
-follows own other d = is_initial_description d && nat_lt own other
+abbrev pub becomes_slave : RouterNumber → RouterNumber → Description → Bool
+becomes_slave own other d = is_initial_description d && nat_lt own other
 
 -- this router becomes the master: the other side has taken over its sequence number
-abbrev pub leads : RouterNumber → RouterNumber → ℕ → Description → Bool
-leads own other sequence d =
+abbrev pub becomes_master : RouterNumber → RouterNumber → ℕ → Description → Bool
+becomes_master own other sequence d =
     not d.init && not d.master && d.sequence == sequence && nat_lt other own
 
 -- the sequence number of the next Database Description from the other side

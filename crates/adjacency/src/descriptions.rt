@@ -7,7 +7,8 @@ ghost use Rattle.adjacency.specs.Descriptions.{Verdict as Judgment};
 ghost use Rattle.adjacency.specs.Descriptions.{as_received, changes_options, first_verdict};
 ghost use Rattle.adjacency.specs.Descriptions.{is_duplicate, is_empty, is_initial_description};
 ghost use Rattle.adjacency.specs.Descriptions.{knows_types, same_flag, same_received};
-ghost use Rattle.adjacency.specs.Exchanges.{expected_of, first_mismatch, follows, leads};
+ghost use Rattle.adjacency.specs.Exchanges.{becomes_master, becomes_slave};
+ghost use Rattle.adjacency.specs.Exchanges.{expected_of, first_mismatch};
 ghost use Rattle.adjacency.specs.Exchanges.{mismatch_of, starts_over, verdict_of};
 ghost use Rattle.adjacency.specs.declared.verdict.Mismatch.TheVariants as Reason;
 
@@ -139,8 +140,8 @@ pub fn starts_over(verdict: Verdict, description: &Description) -> bool
 
 /// Whether this router becomes the slave: the other side starts the negotiation and has the larger
 /// Router ID.
-pub fn follows(own: RouterId, other: RouterId, description: &Description) -> bool
-    ensures { result ≡ follows own other description.now }
+pub fn becomes_slave(own: RouterId, other: RouterId, description: &Description) -> bool
+    ensures { result ≡ becomes_slave own other description.now }
 {
     let smaller = own.number() < other.number();
     is_initial_description(description) && smaller
@@ -148,8 +149,13 @@ pub fn follows(own: RouterId, other: RouterId, description: &Description) -> boo
 
 /// Whether this router becomes the master: the other side has the smaller Router ID and has taken
 /// over this router's sequence number.
-pub fn leads(own: RouterId, other: RouterId, sequence: u32, description: &Description) -> bool
-    ensures { result ≡ leads own other sequence description.now }
+pub fn becomes_master(
+    own: RouterId,
+    other: RouterId,
+    sequence: u32,
+    description: &Description,
+) -> bool
+    ensures { result ≡ becomes_master own other sequence description.now }
 {
     let same = description.sequence == sequence;
     let larger = other.number() < own.number();
@@ -157,14 +163,14 @@ pub fn leads(own: RouterId, other: RouterId, sequence: u32, description: &Descri
 }
 
 /// The verdict in ExStart.
-pub fn negotiation(follows: bool, leads: bool) -> Verdict
+pub fn negotiation(becomes_slave: bool, becomes_master: bool) -> Verdict
     ensures { verdict_of result ≡ first_verdict
-        ((follows, Judgment.NegotiatedAsSlave) ∷ (leads, Judgment.NegotiatedAsMaster) ∷ [])
-        Judgment.Discarded }
+        ((becomes_slave, Judgment.NegotiatedAsSlave) ∷ (becomes_master, Judgment.NegotiatedAsMaster)
+        ∷ []) Judgment.Discarded }
 {
-    if follows {
+    if becomes_slave {
         Verdict::NegotiatedAsSlave
-    } else if leads {
+    } else if becomes_master {
         Verdict::NegotiatedAsMaster
     } else {
         Verdict::Discarded

@@ -326,7 +326,7 @@ impl Neighbor {
     }
 
     // NegotiationDone, with this router as the slave.
-    fn follow(
+    fn become_slave(
         &mut self,
         alloc: Global,
         moment: Second,
@@ -343,7 +343,7 @@ impl Neighbor {
     }
 
     // NegotiationDone, with this router as the master.
-    fn lead(
+    fn become_master(
         &mut self,
         alloc: Global,
         moment: Second,
@@ -379,8 +379,20 @@ impl Neighbor {
     {
         match verdict {
             Verdict::Discarded => Ok(()),
-            Verdict::NegotiatedAsSlave => self.follow(alloc, moment, database, description, draft),
-            Verdict::NegotiatedAsMaster => self.lead(alloc, moment, database, description, draft),
+            Verdict::NegotiatedAsSlave => self.become_slave(
+                alloc,
+                moment,
+                database,
+                description,
+                draft,
+            ),
+            Verdict::NegotiatedAsMaster => self.become_master(
+                alloc,
+                moment,
+                database,
+                description,
+                draft,
+            ),
             Verdict::Repeated => self.repeat(moment, draft),
             Verdict::Accepted => self.accept(alloc, moment, database, description, draft),
             Verdict::Mismatch(_why) => Ok(()),

@@ -5,8 +5,8 @@ ghost use Rattle.adjacency.specs.Exchanges.{verdict_of_description, verdict_of};
 
 use super::Neighbor;
 use adjacency::descriptions::{
-    ExchangeTests, changes_options, expected, follows, is_duplicate, leads, negotiation,
-    repetition, same_flag,
+    ExchangeTests, becomes_master, becomes_slave, changes_options, expected, is_duplicate,
+    negotiation, repetition, same_flag,
 };
 use adjacency::{Mismatch, NeighborState, Verdict};
 use packet::Description;
@@ -27,9 +27,9 @@ impl Neighbor {
         ensures { verdict_of result ≡ negotiating own self.now.present description.now }
     {
         let standing = self.standing();
-        let follows = follows(own, standing.router, description);
-        let leads = leads(own, standing.router, standing.sequence, description);
-        negotiation(follows, leads)
+        let becomes_slave = becomes_slave(own, standing.router, description);
+        let becomes_master = becomes_master(own, standing.router, standing.sequence, description);
+        negotiation(becomes_slave, becomes_master)
     }
 
     fn exchanging(&self, description: &Description) -> Verdict

@@ -13,16 +13,16 @@ returns-in-Discarded c =
 pub returns-in-NegotiatedAsSlave : goal.returns-in-NegotiatedAsSlave
 unfolding proceeding
 returns-in-NegotiatedAsSlave c =
-    sends_after c.follow.result refl (ap (λ v. proceeding (verdict_of v) c.args.moment
+    sends_after c.become_slave.result refl (ap (λ v. proceeding (verdict_of v) c.args.moment
     c.args.database.now.present c.args.description.now c.args.self.now.present)
-    (sym c.in-NegotiatedAsSlave.is)) c.follow.ensures
+    (sym c.in-NegotiatedAsSlave.is)) c.become_slave.ensures
 
 pub returns-in-NegotiatedAsMaster : goal.returns-in-NegotiatedAsMaster
 unfolding proceeding
 returns-in-NegotiatedAsMaster c =
-    sends_after c.lead.result refl (ap (λ v. proceeding (verdict_of v) c.args.moment
+    sends_after c.become_master.result refl (ap (λ v. proceeding (verdict_of v) c.args.moment
     c.args.database.now.present c.args.description.now c.args.self.now.present)
-    (sym c.in-NegotiatedAsMaster.is)) c.lead.ensures
+    (sym c.in-NegotiatedAsMaster.is)) c.become_master.ensures
 
 pub returns-in-Repeated : goal.returns-in-Repeated
 unfolding proceeding

@@ -1,7 +1,7 @@
 use Rattle.std.proofs.Common.{ap}
 use Rattle.adjacency.specs.Exchanges.{accept_description}
 use Rattle.neighbors.proofs.Doing.{sends_after}
-use Rattle.neighbors.proofs.neighbor.Neighbor.follow.Goals as goal
+use Rattle.neighbors.proofs.neighbor.Neighbor.become_slave.Goals as goal
 
 pub returns : goal.returns
 returns c =

@@ -2,7 +2,7 @@ use Rattle.std.proofs.Common.{true, ap, ◌∙◌}
 use Rattle.adjacency.specs.Descriptions.{negotiated_neighbor}
 use Rattle.adjacency.specs.Exchanges.{accept_description}
 use Rattle.neighbors.proofs.Doing.{sends_after}
-use Rattle.neighbors.proofs.neighbor.Neighbor.lead.Goals as goal
+use Rattle.neighbors.proofs.neighbor.Neighbor.become_master.Goals as goal
 
 pub returns : goal.returns
 returns c =
