@@ -37,7 +37,7 @@ use Rattle.event_rules.specs.Hellos.{accepts, agrees, hello_is_due, hello_on, is
 use Rattle.event_rules.specs.Hellos.{names}
 use Rattle.event_rules.specs.Packets.{accept_hello, receive_description, receive_hello}
 use Rattle.event_rules.specs.Packets.{receive_hello_on, with_neighbor}
-use Rattle.event_rules.specs.Ticks.{acknowledgments_on, again, hello_sent_on, run_out}
+use Rattle.event_rules.specs.Ticks.{acknowledgments_on, again, expire_timers, hello_sent_on}
 use Rattle.event_rules.specs.Ticks.{send_acknowledgments}
 use Rattle.event_rules.specs.Ticks.{send_hellos, with_hello_sent, without_acknowledgments}
 use Rattle.flood_laws.proofs.Flooding.{flooding_so}
@@ -503,9 +503,9 @@ module _ (own : ℕ) (Acc : Description → Type 0) (Began : Conversation → Ty
 
   -- ---- a Tick, a command, and the end
 
-  pub inactive : (o : Outcome) → Stands o → Stands (on_links (map (run_out moment)) o)
+  pub inactive : (o : Outcome) → Stands o → Stands (on_links (map (expire_timers moment)) o)
   inactive o h =
-      each_link (run_out moment) o
+      each_link (expire_timers moment) o
       (λ link at. interface.inactive (There o.sends) tt moment link.interface.dead_interval
       (λ m k. steps.old_description own Acc Began moment link.interface.dead_interval
       (Said o.sends) m k) link.neighbor at) h

@@ -53,7 +53,7 @@ use Rattle.event_rules.specs.Hellos.{accepts, names}
 use Rattle.event_rules.specs.Originations.{due_keys, new_instance, router_key}
 use Rattle.event_rules.specs.Packets.{accept_hello, receive_hello_on, with_neighbor}
 use Rattle.event_rules.specs.Routers.{Occurrence, Router, fresh_link, unannounced_router}
-use Rattle.event_rules.specs.Ticks.{again, run_out, with_hello_sent, without_acknowledgments}
+use Rattle.event_rules.specs.Ticks.{again, expire_timers, with_hello_sent, without_acknowledgments}
 use Rattle.event_rules.proofs.Walk.{Brings, Invariant, IsKeptByParts, originate_or_wait_kept}
 use Rattle.event_rules.proofs.Walk as walk
 use Rattle.agreement_laws.specs.HeldWasTold.{NothingIsLeftToDescribe, is_exchange_done}
@@ -335,7 +335,7 @@ parts_keep = record {
   acknowledgment = λ moment number headers o h. one_keeps IsDone moment number
       (λ n. no_sends (after_acknowledgment moment headers n)) (acknowledged moment headers) o h;
   due = λ moment r own. none_asked (due_keys moment r);
-  inactive = λ moment o h. each_link_keeps IsDone (run_out moment)
+  inactive = λ moment o h. each_link_keeps IsDone (expire_timers moment)
       (λ link at. interface.inactive (Holds IsDone) tt moment link.interface.dead_interval
       (old_description moment link.interface.dead_interval) link.neighbor at) o.area.links h;
   again = λ moment o h.

@@ -36,7 +36,7 @@ use Rattle.event_rules.specs.Hellos.{accepts, names}
 use Rattle.event_rules.specs.Originations.{new_instance}
 use Rattle.event_rules.specs.Packets.{accept_hello, receive_hello, receive_hello_on, with_neighbor}
 use Rattle.event_rules.specs.Packets.{is_from, is_hello, receive_description}
-use Rattle.event_rules.specs.Ticks.{again, run_out, with_hello_sent, without_acknowledgments}
+use Rattle.event_rules.specs.Ticks.{again, expire_timers, with_hello_sent, without_acknowledgments}
 use Rattle.event_rules.specs.declared.model.Out.{Out}
 use Rattle.event_rules.specs.Events.{Happens}
 use Rattle.event_rules.specs.Routers.{Occurrence, Router}
@@ -268,7 +268,7 @@ module _ (old : Router) (moment : ℕ) (event : Occurrence) (number : ℕ) (n : 
     requested = λ place keys o t area h. h;
     mismatch = λ place o t area h. mismatches place o h;
     forgets = λ r o area h. h;
-    inactive = λ o t area h. each_link (run_out moment) o
+    inactive = λ o t area h. each_link (expire_timers moment) o
         (λ link at. interface.inactive StandsThere tt moment link.interface.dead_interval
         (λ m k. steps.old_description n moment link.interface.dead_interval m k) link.neighbor at)
         h;

@@ -46,7 +46,7 @@ use Rattle.event_rules.specs.Originations.{install_and_flood}
 use Rattle.event_rules.specs.Packets.{accept_hello, receive_acknowledgment, receive_description}
 use Rattle.event_rules.specs.Packets.{receive_hello, receive_hello_on}
 use Rattle.event_rules.specs.Packets.{with_neighbor}
-use Rattle.event_rules.specs.Ticks.{acknowledgments_on, again, hello_sent_on, run_out}
+use Rattle.event_rules.specs.Ticks.{acknowledgments_on, again, expire_timers, hello_sent_on}
 use Rattle.event_rules.specs.Ticks.{send_acknowledgments}
 use Rattle.event_rules.specs.Ticks.{send_hellos, with_hello_sent, without_acknowledgments}
 use Rattle.flood_laws.specs.Retransmissions.{AreOfTheDatabase}
@@ -642,9 +642,9 @@ module _ (key : Key) (moment : ℕ) (number : ℕ) (There : Type 0) (Of : ℕ �
 
     -- ---- a Tick, a command, and the end
 
-    pub inactive : (o : Outcome) → Stands o → Stands (on_links (map (run_out moment)) o)
+    pub inactive : (o : Outcome) → Stands o → Stands (on_links (map (expire_timers moment)) o)
     inactive o h =
-        each_link (run_out moment) o
+        each_link (expire_timers moment) o
         (λ link at. interface.inactive (HoldsThere o.sends (held moment key o.area.database)) tt
         moment link.interface.dead_interval
         (λ m k. settling.old_description key moment Of (SaidBy o.sends)

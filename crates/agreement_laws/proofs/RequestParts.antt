@@ -36,7 +36,7 @@ use Rattle.event_rules.specs.Hellos.{accepts, names}
 use Rattle.event_rules.specs.Originations.{install_and_flood, new_instance}
 use Rattle.event_rules.specs.Packets.{accept_hello, receive_acknowledgment, receive_hello}
 use Rattle.event_rules.specs.Packets.{receive_hello_on, with_neighbor}
-use Rattle.event_rules.specs.Ticks.{acknowledgments_on, again, hello_sent_on, run_out}
+use Rattle.event_rules.specs.Ticks.{acknowledgments_on, again, expire_timers, hello_sent_on}
 use Rattle.event_rules.specs.Ticks.{send_acknowledgments}
 use Rattle.event_rules.specs.Ticks.{send_hellos, with_hello_sent, without_acknowledgments}
 use Rattle.flood_laws.proofs.Leaving.{each_kept_at, stepped_kept}
@@ -320,8 +320,8 @@ module _ (ranks : RanksFollowTheComparison) (key : Key) (moment : ℕ) (first : 
 
   -- ---- a Tick, a command, and the end
 
-  pub inactive : May → (o : Outcome) → Stands o → Stands (on_links (map (run_out moment)) o)
-  inactive may o h = each_link (run_out moment) o
+  pub inactive : May → (o : Outcome) → Stands o → Stands (on_links (map (expire_timers moment)) o)
+  inactive may o h = each_link (expire_timers moment) o
       (λ link at. interface.inactive AsksThere may moment link.interface.dead_interval
       (λ m k. asking.old_description ranks key moment first entry low with_it May
       link.interface.dead_interval m k) link.neighbor at) h

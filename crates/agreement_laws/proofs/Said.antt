@@ -46,7 +46,7 @@ use Rattle.event_rules.specs.Hellos.{accepts, hello_is_due, hello_on, names}
 use Rattle.event_rules.specs.Originations.{install_and_flood, new_instance}
 use Rattle.event_rules.specs.Packets.{accept_hello, receive_hello_on, requested_lsas, with_neighbor}
 use Rattle.event_rules.specs.Routers.{Occurrence, Router}
-use Rattle.event_rules.specs.Ticks.{acknowledgments_on, again, hello_sent_on, run_out}
+use Rattle.event_rules.specs.Ticks.{acknowledgments_on, again, expire_timers, hello_sent_on}
 use Rattle.event_rules.specs.Ticks.{send_acknowledgments}
 use Rattle.event_rules.specs.Ticks.{send_hellos, with_hello_sent, without_acknowledgments}
 use Rattle.flood_laws.proofs.Known.{each_all}
@@ -658,9 +658,9 @@ module _ (old : Router) (moment : ℕ) where
       on_any number None = tt
       on_any number (Some link) = hello_sent_so (AsNew o.area.database) number link
 
-  pub inactive : (o : Outcome) → IsSo o → IsSo (on_links (map (run_out moment)) o)
+  pub inactive : (o : Outcome) → IsSo o → IsSo (on_links (map (expire_timers moment)) o)
   inactive o h =
-      on_each (run_out moment) o (λ number link so. record {
+      on_each (expire_timers moment) o (λ number link so. record {
         acknowledgments = so.acknowledgments;
         neighbor = run_out_so old (AsNew o.area.database) number moment link.interface.dead_interval
             link.neighbor so.neighbor;

@@ -33,7 +33,7 @@ use Rattle.event_rules.specs.EventState.{EventState, on_area, on_router}
 use Rattle.event_rules.specs.Routers.{Occurrence, Router}
 use Rattle.event_rules.specs.Ticks.{send_acknowledgments, after_tick, again, send_hellos}
 use Rattle.event_rules.specs.Ticks.{hello_sent_on}
-use Rattle.event_rules.specs.Ticks.{run_out, send_all_again, settled_exchange}
+use Rattle.event_rules.specs.Ticks.{expire_timers, send_all_again, settled_exchange}
 use Rattle.conversations.specs.WorkedFlush.{full}
 use Rattle.conversations.specs.WorkedOwn.{beside}
 use Rattle.conversations.specs.WorkedTicks.{ATickOriginates, IsDueAtTick, IsNothingDue}
@@ -61,7 +61,7 @@ resting r link n moment = on_router (forget_originations moment)
 rests : (r : Router) (link : Link) (n : Neighbor) (moment : ℕ)
     → has_passed n.last_heard link.interface.dead_interval moment ≡ false
     → on_router (forget_originations moment)
-    (on_area (on_links (map (run_out moment))) (start (beside r link (full n))))
+    (on_area (on_links (map (expire_timers moment))) (start (beside r link (full n))))
     ≡ resting r link n moment
 rests r link n moment last_heard =
     let put : Option Neighbor → EventState =

@@ -62,7 +62,7 @@ use Rattle.event_rules.specs.RoomLaws.{EveryPacketHasRoom, HaveRoom, IsRoomy}
 use Rattle.event_rules.specs.Routers.{Occurrence, Router, in_profile, fresh_link}
 use Rattle.event_rules.specs.Routers.{unannounced_router}
 use Rattle.event_rules.specs.Ticks.{acknowledgments_on, again, with_hello_sent, hello_sent_on}
-use Rattle.event_rules.specs.Ticks.{run_out}
+use Rattle.event_rules.specs.Ticks.{expire_timers}
 use Rattle.event_rules.specs.Ticks.{settled_exchange, without_acknowledgments}
 use Rattle.event_rules.proofs.Fitting.{BringsShort, FitsIfRead, IsFewIfAny, IsShort}
 use Rattle.event_rules.proofs.Fitting.{originated_fits}
@@ -302,7 +302,7 @@ parts_roomy = record {
       (acknowledgment_roomy moment headers n at)) o h;
   due = λ moment r own. keys_any (due_keys moment r);
   inactive = λ moment o h.
-      each_link_roomy (run_out moment)
+      each_link_roomy (expire_timers moment)
       (λ link at.
       exchange_settled moment link.interface.dead_interval
       (adjacencies.after_inactivity_timer moment link.interface.dead_interval link.neighbor)

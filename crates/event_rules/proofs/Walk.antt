@@ -57,7 +57,7 @@ use Rattle.event_rules.specs.Packets.{requested_lsas}
 use Rattle.event_rules.specs.Packets.{after_self_originated}
 use Rattle.event_rules.specs.EventState.{EventState, flood_from_nobody, on_area, on_router}
 use Rattle.event_rules.specs.Routers.{Occurrence, Router}
-use Rattle.event_rules.specs.Ticks.{send_acknowledgments, after_tick, send_hellos, run_out}
+use Rattle.event_rules.specs.Ticks.{after_tick, expire_timers, send_acknowledgments, send_hellos}
 use Rattle.event_rules.specs.Ticks.{send_all_again}
 
 -- ---- the invariant
@@ -142,7 +142,7 @@ pub record IsKeptByParts (i : Invariant) : Type 0 where
   -- a Tick
   pub due : (moment : ℕ) (r : Router) → i.of_announced r.id r.announced
       → AllByRecursion i.of_key (due_keys moment r)
-  pub inactive : (moment : ℕ) → Keeps i (on_links (map (run_out moment)))
+  pub inactive : (moment : ℕ) → Keeps i (on_links (map (expire_timers moment)))
   pub again : (moment : ℕ) → Keeps i (send_all_again moment)
   pub acknowledges : (moment : ℕ) → Keeps i (send_acknowledgments moment)
   pub hellos : (moment : ℕ) → Keeps i (send_hellos moment)
@@ -334,7 +334,7 @@ module _ (i : Invariant) (kept : IsKeptByParts i) where
   tick_kept : (moment : ℕ) (p : EventState) → InProgress p → InProgress (after_tick moment p)
   tick_kept moment p h =
       let no_sends : EventState = on_router (forget_originations moment)
-      (on_area (on_links (map (run_out moment))) p) in
+      (on_area (on_links (map (expire_timers moment))) p) in
       let renewed : EventState = originate_due moment (due_keys moment no_sends.router) no_sends in
       let still : InProgress no_sends = record {
         area = kept.inactive moment (outcome p) h.area;

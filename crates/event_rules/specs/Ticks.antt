@@ -21,8 +21,8 @@ settled_exchange moment dead (Some n) = Some (without_old_description moment dea
 
 -- an inactive neighbor is Down; the last Database Description is discarded some time after the
 -- exchange
-abbrev pub run_out : Moment → Link → Link
-run_out moment link = record link {
+abbrev pub expire_timers : Moment → Link → Link
+expire_timers moment link = record link {
   neighbor =
       settled_exchange moment link.interface.dead_interval
       (after_inactivity_timer moment link.interface.dead_interval link.neighbor);
@@ -66,7 +66,7 @@ send_hellos moment o =
 abbrev pub after_tick : Moment → EventState → EventState
 after_tick moment p =
     let no_sends : EventState =
-    on_router (forget_originations moment) (on_area (on_links (map (run_out moment))) p) in
+    on_router (forget_originations moment) (on_area (on_links (map (expire_timers moment))) p) in
     let renewed : EventState = originate_due moment (due_keys moment no_sends.router) no_sends in
     on_area (λ o. send_hellos moment (send_acknowledgments moment (send_all_again moment o)))
     renewed

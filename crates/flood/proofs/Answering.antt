@@ -44,7 +44,7 @@ use Rattle.event_rules.specs.Packets.{is_heard}
 use Rattle.event_rules.specs.Packets.{receive_request}
 use Rattle.event_rules.specs.Refusals.{first_refusal, of_event}
 use Rattle.event_rules.specs.Routers.{Occurrence, Router}
-use Rattle.event_rules.specs.Ticks.{after_tick, run_out}
+use Rattle.event_rules.specs.Ticks.{after_tick, expire_timers}
 use Rattle.flood.specs.Occurrences.{brings_answers}
 
 -- the answers after some part of an event
@@ -142,7 +142,7 @@ packet_stays moment number packet p =
 tick_stays : (moment : ℕ) (p : EventState) → of (after_tick moment p) ≡ of p
 tick_stays moment p =
     let no_sends : EventState = on_router (forget_originations moment)
-    (on_area (on_links (map (run_out moment))) p) in
+    (on_area (on_links (map (expire_timers moment))) p) in
     all_due moment (due_keys moment no_sends.router) no_sends
 
 announced_stays : (moment : ℕ) (key : Key) (e : External) (p : EventState)

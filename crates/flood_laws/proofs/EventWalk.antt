@@ -50,7 +50,7 @@ use Rattle.event_rules.specs.Packets.{is_from, is_heard, is_hello, is_there, rec
 use Rattle.event_rules.specs.Packets.{requested_lsas}
 use Rattle.event_rules.specs.EventState.{EventState, flood_from_nobody, on_area, on_router}
 use Rattle.event_rules.specs.Routers.{Occurrence, Router}
-use Rattle.event_rules.specs.Ticks.{send_acknowledgments, after_tick, send_hellos, run_out}
+use Rattle.event_rules.specs.Ticks.{after_tick, expire_timers, send_acknowledgments, send_hellos}
 use Rattle.event_rules.specs.Ticks.{send_all_again}
 use Rattle.event_rules.proofs.Walk.{Brings, IfRead, Invariant, IsKeptByParts, MayGrow, OfBrought}
 use Rattle.event_rules.proofs.Walk.{OfBytes, OfEvent, OfOutcome, outcome}
@@ -128,7 +128,7 @@ pub record IsKeptToo (i : Invariant) (X Y : Lately) (start : EventState) (moment
   -- a Tick
   pub forgets : (r : Router) (o : Outcome) → OfOutcome i o → X o r.originated
       → X o (forget_originations moment r).originated
-  pub inactive : KeepsToo i X (on_links (map (run_out moment)))
+  pub inactive : KeepsToo i X (on_links (map (expire_timers moment)))
   pub again : KeepsToo i X (send_all_again moment)
   pub acknowledges : KeepsToo i X (send_acknowledgments moment)
   pub hellos : KeepsToo i X (send_hellos moment)
@@ -407,12 +407,12 @@ module _ (i : Invariant) (kept : IsKeptByParts i) (X Y : Lately) (old : Router) 
   tick_kept : InProgress start → InProgress (after_tick moment start)
   tick_kept h =
       let no_sends : EventState = on_router (forget_originations moment)
-      (on_area (on_links (map (run_out moment))) start) in
+      (on_area (on_links (map (expire_timers moment))) start) in
       let renewed : EventState = originate_due moment (due_keys moment no_sends.router) no_sends in
       let settled_area = kept.inactive moment (outcome start) h.so.area in
       let still : InProgress no_sends = record {
         so = record { area = settled_area; announced = h.so.announced };
-        lately = too.forgets start.router (on_links (map (run_out moment)) (outcome start))
+        lately = too.forgets start.router (on_links (map (expire_timers moment)) (outcome start))
             settled_area (too.inactive (outcome start) start.router.originated h.so.area h.lately);
       } in
       let so : InProgress renewed = due_kept (due_keys moment no_sends.router) no_sends

@@ -34,7 +34,7 @@ use Rattle.event_rules.specs.Hellos.{accepts, names}
 use Rattle.event_rules.specs.Originations.{due_keys, new_instance, router_key}
 use Rattle.event_rules.specs.Packets.{accept_hello, receive_hello_on, with_neighbor}
 use Rattle.event_rules.specs.Routers.{Occurrence, Router, fresh_link, unannounced_router}
-use Rattle.event_rules.specs.Ticks.{again, with_hello_sent, run_out, settled_exchange}
+use Rattle.event_rules.specs.Ticks.{again, expire_timers, settled_exchange, with_hello_sent}
 use Rattle.event_rules.specs.Ticks.{without_acknowledgments}
 use Rattle.event_rules.proofs.Walk.{Brings, Invariant, IsKeptByParts, originate_or_wait_kept}
 use Rattle.event_rules.proofs.Walk as walk
@@ -131,7 +131,7 @@ module _ (Q : Fact) (kept : IsKept Q) where
         (acknowledgment_kept Q kept moment headers) o h;
     due = λ moment r own. keys_any (due_keys moment r);
     inactive = λ moment o h.
-        each_link_keeps (Of Q) (run_out moment)
+        each_link_keeps (Of Q) (expire_timers moment)
         (λ link at.
         exchange_settled Q kept moment link.interface.dead_interval
         (adjacencies.after_inactivity_timer moment link.interface.dead_interval link.neighbor)

@@ -62,7 +62,7 @@ use Rattle.event_rules.specs.Packets.{accept_hello, is_from, receive_acknowledgm
 use Rattle.event_rules.specs.Packets.{receive_description, receive_hello, receive_hello_on}
 use Rattle.event_rules.specs.Packets.{is_hello, requested_lsas, with_neighbor}
 use Rattle.event_rules.specs.Routers.{Occurrence, Router}
-use Rattle.event_rules.specs.Ticks.{acknowledgments_on, again, hello_sent_on, run_out}
+use Rattle.event_rules.specs.Ticks.{acknowledgments_on, again, expire_timers, hello_sent_on}
 use Rattle.event_rules.specs.Ticks.{send_acknowledgments, send_hellos, settled_exchange}
 use Rattle.event_rules.specs.Ticks.{with_hello_sent, without_acknowledgments}
 use Rattle.flood_laws.specs.NewInstances.{lsas_brought}
@@ -953,8 +953,8 @@ module _ (old : Router) (moment : ℕ) (event : Occurrence) (number : ℕ) (befo
       (λ e. old_description_owing key name Asked moment dead m h)
 
   inactive_became : (o : Outcome) (t : ByKey ℕ) → Became o.area t
-      → Became (on_links (map (run_out moment)) o).area t
-  inactive_became o t h = each_link_became (run_out moment)
+      → Became (on_links (map (expire_timers moment)) o).area t
+  inactive_became o t h = each_link_became (expire_timers moment)
       (λ link at. run_out_owed link.interface.dead_interval link.neighbor at) o t h
 
   again_became : (o : Outcome) (t : ByKey ℕ) → Became o.area t

@@ -51,7 +51,7 @@ use Rattle.event_rules.specs.Originations.{forget_originations, install_and_floo
 use Rattle.event_rules.specs.Originations.{new_instance, next_sequence}
 use Rattle.event_rules.specs.Packets.{accept_hello, receive_hello_on, requested_lsas}
 use Rattle.event_rules.specs.Routers.{Occurrence, Router}
-use Rattle.event_rules.specs.Ticks.{acknowledgments_on, again, hello_sent_on, run_out}
+use Rattle.event_rules.specs.Ticks.{acknowledgments_on, again, expire_timers, hello_sent_on}
 use Rattle.event_rules.specs.Ticks.{with_hello_sent, without_acknowledgments}
 use Rattle.event_rules.proofs.Walk.{outcome}
 use Rattle.flood_laws.specs.InOrder.{IsInOrder}
@@ -491,7 +491,7 @@ module _ (old : Router) (moment : ℕ) (event : Occurrence) where
       };
       forgets = λ r o its h. forget_numbers r o h;
       inactive = λ o t its h. record {
-        area = each_link (T t) (run_out moment)
+        area = each_link (T t) (expire_timers moment)
             (λ link at. record {
               neighbor = exchange_settled (T t) moment link.interface.dead_interval
                   (adjacencies.after_inactivity_timer moment link.interface.dead_interval

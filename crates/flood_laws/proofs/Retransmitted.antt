@@ -55,7 +55,7 @@ use Rattle.event_rules.specs.Hellos.{accepts, names}
 use Rattle.event_rules.specs.Originations.{due_keys, new_instance, router_key}
 use Rattle.event_rules.specs.Packets.{accept_hello, receive_hello_on, requested_lsas, with_neighbor}
 use Rattle.event_rules.specs.Routers.{Occurrence, Router, fresh_link, unannounced_router}
-use Rattle.event_rules.specs.Ticks.{acknowledgments_on, again, hello_sent_on, run_out}
+use Rattle.event_rules.specs.Ticks.{acknowledgments_on, again, expire_timers, hello_sent_on}
 use Rattle.event_rules.specs.Ticks.{with_hello_sent, without_acknowledgments}
 use Rattle.event_rules.proofs.Walk.{Brings, Invariant, IsKeptByParts, originate_or_wait_kept}
 use Rattle.event_rules.proofs.Walk as walk
@@ -601,8 +601,8 @@ parts_keep = record {
       (acknowledgment_kept (OfIt o.area.database) (its_kept o.area.database) moment headers) h;
   due = λ moment r own. none_asked (due_keys moment r);
   inactive = λ moment o h.
-      links_kept (map (run_out moment)) o
-      (each_link_keeps (Of (OfIt o.area.database)) (run_out moment)
+      links_kept (map (expire_timers moment)) o
+      (each_link_keeps (Of (OfIt o.area.database)) (expire_timers moment)
       (λ link at.
       exchange_settled (OfIt o.area.database) (its_kept o.area.database) moment
       link.interface.dead_interval

@@ -47,7 +47,7 @@ use Rattle.event_rules.specs.Packets.{accept_hello, receive_hello_on, requested_
 use Rattle.event_rules.specs.EventState.{EventState, flood_from_nobody}
 use Rattle.event_rules.specs.Routers.{Occurrence, Router}
 use Rattle.event_rules.specs.Ticks.{acknowledgments_on, again, with_hello_sent, hello_sent_on}
-use Rattle.event_rules.specs.Ticks.{run_out}
+use Rattle.event_rules.specs.Ticks.{expire_timers}
 use Rattle.event_rules.specs.Ticks.{settled_exchange, without_acknowledgments}
 use Rattle.event_rules.proofs.Walk.{Brings, Invariant, IsKeptByParts, OfEvent, event_kept}
 use Rattle.event_rules.proofs.Walk.{originate_or_wait_kept, outcome}
@@ -239,7 +239,7 @@ module _ (t : Telling) (id : ℕ) (news : (key : Key) (copy : Option DatabaseCop
         (acknowledgment_told t moment headers n at)) o h;
     due = λ moment r own. due_told moment r own.0 own.1;
     inactive = λ moment o h.
-        each_link t (run_out moment)
+        each_link t (expire_timers moment)
         (λ link at. record {
           neighbor = exchange_settled t moment link.interface.dead_interval
               (adjacencies.after_inactivity_timer moment link.interface.dead_interval link.neighbor)

@@ -26,7 +26,7 @@ use Rattle.received.specs.Links.{Link}
 use Rattle.received.proofs.Marks.{tied}
 use Rattle.event_rules.specs.Endings.{link_loading_done, links_differ, loading_done_on, same_body}
 use Rattle.event_rules.specs.Originations.{router_body, stub}
-use Rattle.event_rules.specs.Ticks.{run_out, settled_exchange}
+use Rattle.event_rules.specs.Ticks.{expire_timers, settled_exchange}
 use Rattle.own_lsa_laws.proofs.Faces.{Face, body_by_faces, face_links, faces, faces_body}
 use Rattle.own_lsa_laws.proofs.Faces.{full_router, told_to}
 
@@ -160,7 +160,7 @@ ran_out moment dead i (Some n) =
     (Some n)
     (λ e. inr refl) (λ e. inl (kept_face moment dead i n))
 
-losing : (moment : ℕ) (xs : List Link) → Lose (faces xs) (faces (map (run_out moment) xs))
+losing : (moment : ℕ) (xs : List Link) → Lose (faces xs) (faces (map (expire_timers moment) xs))
 losing moment [] = tt
 losing moment (x ∷ xs) = (
   ran_out moment x.interface.dead_interval x.interface x.neighbor,
@@ -176,9 +176,10 @@ gaining [] = tt
 gaining (x ∷ xs) = (filled x.interface x.neighbor, gaining xs)
 
 -- if the bytes after a Tick are those before it, they were the same in between
-pub tick_agrees : (moment : ℕ) (old xs : List Link) → faces xs ≡ faces (map (run_out moment) old)
+pub tick_agrees : (moment : ℕ) (old xs : List Link)
+    → faces xs ≡ faces (map (expire_timers moment) old)
     → body_text (router_body old) ≡ body_text (router_body (map link_loading_done xs))
-    → router_body (map (run_out moment) old) ≡ router_body old
+    → router_body (map (expire_timers moment) old) ≡ router_body old
 tick_agrees moment old xs same e =
     let ys : List Link = map link_loading_done xs in
     let texts : body_text (faces_body (faces old)) ≡ body_text (faces_body (faces ys)) =
@@ -187,7 +188,7 @@ tick_agrees moment old xs same e =
     nothing_lost (faces old) (faces xs) (faces ys)
     (subst (Lose (faces old)) (sym same) (losing moment old)) (gaining xs) (ap (behind 4) texts)
     in
-    body_by_faces (map (run_out moment) old) ∙ ap faces_body (sym same)
+    body_by_faces (map (expire_timers moment) old) ∙ ap faces_body (sym same)
     ∙ ap (λ (ls : List RouterLink). body.Router (record {
       flags = 2;
       links = ls;

@@ -52,7 +52,7 @@ use Rattle.event_rules.specs.Packets.{receive_hello_on, any_exchange_or_later, i
 use Rattle.event_rules.specs.Packets.{receive_request, requested_lsas}
 use Rattle.event_rules.specs.Routers.{Router}
 use Rattle.event_rules.specs.Ticks.{acknowledgments_on, after_tick, again, send_acknowledgments}
-use Rattle.event_rules.specs.Ticks.{hello_sent_on, run_out, send_all_again}
+use Rattle.event_rules.specs.Ticks.{expire_timers, hello_sent_on, send_all_again}
 use Rattle.event_rules.specs.Ticks.{with_hello_sent, without_acknowledgments}
 use Rattle.event_rules.proofs.Walk.{outcome}
 use Rattle.flood_laws.proofs.Limits.{one_less, one_more, tied_key}
@@ -344,7 +344,7 @@ due_faces moment (key ∷ keys) p = due_faces moment keys (originate_or_put_off 
 -- the state of a Tick before anything is originated
 abbrev pub run_down : ℕ → EventState → EventState
 run_down moment p = on_router (forget_originations moment)
-    (on_area (on_links (map (run_out moment))) p)
+    (on_area (on_links (map (expire_timers moment))) p)
 
 pub tick_kept : (moment : ℕ) (t : Terms) (p : EventState) → Tells t (run_down moment p)
     → InProgress moment (full (among (due_keys moment (run_down moment p).router) t))
@@ -370,7 +370,7 @@ tick_kept moment t p tells h =
     }
 
 pub tick_faces : (moment : ℕ) (p : EventState) → faces (after_tick moment p).router.area.links
-    ≡ faces (map (run_out moment) p.router.area.links)
+    ≡ faces (map (expire_timers moment) p.router.area.links)
 tick_faces moment p =
     let first : EventState = run_down moment p in
     let renewed : EventState = originate_due moment (due_keys moment first.router) first in

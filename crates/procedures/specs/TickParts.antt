@@ -5,11 +5,11 @@ use Rattle.words.specs.Numbers.{Moment}
 use Rattle.event_rules.specs.received.Outcomes.{on_links}
 use Rattle.event_rules.specs.EventState.{EventState, on_area, on_router}
 use Rattle.event_rules.specs.Originations.{due_keys, forget_originations, originate_due}
-use Rattle.event_rules.specs.Ticks.{run_out}
+use Rattle.event_rules.specs.Ticks.{expire_timers}
 
 abbrev pub run_out_all : Moment → EventState → EventState
 run_out_all moment p =
-    on_router (forget_originations moment) (on_area (on_links (map (run_out moment))) p)
+    on_router (forget_originations moment) (on_area (on_links (map (expire_timers moment))) p)
 
 abbrev pub originate_what_is_due : Moment → EventState → EventState
 originate_what_is_due moment p = originate_due moment (due_keys moment p.router) p

@@ -10,10 +10,10 @@ use std::alloc::{AllocError, Global};
 use words::Second;
 
 // Expired timers: inactive neighbors go Down, and originations are forgotten after MinLSInterval.
-fn run_out(router: &mut Router, alloc: Global, moment: Second) -> Result<(), AllocError>
+fn expire_timers(router: &mut Router, alloc: Global, moment: Second) -> Result<(), AllocError>
     ensures { RouterDoes (run_out_all moment) router.old router.new result }
 {
-    router.run_out(moment);
+    router.expire_timers(moment);
     router.forget_originations(alloc, moment)
 }
 
@@ -38,7 +38,7 @@ fn originate_what_is_due(
 pub fn tick(router: &mut Router, alloc: Global, moment: Second) -> Result<(), AllocError>
     ensures { RouterDoes (after_tick moment) router.old router.new result }
 {
-    run_out(router, alloc, moment)?;
+    expire_timers(router, alloc, moment)?;
     originate_what_is_due(router, alloc, moment)?;
     router.send_what_is_due(alloc, moment)
 }

@@ -47,7 +47,7 @@ use Rattle.event_rules.specs.Packets.{after_unread, any_exchange_or_later, case_
 use Rattle.event_rules.specs.Packets.{is_heard}
 use Rattle.event_rules.specs.Packets.{receive_request}
 use Rattle.event_rules.specs.Routers.{Occurrence, Router, unannounced_router}
-use Rattle.event_rules.specs.Ticks.{after_tick, run_out}
+use Rattle.event_rules.specs.Ticks.{after_tick, expire_timers}
 use Rattle.event_rules.specs.declared.model.Config.{Config}
 use Rattle.event_rules.specs.declared.model.Out.{Out}
 use Rattle.program_laws.specs.Announced.{IsAskedFor, WhatIsAnnouncedWasAskedFor}
@@ -89,7 +89,7 @@ each_due moment (key ∷ keys) p = each_due moment keys (originate_or_put_off mo
 pub ticked : (moment : Moment) → Leaves (after_tick moment)
 ticked moment p =
     let q : EventState = on_router (forget_originations moment)
-    (on_area (on_links (map (run_out moment))) p) in
+    (on_area (on_links (map (expire_timers moment))) p) in
     each_due moment (due_keys moment q.router) q
 
 settled : (wanted : Bool) (moment : Moment) (key : Key)

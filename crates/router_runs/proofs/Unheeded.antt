@@ -38,7 +38,7 @@ use Rattle.event_rules.specs.Packets.{after_unread, any_exchange_or_later, case_
 use Rattle.event_rules.specs.Packets.{is_heard}
 use Rattle.event_rules.specs.Packing.{outs_of}
 use Rattle.event_rules.specs.Routers.{Occurrence, Router}
-use Rattle.event_rules.specs.Ticks.{after_tick, run_out, send_acknowledgments, send_all_again}
+use Rattle.event_rules.specs.Ticks.{after_tick, expire_timers, send_acknowledgments, send_all_again}
 use Rattle.event_rules.specs.Ticks.{send_hellos}
 use Rattle.event_rules.specs.declared.model.Out.{Out}
 
@@ -198,7 +198,7 @@ module _ (answers : List (Route × ℕ)) where
   a_tick : (moment : Moment) → Overlooks (after_tick moment)
   a_tick moment p =
       let quiet : EventState = on_router (forget_originations moment)
-      (on_area (on_links (map (run_out moment))) p) in
+      (on_area (on_links (map (expire_timers moment))) p) in
       ap (on_area
       (λ (o : Outcome). send_hellos moment (send_acknowledgments moment (send_all_again moment o))))
       (all_due moment (due_keys moment quiet.router) quiet)

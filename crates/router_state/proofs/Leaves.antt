@@ -26,7 +26,7 @@ use Rattle.event_rules.specs.Endings.{link_loading_done, remove_aged, request_al
 use Rattle.event_rules.specs.Endings.{with_age, with_ages}
 use Rattle.event_rules.specs.EventState.{EventState, flood_from_nobody, on_area}
 use Rattle.event_rules.specs.Originations.{flush, flush_copy, install_and_flood}
-use Rattle.event_rules.specs.Ticks.{again, run_out, send_acknowledgments, send_all_again}
+use Rattle.event_rules.specs.Ticks.{again, expire_timers, send_acknowledgments, send_all_again}
 use Rattle.event_rules.specs.Ticks.{send_hellos}
 use Rattle.event_rules.specs.Ticks.{with_hello_sent, without_acknowledgments}
 use Rattle.flooding.specs.Cases.{is_newer}
@@ -236,11 +236,11 @@ module _ (moment : ℕ) where
   pub keeps_removal : KeepsInterfaces (remove_aged moment)
   keeps_removal a = remains_by a (any_exchange_or_loading a.links)
 
-  pub appends_expiry : Appends (on_links (map (run_out moment)))
-  appends_expiry o = appends_links (map (run_out moment)) o
+  pub appends_expiry : Appends (on_links (map (expire_timers moment)))
+  appends_expiry o = appends_links (map (expire_timers moment)) o
 
-  pub keeps_expiry : KeepsInterfaces (on_links (map (run_out moment)))
-  keeps_expiry a = map_interfaces (run_out moment) (λ l. refl) a.links
+  pub keeps_expiry : KeepsInterfaces (on_links (map (expire_timers moment)))
+  keeps_expiry a = map_interfaces (expire_timers moment) (λ l. refl) a.links
 
 pub appends_loading : Appends (on_links (map link_loading_done))
 appends_loading o = appends_links (map link_loading_done) o

@@ -9,7 +9,7 @@ use Rattle.flooding.specs.adjacency.Timers as neighbor
 use Rattle.flooding.specs.received.Links.{Link}
 use Rattle.flooding.specs.Links.{with_neighbor}
 use Rattle.event_rules.specs.Endings.{link_loading_done, loading_done_on}
-use Rattle.event_rules.specs.Ticks.{run_out, settled_exchange}
+use Rattle.event_rules.specs.Ticks.{expire_timers, settled_exchange}
 
 given_up : (moment dead : ℕ) (o : Option Neighbor)
     → step_on (λ m. no_sends (without_old_description moment dead m)) o
@@ -18,8 +18,8 @@ given_up moment dead None = refl
 given_up moment dead (Some n) = refl
 
 pub run_out_is : (moment : ℕ) (l : Link)
-    → with_neighbor (neighbor.run_out moment l.interface.dead_interval l.neighbor) l
-    ≡ run_out moment l
+    → with_neighbor (neighbor.expire_timers moment l.interface.dead_interval l.neighbor) l
+    ≡ expire_timers moment l
 run_out_is moment l = ap (λ o. with_neighbor o l)
     (given_up moment l.interface.dead_interval
     (after_inactivity_timer moment l.interface.dead_interval l.neighbor))

@@ -5,7 +5,7 @@ ghost use Rattle.flooding.specs.received.Outcomes.{on_links};
 ghost use Rattle.event_rules.specs.Commands.{after_link_down};
 ghost use Rattle.event_rules.specs.EventState.{on_area};
 ghost use Rattle.event_rules.specs.Endings.{loading_done, with_ages};
-ghost use Rattle.event_rules.specs.Ticks.{run_out};
+ghost use Rattle.event_rules.specs.Ticks.{expire_timers};
 ghost use Rattle.router_state.specs.Making.{Makes, RouterDoes};
 ghost use Rattle.router_state.specs.Parts.{request_and_remove_aged, send_what_is_due};
 
@@ -84,8 +84,8 @@ impl Router {
     /// The timers that a Tick finds expired: a neighbor from which no Hello was received for
     /// RouterDeadInterval goes Down, and the last Database Description is discarded that long after
     /// the exchange. It doesn't allocate.
-    pub fn run_out(&mut self, moment: Second)
-        ensures { Makes (on_area (on_links (map (run_out moment)))) self.old self.new }
+    pub fn expire_timers(&mut self, moment: Second)
+        ensures { Makes (on_area (on_links (map (expire_timers moment)))) self.old self.new }
     {
         self.area.change_links(&RunOut { moment });
     }

@@ -19,7 +19,7 @@ impl Link {
     }
 }
 
-/// The timers that a Tick finds expired, as in `NeighborSlot::run_out`, with the interface's
+/// The timers that a Tick finds expired, as in `NeighborSlot::expire_timers`, with the interface's
 /// RouterDeadInterval.
 #[derive(Drop)]
 pub struct RunOut {
@@ -27,14 +27,15 @@ pub struct RunOut {
 }
 
 impl LinkChange for RunOut {
-    ghost use Rattle.adjacency.specs.Timers.{run_out};
+    ghost use Rattle.adjacency.specs.Timers.{expire_timers};
     ghost use Rattle.flooding.specs.Links.{with_neighbor};
 
     ghost after = { λ a link. with_neighbor
-        (run_out a.moment link.interface.dead_interval link.neighbor) link };
+        (expire_timers a.moment link.interface.dead_interval link.neighbor) link };
 
     fn change(&self, link: &mut Link) {
-        link.slot.run_out(self.moment, link.interface.dead_interval);
+        link.slot
+            .expire_timers(self.moment, link.interface.dead_interval);
     }
 }
 

@@ -1,6 +1,6 @@
 //! Timers that a Tick finds expired (RFC 2328, sections 10.3 and 10.8).
 ghost use Rattle.std.specs.Prelude.{◌≡◌};
-ghost use Rattle.adjacency.specs.Timers.{run_out};
+ghost use Rattle.adjacency.specs.Timers.{expire_timers};
 
 use super::NeighborSlot;
 use neighbors::has_passed;
@@ -11,8 +11,11 @@ impl NeighborSlot {
     /// which no Hello was received for RouterDeadInterval (`dead`, in seconds) goes Down
     /// (InactivityTimer), and the last Database Description is discarded that long after the
     /// exchange was completed. It doesn't allocate.
-    pub fn run_out(&mut self, moment: Second, dead: u32)
-        ensures { self.new ≡ record self.old { present = run_out moment dead self.old.present } }
+    pub fn expire_timers(&mut self, moment: Second, dead: u32)
+        ensures { self.new ≡ record self.old {
+          present = expire_timers moment dead
+              self.old.present;
+        } }
     {
         let Some(neighbor) = &mut self.neighbor else {
             return;

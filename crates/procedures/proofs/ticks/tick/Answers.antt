@@ -8,5 +8,5 @@ returns c =
     let m = c.args.moment in
     then_does {f = λ p. originate_what_is_due m (run_out_all m p)} {g = send_what_is_due m}
     c.send_what_is_due.result
-    (makes_then c.in_ok-run_out.ensures.makes c.in_ok-originate_what_is_due.ensures.makes)
+    (makes_then c.in_ok-expire_timers.ensures.makes c.in_ok-originate_what_is_due.ensures.makes)
     c.send_what_is_due.ensures
