@@ -121,7 +121,7 @@ impl Lsa {
 }
 
 // The LSA in the bytes, or the first fault.
-fn outcome(alloc: Global, bytes: &[u8]) -> Result<Lsa, LsaError>
+fn parsed(alloc: Global, bytes: &[u8]) -> Result<Lsa, LsaError>
     ensures { Reads bytes.now result }
 {
     if let Some(fault) = fault(bytes) {
@@ -142,7 +142,7 @@ pub fn read(alloc: Global, bytes: &[u8]) -> Result<Lsa, LsaError>
     // Which fault it is; `Memory` is returned only if there is none.
     ensures exact { Reads bytes.now result }
 {
-    outcome(alloc, bytes)
+    parsed(alloc, bytes)
 }
 
 fn written(alloc: Global, header: &Header, body: &LsaBody) -> Result<Vec<u8>, AllocError>

@@ -130,7 +130,7 @@ fn body(alloc: Global, kind: PacketType, bytes: &[u8]) -> Result<PacketBody, All
 }
 
 // The packet in the bytes, or the first fault.
-fn outcome(alloc: Global, bytes: &[u8]) -> Result<Packet, PacketError>
+fn parsed(alloc: Global, bytes: &[u8]) -> Result<Packet, PacketError>
     ensures { Reads bytes.now result }
 {
     match judge(bytes) {
@@ -160,5 +160,5 @@ pub fn read(alloc: Global, bytes: &[u8]) -> Result<Packet, PacketError>
     ensures writable { IfOk result (λ p. (length (text closed_fields 0 p) ≤ largest_packet)
         × (lsa_count p.body < 2 ^ 32)) }
 {
-    outcome(alloc, bytes)
+    parsed(alloc, bytes)
 }
