@@ -10,7 +10,7 @@ use Rattle.packet.specs.declared.model.PacketBody.TheVariants as body
 use Rattle.packet.specs.declared.model.Description.{Description}
 use Rattle.packet.specs.declared.model.Packet.{Packet}
 use Rattle.lsdb.specs.Headers.{lsa_aged}
-use Rattle.lsdb.specs.Copies.{age_out, install_originated}
+use Rattle.lsdb.specs.Copies.{age_prematurely, install_originated}
 use Rattle.adjacency.specs.Neighbors.{Neighbor}
 use Rattle.received.specs.Links.{neighbor_at}
 use Rattle.received.specs.Outcomes.{Outcome, on_database}
@@ -76,7 +76,7 @@ module _ (old : Router) (moment : ℕ) (event : Occurrence) (number : ℕ)
     each_part = record {
       flushes = λ k c o t at young area h.
           parts.floods old.id Acc Began Was number moment None (lsa_aged 3600 c.lsa)
-          (on_database (age_out moment k) o) h;
+          (on_database (age_prematurely moment k) o) h;
       originates = λ k says p of_key goes may wants so h.
           parts.floods old.id Acc Began Was number moment None
           (new_instance k (finite.get p.router.area.database k) says)

@@ -5,7 +5,8 @@ use Rattle.std.specs.FinMap as finite
 use Rattle.std.specs.List.{Contains, fold}
 use Rattle.words.specs.declared.key.Key.{Key}
 use Rattle.lsa.specs.declared.body.LsaBody.{LsaBody}
-use Rattle.lsdb.specs.Copies.{Database, DatabaseCopy, age_out, has_just_aged_out, install_flooded}
+use Rattle.lsdb.specs.Copies.{Database, DatabaseCopy, age_prematurely, has_just_aged_out}
+use Rattle.lsdb.specs.Copies.{install_flooded}
 use Rattle.lsdb.specs.Copies.{install_originated, lsa_now, newer_than_copy}
 use Rattle.lsdb.specs.Headers.{Lsa, lsa_aged, lsa_key}
 use Rattle.packet.specs.declared.model.Hello.{Hello}
@@ -47,8 +48,8 @@ abbrev pub installed_copy : ℕ → Lsa → DatabaseCopy
 installed_copy moment lsa =
     record { lsa = lsa; stored = moment; installed = Some moment; sent = None }
 
-pub aged_out : (moment : ℕ) (k : Key) (c : DatabaseCopy) (db : Database)
-    → finite.get db k ≡ Some c → age_out moment k db ≡ finite.insert db k (flushed_copy moment c)
+pub aged_out : (moment : ℕ) (k : Key) (c : DatabaseCopy) (db : Database) → finite.get db k ≡ Some c
+    → age_prematurely moment k db ≡ finite.insert db k (flushed_copy moment c)
 aged_out moment k c db at = ap (changed_by k (flushed_copy moment) db) at
 
 -- ---- the property
@@ -57,7 +58,7 @@ pub record IsKept (own moment : ℕ) (P : Database → Type 0) : Type 0 where
   pub marks : (more : List Send) (db : Database) → P db
       → P (fold (λ (d : Database) (s : Send). marked_database moment d s.content) db more)
   pub flushes : (k : Key) (c : DatabaseCopy) (db : Database) → finite.get db k ≡ Some c → P db
-      → P (age_out moment k db)
+      → P (age_prematurely moment k db)
   pub originates : (k : Key) (says : LsaBody) (db : Database) → k.advertising_router ≡ own
       → lsa_key (new_instance k (finite.get db k) says) ≡ k → P db
       → P (install_originated moment (new_instance k (finite.get db k) says) db)
@@ -70,9 +71,9 @@ module _ (own moment : ℕ) (P : Database → Type 0) (kept : IsKept own moment 
   pub flushed : (k : Key) (c : DatabaseCopy) (o : Outcome) → finite.get o.area.database k ≡ Some c
       → P o.area.database
       → P (flood_from_nobody moment (lsa_aged 3600 c.lsa)
-      (on_database (age_out moment k) o)).area.database
+      (on_database (age_prematurely moment k) o)).area.database
   flushed k c o at h =
-      each (flood_to moment None (lsa_aged 3600 c.lsa)) (on_database (age_out moment k) o)
+      each (flood_to moment None (lsa_aged 3600 c.lsa)) (on_database (age_prematurely moment k) o)
       (kept.flushes k c o.area.database at h)
 
   pub originated : (k : Key) (says : LsaBody) (p : EventState) → k.advertising_router ≡ own

@@ -9,7 +9,8 @@ use Rattle.std.specs.List.{fold}
 use Rattle.std.proofs.lemmas.Bool.{ltb-false}
 use Rattle.words.specs.Constants.{most_headers_described}
 use Rattle.words.specs.declared.key.Key.{Key}
-use Rattle.lsdb.specs.Copies.{Database, DatabaseCopy, age_out, has_just_aged_out, install_flooded}
+use Rattle.lsdb.specs.Copies.{Database, DatabaseCopy, age_prematurely, has_just_aged_out}
+use Rattle.lsdb.specs.Copies.{install_flooded}
 use Rattle.lsdb.specs.Copies.{install_originated, lsa_now}
 use Rattle.lsdb.specs.Headers.{Header, Lsa, lsa_aged, lsa_key}
 use Rattle.lsdb.specs.Instances.{ListEntry}
@@ -317,7 +318,7 @@ parts_keep : IsKeptByParts on_neighbors
 parts_keep = record {
   ages = λ before moment o h. ages_kept before moment (finite.entries o.area.database) o h;
   flushes = λ moment key c o is young h. flood_kept moment None (lsa_aged 3600 c.lsa)
-      (on_database (age_out moment key) o) h;
+      (on_database (age_prematurely moment key) o) h;
   originates = λ moment key says p own goes wants grows h.
       let lsa : Lsa = new_instance key (finite.get p.router.area.database key) says in
       flood_kept moment None lsa (on_database (install_originated moment lsa) (walk.outcome p))

@@ -6,7 +6,7 @@ use Rattle.std.specs.FinMap as finite
 use Rattle.std.specs.List.{fold}
 use Rattle.words.specs.declared.key.Key.{Key}
 use Rattle.lsa.specs.declared.body.LsaBody.{LsaBody}
-use Rattle.lsdb.specs.Copies.{Database, DatabaseCopy, age_out, copy_now}
+use Rattle.lsdb.specs.Copies.{Database, DatabaseCopy, age_prematurely, copy_now}
 use Rattle.lsdb.specs.Copies.{install_flooded, install_originated}
 use Rattle.lsdb.specs.Headers.{Lsa, lsa_key}
 use Rattle.lsdb.specs.Keys.{ByKey, same_key}
@@ -114,7 +114,7 @@ module _ (old : Router) (event : Occurrence) (moment : ℕ) where
       by_key false away = h key i (sym (held_other moment key k c db away) ∙ at)
 
   whole_flushed : (k : Key) (c : DatabaseCopy) (db : Database) → finite.get db k ≡ Some c
-      → Whole db → Whole (age_out moment k db)
+      → Whole db → Whole (age_prematurely moment k db)
   whole_flushed k c db at h =
       subst Whole (sym (aged_out moment k c db at))
       (whole_put k (flushed_copy moment c) db

@@ -13,7 +13,8 @@ use Rattle.std.proofs.lemmas.Int.{ints}
 use Rattle.words.specs.declared.key.Key.{Key}
 use Rattle.lsa.specs.Origination.{sealed_lsa}
 use Rattle.lsa.specs.declared.body.LsaBody.{LsaBody}
-use Rattle.lsdb.specs.Copies.{Database, DatabaseCopy, age_now, age_out, copy_now, install_flooded}
+use Rattle.lsdb.specs.Copies.{Database, DatabaseCopy, age_now, age_prematurely, copy_now}
+use Rattle.lsdb.specs.Copies.{install_flooded}
 use Rattle.lsdb.specs.Copies.{install_originated, is_aged_out, newer_than_copy}
 use Rattle.lsdb.specs.Headers.{Lsa, lsa_key}
 use Rattle.lsdb.specs.Instances.{ListEntry, instance_of, listed_now}
@@ -111,7 +112,7 @@ module _ (ranks : RanksFollowTheComparison) where
         eq-eqb (age_at 3600 moment moment) 3600 e
 
     pub held_flushed : (k : Key) (c : DatabaseCopy) (db : Database) → finite.get db k ≡ Some c
-        → IsHeldAsNew db → IsHeldAsNew (age_out moment k db)
+        → IsHeldAsNew db → IsHeldAsNew (age_prematurely moment k db)
     held_flushed k c db at h =
         subst IsHeldAsNew (sym (aged_out moment k c db at)) (by_key (same_key key k) refl)
       where

@@ -7,7 +7,7 @@ use Rattle.std.specs.FinMap as finite
 use Rattle.std.specs.List.{fold}
 use Rattle.std.proofs.lemmas.Bool.{eqb-true}
 use Rattle.words.specs.declared.key.Key.{Key}
-use Rattle.lsdb.specs.Copies.{DatabaseCopy, age_out, has_just_aged_out, install_flooded}
+use Rattle.lsdb.specs.Copies.{DatabaseCopy, age_prematurely, has_just_aged_out, install_flooded}
 use Rattle.lsdb.specs.Copies.{install_originated, lsa_now}
 use Rattle.lsdb.specs.Headers.{Lsa, lsa_aged, lsa_key}
 use Rattle.lsdb.specs.Keys.{ByKey}
@@ -253,7 +253,7 @@ module _ (old : Router) (moment : ℕ) (event : Occurrence) (number : ℕ) (n : 
   each_part : IsKeptToo (in_order old.id) Lately Lately start moment event
   each_part = record {
     flushes = λ k c o t at young area h. floods None (lsa_aged 3600 c.lsa)
-        (on_database (age_out moment k) o) h;
+        (on_database (age_prematurely moment k) o) h;
     originates = λ k says p of_key goes may wants so h.
         floods None (new_instance k (finite.get p.router.area.database k) says)
         (on_database (install_originated moment

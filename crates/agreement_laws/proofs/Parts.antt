@@ -10,7 +10,7 @@ use Rattle.std.specs.Ordering.{eq_by_cmp}
 use Rattle.std.proofs.lemmas.Bool.{eq-eqb, eqb-true}
 use Rattle.std.proofs.lemmas.List.Elements.{Contains-append_left, Contains-append_right}
 use Rattle.words.specs.declared.key.Key.{Key}
-use Rattle.lsdb.specs.Copies.{Database, DatabaseCopy, age_out, copy_now, install_flooded}
+use Rattle.lsdb.specs.Copies.{Database, DatabaseCopy, age_prematurely, copy_now, install_flooded}
 use Rattle.lsdb.specs.Copies.{install_originated, lsa_now, same_as_copy}
 use Rattle.lsdb.specs.Headers.{Header, Lsa, key_of, lsa_aged, lsa_key}
 use Rattle.lsdb.specs.Instances.{ListEntry, instance_of, listed_now}
@@ -324,7 +324,7 @@ module _ (key : Key) (moment : ℕ) (number : ℕ) (There : Type 0) (Of : ℕ �
 
     pub flushes : (k : Key) (c : DatabaseCopy) (o : Outcome) → finite.get o.area.database k ≡ Some c
         → lsa_key c.lsa ≡ k → Stands o → Stands
-        (flood_from_nobody moment (lsa_aged 3600 c.lsa) (on_database (age_out moment k) o))
+        (flood_from_nobody moment (lsa_aged 3600 c.lsa) (on_database (age_prematurely moment k) o))
     flushes k c o at own h =
         subst (λ (x : Option DatabaseCopy). Stands
         (flood_from_nobody moment (lsa_aged 3600 c.lsa)

@@ -6,7 +6,7 @@ use Rattle.std.specs.FinMap as finite
 use Rattle.std.specs.List.{AllByRecursion, fold}
 use Rattle.words.specs.declared.key.Key.{Key}
 use Rattle.lsa.specs.declared.body.LsaBody.{LsaBody}
-use Rattle.lsdb.specs.Copies.{Database, DatabaseCopy, age_out, copy_now, has_just_aged_out}
+use Rattle.lsdb.specs.Copies.{Database, DatabaseCopy, age_prematurely, copy_now, has_just_aged_out}
 use Rattle.lsdb.specs.Copies.{install_flooded, install_originated, lsa_now, newer_than_copy}
 use Rattle.lsdb.specs.Headers.{Header, Lsa, lsa_aged, lsa_key}
 use Rattle.lsdb.specs.Instances.{ListEntry, instance_of, listed_now}
@@ -220,17 +220,19 @@ module _ (ranks : RanksFollowTheComparison) (key : Key) (moment : ℕ) (first : 
 
   pub flushes : (k : Key) (c : DatabaseCopy) (o : Outcome) → finite.get o.area.database k ≡ Some c
       → lsa_key c.lsa ≡ k → Stands o → Stands
-      (flood_from_nobody moment (lsa_aged 3600 c.lsa) (on_database (age_out moment k) o))
+      (flood_from_nobody moment (lsa_aged 3600 c.lsa) (on_database (age_prematurely moment k) o))
   flushes k c o at own h =
-      floods None (lsa_aged 3600 c.lsa) (on_database (age_out moment k) o)
-      (held_by (flushed_copy moment c) (lsa_aged 3600 c.lsa) (age_out moment k o.area.database)
+      floods None (lsa_aged 3600 c.lsa) (on_database (age_prematurely moment k) o)
+      (held_by (flushed_copy moment c) (lsa_aged 3600 c.lsa)
+      (age_prematurely moment k o.area.database)
       there
       (stored_at_least ranks key moment first (lsa_aged 3600 c.lsa) (flushed_copy moment c) refl))
-      (on_db (age_out moment k) o (λ x. held_flushed ranks key moment first k c o.area.database at
+      (on_db (age_prematurely moment k) o
+      (λ x. held_flushed ranks key moment first k c o.area.database at
       x) h)
     where
       there : same_key key (lsa_key c.lsa) ≡ true
-          → finite.get (age_out moment k o.area.database) key ≡ Some (flushed_copy moment c)
+          → finite.get (age_prematurely moment k o.area.database) key ≡ Some (flushed_copy moment c)
       there same =
           subst (λ (db : Database). finite.get db key ≡ Some (flushed_copy moment c))
           (sym (aged_out moment k c o.area.database at))

@@ -8,7 +8,8 @@ use Rattle.std.specs.FinMap as finite
 use Rattle.std.specs.List.{Contains}
 use Rattle.words.specs.declared.key.Key.{Key}
 use Rattle.lsa.specs.declared.body.LsaBody.{LsaBody}
-use Rattle.lsdb.specs.Copies.{DatabaseCopy, age_out, copy_now, install_originated, is_aged_out}
+use Rattle.lsdb.specs.Copies.{DatabaseCopy, age_prematurely, copy_now, install_originated}
+use Rattle.lsdb.specs.Copies.{is_aged_out}
 use Rattle.lsdb.specs.Headers.{Lsa, key_of, lsa_aged}
 use Rattle.lsdb.specs.Keys.{ByKey, key_cmp}
 use Rattle.lsdb.specs.Instances.{ListEntry, listed_now}
@@ -67,9 +68,9 @@ module _ (number : ℕ) (at : ℕ) where
   flushed_alone moment key None o is = is
   flushed_alone moment key (Some c) o is =
       chosen (λ (p : Outcome). neighbor_at number p.area.links ≡ None) (is_aged_out moment c) o
-      (flood_from_nobody moment (lsa_aged 3600 c.lsa) (on_database (age_out moment key) o))
+      (flood_from_nobody moment (lsa_aged 3600 c.lsa) (on_database (age_prematurely moment key) o))
       (λ e. is) (λ e. flooded_alone moment (lsa_aged 3600 c.lsa)
-      (on_database (age_out moment key) o) is)
+      (on_database (age_prematurely moment key) o) is)
 
   originated_alone : (may_now : Bool) (moment : ℕ) (key : Key) (says : Option LsaBody)
       (p : EventState) → (neighbor_at number p.router.area.links ≡ None) × (p.router.moment ≡ at)

@@ -7,7 +7,8 @@ use Rattle.std.specs.Cmp.{int_cmp_total, nat_cmp_total, tied_itself}
 use Rattle.std.specs.Ordering.{int_cmp, is_eq, ordering_then}
 use Rattle.std.proofs.lemmas.Bool.{or_right}
 use Rattle.words.specs.declared.key.Key.{Key}
-use Rattle.lsdb.specs.Copies.{Database, DatabaseCopy, age_out, install_flooded, installed_just_now}
+use Rattle.lsdb.specs.Copies.{Database, DatabaseCopy, age_prematurely, install_flooded}
+use Rattle.lsdb.specs.Copies.{installed_just_now}
 use Rattle.lsdb.specs.Copies.{newer_than_copy}
 use Rattle.lsdb.specs.Headers.{Header, Lsa, header_aged, key_of, lsa_aged, lsa_key}
 use Rattle.lsdb.specs.Instances.{ListEntry}
@@ -64,7 +65,7 @@ newer_case moment lsa a own there newer settled young =
 abbrev flushed : Router → Link → Neighbor → ℕ → Lsa → EventState
 flushed r link n moment lsa =
     on_area (λ o. flood_from_nobody moment (lsa_aged 3600 lsa)
-    (on_database (age_out moment (router_key r.id)) o))
+    (on_database (age_prematurely moment (router_key r.id)) o))
     (put r link moment lsa (remove_retransmission (lsa_key lsa) (full n)))
 
 installs : (r : Router) (link : Link) (n : Neighbor) (moment : ℕ) (lsa : Lsa)
@@ -100,10 +101,10 @@ settles r link n moment lsa mine last young =
     ∙ (λ i. cond (max i) (flush moment key p) rest)
     ∙ (λ i. on_area (flush_copy moment key (there i)) p)
     ∙ (λ i. on_area (λ q. cond (fresh i) q
-    (flood_from_nobody moment (lsa_aged 3600 lsa) (on_database (age_out moment key) q))) p)
+    (flood_from_nobody moment (lsa_aged 3600 lsa) (on_database (age_prematurely moment key) q))) p)
 
 pub aged : (db : Database) (key : Key) (c : DatabaseCopy) (moment : ℕ) → finite.get db key ≡ Some c
-    → finite.get (age_out moment key db) key ≡ Some (record c {
+    → finite.get (age_prematurely moment key db) key ≡ Some (record c {
       lsa = lsa_aged 3600 c.lsa;
       stored = moment;
     })
@@ -140,7 +141,7 @@ is_flushed r link n moment lsa mine =
     let there : finite.get db key ≡ Some (brought lsa moment None) = ap (finite.get db) (sym mine)
     ∙ inserted r.area.database (lsa_key lsa) (brought lsa moment None) in
     let c : DatabaseCopy = record (brought lsa moment None) { lsa = lsa_aged 3600 lsa } in
-    let still = marked_once moment (lsa_key lsa) key c (age_out moment key db)
+    let still = marked_once moment (lsa_key lsa) key c (age_prematurely moment key db)
     (aged db key (brought lsa moment None) moment there) in
     let listed = on_list r link n moment lsa mine in
     let owed_by : any_has_retransmission key o.area.links ≡ true =

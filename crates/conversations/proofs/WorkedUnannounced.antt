@@ -4,7 +4,7 @@ use Rattle.std.proofs.Common.{refl, sym, ap, ◌∙◌, subst, is_some}
 use Rattle.std.specs.FinMap as finite
 use Rattle.std.proofs.lemmas.Bool.{or_right}
 use Rattle.words.specs.declared.key.Key.{Key}
-use Rattle.lsdb.specs.Copies.{Database, DatabaseCopy, age_out, install_flooded}
+use Rattle.lsdb.specs.Copies.{Database, DatabaseCopy, age_prematurely, install_flooded}
 use Rattle.lsdb.specs.Headers.{Header, Lsa, header_aged, lsa_aged, lsa_key}
 use Rattle.lsdb.specs.Instances.{ListEntry}
 use Rattle.lsdb.specs.Keys.{same_key}
@@ -34,7 +34,7 @@ use Rattle.conversations.proofs.WorkedUpdates.{own_part, same_age, start, brough
 abbrev flushed : Router → Link → Neighbor → ℕ → Lsa → EventState
 flushed r link n moment lsa =
     on_area (λ o. flood_from_nobody moment (lsa_aged 3600 lsa)
-    (on_database (age_out moment (lsa_key lsa)) o))
+    (on_database (age_prematurely moment (lsa_key lsa)) o))
     (put r link moment lsa (remove_retransmission (lsa_key lsa) (full n)))
 
 settles : (r : Router) (link : Link) (n : Neighbor) (moment : ℕ) (lsa : Lsa)
@@ -58,7 +58,7 @@ settles r link n moment lsa mine other unknown young =
     ∙ (λ i. originate_or_flush (is_wanted (announced_body (unknown i))) moment key p)
     ∙ (λ i. on_area (flush_copy moment key (there i)) p)
     ∙ (λ i. on_area (λ q. cond (fresh i) q
-    (flood_from_nobody moment (lsa_aged 3600 lsa) (on_database (age_out moment key) q))) p)
+    (flood_from_nobody moment (lsa_aged 3600 lsa) (on_database (age_prematurely moment key) q))) p)
 
 on_list : (r : Router) (link : Link) (n : Neighbor) (moment : ℕ) (lsa : Lsa)
     → HasOnList (ended moment (flushed r link n moment lsa)).router (lsa_key lsa) (Some (record {
@@ -84,7 +84,7 @@ is_flushed r link n moment lsa =
     let there : finite.get db key ≡ Some (brought lsa moment None) =
     inserted r.area.database key (brought lsa moment None) in
     let c : DatabaseCopy = record (brought lsa moment None) { lsa = lsa_aged 3600 lsa } in
-    let still = marked_once moment key key c (age_out moment key db)
+    let still = marked_once moment key key c (age_prematurely moment key db)
     (aged db key (brought lsa moment None) moment there) in
     let listed = on_list r link n moment lsa in
     let owed_by : any_has_retransmission key o.area.links ≡ true =

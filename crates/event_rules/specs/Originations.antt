@@ -19,7 +19,7 @@ use Rattle.lsa.specs.declared.body.LsaBody.TheVariants as body
 use Rattle.lsa.specs.declared.body.RouterLink.{RouterLink}
 use Rattle.lsa.specs.declared.body.LinkKind.TheVariants.{PointToPoint, Stub}
 use Rattle.lsa.specs.Origination.{sealed_lsa}
-use Rattle.received.specs.lsdb.Copies.{DatabaseCopy, age_now, age_out, install_originated}
+use Rattle.received.specs.lsdb.Copies.{DatabaseCopy, age_now, age_prematurely, install_originated}
 use Rattle.received.specs.lsdb.Copies.{is_aged_out}
 use Rattle.received.specs.lsdb.Headers.{Lsa, lsa_aged, lsa_key}
 use Rattle.received.specs.lsdb.Keys.{same_key}
@@ -141,7 +141,8 @@ abbrev pub flush_copy : Moment → Key → Option DatabaseCopy → Outcome → O
 flush_copy moment key None o = o
 flush_copy moment key (Some c) o =
     if is_aged_out moment c then o
-    else flood_from_nobody moment (lsa_aged max_age c.lsa) (on_database (age_out moment key) o)
+    else flood_from_nobody moment (lsa_aged max_age c.lsa)
+    (on_database (age_prematurely moment key) o)
 
 abbrev pub flush : Moment → Key → EventState → EventState
 flush moment key p = on_area (flush_copy moment key (finite.get p.router.area.database key)) p

@@ -4,7 +4,8 @@ use Rattle.std.proofs.Common.{ℕ, List, [], ◌∷◌, map, Option, None, Some,
 use Rattle.std.specs.List.{AllByRecursion, fold}
 use Rattle.std.specs.FinMap as finite
 use Rattle.words.specs.declared.key.Key.{Key}
-use Rattle.lsdb.specs.Copies.{DatabaseCopy, age_out, has_just_aged_out, install_originated, lsa_now}
+use Rattle.lsdb.specs.Copies.{DatabaseCopy, age_prematurely, has_just_aged_out, install_originated}
+use Rattle.lsdb.specs.Copies.{lsa_now}
 use Rattle.lsdb.specs.Headers.{Lsa, lsa_aged}
 use Rattle.lsdb.specs.Instances.{ListEntry}
 use Rattle.lsdb.specs.Keys.{ByKey}
@@ -110,7 +111,7 @@ module _ (Q : Fact) (kept : IsKept Q) where
   parts_keep = record {
     ages = λ before moment o h. ages_kept before moment (finite.entries o.area.database) o h;
     flushes = λ moment key c o is young h. flood_kept Q kept moment None (lsa_aged 3600 c.lsa)
-        (on_database (age_out moment key) o) h;
+        (on_database (age_prematurely moment key) o) h;
     originates = λ moment key says p own goes wants grows h.
         let lsa : Lsa = new_instance key (finite.get p.router.area.database key) says in
         flood_kept Q kept moment None lsa

@@ -13,7 +13,7 @@ use Rattle.std.specs.Ordering.{int_cmp, is_eq, is_gt, nat_cmp, ordering_then}
 use Rattle.std.proofs.lemmas.Bool.{eq-eqb, eqb-true, and_parts}
 use Rattle.words.specs.declared.key.Key.{Key}
 use Rattle.lsa.specs.Reading.{lsa_in}
-use Rattle.lsdb.specs.Copies.{DatabaseCopy, age_now, age_out, copy_now, has_just_aged_out}
+use Rattle.lsdb.specs.Copies.{DatabaseCopy, age_now, age_prematurely, copy_now, has_just_aged_out}
 use Rattle.lsdb.specs.Copies.{install_flooded, install_originated, in_this_second}
 use Rattle.lsdb.specs.Copies.{installed_just_now, is_aged_out, lsa_now, newer_than_copy}
 use Rattle.lsdb.specs.Copies.{same_as_copy, sent_just_now}
@@ -509,7 +509,7 @@ module _ (old : Router) (moment : ℕ) (event : Occurrence) (number : ℕ) (befo
   flush_became : (k : Key) (c : DatabaseCopy) (o : Outcome) (t : ByKey ℕ)
       → finite.get o.area.database k ≡ Some c → is_aged_out moment c ≡ false → IsItsOwn o.area
       → Became o.area t → Became (flood_from_nobody moment (lsa_aged 3600 c.lsa)
-      (on_database (age_out moment k) o)).area t
+      (on_database (age_prematurely moment k) o)).area t
   flush_became k c o t at young its h =
       subst (λ (x : Option DatabaseCopy). Became
       (flood_from_nobody moment (lsa_aged 3600 c.lsa)

@@ -9,7 +9,8 @@ use Rattle.words.specs.declared.key.Key.{Key}
 use Rattle.lsa.specs.Origination.{sealed_lsa}
 use Rattle.lsa.specs.Reading.{lsa_in}
 use Rattle.lsa.specs.declared.body.LsaBody.{LsaBody}
-use Rattle.lsdb.specs.Copies.{Database, DatabaseCopy, age_out, has_just_aged_out, install_flooded}
+use Rattle.lsdb.specs.Copies.{Database, DatabaseCopy, age_prematurely, has_just_aged_out}
+use Rattle.lsdb.specs.Copies.{install_flooded}
 use Rattle.lsdb.specs.Copies.{install_originated, lsa_now}
 use Rattle.lsdb.specs.Headers.{Lsa, lsa_aged, lsa_key}
 use Rattle.lsdb.specs.Keys.{ByKey, same_key}
@@ -213,7 +214,7 @@ module _ (old : Router) (moment : ℕ) (event : Occurrence) where
   -- ---- self-originated LSAs
 
   aged_last : (t : ByKey ℕ) (key : Key) (db : Database) → AllLast t db
-      → AllLast t (age_out moment key db)
+      → AllLast t (age_prematurely moment key db)
   aged_last t key db h k = subst (Last t k) (sym (number_changed key (λ c. record c {
     lsa = lsa_aged 3600 c.lsa;
     stored = moment;
@@ -431,7 +432,8 @@ module _ (old : Router) (moment : ℕ) (event : Occurrence) where
       flushes = λ k c o t at young its h. record {
         area = flushed_told (T t) moment k c o at h.area;
         last = all_marked t (stepping_sends (flood_to moment None (lsa_aged 3600 c.lsa))
-            o.area.links) (age_out moment k o.area.database) (aged_last t k o.area.database h.last);
+            o.area.links) (age_prematurely moment k o.area.database)
+            (aged_last t k o.area.database h.last);
         remembers = h.remembers;
       };
       originates = λ k says p of_key goes may wants so h.

@@ -9,7 +9,8 @@ use Rattle.std.specs.Cmp.{tied_itself}
 use Rattle.std.specs.declared.cmp.Ordering.{Ordering}
 use Rattle.std.proofs.lemmas.Bool.{eqb-true, or_right}
 use Rattle.words.specs.declared.key.Key.{Key}
-use Rattle.lsdb.specs.Copies.{Database, DatabaseCopy, age_out, has_just_aged_out, install_flooded}
+use Rattle.lsdb.specs.Copies.{Database, DatabaseCopy, age_prematurely, has_just_aged_out}
+use Rattle.lsdb.specs.Copies.{install_flooded}
 use Rattle.lsdb.specs.Copies.{is_aged_out, list_entry_of, lsa_now}
 use Rattle.lsdb.specs.Headers.{Lsa, header_aged, lsa_aged, lsa_key}
 use Rattle.lsdb.specs.Instances.{ListEntry}
@@ -417,11 +418,11 @@ aged moment d = record d { lsa = lsa_aged 3600 d.lsa; stored = moment }
 flushes_kept : (moment : ℕ) (key : Key) (c : DatabaseCopy) (o : Outcome)
     → finite.get o.area.database key ≡ Some c → OfOutcome o
     → OfOutcome (flood_from_nobody moment (lsa_aged 3600 c.lsa)
-    (on_database (age_out moment key) o))
+    (on_database (age_prematurely moment key) o))
 flushes_kept moment key c o is h =
     subst (λ (k : Key). finite.get o.area.database k ≡ Some c
     → OfOutcome (flood_from_nobody moment (lsa_aged 3600 c.lsa)
-    (on_database (age_out moment k) o)))
+    (on_database (age_prematurely moment k) o)))
     (own_at o.area.database key c h.keys is) flushed is
   where
     by_copy : OfOutcome (flood_from_nobody moment (lsa_aged 3600 c.lsa)
@@ -437,7 +438,7 @@ flushes_kept moment key c o is h =
 
     flushed : finite.get o.area.database (lsa_key c.lsa) ≡ Some c
         → OfOutcome (flood_from_nobody moment (lsa_aged 3600 c.lsa)
-        (on_database (age_out moment (lsa_key c.lsa)) o))
+        (on_database (age_prematurely moment (lsa_key c.lsa)) o))
     flushed there =
         subst (λ (x : Option DatabaseCopy). OfOutcome
         (flood_from_nobody moment (lsa_aged 3600 c.lsa)

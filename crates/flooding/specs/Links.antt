@@ -4,7 +4,7 @@ use Rattle.std.specs.FinMap as finite
 use Rattle.words.specs.Numbers.{InterfaceNumber, Moment}
 use Rattle.words.specs.declared.key.Key.{Key}
 use Rattle.words.specs.Constants.{max_age}
-use Rattle.adjacency.specs.lsdb.Copies.{Database, DatabaseCopy, age_out, has_just_aged_out}
+use Rattle.adjacency.specs.lsdb.Copies.{Database, DatabaseCopy, age_prematurely, has_just_aged_out}
 use Rattle.adjacency.specs.lsdb.Copies.{install_originated, lsa_now}
 use Rattle.adjacency.specs.lsdb.Headers.{Lsa, lsa_aged}
 use Rattle.adjacency.specs.Contents.{Content, Step, sent_on, step_on}
@@ -61,7 +61,7 @@ originate_outcome moment lsa a =
 abbrev pub aged_copy : Moment → Key → Option DatabaseCopy → Outcome → Outcome
 aged_copy moment key None o = o
 aged_copy moment key (Some c) o =
-    flood moment None (lsa_aged max_age c.lsa) (on_database (age_out moment key) o)
+    flood moment None (lsa_aged max_age c.lsa) (on_database (age_prematurely moment key) o)
 
 abbrev pub age_outcome : Moment → Key → Area → Outcome
 age_outcome moment key a = aged_copy moment key (finite.get a.database key) (start a)

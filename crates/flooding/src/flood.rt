@@ -157,10 +157,15 @@ impl Area {
     /// 14.1). Without a copy nothing changes.
     ///
     /// Errors with `AllocError` if an allocation is refused.
-    pub fn age_out(&mut self, alloc: Global, moment: Second, key: &Key) -> Result<(), AllocError>
+    pub fn age_prematurely(
+        &mut self,
+        alloc: Global,
+        moment: Second,
+        key: &Key,
+    ) -> Result<(), AllocError>
         ensures { AreaDoes (age_outcome moment key.now) self.old self.new result }
     {
-        self.database.age_out(moment, key)?;
+        self.database.age_prematurely(moment, key)?;
         self.flood(alloc, moment, key)
     }
 

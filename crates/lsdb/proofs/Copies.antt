@@ -3,7 +3,7 @@ use Rattle.std.proofs.Common.{◌≡◌, ℕ, sym, ap}
 use Rattle.std.specs.Prelude.{Option, None, Some, is_some, false, refl}
 use Rattle.std.specs.FinMap as finite
 use Rattle.words.specs.declared.key.Key.{Key}
-use Rattle.lsdb.specs.Copies.{Database, DatabaseCopy, age_out, change_copy, mark_sent}
+use Rattle.lsdb.specs.Copies.{Database, DatabaseCopy, age_prematurely, change_copy, mark_sent}
 use Rattle.lsdb.specs.Headers.{lsa_aged}
 use Rattle.lsdb.specs.Kept.{RouterDatabase}
 
@@ -35,13 +35,13 @@ module _ (moment : ℕ) (k : Key) (d : Database) where
       → finite.insert d k (record c {
         lsa = lsa_aged 3600 c.lsa;
         stored = moment;
-      }) ≡ age_out moment k d
+      }) ≡ age_prematurely moment k d
   ages c some = sym (change_is k (λ c. record c {
     lsa = lsa_aged 3600 c.lsa;
     stored = moment;
   }) d (Some c) some)
 
-  pub ages_none : finite.get d k ≡ None → d ≡ age_out moment k d
+  pub ages_none : finite.get d k ≡ None → d ≡ age_prematurely moment k d
   ages_none none = sym (change_is k (λ c. record c {
     lsa = lsa_aged 3600 c.lsa;
     stored = moment;

@@ -2,7 +2,7 @@
 ghost use Rattle.std.specs.Prelude.{◌≡◌, ◌≤◌, ◌↔◌, length, take, IfOk, IsTrue, OnOk, option_copied};
 ghost use Rattle.std.specs.FinMap as finite;
 ghost use Rattle.lsdb.specs.Copies.{
-  age_out,
+  age_prematurely,
   aged_keys,
   mark_sent,
   put_copy,
@@ -386,8 +386,9 @@ impl Lsdb {
     ///
     /// # Errors
     /// `AllocError` if an allocation is refused; the caller then rolls back.
-    pub fn age_out(&mut self, moment: Second, key: &Key) -> Result<(), AllocError>
-        ensures ok { OnOk result (self.new.present ≡ age_out moment key.now self.old.present) }
+    pub fn age_prematurely(&mut self, moment: Second, key: &Key) -> Result<(), AllocError>
+        ensures ok { OnOk result (self.new.present ≡ age_prematurely moment key.now
+            self.old.present) }
         ensures committed { self.new.committed ≡ self.old.committed }
         ensures router { self.new.router ≡ self.old.router }
     {

@@ -14,7 +14,7 @@ use Rattle.words.specs.declared.key.Key.{Key}
 use Rattle.words.specs.declared.route.External.{External}
 use Rattle.lsa.specs.Text.{body_text}
 use Rattle.lsa.specs.declared.body.LsaBody.{LsaBody}
-use Rattle.lsdb.specs.Copies.{DatabaseCopy, age_out, is_aged_out}
+use Rattle.lsdb.specs.Copies.{DatabaseCopy, age_prematurely, is_aged_out}
 use Rattle.lsdb.specs.Headers.{Lsa, lsa_aged}
 use Rattle.lsdb.specs.Keys.{ByKey, KeySet, same_key}
 use Rattle.lsdb.proofs.Keys.{keys_total}
@@ -592,15 +592,15 @@ module _ (moment : ℕ) (p : EventState)
   flushed_settled (Some c) is last =
       let lsa : Lsa = lsa_aged 3600 c.lsa in
       chosen (λ (o : Outcome). Q (with_outcome p o)) (is_aged_out moment c) (outcome p)
-      (flood_from_nobody moment lsa (on_database (age_out moment own) (outcome p)))
+      (flood_from_nobody moment lsa (on_database (age_prematurely moment own) (outcome p)))
       (λ aged. inl filled)
       (λ young.
       let all : AllIn (IfOwnAged moment p.router.id)
       (marks moment (stepping_sends (flood_to moment None lsa) p.router.area.links)
-      (age_out moment own p.router.area.database)) =
+      (age_prematurely moment own p.router.area.database)) =
       marked (IfOwnAged moment p.router.id) (λ key d sent h. h) moment
       (stepping_sends (flood_to moment None lsa) p.router.area.links)
-      (age_out moment own p.router.area.database)
+      (age_prematurely moment own p.router.area.database)
       (aged_at (λ q d. Unit {0}) (IfOwnAged moment p.router.id) moment p.router.area.database own c
       (finite.get p.router.area.database own) refl is
       (λ q d other any same. absurd (both_ways (same_key q own) other same))

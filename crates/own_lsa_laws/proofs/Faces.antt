@@ -10,7 +10,8 @@ use Rattle.lsa.specs.declared.body.LsaBody.{LsaBody}
 use Rattle.lsa.specs.declared.body.LsaBody.TheVariants as body
 use Rattle.lsa.specs.declared.body.RouterLink.{RouterLink}
 use Rattle.lsa.specs.declared.body.LinkKind.TheVariants.{PointToPoint}
-use Rattle.lsdb.specs.Copies.{Database, DatabaseCopy, age_out, has_just_aged_out, is_aged_out}
+use Rattle.lsdb.specs.Copies.{Database, DatabaseCopy, age_prematurely, has_just_aged_out}
+use Rattle.lsdb.specs.Copies.{is_aged_out}
 use Rattle.lsdb.specs.Copies.{lsa_now}
 use Rattle.lsdb.specs.Headers.{Lsa, lsa_aged, lsa_key}
 use Rattle.packet.specs.declared.model.Description.{Description}
@@ -243,7 +244,7 @@ flushed_faces : (moment : ℕ) (key : Key) (c : Option DatabaseCopy) (p : EventS
 flushed_faces moment key None p = refl
 flushed_faces moment key (Some c) p =
     let o : Outcome = record { area = p.router.area; sends = p.sends } in
-    let aged : Outcome = on_database (age_out moment key) o in
+    let aged : Outcome = on_database (age_prematurely moment key) o in
     chosen (λ (q : Outcome). faces q.area.links ≡ faces p.router.area.links) (is_aged_out moment c)
     o (flood_from_nobody moment (lsa_aged 3600 c.lsa) aged)
     (λ is. refl) (λ is. flood_faces moment None (lsa_aged 3600 c.lsa) aged)

@@ -13,7 +13,8 @@ use Rattle.lsa.specs.Origination.{sealed_lsa}
 use Rattle.lsa.specs.Reading.{lsa_in}
 use Rattle.lsa.specs.Text.{body_text}
 use Rattle.lsa.specs.declared.body.LsaBody.{LsaBody}
-use Rattle.lsdb.specs.Copies.{Database, DatabaseCopy, age_out, has_just_aged_out, is_aged_out}
+use Rattle.lsdb.specs.Copies.{Database, DatabaseCopy, age_prematurely, has_just_aged_out}
+use Rattle.lsdb.specs.Copies.{is_aged_out}
 use Rattle.lsdb.specs.Copies.{lsa_now}
 use Rattle.lsdb.specs.Headers.{Lsa, lsa_aged, lsa_key}
 use Rattle.lsdb.specs.Keys.{ByKey, KeySet, same_key}
@@ -174,7 +175,7 @@ flushed moment t key p found is h = by_copy found is
           router = record p.router { area = q.area };
           sends = q.sends;
         })) (is_aged_out moment c) o
-        (flood_from_nobody moment lsa (on_database (age_out moment key) o))
+        (flood_from_nobody moment lsa (on_database (age_prematurely moment key) o))
         (λ aged. record {
           externals = h.externals;
           earlier = h.earlier;
@@ -191,7 +192,7 @@ flushed moment t key p found is h = by_copy found is
           earlier = h.earlier;
           copies = sent_kept moment (full t) p.router
               (stepping_sends (flood_to moment None lsa) p.router.area.links)
-              (age_out moment key p.router.area.database)
+              (age_prematurely moment key p.router.area.database)
               (aged_at (FitsAt moment (excusing key t) p.router) (FitsAt moment (full t) p.router)
               moment p.router.area.database key c (finite.get p.router.area.database key) refl
               there others

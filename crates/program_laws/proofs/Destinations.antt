@@ -13,7 +13,8 @@ use Rattle.lsa.specs.declared.body.LsaBody.{LsaBody}
 use Rattle.lsa.specs.declared.body.LsaBody.TheVariants as says
 use Rattle.lsdb.specs.Limits.{is_own_external, own_externals}
 use Rattle.words.specs.Constants.{max_age, most_lsas, most_own_externals}
-use Rattle.lsdb.specs.Copies.{Database, DatabaseCopy, age_out, install_originated, is_aged_out}
+use Rattle.lsdb.specs.Copies.{Database, DatabaseCopy, age_prematurely, install_originated}
+use Rattle.lsdb.specs.Copies.{is_aged_out}
 use Rattle.lsdb.specs.Headers.{Lsa, lsa_aged, lsa_key}
 use Rattle.lsdb.specs.Keys.{KeySet, same_key}
 use Rattle.lsdb.proofs.Keys.{keys_exact, keys_total}
@@ -221,11 +222,12 @@ module _ (key : Key) where
 
   aged_copy : (moment : Moment) (k : Key) (c : DatabaseCopy) (b : Bool)
       → OverlooksIn (λ o. cond b o (flood_from_nobody moment (lsa_aged max_age c.lsa)
-      (on_database (age_out moment k) o)))
+      (on_database (age_prematurely moment k) o)))
   aged_copy moment k c true = nothing
   aged_copy moment k c false =
-      after (on_database (age_out moment k)) (flood_from_nobody moment (lsa_aged max_age c.lsa))
-      (changed_in (age_out moment k) (λ d e agree. apart.copies_agree key k (λ c. record c {
+      after (on_database (age_prematurely moment k))
+      (flood_from_nobody moment (lsa_aged max_age c.lsa))
+      (changed_in (age_prematurely moment k) (λ d e agree. apart.copies_agree key k (λ c. record c {
         lsa = lsa_aged max_age c.lsa;
         stored = moment;
       }) d e agree))

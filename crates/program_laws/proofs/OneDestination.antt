@@ -13,7 +13,7 @@ use Rattle.words.specs.declared.key.Key.{Key}
 use Rattle.words.specs.declared.route.External.{External}
 use Rattle.lsa.specs.Origination.{sealed_lsa}
 use Rattle.lsa.specs.declared.body.LsaBody.{LsaBody}
-use Rattle.lsdb.specs.Copies.{Database, DatabaseCopy, age_out, has_just_aged_out}
+use Rattle.lsdb.specs.Copies.{Database, DatabaseCopy, age_prematurely, has_just_aged_out}
 use Rattle.lsdb.specs.Copies.{install_originated, is_aged_out, lsa_now}
 use Rattle.lsdb.specs.Headers.{Lsa, lsa_aged, lsa_key}
 use Rattle.lsdb.specs.Instances.{ListEntry}
@@ -169,12 +169,13 @@ module _ (key : Key) (is_external : key.ls_type ≡ 5) where
   own_flushed moment (Some c) under o none = by_age (is_aged_out moment c)
     where
       by_age : (b : Bool) → IsKept (cond b o
-          (flood_from_nobody moment (lsa_aged max_age c.lsa) (on_database (age_out moment key) o)))
+          (flood_from_nobody moment (lsa_aged max_age c.lsa)
+          (on_database (age_prematurely moment key) o)))
           o
       by_age true = (refl, refl, refl)
       by_age false =
           let kept = own_flooded moment (lsa_aged max_age c.lsa) (under c refl)
-          (on_database (age_out moment key) o) none in (
+          (on_database (age_prematurely moment key) o) none in (
             kept.0,
             kept.1 ∙ apart.same_but key _ _
                 (apart.own_copy_agrees key key refl (λ c. record c {

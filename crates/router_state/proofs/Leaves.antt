@@ -9,7 +9,8 @@ use mathlib.Core.Bool.{false≢true}
 use Rattle.words.specs.Constants.{max_age}
 use Rattle.words.specs.declared.key.Key.{Key}
 use Rattle.flooding.specs.lsdb.Headers.{Lsa, lsa_aged, lsa_key}
-use Rattle.flooding.specs.lsdb.Copies.{DatabaseCopy, age_out, has_just_aged_out, is_aged_out}
+use Rattle.flooding.specs.lsdb.Copies.{DatabaseCopy, age_prematurely, has_just_aged_out}
+use Rattle.flooding.specs.lsdb.Copies.{is_aged_out}
 use Rattle.flooding.specs.lsdb.Copies.{lsa_now}
 use Rattle.flooding.specs.adjacency.Adjacencies.{mismatch_step}
 use Rattle.flooding.specs.adjacency.Contents.{no_sends}
@@ -48,7 +49,7 @@ keeps_install moment lsa a = keeps_neighbors moment (flood_to moment None lsa) a
 module _ (moment : ℕ) (key : Key) where
   abbrev pub aged_and_flooded : DatabaseCopy → Outcome → Outcome
   aged_and_flooded c o = flood_from_nobody moment (lsa_aged max_age c.lsa)
-      (on_database (age_out moment key) o)
+      (on_database (age_prematurely moment key) o)
 
   flush_by : (c : DatabaseCopy) (o : Outcome) (b : Bool)
       → cond b o (aged_and_flooded c o)

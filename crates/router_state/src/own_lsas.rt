@@ -68,6 +68,6 @@ impl Router {
         if aged {
             return Ok(());
         }
-        self.area.age_out(alloc, moment, key)
+        self.area.age_prematurely(alloc, moment, key)
     }
 }

@@ -45,12 +45,13 @@ returns c =
     let a : Area = c.self.inside.area.present in
     let copy = finite.get a.database k in
     let view = ap (λ q. q.present) c.self.view_is in
-    does_same c.age_out.result
+    does_same c.age_prematurely.result
     (λ p is. ap (λ (d : Option DatabaseCopy). on_area (flush_copy m k d) p)
     (ap (λ (r : Router). finite.get r.area.database k) (view ∙ sym is)))
     (area_does (flush_copy m k copy) (keeps_flush m k copy) (appends_flush m k copy) _
-    c.args.self.now c.self.inside.area c.age_out.new.self c.age_out.result c.self.view_is refl
-    c.age_out.ensures
+    c.args.self.now c.self.inside.area c.age_prematurely.new.self c.age_prematurely.result
+    c.self.view_is refl
+    c.age_prematurely.ensures
     (flushed_is m k c.in-Some.copy copy (start a)
     (c.in-Some.ensures ∙ ap (λ d. finite.get d.present k) c.database.ensures)
     (sym c.if-aged.false ∙ c.is_aged_out-aged.ensures)))

@@ -6,7 +6,7 @@ use Rattle.lsdb.specs.Foresight.{ForeseesAll}
 use Rattle.lsdb.specs.Limits.{count_own_externals, is_own_external}
 use Rattle.lsdb.proofs.Foresight.{foresees_put}
 use Rattle.lsdb.proofs.Owned.{count_change}
-use Rattle.lsdb.proofs.database.Lsdb.age_out.Goals as goal
+use Rattle.lsdb.proofs.database.Lsdb.age_prematurely.Goals as goal
 
 pub invariant_of-self-2 : goal.invariant_of-self-2
 invariant_of-self-2 c =

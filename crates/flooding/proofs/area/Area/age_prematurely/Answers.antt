@@ -9,7 +9,7 @@ use Rattle.flooding.specs.Links.{age_outcome, area_of, draft_of, flooded_copy, p
 use Rattle.flooding.specs.Links.{committed_link, start}
 use Rattle.flooding.proofs.Installed.{aged_is}
 use Rattle.flooding.proofs.Marking.{area_is}
-use Rattle.flooding.proofs.area.Area.age_out.Goals as goal
+use Rattle.flooding.proofs.area.Area.age_prematurely.Goals as goal
 
 pub returns : goal.returns
 returns c =
@@ -17,7 +17,8 @@ returns c =
     let k = c.args.key.now in
     let ls = c.self.inside.links.items in
     let whole =
-    ap (λ e. flooded_copy m None (finite.get e k) (start (area_of ls e))) c.in_ok-age_out.ensures.ok
+    ap (λ e. flooded_copy m None (finite.get e k) (start (area_of ls e)))
+    c.in_ok-age_prematurely.ensures.ok
     ∙ aged_is m k (area_of ls c.self.inside.database.present) in
     record {
       area = on_ok c.flood.result (λ is. is ∙ ap (λ (o : Outcome). o.area) whole
@@ -28,8 +29,8 @@ returns c =
           ∙ ap (λ (v : RouterArea). drafts_with (age_outcome m k v.present).sends
           v.present.links v.drafted) c.self.view_is) c.flood.ensures.drafts;
       committed = c.flood.ensures.committed
-          ∙ area_is (λ i. map committed_link ls) c.in_ok-age_out.ensures.committed
+          ∙ area_is (λ i. map committed_link ls) c.in_ok-age_prematurely.ensures.committed
           ∙ ap (λ (v : RouterArea). v.committed) c.self.view_is;
-      router = c.flood.ensures.router ∙ c.in_ok-age_out.ensures.router
+      router = c.flood.ensures.router ∙ c.in_ok-age_prematurely.ensures.router
           ∙ ap (λ (v : RouterArea). v.router) c.self.view_is;
     }
