@@ -28,7 +28,7 @@ use Rattle.adjacency.specs.Descriptions.{negotiated_neighbor, negotiating, is_in
 use Rattle.adjacency.specs.Descriptions.{repeat, same_flag, slave_replies, with_requests}
 use Rattle.adjacency.specs.Descriptions.{without_old_description}
 use Rattle.adjacency.specs.Neighbors.{Neighbor, is_exchange_or_loading, is_exchange_or_later}
-use Rattle.adjacency.specs.Requests.{may_request, next_request, request_next, still_outstanding}
+use Rattle.adjacency.specs.Requests.{is_to_request, next_request, request_next, still_outstanding}
 use Rattle.adjacency.specs.Requests.{without_request}
 use Rattle.adjacency.specs.Retransmissions.{acknowledged_neighbor, after_acknowledgment}
 use Rattle.adjacency.specs.Retransmissions.{describe_again, is_entry, next_retransmissions}
@@ -322,7 +322,7 @@ module _ {Begins : ByKey ListEntry → Type 0} {Adds : Key → ListEntry → Typ
 
   pub request_kept : (moment : ℕ) (n : Neighbor) → Of Q n → Of Q (request_next moment n).neighbor
   request_kept moment n h =
-      chosen (λ (s : Step). Of Q s.neighbor) (may_request n)
+      chosen (λ (s : Step). Of Q s.neighbor) (is_to_request n)
       (record {
         neighbor = record n { outstanding = set.from_list (next_request n); requested_at = moment };
         sends = Requests (next_request n) ∷ [];

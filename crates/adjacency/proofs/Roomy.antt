@@ -38,7 +38,7 @@ use Rattle.adjacency.specs.Descriptions.{negotiated_neighbor, next_description, 
 use Rattle.adjacency.specs.Descriptions.{slave_replies, verdict, with_requests}
 use Rattle.adjacency.specs.Descriptions.{without_old_description}
 use Rattle.adjacency.specs.Neighbors.{Neighbor, fresh, is_exchange_or_later}
-use Rattle.adjacency.specs.Requests.{may_request, next_request, request_next, still_outstanding}
+use Rattle.adjacency.specs.Requests.{is_to_request, next_request, request_next, still_outstanding}
 use Rattle.adjacency.specs.Requests.{without_request}
 use Rattle.adjacency.specs.Retransmissions.{acknowledged_neighbor, after_acknowledgment}
 use Rattle.adjacency.specs.Retransmissions.{describe_again, is_entry, lsa_of, next_retransmissions}
@@ -373,7 +373,7 @@ request_roomy moment n h =
       neighbor = record n { outstanding = set.from_list (next_request n); requested_at = moment };
       sends = Requests (next_request n) ∷ [];
     } in
-    chosen IsRoomyStep (may_request n) asked (no_sends n)
+    chosen IsRoomyStep (is_to_request n) asked (no_sends n)
     (λ e. step asked h.described (made_within (next_request n) (keys_short n)) (keys_short n, tt))
     (λ e. quiet_roomy n h)
 

@@ -17,7 +17,7 @@ use Rattle.lsdb.specs.Keys.{ByKey, key_cmp}
 use Rattle.lsdb.proofs.Keys.{keys_exact, keys_total}
 use Rattle.adjacency.specs.declared.standing.Standing.{Standing}
 use Rattle.adjacency.specs.Neighbors.{Neighbor, is_exchange_or_loading}
-use Rattle.adjacency.specs.Requests.{may_request, next_request}
+use Rattle.adjacency.specs.Requests.{is_to_request, next_request}
 use Rattle.adjacency.specs.Views.{keys_of, neighbor_of}
 use Rattle.adjacency.proofs.Neighbors.{contains_key_of, no_keys}
 
@@ -60,7 +60,7 @@ module _ {X : Type 0} where
   pub may_now : (s : Standing) (des : Option Description) (sum req : ByKey ListEntry)
       (out : ByKey X) (retr : ByKey ListEntry)
       → (is_exchange_or_loading s.state && not (finite.len req == 0) && finite.len out == 0)
-      ≡ may_request (neighbor_of s des sum req out retr)
+      ≡ is_to_request (neighbor_of s des sum req out retr)
   unfolding neighbor_of
   may_now s des sum req out retr = ap
       (λ b. is_exchange_or_loading s.state && not (finite.len req == 0) && b) (empty_keys out)
@@ -77,7 +77,7 @@ last_of true true c is = is
 last_of true false c is = absurd (false≢true is)
 last_of false b c is = absurd (false≢true is)
 
-pub waits_for_nothing : (n : Neighbor) → may_request n ≡ true → n.outstanding ≡ set.empty
+pub waits_for_nothing : (n : Neighbor) → is_to_request n ≡ true → n.outstanding ≡ set.empty
 waits_for_nothing n is =
     let none : set.len n.outstanding ≡ 0 =
     omega (

@@ -27,7 +27,7 @@ use Rattle.adjacency.specs.Descriptions.{knows_types, as_received, master_goes_o
 use Rattle.adjacency.specs.Descriptions.{negotiated_neighbor, repeat, slave_replies, verdict}
 use Rattle.adjacency.specs.Descriptions.{with_requests, without_old_description}
 use Rattle.adjacency.specs.Neighbors.{Neighbor, is_exchange_or_later}
-use Rattle.adjacency.specs.Requests.{may_request, next_request, request_next, still_outstanding}
+use Rattle.adjacency.specs.Requests.{is_to_request, next_request, request_next, still_outstanding}
 use Rattle.adjacency.specs.Retransmissions.{acknowledged_neighbor, after_acknowledgment}
 use Rattle.adjacency.specs.Retransmissions.{describe_again, is_entry, lsa_of, next_retransmissions}
 use Rattle.adjacency.specs.Retransmissions.{add_retransmission, retransmission_lsas}
@@ -254,7 +254,7 @@ module _ (t : Telling) where
 
   pub request_told : (moment : ℕ) (n : Neighbor) → OfOwed t n → OfStep t (request_next moment n)
   request_told moment n h =
-      chosen (OfStep t) (may_request n)
+      chosen (OfStep t) (is_to_request n)
       (record {
         neighbor = record n { outstanding = set.from_list (next_request n); requested_at = moment };
         sends = Requests (next_request n) ∷ [];

@@ -20,7 +20,7 @@ use Rattle.adjacency.specs.Descriptions.{is_over_for, repeat, without_old_descri
 use Rattle.adjacency.specs.Floods.{flooding, meets, request_of}
 use Rattle.adjacency.specs.Floods.{without_met_request}
 use Rattle.adjacency.specs.Neighbors.{Neighbor, fresh, is_exchange_or_later}
-use Rattle.adjacency.specs.Requests.{may_request, next_request, request_next, still_outstanding}
+use Rattle.adjacency.specs.Requests.{is_to_request, next_request, request_next, still_outstanding}
 use Rattle.adjacency.specs.Requests.{without_request}
 use Rattle.adjacency.specs.Retransmissions.{acknowledged_neighbor, add_retransmission}
 use Rattle.adjacency.specs.Retransmissions.{after_acknowledgment, describe_again, is_entry}
@@ -39,7 +39,7 @@ module _ (Q : Step → Type 0) (moment : ℕ) (m : Neighbor) where
     sends = Requests (next_request m) ∷ [];
   }) → Q (no_sends m) → Q (request_next moment m)
   request_so asks h =
-      chosen Q (may_request m) (record {
+      chosen Q (is_to_request m) (record {
         neighbor = record m { outstanding = set.from_list (next_request m); requested_at = moment };
         sends = Requests (next_request m) ∷ [];
       }) (no_sends m) (λ e. asks) (λ e. h)

@@ -31,7 +31,7 @@ use Rattle.adjacency.specs.Descriptions.{with_request, with_requests, without_ol
 use Rattle.adjacency.specs.Floods.{flooded_in_exchange, flooding, meets, passes, request_of}
 use Rattle.adjacency.specs.Floods.{without_met_request}
 use Rattle.adjacency.specs.Neighbors.{Neighbor, is_exchange_or_loading, is_exchange_or_later}
-use Rattle.adjacency.specs.Requests.{may_request, next_request, request_next, requested_entry}
+use Rattle.adjacency.specs.Requests.{is_to_request, next_request, request_next, requested_entry}
 use Rattle.adjacency.specs.Requests.{still_outstanding, without_request}
 use Rattle.adjacency.specs.Retransmissions.{acknowledged_neighbor, add_retransmission}
 use Rattle.adjacency.specs.Retransmissions.{after_acknowledgment, describe_again, is_entry}
@@ -354,7 +354,7 @@ module _ (key : Key) (name : LsaInstance) (Asked : Type 0) where
 
   pub request_owing : (moment : ℕ) (m : Neighbor) → Owing m → Owing (request_next moment m).neighbor
   request_owing moment m h =
-      chosen OfStep (may_request m) (record {
+      chosen OfStep (is_to_request m) (record {
         neighbor = record m { outstanding = set.from_list (next_request m); requested_at = moment };
         sends = Requests (next_request m) ∷ [];
       }) (no_sends m)

@@ -15,7 +15,7 @@ use Rattle.lsdb.proofs.Keys.{keys_total}
 use Rattle.adjacency.specs.Adjacencies.{loading_done_in, requests_nothing}
 use Rattle.adjacency.specs.Contents.{Requests, Step, no_sends}
 use Rattle.adjacency.specs.Neighbors.{Neighbor, is_exchange_or_loading}
-use Rattle.adjacency.specs.Requests.{may_request, next_request, request_next}
+use Rattle.adjacency.specs.Requests.{is_to_request, next_request, request_next}
 use Rattle.adjacency.specs.declared.state.NeighborState.{NeighborState}
 use Rattle.adjacency.specs.declared.state.NeighborState.TheVariants.{Init, ExStart, Exchange}
 use Rattle.adjacency.specs.declared.state.NeighborState.TheVariants.{Loading, Full}
@@ -89,7 +89,7 @@ nothing_outstanding false b c e is some = absurd cc
 requesting : (moment : ℕ) (n : Neighbor) → IsLoaded n
     → IsRequesting (request_next moment n).neighbor
 requesting moment n loaded =
-    chosen (λ (s : Step). IsRequesting s.neighbor) (may_request n)
+    chosen (λ (s : Step). IsRequesting s.neighbor) (is_to_request n)
     (record {
       neighbor = record n { outstanding = set.from_list (next_request n); requested_at = moment };
       sends = Requests (next_request n) ∷ [];

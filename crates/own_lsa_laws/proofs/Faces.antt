@@ -22,7 +22,7 @@ use Rattle.adjacency.specs.Descriptions.{repeat}
 use Rattle.adjacency.specs.Floods.{flooded_in_exchange, meets, passes, request_of}
 use Rattle.adjacency.specs.Floods.{without_met_request}
 use Rattle.adjacency.specs.Neighbors.{Neighbor, is_exchange_or_later, is_full}
-use Rattle.adjacency.specs.Requests.{may_request, next_request, request_next, still_outstanding}
+use Rattle.adjacency.specs.Requests.{is_to_request, next_request, request_next, still_outstanding}
 use Rattle.adjacency.specs.Requests.{without_request}
 use Rattle.adjacency.specs.Retransmissions.{add_retransmission, describe_again}
 use Rattle.adjacency.specs.Retransmissions.{next_retransmissions, remove_retransmission}
@@ -333,7 +333,7 @@ again_so moment o number link n =
 
 pub asks_so : (moment : ℕ) → LeavesStates (λ number link n. request_next moment n)
 asks_so moment number link n =
-    chosen (λ (s : Step). IsAsBefore n s.neighbor) (may_request n)
+    chosen (λ (s : Step). IsAsBefore n s.neighbor) (is_to_request n)
     (record {
       neighbor = record n {
         outstanding = set.from_list (next_request n);

@@ -26,7 +26,7 @@ use Rattle.adjacency.specs.Adjacencies.{requests_nothing}
 use Rattle.adjacency.specs.Asked.{has_retransmission}
 use Rattle.adjacency.specs.Contents.{Content, no_sends}
 use Rattle.adjacency.specs.Neighbors.{Neighbor}
-use Rattle.adjacency.specs.Requests.{may_request, next_request, request_next}
+use Rattle.adjacency.specs.Requests.{is_to_request, next_request, request_next}
 use Rattle.received.specs.Flooding.{flood_to}
 use Rattle.received.specs.Links.{Link, any_exchange_or_loading, any_has_retransmission}
 use Rattle.received.specs.Links.{neighbor_is_exchange_or_loading}
@@ -607,7 +607,7 @@ module _ (key : Key) where
         (on_outcome (λ o. remove_aged moment (request_all moment o))
         (after (request_all moment) (remove_aged moment)
         (each moment (λ number link n. request_next moment n)
-        (λ number link n. requests_by (may_request n) moment n)) (removes moment)))
+        (λ number link n. requests_by (is_to_request n) moment n)) (removes moment)))
         (at_moment moment)
 
     pub ended : (old : Router) (moment : Moment) (p : EventState) → HasRouterLsa p

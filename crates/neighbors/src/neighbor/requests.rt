@@ -3,7 +3,7 @@ ghost use Rattle.std.specs.Prelude.{◌≡◌, not, ◌&&◌, [], ◌∷◌, OnO
 ghost use Rattle.std.specs.FinMap as finite;
 ghost use Rattle.std.specs.FinSet as set;
 ghost use Rattle.adjacency.specs.Contents.{Requests};
-ghost use Rattle.adjacency.specs.Requests.{may_request, next_request, request_next};
+ghost use Rattle.adjacency.specs.Requests.{is_to_request, next_request, request_next};
 ghost use Rattle.adjacency.specs.Views.{keys_of};
 ghost use Rattle.neighbors.specs.Doing.{NeighborSends, Sends};
 
@@ -37,8 +37,8 @@ fn all_hold(synchronizing: bool, unrequested: bool, unasked: bool) -> bool
 
 impl Neighbor {
     // Whether the request list isn't empty, and nothing is outstanding.
-    fn may_request(&self) -> bool
-        ensures { result ≡ may_request self.now.present }
+    fn is_to_request(&self) -> bool
+        ensures { result ≡ is_to_request self.now.present }
     {
         let synchronizing = is_exchange_or_loading(self.standing.state);
         let unrequested = self.requests.is_empty();
@@ -77,7 +77,7 @@ impl Neighbor {
     ) -> Result<(), AllocError>
         ensures { NeighborSends (request_next moment) self.old self.new draft.old draft.new result }
     {
-        let may = self.may_request();
+        let may = self.is_to_request();
         if may {
             return self.request_first(alloc, moment, draft);
         }

@@ -8,7 +8,7 @@ use Rattle.neighbors.proofs.neighbor.Neighbor.request.Goals as goal
 
 pub request_first-requires : goal.request_first-requires
 request_first-requires c = waits_for_nothing c.args.self.now.present
-    (sym c.may_request-may.ensures ∙ c.if-may.true)
+    (sym c.is_to_request-may.ensures ∙ c.if-may.true)
 
 pub returns-then-may : goal.returns-then-may
 returns-then-may c =
@@ -21,7 +21,7 @@ returns-then-may c =
       sends = Requests (next_request n) ∷ [];
     } in
     sends_after c.request_first.result refl (ap (λ b. cond b A (no_sends n))
-    (sym c.if-may.true ∙ c.may_request-may.ensures)) c.request_first.ensures
+    (sym c.if-may.true ∙ c.is_to_request-may.ensures)) c.request_first.ensures
 
 pub returns : goal.returns
 returns c =
@@ -34,4 +34,4 @@ returns c =
       sends = Requests (next_request n) ∷ [];
     } in
     sends_nothing _ refl (ap (λ b. cond b A (no_sends n))
-    (sym c.if-may.false ∙ c.may_request-may.ensures))
+    (sym c.if-may.false ∙ c.is_to_request-may.ensures))

@@ -1,7 +1,7 @@
 use Rattle.std.proofs.Common.{◌&&◌, not, ap, ◌∙◌}
-use Rattle.adjacency.specs.Requests.{may_request}
+use Rattle.adjacency.specs.Requests.{is_to_request}
 use Rattle.adjacency.proofs.Sets.{may_now}
-use Rattle.neighbors.proofs.neighbor.Neighbor.may_request.Goals as goal
+use Rattle.neighbors.proofs.neighbor.Neighbor.is_to_request.Goals as goal
 
 pub returns : goal.returns
 returns c =
@@ -11,4 +11,4 @@ returns c =
     ∙ may_now c.self.inside.standing c.self.inside.described.present c.self.inside.summary.present
     c.self.inside.requests.present c.self.inside.outstanding.present
     c.self.inside.retransmissions.present
-    ∙ ap (λ h. may_request h.present) c.self.view_is
+    ∙ ap (λ h. is_to_request h.present) c.self.view_is
