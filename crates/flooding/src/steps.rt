@@ -178,7 +178,7 @@ impl Area {
     /// neighbor's retransmission list.
     ///
     /// Errors with `AllocError` if an allocation is refused.
-    pub fn remove_acknowledged(&mut self, key: &Key) -> Result<(), AllocError>
+    pub fn remove_if_unlisted(&mut self, key: &Key) -> Result<(), AllocError>
         ensures { AreaDoes
             (λ a. start
             (record a { database = without_acknowledged a.links a.database key.now }))

@@ -15,7 +15,7 @@ fn remove_each(area: &mut Area, keys: &[Key]) -> Result<(), AllocError>
         area.old area.new result }
 {
     for i in 0..keys.len() {
-        area.remove_acknowledged(&keys[i])?;
+        area.remove_if_unlisted(&keys[i])?;
     }
     Ok(())
 }

@@ -14,7 +14,7 @@ loop-i-preserved c =
     let keys = c.args.keys.now in
     let i = c.loop-i.i in
     let d = c.loop-i.area.present.database in
-    let does = c.in_ok-remove_acknowledged.ensures in
+    let does = c.in_ok-remove_if_unlisted.ensures in
     record {
       links = ap (λ a. a.links) does.area ∙ c.loop-i.invariant.links;
       leaves =
@@ -31,12 +31,12 @@ loop-i-preserved c =
       router = does.router ∙ c.loop-i.invariant.router;
     }
 
-pub returns-in_err-remove_acknowledged : goal.returns-in_err-remove_acknowledged
-returns-in_err-remove_acknowledged c = record {
+pub returns-in_err-remove_if_unlisted : goal.returns-in_err-remove_if_unlisted
+returns-in_err-remove_if_unlisted c = record {
   area = on_err c.from_residual.result _ c.from_residual.ensures.0;
   drafts = on_err c.from_residual.result _ c.from_residual.ensures.0;
-  committed = c.in_err-remove_acknowledged.ensures.committed ∙ c.loop-i.invariant.committed;
-  router = c.in_err-remove_acknowledged.ensures.router ∙ c.loop-i.invariant.router;
+  committed = c.in_err-remove_if_unlisted.ensures.committed ∙ c.loop-i.invariant.committed;
+  router = c.in_err-remove_if_unlisted.ensures.router ∙ c.loop-i.invariant.router;
 }
 
 pub returns : goal.returns

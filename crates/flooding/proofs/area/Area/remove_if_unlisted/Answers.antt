@@ -7,7 +7,7 @@ use Rattle.flooding.specs.Links.{start, without_acknowledged}
 use Rattle.flooding.proofs.Doing.{area_rests}
 use Rattle.flooding.proofs.Marking.{area_is}
 use Rattle.flooding.proofs.Sends.{drafted_none}
-use Rattle.flooding.proofs.area.Area.remove_acknowledged.Goals as goal
+use Rattle.flooding.proofs.area.Area.remove_if_unlisted.Goals as goal
 
 pub returns-then-listed : goal.returns-then-listed
 returns-then-listed c =
