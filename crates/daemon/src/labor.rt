@@ -5,7 +5,7 @@ ghost use Rattle.worker.specs.Ends.{has_failed};
 ghost use Rattle.worker.specs.Lives.{standing};
 ghost use Rattle.daemon.specs.Labors.{HasServed, HasServedOn, senses_at};
 
-use links::{Seconds, Transport};
+use transports::{Seconds, Transport};
 use log::{Level, Log, Logged, warn};
 use std::alloc::Global;
 use std::sync::Wait;

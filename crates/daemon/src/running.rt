@@ -1,7 +1,7 @@
 //! A router from its configuration to its end.
 ghost use Rattle.std.specs.Prelude.{◌≡◌, ◌⊎◌, ◌≤◌, ◌+◌, All, IfErr, IfOk, false, length, map};
 ghost use Rattle.std.specs.Prelude.{nat_lt, vec_len, ⊤};
-ghost use Rattle.links.specs.Descending.{CountDownTo};
+ghost use Rattle.transports.specs.Descending.{CountDownTo};
 ghost use Rattle.hooks.specs.Known.{history_of};
 ghost use Rattle.worker.specs.Ends.{has_failed};
 ghost use Rattle.worker.specs.Wires.{AreBound};
@@ -23,7 +23,7 @@ use crate::texts::WritesTexts;
 use crate::totals::{Printed, print_totals};
 use console::{Config, Configured, ConfiguredInterface, Interface, read_configuration};
 use hooks::Loader;
-use links::Seconds;
+use transports::Seconds;
 use log::Log;
 use operator::{Desk, Outlet};
 use std::alloc::{AllocError, Global};

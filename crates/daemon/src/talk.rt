@@ -21,7 +21,7 @@ ghost use Rattle.daemon.specs.Texts.{HasFailed};
 
 use crate::lines::{Given, ReadsBytes, next_line};
 use crate::texts::WritesTexts;
-use links::{Seconds, Transport};
+use transports::{Seconds, Transport};
 use operator::{Desk, Outlet, Told};
 use std::rt::Files;
 use std::sync::Wait;

@@ -42,7 +42,7 @@ use crate::told::Told;
 use console::{Command, read_command};
 use hooks::Loader;
 use isa::Hook;
-use links::{Seconds, Transport};
+use transports::{Seconds, Transport};
 use std::alloc::Global;
 use std::marker::PhantomData;
 use std::rt::Files;

@@ -5,7 +5,7 @@ ghost use Rattle.hooks.specs.Known.{known_to};
 ghost use Rattle.worker.specs.Lives.{IsSent, senses_of, standing};
 ghost use Rattle.operator.specs.Answers.{IsDone, IsRefusedOnce, IsServed};
 
-use links::{Seconds, Transport};
+use transports::{Seconds, Transport};
 use std::sync::Wait;
 use worker::{Hub, Open, Port, Site, Taker, TurnError, Turned, Work, send_all, tried};
 

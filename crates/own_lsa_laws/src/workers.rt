@@ -6,7 +6,7 @@ ghost use Rattle.own_lsa_laws.specs.Deeds.{LivesAreDeedsInOrder};
 ghost use Rattle.own_lsa_laws.specs.RunningRouter.{NobodySpeaksForTheRunningRouter};
 
 use crate::nobody_speaks_for_this_router;
-use links::{Seconds, Transport};
+use transports::{Seconds, Transport};
 use router_runs::routers_refuse_clocks_that_go_back;
 use worker::{Flag, Site, Taker};
 

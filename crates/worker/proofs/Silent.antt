@@ -4,7 +4,7 @@ use Rattle.std.proofs.Common.{◌∷◌, Option, Some, None, Result, length, sli
 use Rattle.std.proofs.Common.{Ok, Err, IfErr, IfNone, IfOk, IfSome, IsErr, IsFalse, IsTrue}
 use Rattle.std.proofs.Common.{MatchOption, refl, sym, subst, arith}
 use Rattle.std.specs.declared.io.Error.{Error}
-use Rattle.links.specs.declared.link.LinkFault.{LinkFault}
+use Rattle.transports.specs.declared.transport.SocketFault.{SocketFault}
 use Rattle.worker.specs.SocketRefusals.{is_passing}
 use Rattle.worker.specs.Wires.{IsHeardAt, IsListening, IsNoneThere, IsSilent, IsWhyNoneWaits}
 use Rattle.worker.specs.Wires.{IsWhyNoneWaitsAt, wire_at}
@@ -17,7 +17,7 @@ decided true h = refl
 decided false h = h refl
 
 refused_so : {Socket : Type 0} (refuses : Socket → Error → Type 0) (socket : Socket) (error : Error)
-    (result : Result (Option ℕ) LinkFault) → refuses socket error
+    (result : Result (Option ℕ) SocketFault) → refuses socket error
     → (IsFalse (is_passing error) → IsErr result)
     → IfOk result (λ n. IfNone n (IsNoneThere refuses socket))
 refused_so refuses socket error (Ok n) told fault =
@@ -26,7 +26,7 @@ refused_so refuses socket error (Ok n) told fault =
 refused_so refuses socket error (Err f) told fault = tt
 
 pub refused_then : {Socket : Type 0} (refuses : Socket → Error → Type 0) (socket : Socket)
-    (outcome : Result ℕ Error) (result : Result (Option ℕ) LinkFault)
+    (outcome : Result ℕ Error) (result : Result (Option ℕ) SocketFault)
     → IfErr outcome (λ error. refuses socket error)
     → IfOk outcome (λ length. result ≡ Ok (Some length))
     → IfErr outcome (λ error. IsFalse (is_passing error) → IsErr result)

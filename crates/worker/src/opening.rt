@@ -2,7 +2,7 @@
 ghost use Rattle.std.specs.Prelude.{◌≡◌, ◌+◌, ◌≤◌, All, IfNone, IfOk, IfSome, map, vec_len};
 ghost use Rattle.maps.specs.Words.{IsOf};
 ghost use Rattle.hooks.specs.Known.{asks_of};
-ghost use Rattle.links.specs.Descending.{CountDownTo};
+ghost use Rattle.transports.specs.Descending.{CountDownTo};
 ghost use Rattle.worker.specs.Opening.{IsSetUpFor};
 
 use crate::setup::Setup;

@@ -11,7 +11,7 @@ ghost use Rattle.worker.specs.Lives.{senses_of, standing};
 ghost use Rattle.worker.specs.declared.serving.Ended.TheVariants.{Fault, Quit};
 
 use crate::flag::Flag;
-use links::{LinkFault, Seconds, Transport};
+use transports::{SocketFault, Seconds, Transport};
 use std::alloc::Global;
 use std::sync::Wait;
 use turns::{
@@ -109,7 +109,7 @@ fn round<L: Site, B: Taker<L>, G: Gate, K: Transport, S: Seconds, R: Wait>(
     clock: &mut S,
     ticked: &mut Option<Second>,
     buffer: &mut [u8; 8193],
-) -> Result<(), LinkFault>
+) -> Result<(), SocketFault>
     ensures round { OnOk result (Round
         (senses_of K.gives K.hears S.shows B.offers B.took B.refuses port.old.number)
         ticked.old
@@ -143,7 +143,7 @@ fn tick<L: Site, B: Taker<L>, G: Gate, K: Transport, S: Seconds, R: Wait>(
     link: &mut K,
     clock: &mut S,
     ticked: &mut Option<Second>,
-) -> Result<(), LinkFault>
+) -> Result<(), SocketFault>
     ensures ticks { OnOk result (Ticks
         (senses_of K.gives K.hears S.shows B.offers B.took B.refuses port.old.number)
         ticked.old
@@ -175,7 +175,7 @@ fn listen<L: Site, B: Taker<L>, G: Gate, K: Transport, S: Seconds, R: Wait>(
     link: &mut K,
     clock: &mut S,
     buffer: &mut [u8; 8193],
-) -> Result<(), LinkFault>
+) -> Result<(), SocketFault>
     ensures listens { OnOk result (Listens
         (senses_of K.gives K.hears S.shows B.offers B.took B.refuses port.old.number)
         (standing link.old clock.old (known_to port.old.asker) port.old.share.amount)
@@ -248,7 +248,7 @@ pub fn tried<L: Site, B: Taker<L>, G: Gate, S: Seconds, R: Wait>(
 /// Sends what a turn sends, and then what its refresh sends: each out once, in their order, at its
 /// interface. An out that would wait is dropped; after a fault the later ones aren't sent.
 #[tactic(auto, using(crate::proofs::Sending::given_both))]
-pub fn send_all<K: Transport>(link: &mut K, turned: &Turned) -> Result<(), LinkFault>
+pub fn send_all<K: Transport>(link: &mut K, turned: &Turned) -> Result<(), SocketFault>
     ensures each { OnOk result (MatchOption turned.now.refreshed
         (IsGivenEach K.gives link.old turned.now.outs.items link.new)
         (λ outs. IsGivenEach K.gives link.old (turned.now.outs.items ++ outs.items) link.new)) }
@@ -266,7 +266,7 @@ pub fn send_all<K: Transport>(link: &mut K, turned: &Turned) -> Result<(), LinkF
 fn send_turned<K: Transport>(
     link: &mut K,
     turned: &Result<Turned, TurnError>,
-) -> Result<(), LinkFault>
+) -> Result<(), SocketFault>
     ensures sent { OnOk result (MatchResult turned.now
         (λ turned. IsSent K.gives link.old turned link.new) (λ _. link.new ≡ link.old)) }
     ensures fine { OnOk result (K.faults link.new ≡ K.faults link.old) }
@@ -278,7 +278,7 @@ fn send_turned<K: Transport>(
     }
 }
 
-fn send_each<K: Transport>(link: &mut K, outs: &Vec<Out>) -> Result<(), LinkFault>
+fn send_each<K: Transport>(link: &mut K, outs: &Vec<Out>) -> Result<(), SocketFault>
     ensures each { OnOk result (IsGivenEach K.gives link.old outs.now.items link.new) }
     ensures fine { OnOk result (K.faults link.new ≡ K.faults link.old) }
     ensures fault { OnErr result (K.faults link.old < K.faults link.new) }

@@ -1,7 +1,7 @@
 //! An operator who changes the programs while a turn passes its gate.
 use crate::side_by_side::number_of;
 use crate::stage::Stage;
-use links::{Script, Times};
+use transports::{Script, Times};
 use operator::{Desk, Outlet, ReadsFiles};
 use std::alloc::Global;
 use std::marker::PhantomData;

@@ -1,6 +1,6 @@
 //! A worker over a link that plays back what it hears, and may fail.
 use crate::samples::HELLO;
-use links::{Answer, Script, Times};
+use transports::{Answer, Script, Times};
 use std::alloc::{AllocError, Global};
 use std::sync::Wait;
 use std::sync::atomic::AtomicBool;

@@ -1,6 +1,6 @@
 //! Turns of one port, alone, by a clock, or while another port is held at its gate.
 use crate::stage::{Deed, work_of};
-use links::{Seconds, Times};
+use transports::{Seconds, Times};
 use std::alloc::Global;
 use std::sync::Wait;
 use std::sync::atomic::{AtomicBool, Ordering};

@@ -1,5 +1,5 @@
 //! A link whose socket refuses sends, as by a rule of a firewall, for some calls.
-use links::Transport;
+use transports::Transport;
 use std::io;
 use std::process::Abort;
 use std::sync::atomic::{AtomicUsize, Ordering};

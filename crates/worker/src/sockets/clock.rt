@@ -1,7 +1,7 @@
 //! The clock of a thread.
 ghost use Rattle.std.specs.Prelude.{◌≡◌, ℕ, Option, ⊤};
 
-use links::Seconds;
+use transports::Seconds;
 use std::time::{Clock, SystemTime, UNIX_EPOCH};
 use words::Second;
 

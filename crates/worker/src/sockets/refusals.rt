@@ -2,7 +2,7 @@
 ghost use Rattle.std.specs.Prelude.{◌≡◌, IfErr, IfOk, IsErr, IsFalse, IsTrue, true, false};
 ghost use Rattle.worker.specs.SocketRefusals.{is_lost, is_passing, is_passing_kind, is_passing_number};
 
-use links::LinkFault;
+use transports::SocketFault;
 use std::io::{self, ErrorKind};
 
 fn is_passing_kind(kind: ErrorKind) -> bool
@@ -56,8 +56,8 @@ fn is_lost(error: &io::Error) -> bool
 ///
 /// # Errors
 ///
-/// `LinkFault` if the error says that the socket is of no use.
-pub fn sent(outcome: io::Result<usize>) -> Result<bool, LinkFault>
+/// `SocketFault` if the error says that the socket is of no use.
+pub fn sent(outcome: io::Result<usize>) -> Result<bool, SocketFault>
     ensures went { IfOk outcome (λ _. result ≡ Ok true) }
     ensures lost { IfErr outcome (λ error. IsTrue (is_lost error) → result ≡ Ok false) }
     ensures fault { IfErr outcome (λ error. IsFalse (is_lost error) → IsErr result) }
@@ -65,7 +65,7 @@ pub fn sent(outcome: io::Result<usize>) -> Result<bool, LinkFault>
     match outcome {
         Ok(_) => Ok(true),
         Err(error) if is_lost(&error) => Ok(false),
-        Err(_) => Err(LinkFault {}),
+        Err(_) => Err(SocketFault {}),
     }
 }
 
@@ -74,8 +74,8 @@ pub fn sent(outcome: io::Result<usize>) -> Result<bool, LinkFault>
 ///
 /// # Errors
 ///
-/// `LinkFault` if the error says that the socket is of no use.
-pub fn came(outcome: io::Result<usize>) -> Result<Option<usize>, LinkFault>
+/// `SocketFault` if the error says that the socket is of no use.
+pub fn came(outcome: io::Result<usize>) -> Result<Option<usize>, SocketFault>
     ensures length { IfOk outcome (λ length. result ≡ Ok (Some length)) }
     ensures none { IfErr outcome (λ error. IsTrue (is_passing error) → result ≡ Ok None) }
     ensures fault { IfErr outcome (λ error. IsFalse (is_passing error) → IsErr result) }
@@ -83,6 +83,6 @@ pub fn came(outcome: io::Result<usize>) -> Result<Option<usize>, LinkFault>
     match outcome {
         Ok(length) => Ok(Some(length)),
         Err(error) if is_passing(&error) => Ok(None),
-        Err(_) => Err(LinkFault {}),
+        Err(_) => Err(SocketFault {}),
     }
 }

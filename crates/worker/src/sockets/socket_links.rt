@@ -3,7 +3,7 @@
 ghost use Rattle.std.specs.Prelude.{◌≡◌, ◌<◌, ◌≤◌, All, IfErr, IfNone, IfOk, IfSome, OnOk};
 ghost use Rattle.std.specs.Prelude.{length, map, take};
 ghost use Rattle.std.specs.Prelude.{nat_lt, vec_len, ⊤};
-ghost use Rattle.links.specs.Descending.{CountDownTo};
+ghost use Rattle.transports.specs.Descending.{CountDownTo};
 ghost use Rattle.worker.specs.Ends.{has_failed};
 ghost use Rattle.worker.specs.Wires.{HasWaited, IsHeardAt, IsListening, IsNoneThere};
 ghost use Rattle.worker.specs.Wires.{IsWhyNoneWaits, IsWhyNoneWaitsAt};
@@ -13,7 +13,7 @@ use crate::sockets::refusals::{came, sent};
 use crate::sockets::socket::DatagramSocket;
 use crate::sockets::waiting::{Ear, ListensAt, SystemPoller, Waits};
 use crate::sockets::wire::{Wire, wire_at};
-use links::{LinkFault, Transport, datagram};
+use transports::{SocketFault, Transport, datagram};
 use mio::net::UdpSocket;
 use std::alloc::Global;
 use std::io::ErrorKind;
@@ -169,7 +169,7 @@ pub fn listening<'x, R: Net>(
 fn take<S: DatagramSocket>(
     wire: &Wire<S>,
     buffer: &mut [u8; 8193],
-) -> Result<Option<usize>, LinkFault>
+) -> Result<Option<usize>, SocketFault>
     ensures length { IfOk result (λ n. IfSome n (λ n. n ≤ 8193)) }
     ensures handed { IfOk result (λ n.
         IfSome n (λ n. S.hands wire.now.socket (take n buffer.new))) }
@@ -180,7 +180,7 @@ fn take<S: DatagramSocket>(
 
 /// Waits until a datagram may be there, at most a second. A link without an ear, as the console's,
 /// doesn't wait.
-fn wait<E: Waits>(ear: &mut Option<E>) -> Result<(), LinkFault>
+fn wait<E: Waits>(ear: &mut Option<E>) -> Result<(), SocketFault>
     ensures { OnOk result (HasWaited E.waited ear.old ear.new) }
 {
     let Some(ear) = ear else {
@@ -188,7 +188,7 @@ fn wait<E: Waits>(ear: &mut Option<E>) -> Result<(), LinkFault>
     };
     match ear.wait(1) {
         Ok(()) => Ok(()),
-        Err(_) => Err(LinkFault {}),
+        Err(_) => Err(SocketFault {}),
     }
 }
 
@@ -198,7 +198,7 @@ fn take_or_wait<S: DatagramSocket, E: Waits>(
     wire: &Wire<S>,
     ear: &mut Option<E>,
     buffer: &mut [u8; 8193],
-) -> Result<Option<usize>, LinkFault>
+) -> Result<Option<usize>, SocketFault>
     ensures length { IfOk result (λ n. IfSome n (λ n. n ≤ 8193)) }
     ensures handed { IfOk result (λ n.
         IfSome n (λ n. S.hands wire.now.socket (take n buffer.new))) }
@@ -220,7 +220,7 @@ fn receive_at<S: DatagramSocket, E: Waits>(
     ear: &mut Option<E>,
     alloc: Global,
     buffer: &mut [u8; 8193],
-) -> Result<Option<Sequence<u8>>, LinkFault>
+) -> Result<Option<Sequence<u8>>, SocketFault>
     ensures heard { IfOk result (IsHeardAt S.hands S.refuses
         (HasWaited E.waited ear.old ear.new) wires.now interface) }
     ensures cut { IfOk result (λ heard. IfSome heard (λ datagram. length datagram ≤ 8193)) }
@@ -237,11 +237,11 @@ fn receive_at<S: DatagramSocket, E: Waits>(
 
 // Sends the bytes to the peer of this interface. To port 0 no packet can go: a socket whose peer
 // has it is of no use.
-fn say<S: DatagramSocket>(wire: &Wire<S>, bytes: &[u8]) -> Result<bool, LinkFault>
+fn say<S: DatagramSocket>(wire: &Wire<S>, bytes: &[u8]) -> Result<bool, SocketFault>
     ensures { OnOk result (S.takes wire.now.socket wire.now.peer bytes.now) }
 {
     if wire.peer == 0 {
-        return Err(LinkFault {});
+        return Err(SocketFault {});
     }
     sent(wire.socket.send(bytes, wire.peer))
 }
@@ -263,7 +263,7 @@ impl<'a, S: DatagramSocket, E: Waits> Transport for Sockets<'a, S, E> {
         &mut self,
         alloc: Global,
         buffer: &mut [u8; 8193],
-    ) -> Result<Option<Sequence<u8>>, LinkFault> {
+    ) -> Result<Option<Sequence<u8>>, SocketFault> {
         if self.faults > 0 {
             return Ok(None);
         }
@@ -276,7 +276,7 @@ impl<'a, S: DatagramSocket, E: Waits> Transport for Sockets<'a, S, E> {
         }
     }
 
-    fn send(&mut self, interface: u16, bytes: &[u8]) -> Result<bool, LinkFault> {
+    fn send(&mut self, interface: u16, bytes: &[u8]) -> Result<bool, SocketFault> {
         if self.faults > 0 {
             return Ok(false);
         }

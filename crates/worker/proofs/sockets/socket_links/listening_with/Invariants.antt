@@ -1,5 +1,5 @@
 use Rattle.std.specs.Prelude.{◌≡◌, ◌+◌, ◌-◌, All, length, map, vec_len}
-use Rattle.links.specs.Descending.{CountDownTo}
+use Rattle.transports.specs.Descending.{CountDownTo}
 use Rattle.worker.specs.Wires.{IsListening}
 use Rattle.worker.proofs.sockets.socket_links.listening_with.Given as goal
 

@@ -1,20 +1,20 @@
-//! A link and a clock that play back lists, for tests.
+//! A transport and a clock that play back lists, for tests.
 ghost use Rattle.std.specs.Prelude.{◌≡◌, ◌≢◌, ℕ, ◌+◌, ◌<◌, ◌≤◌, IfSome, length};
-ghost use Rattle.links.specs.declared.script.Played.TheVariants.{Fault};
+ghost use Rattle.transports.specs.declared.script.Played.TheVariants.{Fault};
 
-use crate::link::{LinkFault, Seconds, Transport, datagram};
+use crate::transport::{SocketFault, Seconds, Transport, datagram};
 use std::alloc::Global;
 use std::sync::atomic::{AtomicBool, Ordering};
 use words::{Second, Sequence};
 
-/// The result of a call of the link.
+/// The result of a call of the transport.
 #[derive(Drop)]
 pub enum Answer {
     /// These bytes were received, or what was to be sent was sent.
     Datagram(Sequence<u8>),
     /// Nothing was received, or sending would have blocked.
     Nothing,
-    /// The link failed.
+    /// The socket failed.
     Fault,
 }
 
@@ -100,22 +100,22 @@ impl<'a> Transport for Script<'a> {
         &mut self,
         alloc: Global,
         _buffer: &mut [u8; 8193],
-    ) -> Result<Option<Sequence<u8>>, LinkFault> {
+    ) -> Result<Option<Sequence<u8>>, SocketFault> {
         match self.next() {
             Played::Datagram(at) => Ok(self.copied(alloc, at)),
             Played::Nothing => Ok(None),
-            Played::Fault => Err(LinkFault {}),
+            Played::Fault => Err(SocketFault {}),
         }
     }
 
-    fn send(&mut self, _interface: u16, _bytes: &[u8]) -> Result<bool, LinkFault> {
+    fn send(&mut self, _interface: u16, _bytes: &[u8]) -> Result<bool, SocketFault> {
         match self.next() {
             Played::Datagram(_) => {
                 self.sent = self.sent.saturating_add(1);
                 Ok(true)
             }
             Played::Nothing => Ok(false),
-            Played::Fault => Err(LinkFault {}),
+            Played::Fault => Err(SocketFault {}),
         }
     }
 }

@@ -1,19 +1,19 @@
-//! The links over which a worker receives and sends, and its clock.
+//! The sockets over which a worker receives and sends, and its clock.
 ghost use Rattle.std.specs.Prelude.{◌≡◌, ℕ, ◌<◌, ◌≤◌, List, Option, IfOk, IfSome, OnOk};
 ghost use Rattle.std.specs.Prelude.{OnErr, length};
 
 use std::alloc::Global;
 use words::{Second, Sequence};
 
-/// A link failed, for an unknown cause.
+/// A socket failed, for an unknown cause.
 #[derive(Clone, Copy, PartialEq, Eq)]
-pub struct LinkFault {}
+pub struct SocketFault {}
 
-/// The links over which a worker receives and sends. It counts its faults: each call that failed,
+/// The sockets over which a worker receives and sends. It counts its faults: each call that failed,
 /// and no other.
 ///
 /// What it says about bytes that it was given to send, and about those that it received, is left
-/// open here: a function that sends or receives, and is proved for any link, can only know it from
+/// open here: a function that sends or receives, and is proved for any, can only know it from
 /// the call itself, with that interface and those bytes.
 pub trait Transport {
     ghost faults: { Self → ℕ };
@@ -29,7 +29,7 @@ pub trait Transport {
         &mut self,
         alloc: Global,
         buffer: &mut [u8; 8193],
-    ) -> Result<Option<Sequence<u8>>, LinkFault>
+    ) -> Result<Option<Sequence<u8>>, SocketFault>
         ensures heard { IfOk result (λ heard. hears self.old heard self.new) }
         ensures cut { IfOk result (λ heard. IfSome heard (λ datagram. length datagram ≤ 8193)) }
         ensures fine { OnOk result (faults self.new ≡ faults self.old) }
@@ -38,7 +38,7 @@ pub trait Transport {
     /// Sends the bytes at the interface with this number, and returns whether they were sent. If
     /// not, they are lost: sending would have blocked, or was refused because of the packet or its
     /// route.
-    fn send(&mut self, interface: u16, bytes: &[u8]) -> Result<bool, LinkFault>
+    fn send(&mut self, interface: u16, bytes: &[u8]) -> Result<bool, SocketFault>
         ensures given { OnOk result (gives self.old interface bytes.now self.new) }
         ensures fine { OnOk result (faults self.new ≡ faults self.old) }
         ensures fault { OnErr result (faults self.old < faults self.new) };

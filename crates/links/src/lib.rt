@@ -1,9 +1,0 @@
-//! The links over which a worker receives and sends, and its clock: traits that sockets and the
-//! system clock implement, and scripted versions for tests.
-#![tactic(auto)]
-
-mod link;
-mod script;
-
-pub use link::{LinkFault, Seconds, Transport, datagram};
-pub use script::{Answer, Script, Times};
