@@ -36,7 +36,7 @@ pub trait LinkStep {
 
     ghost sends: { Self → Database → Shown → List Content };
 
-    fn take(&self, alloc: Global, database: &Lsdb, link: &mut Link) -> Result<(), AllocError>
+    fn apply(&self, alloc: Global, database: &Lsdb, link: &mut Link) -> Result<(), AllocError>
         ensures { LinkDoes (after self.now database.now.present)
             (sends self.now database.now.present)
             link.old link.new result };
@@ -54,7 +54,7 @@ fn step_links<S: LinkStep>(
         links.old links.new result }
 {
     for i in 0..links.len() {
-        step.take(alloc, database, &mut links[i])?;
+        step.apply(alloc, database, &mut links[i])?;
     }
     Ok(())
 }
@@ -170,7 +170,7 @@ impl Area {
     {
         let i = number - 1;
         let count = self.links[i].updates().len();
-        step.take(alloc, &self.database, &mut self.links[i])?;
+        step.apply(alloc, &self.database, &mut self.links[i])?;
         mark_behind(moment, count, self.links[i].updates(), &mut self.database)
     }
 

@@ -99,7 +99,7 @@ impl<'a> LinkStep for ReceivingHello<'a> {
     ghost sends = { λ a database link.
         sent_at_received_hello a.own a.moment a.from a.hello.now link };
 
-    fn take(&self, alloc: Global, _database: &Lsdb, link: &mut Link) -> Result<(), AllocError> {
+    fn apply(&self, alloc: Global, _database: &Lsdb, link: &mut Link) -> Result<(), AllocError> {
         let accepted = accepts(self.own, self.from, self.hello, link);
         if accepted {
             let named = names(self.own, self.hello);

@@ -94,7 +94,7 @@ impl LinkStep for SendingHello {
 
     ghost sends = { λ a database link. hello_sent_on a.moment link };
 
-    fn take(&self, alloc: Global, _database: &Lsdb, link: &mut Link) -> Result<(), AllocError> {
+    fn apply(&self, alloc: Global, _database: &Lsdb, link: &mut Link) -> Result<(), AllocError> {
         let due = hello_is_due(self.moment, link);
         if due {
             let hello = hello_on(alloc, link)?;

@@ -27,7 +27,7 @@ impl LinkStep for SendingAcknowledgments {
 
     ghost sends = { λ a database link. acknowledgments_on link };
 
-    fn take(&self, alloc: Global, _database: &Lsdb, link: &mut Link) -> Result<(), AllocError> {
+    fn apply(&self, alloc: Global, _database: &Lsdb, link: &mut Link) -> Result<(), AllocError> {
         link.draft_delayed_acknowledgments(alloc)
     }
 }

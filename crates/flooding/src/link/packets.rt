@@ -88,7 +88,7 @@ impl<'a> LinkStep for ReceivingDescription<'a> {
     ghost sends = { λ a database.
         neighbor_sends (after_description a.own a.moment database a.description.now) };
 
-    fn take(&self, alloc: Global, database: &Lsdb, link: &mut Link) -> Result<(), AllocError> {
+    fn apply(&self, alloc: Global, database: &Lsdb, link: &mut Link) -> Result<(), AllocError> {
         link.slot.receive_description(
             alloc,
             self.own,
@@ -116,7 +116,7 @@ impl<'a> LinkStep for ReceivingRequest<'a> {
 
     ghost sends = { λ a database. neighbor_sends (after_request a.moment database a.keys.now) };
 
-    fn take(&self, alloc: Global, database: &Lsdb, link: &mut Link) -> Result<(), AllocError> {
+    fn apply(&self, alloc: Global, database: &Lsdb, link: &mut Link) -> Result<(), AllocError> {
         let delay = link.interface.delay;
         link.slot.receive_request(
             alloc,
@@ -148,7 +148,7 @@ impl<'a> LinkStep for ReceivingAcknowledgment<'a> {
     ghost sends = { λ a database.
         neighbor_sends (λ n. no_sends (after_acknowledgment a.moment a.headers.now n)) };
 
-    fn take(&self, _alloc: Global, _database: &Lsdb, link: &mut Link) -> Result<(), AllocError> {
+    fn apply(&self, _alloc: Global, _database: &Lsdb, link: &mut Link) -> Result<(), AllocError> {
         let Some(neighbor) = &mut link.slot.neighbor else {
             return Ok(());
         };

@@ -72,7 +72,7 @@ impl LinkStep for NextRequest {
 
     ghost sends = { λ a database. neighbor_sends (request_next a.moment) };
 
-    fn take(&self, alloc: Global, _database: &Lsdb, link: &mut Link) -> Result<(), AllocError> {
+    fn apply(&self, alloc: Global, _database: &Lsdb, link: &mut Link) -> Result<(), AllocError> {
         let Some(neighbor) = &mut link.slot.neighbor else {
             return Ok(());
         };
@@ -94,7 +94,7 @@ impl LinkStep for SendingAgain {
 
     ghost sends = { λ a database link. sent_again a.moment database link };
 
-    fn take(&self, alloc: Global, database: &Lsdb, link: &mut Link) -> Result<(), AllocError> {
+    fn apply(&self, alloc: Global, database: &Lsdb, link: &mut Link) -> Result<(), AllocError> {
         let interval = link.interface.retransmit_interval;
         let delay = link.interface.delay;
         let Some(neighbor) = &mut link.slot.neighbor else {

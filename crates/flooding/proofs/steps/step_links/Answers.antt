@@ -24,11 +24,11 @@ loop-i-preserved g c =
     record {
       steps = finishes_next present draft_of (after A S) (after_draft A S) (counts A S) c.loop-i.i
           c.loop-i.links false (map A P) (drafts_with (sends_of S P) P D) false
-          c.take.new.link c.index-links-i.result false false
+          c.apply.new.link c.index-links-i.result false false
           (omega (arith, c.loop-i-test.true, c.loop-i.auto.links))
-          c.in_ok-take.ensures.link c.in_ok-take.ensures.draft refl refl c.loop-i.invariant.steps;
+          c.in_ok-apply.ensures.link c.in_ok-apply.ensures.draft refl refl c.loop-i.invariant.steps;
       committed = shows_kept committed_link c.loop-i.links c.loop-i.i c.index-links-i.result
-          c.take.new.link c.index-links-i.is c.in_ok-take.ensures.committed
+          c.apply.new.link c.index-links-i.is c.in_ok-apply.ensures.committed
           ∙ c.loop-i.invariant.committed;
     }
 
@@ -50,11 +50,11 @@ returns g c =
       committed = c.loop-i.invariant.committed;
     }
 
-pub returns-in_err-take : goal.returns-in_err-take
-returns-in_err-take g c = record {
+pub returns-in_err-apply : goal.returns-in_err-apply
+returns-in_err-apply g c = record {
   links = on_err c.from_residual.result _ c.from_residual.ensures.0;
   drafts = on_err c.from_residual.result _ c.from_residual.ensures.0;
   committed =
-      shows_kept committed_link c.loop-i.links c.loop-i.i c.index-links-i.result c.take.new.link
-      c.index-links-i.is c.in_err-take.ensures.committed ∙ c.loop-i.invariant.committed;
+      shows_kept committed_link c.loop-i.links c.loop-i.i c.index-links-i.result c.apply.new.link
+      c.index-links-i.is c.in_err-apply.ensures.committed ∙ c.loop-i.invariant.committed;
 }

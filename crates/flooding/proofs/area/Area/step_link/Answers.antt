@@ -56,13 +56,13 @@ index-requires-2 g c =
       c.self.inside.links.ok.0,
     )
 
-pub returns-in_err-take : goal.returns-in_err-take
-returns-in_err-take g c = record {
+pub returns-in_err-apply : goal.returns-in_err-apply
+returns-in_err-apply g c = record {
   area = on_err c.from_residual.result _ c.from_residual.ensures.0;
   drafts = on_err c.from_residual.result _ c.from_residual.ensures.0;
   committed = area_is (shows_kept committed_link c.self.inside.links.items (c.args.number - 1)
-      c.index_mut.result.now c.take.new.link c.index_mut.ensures.value
-      (c.in_err-take.ensures.committed ∙ ap committed_link c.index_mut.ensures.value)) refl
+      c.index_mut.result.now c.apply.new.link c.index_mut.ensures.value
+      (c.in_err-apply.ensures.committed ∙ ap committed_link c.index_mut.ensures.value)) refl
       ∙ ap (λ (v : RouterArea). v.committed) c.self.view_is;
   router = ap (λ (v : RouterArea). v.router) c.self.view_is;
 }
@@ -77,10 +77,10 @@ returns g c =
     let A = g.S.LinkStep.after c.args.step.now in
     let S = g.S.LinkStep.sends c.args.step.now in
     let link = c.index_mut.result.now in
-    let after = c.take.new.link in
+    let after = c.apply.new.link in
     let delay = link.present.interface.delay in
     let value = c.index_mut.ensures.value in
-    let does = c.in_ok-take.ensures in
+    let does = c.in_ok-apply.ensures in
     let shown : length (map present items) ≡ length c.args.self.now.present.links =
     ap (λ v. length v.present.links) c.self.view_is in
     let lt : i < length items =

@@ -5,7 +5,7 @@ use Rattle.adjacency.specs.Descriptions.{after_description}
 use Rattle.adjacency.specs.Drafts.{drafting}
 use Rattle.flooding.specs.Kept.{KeptLink}
 use Rattle.flooding.proofs.Shown.{place_becomes}
-use Rattle.flooding.proofs.link.packets.ReceivingDescriptionLinkStep.take.Goals as goal
+use Rattle.flooding.proofs.link.packets.ReceivingDescriptionLinkStep.apply.Goals as goal
 
 pub returns : goal.returns
 returns c =

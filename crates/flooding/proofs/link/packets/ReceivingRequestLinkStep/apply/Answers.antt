@@ -5,7 +5,7 @@ use Rattle.adjacency.specs.Drafts.{drafting}
 use Rattle.adjacency.specs.Steps.{after_request}
 use Rattle.flooding.specs.Kept.{KeptLink}
 use Rattle.flooding.proofs.Shown.{place_becomes}
-use Rattle.flooding.proofs.link.packets.ReceivingRequestLinkStep.take.Goals as goal
+use Rattle.flooding.proofs.link.packets.ReceivingRequestLinkStep.apply.Goals as goal
 
 pub returns : goal.returns
 returns c =

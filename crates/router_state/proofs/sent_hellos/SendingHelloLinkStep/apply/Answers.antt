@@ -3,7 +3,7 @@ use Rattle.flooding.specs.adjacency.Contents.{SendsHello}
 use Rattle.flooding.specs.adjacency.Drafts.{drafting}
 use Rattle.keyed_map.proofs.Helds.{on_ok}
 use Rattle.router_state.proofs.SentHellos.{greeted, greeting_sent, nothing_sent, silent}
-use Rattle.router_state.proofs.sent_hellos.SendingHelloLinkStep.take.Goals as goal
+use Rattle.router_state.proofs.sent_hellos.SendingHelloLinkStep.apply.Goals as goal
 
 pub returns-then-due : goal.returns-then-due
 returns-then-due c =

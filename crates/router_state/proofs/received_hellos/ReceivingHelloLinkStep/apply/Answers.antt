@@ -5,7 +5,7 @@ use Rattle.flooding.specs.adjacency.Adjacencies.{after_hello}
 use Rattle.flooding.specs.adjacency.Drafts.{drafting}
 use Rattle.flooding.specs.Links.{with_neighbor}
 use Rattle.router_state.proofs.ReceivedHellos.{accepted, accepted_sends, ignored, ignored_sends}
-use Rattle.router_state.proofs.received_hellos.ReceivingHelloLinkStep.take.Goals as goal
+use Rattle.router_state.proofs.received_hellos.ReceivingHelloLinkStep.apply.Goals as goal
 
 pub returns-then-accepted : goal.returns-then-accepted
 returns-then-accepted c =

@@ -4,7 +4,7 @@ use Rattle.std.specs.Prelude.{None}
 use Rattle.adjacency.specs.Retransmissions.{send_again}
 use Rattle.flooding.specs.Kept.{KeptLink}
 use Rattle.flooding.proofs.Silent.{none_sent}
-use Rattle.flooding.proofs.link.timers.SendingAgainLinkStep.take.Goals as goal
+use Rattle.flooding.proofs.link.timers.SendingAgainLinkStep.apply.Goals as goal
 
 pub returns-in_default : goal.returns-in_default
 returns-in_default c =

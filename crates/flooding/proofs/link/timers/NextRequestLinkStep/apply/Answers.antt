@@ -7,7 +7,7 @@ use Rattle.adjacency.specs.Drafts.{drafting}
 use Rattle.adjacency.specs.Requests.{request_next}
 use Rattle.flooding.specs.Kept.{KeptLink}
 use Rattle.flooding.proofs.Silent.{none_sent}
-use Rattle.flooding.proofs.link.timers.NextRequestLinkStep.take.Goals as goal
+use Rattle.flooding.proofs.link.timers.NextRequestLinkStep.apply.Goals as goal
 
 pub returns-in_default : goal.returns-in_default
 returns-in_default c =

@@ -4,7 +4,7 @@ use Rattle.keyed_map.proofs.Helds.{on_ok}
 use Rattle.adjacency.specs.Retransmissions.{after_acknowledgment}
 use Rattle.flooding.specs.Kept.{KeptLink}
 use Rattle.flooding.proofs.Silent.{silent}
-use Rattle.flooding.proofs.link.packets.ReceivingAcknowledgmentLinkStep.take.Goals as goal
+use Rattle.flooding.proofs.link.packets.ReceivingAcknowledgmentLinkStep.apply.Goals as goal
 
 pub returns-in_default : goal.returns-in_default
 returns-in_default c =
