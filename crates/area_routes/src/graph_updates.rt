@@ -91,7 +91,7 @@ fn renewed(
 ///
 /// # Errors
 /// `AllocError` if an allocation is refused.
-pub fn follow_graph(
+pub fn update_graph(
     alloc: Global,
     db: &Lsdb,
     graph: AreaGraph,

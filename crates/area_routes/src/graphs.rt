@@ -8,7 +8,7 @@ ghost use Rattle.routes.specs.Said.{said_at};
 ghost use Rattle.candidates.specs.AreaGraphs.{IsAreaGraph};
 ghost use Rattle.candidates.specs.Reached.{way_in};
 
-use crate::graph_updates::follow_graph;
+use crate::graph_updates::update_graph;
 use crate::root::is_root_of;
 use candidates::{AreaGraph, Reached, has_no_way_out, walk};
 use flooding::Area;
@@ -87,7 +87,7 @@ fn followed(
     ensures root { IfSome result (λ next. next.root ≡ graph.root) }
 {
     let db = area.database();
-    match follow_graph(alloc, db, graph, before, moment) {
+    match update_graph(alloc, db, graph, before, moment) {
         Ok(next) => next,
         Err(_) => None,
     }

@@ -282,7 +282,7 @@ impl AreaRoutes {
         })
     }
 
-    /// Follows a router over an event, from its area when it was last committed, at the moment
+    /// Updates the routes over an event, from the area when it was last committed, at the moment
     /// `before`, to its area at this moment. No walk is made: the old one remains valid if the
     /// router's addresses are the same and no LSA of type 1 or 2 was added or removed, reached
     /// MaxAge or changed its contents; another instance below MaxAge with the same contents is no
@@ -290,7 +290,7 @@ impl AreaRoutes {
     ///
     /// # Errors
     /// `AllocError` if an allocation is refused; the routes are then unchanged.
-    pub fn follow(
+    pub fn update(
         &mut self,
         alloc: Global,
         router: RouterId,
@@ -324,9 +324,9 @@ impl AreaRoutes {
         ensures err { OnErr result (self.new ≡ self.old) }
     {
         let stay = self.externals_stay(alloc, area, before, moment);
-        self.follow_routes(alloc, router, area, before, moment)?;
+        self.update_routes(alloc, router, area, before, moment)?;
         self.keep_externals(stay);
-        self.follow_graph(alloc, router, area, before, moment);
+        self.update_graph(alloc, router, area, before, moment);
         Ok(())
     }
 
@@ -355,7 +355,7 @@ impl AreaRoutes {
     }
 
     // Updates the graph, or forgets it.
-    fn follow_graph(
+    fn update_graph(
         &mut self,
         alloc: Global,
         router: RouterId,
@@ -375,7 +375,7 @@ impl AreaRoutes {
     }
 
     // The same except for what AS-external-LSAs advertise, and the graph.
-    fn follow_routes(
+    fn update_routes(
         &mut self,
         alloc: Global,
         router: RouterId,
@@ -416,7 +416,7 @@ impl AreaRoutes {
                 if leaves_candidates(alloc, area, &self.walk, before, moment)? {
                     return Ok(());
                 }
-                self.follow_offers(alloc, area, before, moment);
+                self.update_offers(alloc, area, before, moment);
                 return Ok(());
             }
         }
@@ -431,7 +431,7 @@ impl AreaRoutes {
     // AS-external-LSAs change, and few of them, candidates that are kept follow these: if none is
     // new, and each was known to have an answer, each still has. If an allocation is refused,
     // nothing is known of candidates any more.
-    fn follow_offers(&mut self, alloc: Global, area: &Area, before: Second, moment: Second)
+    fn update_offers(&mut self, alloc: Global, area: &Area, before: Second, moment: Second)
         requires order { before ≤ moment }
         requires walk { IsWalkOf (said_at moment area.now.present.database) self.old.walk }
         requires candidates { KnowsCandidates (said_at before area.now.committed.database)
@@ -457,7 +457,7 @@ impl AreaRoutes {
         inner_routes_are_kept();
         if let Ok(same) = says_the_same(alloc, area, Some(4), before, moment) {
             if same {
-                self.follow_externals(alloc, area, before, moment);
+                self.update_externals(alloc, area, before, moment);
                 return;
             }
         }
@@ -467,7 +467,7 @@ impl AreaRoutes {
     }
 
     // The same if only AS-external-LSAs change.
-    fn follow_externals(&mut self, alloc: Global, area: &Area, before: Second, moment: Second)
+    fn update_externals(&mut self, alloc: Global, area: &Area, before: Second, moment: Second)
         requires order { before ≤ moment }
         requires same { SayTheSame (Some 4) (said_at before area.now.committed.database)
             (said_at moment area.now.present.database) }

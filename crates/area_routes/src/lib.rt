@@ -14,7 +14,7 @@ mod lookups;
 mod root;
 mod surroundings;
 
-pub use graph_updates::follow_graph;
+pub use graph_updates::update_graph;
 pub use kept::{AreaRoutes, Offered};
 // Re-exported for the crates above.
 pub use flooding::Link;

@@ -135,7 +135,7 @@ fn renew_all(
 ///
 /// # Errors
 /// `AllocError` if an allocation is refused.
-pub fn follow_externals(
+pub fn update_externals(
     alloc: Global,
     db: &Lsdb,
     root: &Root,

@@ -10,4 +10,4 @@ pub mod laws;
 mod placing;
 
 pub use changes::changed_keys;
-pub use follow::{Followed, follow_externals};
+pub use follow::{Followed, update_externals};

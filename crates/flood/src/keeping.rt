@@ -41,7 +41,7 @@ fn keep(
     let own = router.id();
     let area = router.area();
     let moment = router.moment();
-    routes.follow(alloc, own, area, before, moment)?;
+    routes.update(alloc, own, area, before, moment)?;
     if event.brings_answers() {
         routes.take_answers(alloc, own, area, moment, router.answers());
     }

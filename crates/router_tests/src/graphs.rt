@@ -1,9 +1,9 @@
 //! The graph of an area after an event: updated, or to be rebuilt. That an updated one is the
-//! database's is a clause of `follow_graph`, which doesn't say when it can be.
+//! database's is a clause of `update_graph`, which doesn't say when it can be.
 ghost use Rattle.std.specs.Prelude.{◌≤◌, length};
 ghost use Rattle.std.specs.FinMap as finite;
 
-use area_routes::follow_graph;
+use area_routes::update_graph;
 use candidates::AreaGraph;
 use lsa::{Lsa, read};
 use lsdb::Lsdb;
@@ -140,7 +140,7 @@ fn is_followed(alloc: Global, db: &mut Lsdb, root: &Root, lsa: Lsa) -> Result<bo
     db.commit();
     let graph = AreaGraph::new(alloc, db, root, before)?;
     db.install(now, lsa, Some(now))?;
-    let next = follow_graph(alloc, db, graph, before, now)?;
+    let next = update_graph(alloc, db, graph, before, now)?;
     Ok(next.is_some())
 }
 

@@ -13,13 +13,13 @@ use Rattle.candidates.specs.Reached.{way_in}
 use Rattle.area_routes.proofs.Candidates.{stay_answered}
 use Rattle.area_routes.proofs.following.follow_from.Goals as goal
 
-pub follow_externals-requires-clause-same : goal.follow_externals-requires-clause-same
-follow_externals-requires-clause-same c =
+pub update_externals-requires-clause-same : goal.update_externals-requires-clause-same
+update_externals-requires-clause-same c =
     subst (λ (d : RouterDatabase). SayTheSame (Some 4) (said_at c.args.before d.committed)
     (said_at c.args.moment d.present)) (sym c.database-db.ensures) c.requires.same
 
-pub follow_externals-requires-clause-inner : goal.follow_externals-requires-clause-inner
-follow_externals-requires-clause-inner c =
+pub update_externals-requires-clause-inner : goal.update_externals-requires-clause-inner
+update_externals-requires-clause-inner c =
     let said = said_at c.args.moment c.args.area.now.present.database in
     let known : Knows said c.args.walk.now.root c.args.inner.now = record {
       ways = way_in c.args.walk.now.reached;
@@ -31,8 +31,8 @@ follow_externals-requires-clause-inner c =
     c.args.inner.now) (sym c.database-db.ensures)
     (subst (λ (r : Root). Knows said r c.args.inner.now) (sym c.root-root.ensures) known)
 
-pub follow_externals-requires-clause-routes : goal.follow_externals-requires-clause-routes
-follow_externals-requires-clause-routes c =
+pub update_externals-requires-clause-routes : goal.update_externals-requires-clause-routes
+update_externals-requires-clause-routes c =
     let said = said_at c.args.before c.args.area.now.committed.database in
     subst (λ (d : RouterDatabase). AreCandidates (said_at c.args.before d.committed)
     c.root-root.result.now c.args.routes.items) (sym c.database-db.ensures)
@@ -41,7 +41,7 @@ follow_externals-requires-clause-routes c =
 
 pub returns-in-SomeNew-clause-candidates : goal.returns-in-SomeNew-clause-candidates
 returns-in-SomeNew-clause-candidates c =
-    let items = c.follow_externals.new.routes.items in
+    let items = c.update_externals.new.routes.items in
     let here = c.database-db.result.now in
     let done = subst (λ (f : Followed). HaveFollowed (said_at c.args.moment here.present)
     c.root-root.result.now c.args.routes.items items f) c.in-SomeNew.is c.in-Ok.ensures in
@@ -52,7 +52,7 @@ returns-in-SomeNew-clause-candidates c =
 
 pub returns-in-NoneNew-clause-candidates : goal.returns-in-NoneNew-clause-candidates
 returns-in-NoneNew-clause-candidates c =
-    let items = c.follow_externals.new.routes.items in
+    let items = c.update_externals.new.routes.items in
     let here = c.database-db.result.now in
     let done = subst (λ (f : Followed). HaveFollowed (said_at c.args.moment here.present)
     c.root-root.result.now c.args.routes.items items f) c.in-NoneNew.is c.in-Ok.ensures in
@@ -63,7 +63,7 @@ returns-in-NoneNew-clause-candidates c =
 
 pub returns-in-NoneNew-clause-none_new : goal.returns-in-NoneNew-clause-none_new
 returns-in-NoneNew-clause-none_new c on =
-    let items = c.follow_externals.new.routes.items in
+    let items = c.update_externals.new.routes.items in
     let here = c.database-db.result.now in
     let old = said_at c.args.before c.args.area.now.committed.database in
     let new = said_at c.args.moment c.args.area.now.present.database in
@@ -77,7 +77,7 @@ returns-in-SomeNew-clause-none_new c on = absurd (false≢true on)
 
 pub returns-in-SomeNew-clause-another : goal.returns-in-SomeNew-clause-another
 returns-in-SomeNew-clause-another c off =
-    let items = c.follow_externals.new.routes.items in
+    let items = c.update_externals.new.routes.items in
     let here = c.database-db.result.now in
     let done = subst (λ (f : Followed). HaveFollowed (said_at c.args.moment here.present)
     c.root-root.result.now c.args.routes.items items f) c.in-SomeNew.is c.in-Ok.ensures in

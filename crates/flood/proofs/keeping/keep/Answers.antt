@@ -4,15 +4,15 @@ use Rattle.area_routes.specs.flooding.Kept.{RouterArea}
 use Rattle.flood.proofs.Kept.{are_kept, walks_then}
 use Rattle.flood.proofs.keeping.keep.Goals as goal
 
-pub follow-requires-clause-routes : goal.follow-requires-clause-routes
-follow-requires-clause-routes c =
+pub update-requires-clause-routes : goal.update-requires-clause-routes
+update-requires-clause-routes c =
     subst (λ (a : RouterArea). AreRoutesOf c.id-own.result a.committed c.args.before
     c.args.routes.now) (sym c.area-area.ensures.parts)
     (subst (λ x. AreRoutesOf x c.args.router.now.committed.area c.args.before c.args.routes.now)
     (sym c.id-own.ensures) c.requires.kept.routes)
 
 pub take_answers-requires : goal.take_answers-requires
-take_answers-requires c = record { routes = c.in_ok-follow.ensures.routes }
+take_answers-requires c = record { routes = c.in_ok-update.ensures.routes }
 
 pub returns-then-brings_answers-clause-kept : goal.returns-then-brings_answers-clause-kept
 returns-then-brings_answers-clause-kept c =
@@ -31,11 +31,11 @@ returns-else-brings_answers-clause-kept c =
     (subst (λ x. AreKept x c.args.router.now.committed.area c.args.before
     c.args.router.now.committed.answers c.args.routes.now) (sym c.id-own.ensures) c.requires.kept)
     in
-    let knows = c.in_ok-follow.ensures.answered c.args.router.now.committed.answers knew in
-    are_kept r c.id-own.result area c.moment-moment.result r.answers c.follow.new.self
+    let knows = c.in_ok-update.ensures.answered c.args.router.now.committed.answers knew in
+    are_kept r c.id-own.result area c.moment-moment.result r.answers c.update.new.self
     c.id-own.ensures (ap (λ (a : RouterArea). a.present) c.area-area.ensures.parts)
     c.moment-moment.ensures refl
-    (subst (λ w. AreKept c.id-own.result area c.moment-moment.result w c.follow.new.self)
+    (subst (λ w. AreKept c.id-own.result area c.moment-moment.result w c.update.new.self)
     (sym (c.requires.answers (sym c.brings_answers.ensures ∙ c.if-brings_answers.false))) knows)
 
 pub returns-then-brings_answers-clause-walks : goal.returns-then-brings_answers-clause-walks
@@ -43,18 +43,18 @@ returns-then-brings_answers-clause-walks c =
     let area = c.area-area.result.now in
     walks_then c.args.before c.args.router.now.present c.args.router.now.committed.area
     c.id-own.result c.moment-moment.result area.committed area.present
-    c.args.routes.now c.follow.new.self c.take_answers.new.self
+    c.args.routes.now c.update.new.self c.take_answers.new.self
     c.id-own.ensures (ap (λ (a : RouterArea). a.committed) c.area-area.ensures.parts)
     (ap (λ (a : RouterArea). a.present) c.area-area.ensures.parts)
     c.moment-moment.ensures c.take_answers.ensures.walk c.take_answers.ensures.behind
-    c.in_ok-follow.ensures.walks
+    c.in_ok-update.ensures.walks
 
 pub returns-else-brings_answers-clause-walks : goal.returns-else-brings_answers-clause-walks
 returns-else-brings_answers-clause-walks c =
     let area = c.area-area.result.now in
     walks_then c.args.before c.args.router.now.present c.args.router.now.committed.area
     c.id-own.result c.moment-moment.result area.committed area.present
-    c.args.routes.now c.follow.new.self c.follow.new.self
+    c.args.routes.now c.update.new.self c.update.new.self
     c.id-own.ensures (ap (λ (a : RouterArea). a.committed) c.area-area.ensures.parts)
     (ap (λ (a : RouterArea). a.present) c.area-area.ensures.parts)
-    c.moment-moment.ensures refl refl c.in_ok-follow.ensures.walks
+    c.moment-moment.ensures refl refl c.in_ok-update.ensures.walks

@@ -8,7 +8,7 @@ use Rattle.kept_routes.specs.Externals.{LeaveCandidates, OfferTheSame}
 use Rattle.kept_routes.specs.Kept.{IsWalkOf, KeptWalk}
 use Rattle.routes.specs.Said.{said_at}
 use Rattle.routes.specs.declared.root.Root.{Root}
-use Rattle.area_routes.proofs.kept.AreaRoutes.follow_routes.Goals as goal
+use Rattle.area_routes.proofs.kept.AreaRoutes.update_routes.Goals as goal
 
 pub leaves_candidates-requires-clause-walk : goal.leaves_candidates-requires-clause-walk
 leaves_candidates-requires-clause-walk c =
@@ -77,23 +77,23 @@ returns-then-branch-2-clause-walks c = record {
   lags = λ on. on;
 }
 
-pub follow_offers-requires-clause-walk : goal.follow_offers-requires-clause-walk
-follow_offers-requires-clause-walk c =
+pub update_offers-requires-clause-walk : goal.update_offers-requires-clause-walk
+update_offers-requires-clause-walk c =
     let old = said_at c.args.before c.args.area.now.committed.database in
     let new = said_at c.args.moment c.args.area.now.present.database in
     let on = ap (λ (k : KeptRoutes). k.behind) (sym c.self.view_is) ∙ c.if-self.false in
     c.walks_are_kept.ensures old new c.args.self.now.walk
     (c.in_ok-says_the_same.ensures.same c.if-branch.true) (c.requires.routes.walk.walk on)
 
-pub follow_offers-requires-clause-candidates : goal.follow_offers-requires-clause-candidates
-follow_offers-requires-clause-candidates c =
+pub update_offers-requires-clause-candidates : goal.update_offers-requires-clause-candidates
+update_offers-requires-clause-candidates c =
     let old = said_at c.args.before c.args.area.now.committed.database in
     let on = ap (λ (k : KeptRoutes). k.behind) (sym c.self.view_is) ∙ c.if-self.false in
     subst (λ (r : Root). KnowsCandidates old r c.args.self.now)
     (sym (c.requires.routes.walk.root on)) c.requires.routes.candidates
 
-pub follow_offers-requires-clause-inner : goal.follow_offers-requires-clause-inner
-follow_offers-requires-clause-inner c =
+pub update_offers-requires-clause-inner : goal.update_offers-requires-clause-inner
+update_offers-requires-clause-inner c =
     let old = said_at c.args.before c.args.area.now.committed.database in
     let on = ap (λ (k : KeptRoutes). k.behind) (sym c.self.view_is) ∙ c.if-self.false in
     subst (λ (r : Root). KnowsInner old r c.args.self.now) (sym (c.requires.routes.walk.root on))
@@ -107,8 +107,8 @@ returns-then-branch-clause-routes c =
     let on = ap (λ (k : KeptRoutes). k.behind) (sym c.self.view_is) ∙ c.if-self.false in
     let walks = c.walks_are_kept.ensures old new c.args.self.now.walk
     (c.in_ok-says_the_same.ensures.same c.if-branch.true) (c.requires.routes.walk.walk on) in
-    let next = c.follow_offers.new.self in
-    let same : next.walk ≡ c.args.self.now.walk = c.follow_offers.ensures.walk in
+    let next = c.update_offers.new.self in
+    let same : next.walk ≡ c.args.self.now.walk = c.update_offers.ensures.walk in
     let begins : c.args.self.now.walk.root ≡ is =
     ap (λ (k : KeptRoutes). k.walk.root) (sym c.self.view_is) ∙ sym c.root.ensures
     ∙ c.is_root_of.ensures.0 c.if-is_root_of.true in
@@ -118,8 +118,8 @@ returns-then-branch-clause-routes c =
         root = λ off. ap (λ (w : KeptWalk). w.root) same ∙ begins;
       };
       candidates = subst (λ (r : Root). KnowsCandidates new r next) begins
-          c.follow_offers.ensures.candidates;
-      inner = subst (λ (r : Root). KnowsInner new r next) begins c.follow_offers.ensures.inner;
+          c.update_offers.ensures.candidates;
+      inner = subst (λ (r : Root). KnowsInner new r next) begins c.update_offers.ensures.inner;
     }
 
 pub returns-then-branch-clause-answered : goal.returns-then-branch-clause-answered
@@ -134,11 +134,11 @@ returns-then-branch-clause-answered c answers knows =
     ∙ c.is_root_of.ensures.0 c.if-is_root_of.true in
     let knew = subst (λ (r : Root). KnowsAnswered old r answers kept)
     (sym (c.requires.routes.walk.root on)) knows in
-    subst (λ (r : Root). KnowsAnswered new r answers c.follow_offers.new.self) begins
-    (c.follow_offers.ensures.answered answers knew)
+    subst (λ (r : Root). KnowsAnswered new r answers c.update_offers.new.self) begins
+    (c.update_offers.ensures.answered answers knew)
 
 pub returns-then-branch-clause-none_new : goal.returns-then-branch-clause-none_new
-returns-then-branch-clause-none_new c brings = c.follow_offers.ensures.none_new brings
+returns-then-branch-clause-none_new c brings = c.update_offers.ensures.none_new brings
 
 pub returns-then-branch-2-clause-none_new : goal.returns-then-branch-2-clause-none_new
 returns-then-branch-2-clause-none_new c brings = refl
@@ -151,14 +151,14 @@ returns-clause-none_new c brings = absurd (let no = brings.are in cc)
 
 pub returns-then-branch-clause-walks : goal.returns-then-branch-clause-walks
 returns-then-branch-clause-walks c = record {
-  walk = c.follow_offers.ensures.walk;
-  serves = λ on stayed. c.follow_offers.ensures.behind ∙ on;
+  walk = c.update_offers.ensures.walk;
+  serves = λ on stayed. c.update_offers.ensures.behind ∙ on;
   falls = λ not. absurd (not (record {
     root = ap (λ (k : KeptRoutes). k.walk.root) (sym c.self.view_is) ∙ sym c.root.ensures
         ∙ c.is_root_of.ensures.0 c.if-is_root_of.true;
     lsas = c.in_ok-says_the_same.ensures.left.0 c.if-branch.true;
   }));
-  lags = λ on. c.follow_offers.ensures.behind ∙ on;
+  lags = λ on. c.update_offers.ensures.behind ∙ on;
 }
 
 pub returns-then-branch-clause-candidates : goal.returns-then-branch-clause-candidates

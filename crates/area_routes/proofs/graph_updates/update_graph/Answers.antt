@@ -8,7 +8,7 @@ use Rattle.kept_routes.specs.Sameness.{SayTheSame}
 use Rattle.routes.specs.Said.{Said, said_at}
 use Rattle.routes.specs.declared.node.Node.{Node}
 use Rattle.words.specs.declared.key.Key.{Key}
-use Rattle.area_routes.proofs.graph_updates.follow_graph.Goals as goal
+use Rattle.area_routes.proofs.graph_updates.update_graph.Goals as goal
 
 pub returns-then-branch-clause-graph : goal.returns-then-branch-clause-graph
 returns-then-branch-clause-graph c =
