@@ -12,7 +12,7 @@ use crate::surroundings::Surroundings;
 use area_graph::NETWORK_LSA;
 use candidates::AreaGraph;
 use external_updates::changed_keys;
-use kept_routes::say_the_same;
+use kept_routes::lsas_are_unchanged;
 use routes::{Lsdb, Root, Vertex};
 use std::alloc::{AllocError, Global};
 use words::Second;
@@ -104,7 +104,7 @@ pub fn update_graph(
         (IsAreaGraph (said_at moment db.now.present))) }
     ensures root { IfOk result (λ next. IfSome next (λ followed. followed.root ≡ graph.root)) }
 {
-    if say_the_same(alloc, db, Some(NETWORK_LSA), before, moment)? {
+    if lsas_are_unchanged(alloc, db, Some(NETWORK_LSA), before, moment)? {
         return Ok(Some(graph));
     }
     let keys = changed_keys(alloc, db, before, moment)?;

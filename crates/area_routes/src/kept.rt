@@ -24,7 +24,7 @@ use external_updates::changed_keys;
 use external_updates::laws::inner_routes_are_kept;
 use flooding::Area;
 use kept_routes::laws::{candidates_are_kept, walks_are_kept};
-use kept_routes::{Routes, leave_candidates, say_the_same};
+use kept_routes::{Routes, leave_candidates, lsas_are_unchanged};
 use routes::Root;
 use std::alloc::{AllocError, Global};
 use std::marker::Model;
@@ -108,7 +108,7 @@ fn leaves_candidates(
 
 // Whether the LSAs of the types up to this one, or of all types, say what they said before the
 // event.
-fn says_the_same(
+fn area_lsas_are_unchanged(
     alloc: Global,
     area: &Area,
     last_type: Option<u32>,
@@ -122,7 +122,7 @@ fn says_the_same(
         area.now.committed.database area.now.present.database) }
 {
     let db = area.database();
-    let same = say_the_same(alloc, db, last_type, before, moment)?;
+    let same = lsas_are_unchanged(alloc, db, last_type, before, moment)?;
     Ok(same)
 }
 
@@ -412,7 +412,7 @@ impl AreaRoutes {
             return Ok(());
         }
         if is_root_of(self.walk.root(), router, area) {
-            if says_the_same(alloc, area, Some(2), before, moment)? {
+            if area_lsas_are_unchanged(alloc, area, Some(2), before, moment)? {
                 if leaves_candidates(alloc, area, &self.walk, before, moment)? {
                     return Ok(());
                 }
@@ -455,7 +455,7 @@ impl AreaRoutes {
             → self.new.answered ≡ self.old.answered }
     {
         inner_routes_are_kept();
-        if let Ok(same) = says_the_same(alloc, area, Some(4), before, moment) {
+        if let Ok(same) = area_lsas_are_unchanged(alloc, area, Some(4), before, moment) {
             if same {
                 self.update_externals(alloc, area, before, moment);
                 return;

@@ -11,7 +11,7 @@ use Rattle.std.proofs.lemmas.Bool.{cases_eq}
 use mathlib.Core.Bool.{false≢true}
 use Rattle.keyed_map.specs.Keys.{key_cmp}
 use Rattle.keyed_map.proofs.Keys.{keys_exact}
-use Rattle.routes.specs.lsdb.Changes.{HaveNoMaxAge, HaveOneAge, IsUpTo, SaysTheSame}
+use Rattle.routes.specs.lsdb.Changes.{HaveNoMaxAge, HaveOneAge, IsUpTo, ContentsAgree}
 use Rattle.routes.specs.lsdb.Copies.{Database, DatabaseCopy, aged_keys, is_aged_out}
 use Rattle.routes.specs.Said.{said_at, said_by}
 use Rattle.kept_routes.specs.Ages.{AreOld}
@@ -130,7 +130,7 @@ module _ (before moment : ℕ) (order : before ≤ moment) (a b : DatabaseCopy)
       λ i. cond (both i) None (Some (body i))
 
 pub says_same : (before moment : ℕ) → before ≤ moment → (a b : Option DatabaseCopy)
-    → SaysTheSame moment a b → ((copy : DatabaseCopy) → b ≡ Some copy
+    → ContentsAgree moment a b → ((copy : DatabaseCopy) → b ≡ Some copy
     → is_aged_out moment copy ≡ true → is_aged_out before copy ≡ true)
     → said_by before a ≡ said_by moment b
 says_same before moment order None None same old = refl
@@ -154,7 +154,7 @@ all_same last_type before moment old new order left key of =
 -- only copies at MaxAge could have reached it
 pub all_left : (last_type : Option ℕ) (before moment : ℕ) (old new : Database)
     → ((key : Key) → IsUpTo last_type key
-    → SaysTheSame moment (finite.get old key) (finite.get new key))
+    → ContentsAgree moment (finite.get old key) (finite.get new key))
     → AreOld last_type before moment new (aged_keys moment new)
     → AreLeft last_type before moment old new
 all_left last_type before moment old new same old_ones key of = record {
@@ -166,7 +166,7 @@ all_left last_type before moment old new same old_ones key of = record {
 
 pub keeps_all : (last_type : Option ℕ) (before moment : ℕ) (old new : Database)
     → AreLeft last_type before moment old new → (key : Key) → IsUpTo last_type key
-    → SaysTheSame moment (finite.get old key) (finite.get new key)
+    → ContentsAgree moment (finite.get old key) (finite.get new key)
 keeps_all last_type before moment old new left key of = (left key of).same
 
 pub olds_all : (last_type : Option ℕ) (before moment : ℕ) (old new : Database) (keys : List Key)

@@ -24,7 +24,7 @@ use Rattle.routes.specs.declared.node.Node.TheVariants.{ARouter}
 use Rattle.candidates.specs.Borders.{IsFlagged}
 use Rattle.candidates.specs.Ways.{AreWays, Ways}
 use Rattle.candidates.specs.Reached.{way_in}
-use Rattle.routes.specs.lsdb.Changes.{SaysTheSame}
+use Rattle.routes.specs.lsdb.Changes.{ContentsAgree}
 use Rattle.routes.specs.lsdb.Silence.{SaysNoMore}
 use Rattle.kept_routes.specs.Externals.{AreOldOrLeftOut, IsUnreached, LeaveCandidates, OfferTheSame}
 use Rattle.kept_routes.specs.Externals.{OffersNothing}
@@ -187,7 +187,7 @@ module _ (before moment : ℕ) (old new : Database) (walk : KeptWalk) where
       all_old_within None before moment new keys same key among
 
   pub others_keep : LeaveCandidates before moment old new walk → (key : Key) → Counts key
-      → SaysTheSame moment (finite.get old key) (finite.get new key)
+      → ContentsAgree moment (finite.get old key) (finite.get new key)
   others_keep left key counts = (left key counts).same
 
   pub others_are_old : (keys : List Key) → LeaveCandidates before moment old new walk

@@ -1,7 +1,7 @@
 -- LSAs that are unchanged (RFC 2328, section 16).
 use Rattle.std.specs.Prelude.{◌≡◌, ℕ, Option, Some}
 use Rattle.std.specs.FinMap as finite
-use Rattle.routes.specs.lsdb.Changes.{IsUpTo, SaysTheSame}
+use Rattle.routes.specs.lsdb.Changes.{IsUpTo, ContentsAgree}
 use Rattle.routes.specs.lsdb.Copies.{Database, DatabaseCopy}
 use Rattle.kept_routes.specs.Ages.{IsOldCopy}
 use Rattle.routes.specs.Said.{Said}
@@ -17,7 +17,7 @@ SayTheSame last_type old new = (key : Key) → IsUpTo last_type key → old key 
 -- (section 13.2)
 pub record IsLeft (before : Moment) (moment : Moment) (old : Option DatabaseCopy)
     (new : Option DatabaseCopy) : Type 0 where
-  pub same : SaysTheSame moment old new
+  pub same : ContentsAgree moment old new
   pub old_copy : (copy : DatabaseCopy) → new ≡ Some copy → IsOldCopy before moment copy
 
 -- the same for the LSAs of the types up to this one, or of all types if there is none

@@ -8,5 +8,5 @@ mod sameness;
 mod walks;
 
 pub use externals::leave_candidates;
-pub use sameness::say_the_same;
+pub use sameness::lsas_are_unchanged;
 pub use walks::Routes;

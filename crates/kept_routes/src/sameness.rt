@@ -22,7 +22,7 @@ use words::{Key, Second};
 ///
 /// # Errors
 /// `AllocError` if an allocation is refused.
-pub fn say_the_same(
+pub fn lsas_are_unchanged(
     alloc: Global,
     db: &Lsdb,
     last_type: Option<u32>,

@@ -1,11 +1,11 @@
 -- Copies that say the same.
 use Rattle.std.proofs.Common.{ℕ, inl, Bool, true, false, MatchBool, Some, None, refl}
 use Rattle.std.specs.Prelude.{Option, IsTrue, ◌↔◌}
-use Rattle.lsdb.specs.Changes.{SaysTheSame}
+use Rattle.lsdb.specs.Changes.{ContentsAgree}
 use Rattle.lsdb.specs.Copies.{DatabaseCopy}
 
 -- each copy says the same as itself
-pub says_as_itself : (moment : ℕ) (o : Option DatabaseCopy) → SaysTheSame moment o o
+pub says_as_itself : (moment : ℕ) (o : Option DatabaseCopy) → ContentsAgree moment o o
 says_as_itself moment None = tt
 says_as_itself moment (Some c) = (refl, inl (refl, refl))
 

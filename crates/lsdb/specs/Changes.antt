@@ -20,12 +20,12 @@ HaveNoMaxAge moment a b = (is_aged_out moment a ≡ false) × (is_aged_out momen
 -- The earlier copy and the present one say the same at the moment, or neither exists: their LSAs
 -- have one body, and either the same age or neither has MaxAge. The other header fields don't
 -- matter, nor do the moments at which they were installed and sent.
-abbrev pub SaysTheSame : Moment → (before : Option DatabaseCopy) → (now : Option DatabaseCopy)
+abbrev pub ContentsAgree : Moment → (before : Option DatabaseCopy) → (now : Option DatabaseCopy)
     → Type 0
-SaysTheSame moment None None = Unit {0}
-SaysTheSame moment None (Some b) = ⊥
-SaysTheSame moment (Some a) None = ⊥
-SaysTheSame moment (Some a) (Some b) =
+ContentsAgree moment None None = Unit {0}
+ContentsAgree moment None (Some b) = ⊥
+ContentsAgree moment (Some a) None = ⊥
+ContentsAgree moment (Some a) (Some b) =
     (a.lsa.body ≡ b.lsa.body) × (HaveOneAge a b ⊎ HaveNoMaxAge moment a b)
 
 -- the length of an LSA's header in bytes (RFC 2328, section A.4.1)

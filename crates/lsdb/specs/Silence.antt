@@ -1,7 +1,7 @@
 -- Keys whose copies say nothing.
 use Rattle.std.specs.Prelude.{◌≡◌, ◌⊎◌, Option, None}
 use Rattle.words.specs.Numbers.{Moment}
-use Rattle.lsdb.specs.Changes.{SaysTheSame}
+use Rattle.lsdb.specs.Changes.{ContentsAgree}
 use Rattle.lsdb.specs.Copies.{DatabaseCopy, said_by}
 
 -- the earlier copy said nothing at the moment `before`, and the present one says nothing at
@@ -15,4 +15,4 @@ pub record StaysSilent (before : Moment) (moment : Moment) (old : Option Databas
 abbrev pub SaysNoMore : (before : Moment) → (moment : Moment) → (old : Option DatabaseCopy)
     → (new : Option DatabaseCopy) → Type 0
 SaysNoMore before moment old new =
-    SaysTheSame moment old new ⊎ StaysSilent before moment old new
+    ContentsAgree moment old new ⊎ StaysSilent before moment old new

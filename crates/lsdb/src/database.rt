@@ -9,7 +9,7 @@ ghost use Rattle.lsdb.specs.Copies.{
   said_by,
 };
 ghost use Rattle.lsdb.specs.Bodies.{AreBodies};
-ghost use Rattle.lsdb.specs.Changes.{IsUpTo, SaysTheSame};
+ghost use Rattle.lsdb.specs.Changes.{IsUpTo, ContentsAgree};
 ghost use Rattle.words.specs.declared.key.Key.{Key as KeyValue};
 ghost use Rattle.lsdb.specs.Limits.{exceeds, has_room, own_externals};
 
@@ -20,7 +20,7 @@ use crate::ages::{Ages, foresee, foresee_again};
 use crate::database_copy::DatabaseCopy;
 use crate::keyed_bodies::{KeyedBody, bodies_of};
 use crate::limits::{MOST_LSAS, MOST_OWN_EXTERNALS, holds_own, is_own_external, recount};
-use crate::sameness::says_the_same;
+use crate::sameness::contents_agree;
 use crate::stored::StoredLsa;
 use crate::times::CopyTimes;
 use keyed_map::{ChangeTest, KeyTest, KeyedMap, KeysInOrder};
@@ -111,9 +111,9 @@ struct SameUpTo {
 }
 
 impl ChangeTest<StoredLsa> for SameUpTo {
-    ghost use Rattle.lsdb.specs.Changes.{IsUpTo, SaysTheSame};
+    ghost use Rattle.lsdb.specs.Changes.{IsUpTo, ContentsAgree};
 
-    ghost same = { λ a key before now. IsUpTo a.last_type key → SaysTheSame a.moment before now };
+    ghost same = { λ a key before now. IsUpTo a.last_type key → ContentsAgree a.moment before now };
 
     ghost counted = { λ a key. IsUpTo a.last_type key };
 
@@ -128,7 +128,7 @@ impl ChangeTest<StoredLsa> for SameUpTo {
         before: Option<&StoredLsa>,
         now: Option<&StoredLsa>,
     ) -> Result<bool, AllocError> {
-        says_the_same(alloc, self.moment, before, now)
+        contents_agree(alloc, self.moment, before, now)
     }
 }
 
@@ -323,7 +323,7 @@ impl Lsdb {
         moment: Second,
     ) -> Result<bool, AllocError>
         ensures { IfOk result (λ keeps. IsTrue keeps ↔ ((key : KeyValue) → IsUpTo last_type key
-            → SaysTheSame moment
+            → ContentsAgree moment
             (finite.get self.now.committed key) (finite.get self.now.present key))) }
     {
         self.copies.keeps(alloc, &SameUpTo { last_type, moment })

@@ -1,7 +1,7 @@
 //! Whether two copies of one key say the same (RFC 2328, section 13.2).
 ghost use Rattle.std.specs.Prelude.{◌≡◌, ◌≤◌, ◌↔◌, ◌⊎◌, drop, length, IfOk, IsTrue, None};
 ghost use Rattle.std.specs.Prelude.{option_copied};
-ghost use Rattle.lsdb.specs.Changes.{HaveNoMaxAge, HaveOneAge, SaysTheSame, header_length};
+ghost use Rattle.lsdb.specs.Changes.{HaveNoMaxAge, HaveOneAge, ContentsAgree, header_length};
 ghost use Rattle.lsdb.specs.Copies.{said_by};
 ghost use Rattle.lsdb.specs.Silence.{SaysNoMore, StaysSilent};
 
@@ -16,27 +16,27 @@ use words::Second;
 ///
 /// # Errors
 /// `AllocError` if an allocation for their bytes, which are compared, is refused.
-pub fn says_the_same(
+pub fn contents_agree(
     alloc: Global,
     moment: Second,
     before: Option<&StoredLsa>,
     now: Option<&StoredLsa>,
 ) -> Result<bool, AllocError>
     ensures { IfOk result (λ same. IsTrue same
-        ↔ SaysTheSame moment (option_copied before.entry) (option_copied now.entry)) }
+        ↔ ContentsAgree moment (option_copied before.entry) (option_copied now.entry)) }
 {
     match before {
         None => Ok(now.is_none()),
         Some(old) => match now {
             None => Ok(false),
-            Some(new) => say_the_same(alloc, moment, old, new),
+            Some(new) => copies_agree(alloc, moment, old, new),
         },
     }
 }
 
 // Whether both copies have one body, and one age or no MaxAge at the moment. The bodies of copies
 // whose ages differ aren't compared.
-fn say_the_same(
+fn copies_agree(
     alloc: Global,
     moment: Second,
     old: &StoredLsa,
@@ -118,7 +118,7 @@ pub fn says_no_more(
     if stays_silent(before, moment, old, new) {
         return Ok(true);
     }
-    says_the_same(alloc, moment, old, new)
+    contents_agree(alloc, moment, old, new)
 }
 
 // Whether the earlier copy said nothing at the moment `before`, and the present one says nothing at

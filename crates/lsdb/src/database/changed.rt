@@ -3,7 +3,7 @@
 ghost use Rattle.std.specs.Prelude.{◌≡◌, IfOk, option_copied};
 ghost use Rattle.std.specs.FinMap as finite;
 ghost use Rattle.std.specs.List.{Contains};
-ghost use Rattle.lsdb.specs.Changes.{SaysTheSame};
+ghost use Rattle.lsdb.specs.Changes.{ContentsAgree};
 ghost use Rattle.lsdb.specs.Copies.{said_by};
 ghost use Rattle.words.specs.declared.key.Key.{Key as KeyValue};
 
@@ -22,10 +22,10 @@ impl Lsdb {
     /// refused.
     pub fn changed_keys(&self, alloc: Global, moment: Second) -> Result<Vec<Key>, AllocError>
         ensures changed { IfOk result (λ keys. (key : KeyValue) → Contains keys.items key
-            → SaysTheSame moment (finite.get self.now.committed key)
+            → ContentsAgree moment (finite.get self.now.committed key)
             (finite.get self.now.present key) → ⊥) }
         ensures others { IfOk result (λ keys. (key : KeyValue) → (Contains keys.items key → ⊥)
-            → SaysTheSame moment
+            → ContentsAgree moment
             (finite.get self.now.committed key) (finite.get self.now.present key)) }
     {
         let test = SameUpTo {

@@ -2,7 +2,7 @@
 ghost use Rattle.std.specs.Prelude.{◌≡◌, ◌↔◌, IfOk, IsTrue, false, slice_get, take, true};
 ghost use Rattle.std.specs.FinMap as finite;
 ghost use Rattle.keyed_map.specs.Slots.{keys_from};
-ghost use Rattle.lsdb.specs.Changes.{SaysTheSame};
+ghost use Rattle.lsdb.specs.Changes.{ContentsAgree};
 ghost use Rattle.lsdb.specs.Silence.{SaysNoMore};
 ghost use Rattle.words.specs.declared.key.Key.{Key as KeyValue};
 
@@ -86,7 +86,7 @@ impl Lsdb {
             → (T.leaves_out rule.now key → ⊥) → SaysNoMore before moment
             (finite.get self.now.committed key) (finite.get self.now.present key)) }
         ensures kept { IfOk result (λ keeps. ((key : KeyValue)
-            → (T.leaves_out rule.now key → ⊥) → SaysTheSame moment
+            → (T.leaves_out rule.now key → ⊥) → ContentsAgree moment
             (finite.get self.now.committed key) (finite.get self.now.present key))
             → IsTrue keeps) }
     {

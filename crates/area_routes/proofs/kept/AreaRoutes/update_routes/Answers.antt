@@ -37,7 +37,7 @@ returns-then-branch-2-clause-routes c =
     record {
       walk = still_walks old new was is kept serves begins c.requires.routes.walk
           (c.walks_are_kept.ensures old new kept.walk
-          (c.in_ok-says_the_same.ensures.same c.if-branch.true));
+          (c.in_ok-area_lsas_are_unchanged.ensures.same c.if-branch.true));
       candidates = still_offers old new was is kept serves begins c.requires.routes.walk
           (λ routes. c.candidates_are_kept.ensures.candidates old new was routes same)
           c.requires.routes.candidates;
@@ -72,7 +72,7 @@ returns-then-branch-2-clause-walks c = record {
   falls = λ not. absurd (not (record {
     root = ap (λ (k : KeptRoutes). k.walk.root) (sym c.self.view_is) ∙ sym c.root.ensures
         ∙ c.is_root_of.ensures.0 c.if-is_root_of.true;
-    lsas = c.in_ok-says_the_same.ensures.left.0 c.if-branch.true;
+    lsas = c.in_ok-area_lsas_are_unchanged.ensures.left.0 c.if-branch.true;
   }));
   lags = λ on. on;
 }
@@ -83,7 +83,7 @@ update_offers-requires-clause-walk c =
     let new = said_at c.args.moment c.args.area.now.present.database in
     let on = ap (λ (k : KeptRoutes). k.behind) (sym c.self.view_is) ∙ c.if-self.false in
     c.walks_are_kept.ensures old new c.args.self.now.walk
-    (c.in_ok-says_the_same.ensures.same c.if-branch.true) (c.requires.routes.walk.walk on)
+    (c.in_ok-area_lsas_are_unchanged.ensures.same c.if-branch.true) (c.requires.routes.walk.walk on)
 
 pub update_offers-requires-clause-candidates : goal.update_offers-requires-clause-candidates
 update_offers-requires-clause-candidates c =
@@ -106,7 +106,7 @@ returns-then-branch-clause-routes c =
     let is = root_by c.args.router c.args.area.now.present.links in
     let on = ap (λ (k : KeptRoutes). k.behind) (sym c.self.view_is) ∙ c.if-self.false in
     let walks = c.walks_are_kept.ensures old new c.args.self.now.walk
-    (c.in_ok-says_the_same.ensures.same c.if-branch.true) (c.requires.routes.walk.walk on) in
+    (c.in_ok-area_lsas_are_unchanged.ensures.same c.if-branch.true) (c.requires.routes.walk.walk on) in
     let next = c.update_offers.new.self in
     let same : next.walk ≡ c.args.self.now.walk = c.update_offers.ensures.walk in
     let begins : c.args.self.now.walk.root ≡ is =
@@ -156,7 +156,7 @@ returns-then-branch-clause-walks c = record {
   falls = λ not. absurd (not (record {
     root = ap (λ (k : KeptRoutes). k.walk.root) (sym c.self.view_is) ∙ sym c.root.ensures
         ∙ c.is_root_of.ensures.0 c.if-is_root_of.true;
-    lsas = c.in_ok-says_the_same.ensures.left.0 c.if-branch.true;
+    lsas = c.in_ok-area_lsas_are_unchanged.ensures.left.0 c.if-branch.true;
   }));
   lags = λ on. c.update_offers.ensures.behind ∙ on;
 }

@@ -1,7 +1,7 @@
 use Rattle.std.proofs.Common.{inl, sym, subst}
 use Rattle.std.proofs.lemmas.Result.{IfOk-weaker}
 use Rattle.std.specs.FinMap as finite
-use Rattle.lsdb.specs.Changes.{SaysTheSame}
+use Rattle.lsdb.specs.Changes.{ContentsAgree}
 use Rattle.lsdb.specs.Kept.{RouterDatabase}
 use Rattle.lsdb.specs.Silence.{SaysNoMore}
 use Rattle.lsdb.proofs.Changes.{says_as_itself}
@@ -20,5 +20,5 @@ returns-clause-same g c =
 pub returns-clause-kept : goal.returns-clause-kept
 returns-clause-kept g c =
     IfOk-weaker c.keeps.result _ _ (λ keeps is all. is.1 (λ key of. inl (
-    subst (λ (d : RouterDatabase). SaysTheSame c.args.moment (finite.get d.committed key)
+    subst (λ (d : RouterDatabase). ContentsAgree c.args.moment (finite.get d.committed key)
     (finite.get d.present key)) (sym c.self.view_is) (all key of)))) c.keeps.ensures

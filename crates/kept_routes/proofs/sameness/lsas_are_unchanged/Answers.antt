@@ -1,7 +1,7 @@
 use Rattle.std.proofs.Common.{◌∙◌, refl, subst, sym}
 use Rattle.kept_routes.specs.Ages.{AreOld}
 use Rattle.kept_routes.proofs.Aging.{all_left, all_old_within, all_same, keeps_all, olds_all}
-use Rattle.kept_routes.proofs.sameness.say_the_same.Goals as goal
+use Rattle.kept_routes.proofs.sameness.lsas_are_unchanged.Goals as goal
 
 pub returns-clause-same : goal.returns-clause-same
 returns-clause-same c = λ t.
