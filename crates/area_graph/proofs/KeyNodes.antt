@@ -262,18 +262,18 @@ ascend said (e ∷ es) says order =
 
 pub are_nodes : (said : Said) (es : List (Key × LsaBody)) → AreBodies (Some 2) said es
     → AreNodes said (filter_map node_of es)
-are_nodes said es told =
+are_nodes said es advertised =
     let says : (one : Key × LsaBody) → Contains es one → said one.0 ≡ Some one.1 =
-    λ one among. ((told.each one.0 one.1).0 among).1 in
+    λ one among. ((advertised.each one.0 one.1).0 among).1 in
     record {
       each = λ node. (
         (λ among. let source = filtered_out node_of es node among in
             (is_node said source.from node (says source.from source.among) source.gives).has),
         (λ has. let at = at_key said node has in
             filtered_in node_of es (key_of node, at.says) node
-            ((told.each (key_of node) at.says).1 (at.low, at.its)) at.made),
+            ((advertised.each (key_of node) at.says).1 (at.low, at.its)) at.made),
       );
-      ascend = ascend said es says told.ascend;
+      ascend = ascend said es says advertised.ascend;
     }
 
 pub few : (es : List (Key × LsaBody)) (n : ℕ) → length es ≤ n → length (filter_map node_of es) ≤ n

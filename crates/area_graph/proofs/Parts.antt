@@ -15,7 +15,7 @@ use Rattle.routes.specs.declared.node.Node.{Node}
 use Rattle.routes.specs.declared.node.Node.TheVariants.{ANetwork, ARouter}
 use Rattle.routes.specs.declared.root.Root.{Root}
 use Rattle.routes.proofs.Lists.{of_empty}
-use Rattle.area_graph.specs.Entries.{AreEntries, HasEntry, IsToldAs, attached_entry}
+use Rattle.area_graph.specs.Entries.{AreEntries, HasEntry, IsAdvertisedAs, attached_entry}
 use Rattle.area_graph.specs.Graphs.{Adds, AreLinksFrom, IsLinkFrom, IsNoDearer, OfEach, StandsAt}
 use Rattle.area_graph.specs.Links.{IsCheapest, IsOwnTransit, IsToListed, IsToNetwork, IsToRouter}
 use Rattle.area_graph.specs.Links.{IsToSomeNetwork}
@@ -54,7 +54,7 @@ module _ (said : Said) (root : Root) (nodes : List Node) where
       (λ has. none-some has.0 (sym is ∙ ap network_in has.1)) links none
 
 module _ (said : Said) (root : Root) (nodes : List Node) (entries : List AdvertisedLink)
-    (told : AreEntries said nodes entries) where
+    (advertised : AreEntries said nodes entries) where
   -- ---- from a router
 
   module _ (router : ℕ) (lsa : RouterLsa) (is : router_lsa said router ≡ Some lsa) where
@@ -79,7 +79,7 @@ module _ (said : Said) (root : Root) (nodes : List Node) (entries : List Adverti
         record {
           target = ARouter o.0.link_id;
           stands = t.stands;
-          leads = (counts, point_back said nodes entries told o.0.link_id router t.back);
+          leads = (counts, point_back said nodes entries advertised o.0.link_id router t.back);
         }
 
     module _ (x : VertexLink) (s : IsToSomeNetwork root entries router lsa.links x) (by : ℕ)
@@ -112,7 +112,7 @@ module _ (said : Said) (root : Root) (nodes : List Node) (entries : List Adverti
       other_network : (router ≡ root.router → ⊥) → IsLinkFrom said root nodes (ARouter router) x
       other_network off =
           let c = s.leads.other off in
-          let h = transit_of said nodes entries told router s.entry.id x.cost c.least.1 in
+          let h = transit_of said nodes entries advertised router s.entry.id x.cost c.least.1 in
           let counts : Counts said root router kinds.Transit s.entry.id x.cost x.interface =
           record {
             link = h.0;
@@ -133,8 +133,8 @@ module _ (said : Said) (root : Root) (nodes : List Node) (entries : List Adverti
     to_network : (x : VertexLink) → IsToSomeNetwork root entries router lsa.links x
         → IsLinkFrom said root nodes (ARouter router) x
     to_network x s =
-        let K : EntryKind → Type 0 = λ k. IsToldAs said nodes k s.entry in
-        let listed = (subst K s.is_kind ((told.each s.entry).0 s.among)).0 in
+        let K : EntryKind → Type 0 = λ k. IsAdvertisedAs said nodes k s.entry in
+        let listed = (subst K s.is_kind ((advertised.each s.entry).0 s.among)).0 in
         let R : ℕ → Type 0 = λ r. ListsRouter said s.entry.id listed.0 r in
         let lists = subst R s.is_router listed.2 in
         elim (cases_eq router root.router) [
@@ -166,7 +166,7 @@ module _ (said : Said) (root : Root) (nodes : List Node) (entries : List Adverti
             is_kind = c.is_kind;
             counts = omega (arith, c.costs, c.not_free);
             stands = subst P (sym c.is_id) stands;
-            back = subst Q (sym c.is_id) (back_point said nodes entries told id router l.1);
+            back = subst Q (sym c.is_id) (back_point said nodes entries advertised id router l.1);
             leads = (
               refl,
               sym c.costs,
@@ -184,7 +184,7 @@ module _ (said : Said) (root : Root) (nodes : List Node) (entries : List Adverti
       module _ (x : VertexLink) (id by : ℕ) (stands : StandsAt nodes (ANetwork id by) x.to)
           (l : LeadsTo said root (ARouter router) (ANetwork id by) x.cost x.interface) where
         listed : Contains entries (attached_entry id x.to router)
-        listed = (told.each (attached_entry id x.to router)).1 ((by, stands, l.1), refl)
+        listed = (advertised.each (attached_entry id x.to router)).1 ((by, stands, l.1), refl)
 
         found_own : router ≡ root.router → Found x
         found_own own =
@@ -214,7 +214,7 @@ module _ (said : Said) (root : Root) (nodes : List Node) (entries : List Adverti
         found_other : (router ≡ root.router → ⊥) → Found x
         found_other off =
             let c = l.0 in
-            let has = of_transit said nodes entries told router id x.cost
+            let has = of_transit said nodes entries advertised router id x.cost
             (c.link, c.its, c.is_kind, c.is_id, c.costs) in
             let m = least_exists router Transit id 1 entries x.cost (omega (arith, c.not_free)) has
             in
@@ -273,7 +273,7 @@ module _ (said : Said) (root : Root) (nodes : List Node) (entries : List Adverti
           in
           let t : IsToListed nodes entries id router x = record {
             stands = stands;
-            back = back_transit said nodes entries told router id l.1;
+            back = back_transit said nodes entries advertised router id l.1;
             free = l.2;
             exit = l.3;
           } in
@@ -293,7 +293,7 @@ module _ (said : Said) (root : Root) (nodes : List Node) (entries : List Adverti
                 its = listed_by;
                 among = o.1;
               },
-              transit_back said nodes entries told o.0 id o.2.back,
+              transit_back said nodes entries advertised o.0 id o.2.back,
               o.2.free,
               o.2.exit,
             );

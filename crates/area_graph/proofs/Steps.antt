@@ -8,7 +8,7 @@ use Rattle.std.specs.List.{All, Contains}
 use Rattle.std.specs.List.Sorted.{IsSorted}
 use Rattle.std.specs.Result.{OnOk}
 use Rattle.std.specs.declared.cmp.Ordering.TheVariants.{Less}
-use Rattle.lsa.specs.declared.body.RouterLink.{RouterLink as Told}
+use Rattle.lsa.specs.declared.body.RouterLink.{RouterLink}
 use Rattle.lsa.specs.declared.body.LinkKind.TheVariants as kinds
 use Rattle.routes.specs.declared.graph.VertexLink.{VertexLink}
 use Rattle.routes.specs.declared.node.Node.{Node}
@@ -165,24 +165,24 @@ same_neighbor nodes entries kind router other id its at to e f g is =
     subst R g (subst Q f (subst P e is))
 
 module _ (root : Root) (nodes : List Node) (entries : List AdvertisedLink) (router : ℕ)
-    (told : Told) where
+    (advertised : RouterLink) where
   pub no_neighbor : (xs : List VertexLink)
-      → IsNeighborAt nodes entries told.link_id PointToPoint router None
-      → Adds (IsToRouter root nodes entries router told) xs xs
-  no_neighbor xs none = adds_none (IsToRouter root nodes entries router told) xs
+      → IsNeighborAt nodes entries advertised.link_id PointToPoint router None
+      → Adds (IsToRouter root nodes entries router advertised) xs xs
+  no_neighbor xs none = adds_none (IsToRouter root nodes entries router advertised) xs
       (λ x t. none t.back)
 
   -- it has one index
   pub to_neighbor : (to : ℕ) (xs ys : List VertexLink) → Ascend nodes
-      → told.kind ≡ kinds.PointToPoint → 0 < told.metric
-      → IsNeighborAt nodes entries told.link_id PointToPoint router (Some to)
-      → Adds (IsExitTo root router to told.metric told.link_data) xs ys
-      → Adds (IsToRouter root nodes entries router told) xs ys
+      → advertised.kind ≡ kinds.PointToPoint → 0 < advertised.metric
+      → IsNeighborAt nodes entries advertised.link_id PointToPoint router (Some to)
+      → Adds (IsExitTo root router to advertised.metric advertised.link_data) xs ys
+      → Adds (IsToRouter root nodes entries router advertised) xs ys
   to_neighbor to xs ys ascend kind counts at a =
-      adds_same (IsExitTo root router to told.metric told.link_data)
-      (IsToRouter root nodes entries router told) xs ys
+      adds_same (IsExitTo root router to advertised.metric advertised.link_data)
+      (IsToRouter root nodes entries router advertised) xs ys
       (λ x e.
-      let P : ℕ → Type 0 = λ k. StandsAt nodes (ARouter told.link_id) k in
+      let P : ℕ → Type 0 = λ k. StandsAt nodes (ARouter advertised.link_id) k in
       record {
         is_kind = kind;
         counts = counts;
@@ -191,14 +191,14 @@ module _ (root : Root) (nodes : List Node) (entries : List AdvertisedLink) (rout
         leads = (refl, e.1, e.2);
       })
       (λ x t. (
-        one_place nodes ascend (ARouter told.link_id) x.to to t.stands at.0,
+        one_place nodes ascend (ARouter advertised.link_id) x.to to t.stands at.0,
         t.leads.1,
         t.leads.2,
       )) a
 
 -- ---- to the network of one entry
 
-module _ (root : Root) (entries : List AdvertisedLink) (router : ℕ) (told_links : List Told)
+module _ (root : Root) (entries : List AdvertisedLink) (router : ℕ) (told_links : List RouterLink)
     (entry : AdvertisedLink)
   where
     pub network_at_root : (xs ys : List VertexLink) → router ≡ root.router
@@ -251,7 +251,7 @@ module _ (entries : List AdvertisedLink) (router : ℕ) (entry : AdvertisedLink)
 
 -- ---- to the networks of all entries that list the router
 
-module _ (root : Root) (entries : List AdvertisedLink) (router : ℕ) (told_links : List Told) where
+module _ (root : Root) (entries : List AdvertisedLink) (router : ℕ) (told_links : List RouterLink) where
   abbrev To : AdvertisedLink → VertexLink → Type 0
   To = IsToNetwork root entries router told_links
 

@@ -16,7 +16,7 @@ use Rattle.routes.specs.declared.node.Node.{Node}
 use Rattle.routes.specs.declared.node.Node.TheVariants.{ANetwork, ARouter}
 use Rattle.routes.proofs.Lists.{of_empty}
 use Rattle.area_graph.specs.Entries.{AreEntries, AreOrdered, HasEntry, HasLinkOf, HasMetric}
-use Rattle.area_graph.specs.Entries.{IsToldAs, TellsOf, attached_entry, entry_cmp, entry_of}
+use Rattle.area_graph.specs.Entries.{IsAdvertisedAs, TellsOf, attached_entry, entry_cmp, entry_of}
 use Rattle.area_graph.specs.Entries.{link_entry, rank, with_kind}
 use Rattle.area_graph.specs.Graphs.{Adds, OfEach, StandsAt}
 use Rattle.area_graph.specs.Nodes.{AreNodes, network_in, network_lsa, router_in, router_lsa}
@@ -109,23 +109,23 @@ module _ (said : Said) (nodes : List Node) where
 
   told_link : (router : ℕ) (link : RouterLink) → HasLink said router link → (kind : LinkKind)
       → link.kind ≡ kind → (entry : AdvertisedLink) → link_entry kind router link ≡ Some entry
-      → IsToldAs said nodes entry.kind entry
+      → IsAdvertisedAs said nodes entry.kind entry
   told_link router link has kinds.PointToPoint is entry e =
-      let P : AdvertisedLink → Type 0 = λ x. IsToldAs said nodes x.kind x in
+      let P : AdvertisedLink → Type 0 = λ x. IsAdvertisedAs said nodes x.kind x in
       subst P (same_Some (with_kind router PointToPoint link) entry e)
       ((link, has, is, refl, refl), refl)
   told_link router link has kinds.Transit is entry e =
-      let P : AdvertisedLink → Type 0 = λ x. IsToldAs said nodes x.kind x in
+      let P : AdvertisedLink → Type 0 = λ x. IsAdvertisedAs said nodes x.kind x in
       subst P (same_Some (with_kind router Transit link) entry e)
       ((link, has, is, refl, refl), refl)
   told_link router link has kinds.Stub is entry e = absurd (none-some entry e)
   told_link router link has kinds.Virtual is entry e = absurd (none-some entry e)
 
   told_of : (place : ℕ) (node : Node) (entry : AdvertisedLink) → StandsAt nodes node place
-      → TellsOf said node place entry → IsToldAs said nodes entry.kind entry
+      → TellsOf said node place entry → IsAdvertisedAs said nodes entry.kind entry
   told_of place (ARouter router) entry stands t = told_link router t.0 t.1 t.0.kind refl entry t.2
   told_of place (ANetwork id by) entry stands t =
-      let P : AdvertisedLink → Type 0 = λ x. IsToldAs said nodes x.kind x in
+      let P : AdvertisedLink → Type 0 = λ x. IsAdvertisedAs said nodes x.kind x in
       subst P (sym t.1) ((by, stands, t.0), refl)
 
   module _ (are : AreNodes said nodes) where
@@ -134,7 +134,7 @@ module _ (said : Said) (nodes : List Node) where
         × TellsOf said node place entry
 
     source : (entry : AdvertisedLink) (kind : EntryKind) → entry.kind ≡ kind
-        → IsToldAs said nodes kind entry → Source entry
+        → IsAdvertisedAs said nodes kind entry → Source entry
     source entry PointToPoint is t =
         let h = t.0 in
         let at = placed nodes (ARouter entry.router)
@@ -218,10 +218,10 @@ module _ (said : Said) (nodes : List Node) where
 -- ---- what entries say of links back
 
 module _ (said : Said) (nodes : List Node) (entries : List AdvertisedLink)
-    (told : AreEntries said nodes entries) where
+    (advertised : AreEntries said nodes entries) where
   pub transit_of : (router id metric : ℕ) → HasMetric entries router Transit id metric
       → HasLinkOf said router kinds.Transit id metric
-  transit_of router id metric has = ((told.each (record {
+  transit_of router id metric has = ((advertised.each (record {
     router = router;
     kind = Transit;
     id = id;
@@ -233,7 +233,7 @@ module _ (said : Said) (nodes : List Node) (entries : List AdvertisedLink)
       → HasMetric entries router Transit id metric
   of_transit router id metric has = (
     0,
-    (told.each (record {
+    (advertised.each (record {
       router = router;
       kind = Transit;
       id = id;
@@ -256,7 +256,7 @@ module _ (said : Said) (nodes : List Node) (entries : List AdvertisedLink)
   pub point_back : (router id : ℕ) → HasEntry entries router PointToPoint id
       → LinksBack said router kinds.PointToPoint id
   point_back router id has =
-      let h = ((told.each (record {
+      let h = ((advertised.each (record {
         router = router;
         kind = PointToPoint;
         id = id;
@@ -271,7 +271,7 @@ module _ (said : Said) (nodes : List Node) (entries : List AdvertisedLink)
     b.0.metric,
     (
       0,
-      (told.each (record {
+      (advertised.each (record {
         router = router;
         kind = PointToPoint;
         id = id;
@@ -282,7 +282,7 @@ module _ (said : Said) (nodes : List Node) (entries : List AdvertisedLink)
   )
 
   has_lsa : (entry : AdvertisedLink) (kind : EntryKind) → AreNodes said nodes
-      → IsToldAs said nodes kind entry → rank kind < 2 → Contains nodes (ARouter entry.router)
+      → IsAdvertisedAs said nodes kind entry → rank kind < 2 → Contains nodes (ARouter entry.router)
   has_lsa entry PointToPoint are t low = (are.each (ARouter entry.router)).1 (t.0.1.lsa, t.0.1.its)
   has_lsa entry Transit are t low = (are.each (ARouter entry.router)).1 (t.0.1.lsa, t.0.1.its)
   has_lsa entry Attached are t low = absurd (omega (arith, low))
@@ -290,6 +290,6 @@ module _ (said : Said) (nodes : List Node) (entries : List AdvertisedLink)
   pub ordered : AreNodes said nodes → AreOrdered nodes entries
   ordered are = record {
     ascend = are.ascend;
-    sorted = told.sorted;
-    routers = λ entry among low. has_lsa entry entry.kind are ((told.each entry).0 among) low;
+    sorted = advertised.sorted;
+    routers = λ entry among low. has_lsa entry entry.kind are ((advertised.each entry).0 among) low;
   }

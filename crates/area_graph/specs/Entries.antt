@@ -81,19 +81,19 @@ abbrev pub IsListedAt : Said → List Node → (router id place : ℕ) → Type 
 IsListedAt said nodes router id place =
     (by : ℕ) × StandsAt nodes (ANetwork id by) place × ListsRouter said id by router
 
-abbrev pub IsToldAs : Said → List Node → EntryKind → AdvertisedLink → Type 0
-IsToldAs said nodes PointToPoint entry =
+abbrev pub IsAdvertisedAs : Said → List Node → EntryKind → AdvertisedLink → Type 0
+IsAdvertisedAs said nodes PointToPoint entry =
     HasLinkOf said entry.router kinds.PointToPoint entry.id entry.metric × (entry.place ≡ 0)
-IsToldAs said nodes Transit entry =
+IsAdvertisedAs said nodes Transit entry =
     HasLinkOf said entry.router kinds.Transit entry.id entry.metric × (entry.place ≡ 0)
-IsToldAs said nodes Attached entry =
+IsAdvertisedAs said nodes Attached entry =
     IsListedAt said nodes entry.router entry.id entry.place × (entry.metric ≡ 0)
 
 -- exactly what LSAs advertise, sorted
 pub record AreEntries (said : Said) (nodes : List Node) (entries : List AdvertisedLink) : Type 0
   where
     pub each : (entry : AdvertisedLink)
-        → Contains entries entry ↔ IsToldAs said nodes entry.kind entry
+        → Contains entries entry ↔ IsAdvertisedAs said nodes entry.kind entry
     pub sorted : IsSorted entry_cmp entries
 
 -- what is known of an area: the bodies of its LSAs, its nodes, and what LSAs advertise about them

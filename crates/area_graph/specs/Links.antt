@@ -1,7 +1,7 @@
 -- The links of the graph as they are added, each from one link or one list of an LSA.
 use Rattle.std.specs.Prelude.{◌≡◌, ℕ, ◌+◌, ◌<◌, List, Option, None, Some, slice_get}
 use Rattle.std.specs.List.{Contains}
-use Rattle.lsa.specs.declared.body.RouterLink.{RouterLink as Told}
+use Rattle.lsa.specs.declared.body.RouterLink.{RouterLink}
 use Rattle.lsa.specs.declared.body.LinkKind.TheVariants as kinds
 use Rattle.routes.specs.declared.graph.VertexLink.{VertexLink}
 use Rattle.routes.specs.declared.node.Node.{Node}
@@ -42,19 +42,19 @@ IsExitTo root router to cost address link =
 
 -- to the router at the far end of a point-to-point link, which has a link back
 pub record IsToRouter (root : Root) (nodes : List Node) (entries : List AdvertisedLink) (router : ℕ)
-    (told : Told) (link : VertexLink) : Type 0 where
-  pub is_kind : told.kind ≡ kinds.PointToPoint
-  pub counts : 0 < told.metric
-  pub stands : StandsAt nodes (ARouter told.link_id) link.to
-  pub back : HasEntry entries told.link_id PointToPoint router
-  pub leads : IsExitTo root router link.to told.metric told.link_data link
+    (advertised : RouterLink) (link : VertexLink) : Type 0 where
+  pub is_kind : advertised.kind ≡ kinds.PointToPoint
+  pub counts : 0 < advertised.metric
+  pub stands : StandsAt nodes (ARouter advertised.link_id) link.to
+  pub back : HasEntry entries advertised.link_id PointToPoint router
+  pub leads : IsExitTo root router link.to advertised.metric advertised.link_data link
 
 -- the root's link to a network with this Link State ID, for a transit link of its LSA
-pub record IsOwnTransit (root : Root) (id to : ℕ) (told : Told) (link : VertexLink) : Type 0 where
-  pub is_kind : told.kind ≡ kinds.Transit
-  pub is_id : told.link_id ≡ id
-  pub counts : 0 < told.metric
-  pub leads : IsOwnTo root to told.metric told.link_data link
+pub record IsOwnTransit (root : Root) (id to : ℕ) (advertised : RouterLink) (link : VertexLink) : Type 0 where
+  pub is_kind : advertised.kind ≡ kinds.Transit
+  pub is_id : advertised.link_id ≡ id
+  pub counts : 0 < advertised.metric
+  pub leads : IsOwnTo root to advertised.metric advertised.link_data link
 
 -- another router's link to the network of the entry, by the cheapest of its transit links to that
 -- Link State ID whose metric isn't 0
@@ -66,14 +66,14 @@ pub record IsCheapest (entries : List AdvertisedLink) (router : ℕ) (entry : Ad
 
 -- to the network of the entry
 pub record IsToNetwork (root : Root) (entries : List AdvertisedLink) (router : ℕ)
-    (told_links : List Told)
+    (told_links : List RouterLink)
     (entry : AdvertisedLink) (link : VertexLink) : Type 0 where
   pub own : router ≡ root.router → OfEach (IsOwnTransit root entry.id entry.place) told_links link
   pub other : ¬ (router ≡ root.router) → IsCheapest entries router entry link
 
 -- to a network that lists the router
 pub record IsToSomeNetwork (root : Root) (entries : List AdvertisedLink) (router : ℕ)
-    (told_links : List Told) (link : VertexLink) : Type 0 where
+    (told_links : List RouterLink) (link : VertexLink) : Type 0 where
   pub entry : AdvertisedLink
   pub among : Contains entries entry
   pub is_router : entry.router ≡ router

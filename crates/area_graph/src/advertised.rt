@@ -24,12 +24,13 @@ pub struct Advertised<'a> {
 }
 
 // What the LSA with this key says, unless it is at MaxAge. The search begins at index `place`.
-fn body_near<'a>(told: &Advertised<'a>, place: usize, key: &Key) -> Option<&'a LsaBody>
-    requires { AreBodies (Some 2) (said_at told.now.moment told.now.db.now.present)
-        told.now.bodies.now }
-    ensures { option_copied result ≡ said_at told.now.moment told.now.db.now.present key.now }
+fn body_near<'a>(advertised: &Advertised<'a>, place: usize, key: &Key) -> Option<&'a LsaBody>
+    requires { AreBodies (Some 2) (said_at advertised.now.moment advertised.now.db.now.present)
+        advertised.now.bodies.now }
+    ensures { option_copied result ≡ said_at advertised.now.moment advertised.now.db.now.present
+        key.now }
 {
-    let bodies = told.bodies;
+    let bodies = advertised.bodies;
     let end = few_from(place, bodies.len());
     for at in place..end {
         let one = &bodies[at];
@@ -37,7 +38,7 @@ fn body_near<'a>(told: &Advertised<'a>, place: usize, key: &Key) -> Option<&'a L
             return Some(one.body());
         }
     }
-    told.db.body_at(told.moment, key)
+    advertised.db.body_at(advertised.moment, key)
 }
 
 fn is_same_key(a: &Key, b: &Key) -> bool
@@ -48,21 +49,21 @@ fn is_same_key(a: &Key, b: &Key) -> bool
 
 /// The router-LSA of a router, whose node is expected at index `place`.
 pub fn router_lsa<'a>(
-    told: &Advertised<'a>,
+    advertised: &Advertised<'a>,
     place: usize,
     router: RouterId,
 ) -> Option<&'a RouterLsa>
-    requires { AreBodies (Some 2) (said_at told.now.moment told.now.db.now.present)
-        told.now.bodies.now }
+    requires { AreBodies (Some 2) (said_at advertised.now.moment advertised.now.db.now.present)
+        advertised.now.bodies.now }
     ensures { option_copied result
-        ≡ router_lsa (said_at told.now.moment told.now.db.now.present) router }
+        ≡ router_lsa (said_at advertised.now.moment advertised.now.db.now.present) router }
 {
     let key = Key {
         ls_type: 1,
         link_state_id: LinkStateId::new(router.number()),
         advertising_router: router,
     };
-    match body_near(told, place, &key) {
+    match body_near(advertised, place, &key) {
         Some(LsaBody::Router(lsa)) => Some(lsa),
         _ => None,
     }
@@ -71,22 +72,22 @@ pub fn router_lsa<'a>(
 /// The network-LSA with this Link State ID and Advertising Router, whose node is expected at index
 /// `place`.
 pub fn network_lsa<'a>(
-    told: &Advertised<'a>,
+    advertised: &Advertised<'a>,
     place: usize,
     id: LinkStateId,
     by: RouterId,
 ) -> Option<&'a NetworkLsa>
-    requires { AreBodies (Some 2) (said_at told.now.moment told.now.db.now.present)
-        told.now.bodies.now }
+    requires { AreBodies (Some 2) (said_at advertised.now.moment advertised.now.db.now.present)
+        advertised.now.bodies.now }
     ensures { option_copied result
-        ≡ network_lsa (said_at told.now.moment told.now.db.now.present) id by }
+        ≡ network_lsa (said_at advertised.now.moment advertised.now.db.now.present) id by }
 {
     let key = Key {
         ls_type: 2,
         link_state_id: id,
         advertising_router: by,
     };
-    match body_near(told, place, &key) {
+    match body_near(advertised, place, &key) {
         Some(LsaBody::Network(lsa)) => Some(lsa),
         _ => None,
     }

@@ -26,19 +26,20 @@ use words::{LinkStateId, RouterId};
 /// `AllocError` if an allocation is refused.
 pub fn entries_of(
     alloc: Global,
-    told: &Advertised<'_>,
+    advertised: &Advertised<'_>,
     nodes: &[Node],
 ) -> Result<Vec<AdvertisedLink>, AllocError>
     requires bodies { AreBodies (Some 2)
-        (said_at told.now.moment told.now.db.now.present) told.now.bodies.now }
-    requires nodes { AreNodes (said_at told.now.moment told.now.db.now.present) nodes.now }
+        (said_at advertised.now.moment advertised.now.db.now.present) advertised.now.bodies.now }
+    requires nodes { AreNodes (said_at advertised.now.moment advertised.now.db.now.present)
+        nodes.now }
     ensures { IfOk result (λ entries. AreEntries
-        (said_at told.now.moment told.now.db.now.present) nodes.now entries.items) }
+        (said_at advertised.now.moment advertised.now.db.now.present) nodes.now entries.items) }
 {
     let mut own = Vec::new(alloc);
     let mut entries = Vec::new(alloc);
     for at in 0..nodes.len() {
-        add_in_order(told, &nodes[at], at, &mut own, &mut entries)?;
+        add_in_order(advertised, &nodes[at], at, &mut own, &mut entries)?;
     }
     sort(&mut entries)?;
     Ok(entries)
@@ -47,19 +48,19 @@ pub fn entries_of(
 // Appends the sorted entries of the LSA of the node at this index, so that the whole is sorted
 // except for the lists of networks. `own` is scratch space.
 fn add_in_order(
-    told: &Advertised<'_>,
+    advertised: &Advertised<'_>,
     node: &Node,
     place: usize,
     own: &mut Vec<AdvertisedLink>,
     entries: &mut Vec<AdvertisedLink>,
 ) -> Result<(), AllocError>
     requires { AreBodies (Some 2)
-        (said_at told.now.moment told.now.db.now.present) told.now.bodies.now }
-    ensures { OnOk result (Adds (TellsOf (said_at told.now.moment told.now.db.now.present)
-        node.now place) entries.old.items entries.new.items) }
+        (said_at advertised.now.moment advertised.now.db.now.present) advertised.now.bodies.now }
+    ensures { OnOk result (Adds (TellsOf (said_at advertised.now.moment
+        advertised.now.db.now.present) node.now place) entries.old.items entries.new.items) }
 {
     own.clear();
-    add_node(told, node, place, own)?;
+    add_node(advertised, node, place, own)?;
     sort_own(own);
     push_all(own, entries)?;
     Ok(())
@@ -67,22 +68,22 @@ fn add_in_order(
 
 // Adds the entries of the LSA of the node at this index.
 fn add_node(
-    told: &Advertised<'_>,
+    advertised: &Advertised<'_>,
     node: &Node,
     place: usize,
     entries: &mut Vec<AdvertisedLink>,
 ) -> Result<(), AllocError>
     requires { AreBodies (Some 2)
-        (said_at told.now.moment told.now.db.now.present) told.now.bodies.now }
-    ensures { OnOk result (Adds (TellsOf (said_at told.now.moment told.now.db.now.present)
-        node.now place) entries.old.items entries.new.items) }
+        (said_at advertised.now.moment advertised.now.db.now.present) advertised.now.bodies.now }
+    ensures { OnOk result (Adds (TellsOf (said_at advertised.now.moment
+        advertised.now.db.now.present) node.now place) entries.old.items entries.new.items) }
 {
     match node {
-        Node::ARouter(router) => match router_lsa(told, place, *router) {
+        Node::ARouter(router) => match router_lsa(advertised, place, *router) {
             None => Ok(()),
             Some(lsa) => add_links(*router, lsa, entries),
         },
-        Node::ANetwork(id, by) => match network_lsa(told, place, *id, *by) {
+        Node::ANetwork(id, by) => match network_lsa(advertised, place, *id, *by) {
             None => Ok(()),
             Some(lsa) => add_list(*id, place, lsa, entries),
         },

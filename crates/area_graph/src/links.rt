@@ -13,7 +13,7 @@ use crate::entry::{AdvertisedLink, EntryKind, of_list};
 use crate::lookups::{first_at_near, has_entry_near, least_metric};
 use crate::slots::Slots;
 use crate::starts::{Start, start_at};
-use lsa::{LinkKind, NetworkLsa, RouterLink as ToldLink, RouterLsa};
+use lsa::{LinkKind, NetworkLsa, RouterLink, RouterLsa};
 use routes::{Node, Root, VertexLink};
 use std::alloc::{AllocError, Global};
 use words::{LinkStateId, RouterId};
@@ -32,24 +32,24 @@ pub struct AreaTopology<'a> {
 /// network only a cheapest one is included, but of the root's one for each interface.
 pub fn links_from(
     alloc: Global,
-    told: &Advertised<'_>,
+    advertised: &Advertised<'_>,
     root: &Root,
     area: &AreaTopology<'_>,
     from: &Node,
     place: usize,
 ) -> Result<Vec<VertexLink>, AllocError>
-    requires area { IsArea (said_at told.now.moment told.now.db.now.present) told.now.bodies.now
-        area.now.nodes.now area.now.entries.now }
+    requires area { IsArea (said_at advertised.now.moment advertised.now.db.now.present)
+        advertised.now.bodies.now area.now.nodes.now area.now.entries.now }
     requires interfaces { length root.now.addresses ≤ 63 }
     ensures links { IfOk result (λ links. AreLinksFrom
-        (said_at told.now.moment told.now.db.now.present) root.now area.now.nodes.now from.now
-        links.items) }
+        (said_at advertised.now.moment advertised.now.db.now.present) root.now area.now.nodes.now
+        from.now links.items) }
     ensures fits { IfOk result (λ links. All CostFits links.items) }
 {
     let mut links = Vec::new(alloc);
     match from {
         Node::ARouter(router) => {
-            if let Some(lsa) = router_lsa(told, place, *router) {
+            if let Some(lsa) = router_lsa(advertised, place, *router) {
                 add_routers(root, area, *router, lsa, &mut links)?;
                 add_networks(
                     root,
@@ -62,7 +62,7 @@ pub fn links_from(
             }
         }
         Node::ANetwork(id, by) => {
-            if let Some(lsa) = network_lsa(told, place, *id, *by) {
+            if let Some(lsa) = network_lsa(advertised, place, *id, *by) {
                 add_listed(area, *id, lsa, &mut links)?;
             }
         }
@@ -87,9 +87,9 @@ fn add_routers(
         lsa.now.links) links.old.items links.new.items) }
     ensures fits { OnOk result (All CostFits links.old.items → All CostFits links.new.items) }
 {
-    for told in lsa.links.as_slice() {
-        if is_to_router(told) {
-            add_router(root, area, router, told, links)?;
+    for advertised in lsa.links.as_slice() {
+        if is_to_router(advertised) {
+            add_router(root, area, router, advertised, links)?;
         }
     }
     Ok(())
@@ -97,10 +97,11 @@ fn add_routers(
 
 // Whether it is a point-to-point link of a metric above 0. Others don't count, unlike in RFC 2328,
 // section 16.1: the calculation needs costs above 0 (`routes::is_graph`).
-fn is_to_router(told: &ToldLink) -> bool
-    ensures { IsTrue result ↔ ((told.now.kind ≡ LinkKind.PointToPoint) × (0 < told.now.metric)) }
+fn is_to_router(advertised: &RouterLink) -> bool
+    ensures { IsTrue result ↔ ((advertised.now.kind ≡ LinkKind.PointToPoint)
+        × (0 < advertised.now.metric)) }
 {
-    told.kind == LinkKind::PointToPoint && told.metric > 0
+    advertised.kind == LinkKind::PointToPoint && advertised.metric > 0
 }
 
 // Adds the links to the router at the far end of one, if that has a link back.
@@ -108,22 +109,22 @@ fn add_router(
     root: &Root,
     area: &AreaTopology<'_>,
     router: RouterId,
-    told: &ToldLink,
+    advertised: &RouterLink,
     links: &mut Vec<VertexLink>,
 ) -> Result<(), AllocError>
     requires ordered { AreOrdered area.now.nodes.now area.now.entries.now }
     requires interfaces { length root.now.addresses ≤ 63 }
-    requires is_kind { told.now.kind ≡ LinkKind.PointToPoint }
-    requires counts { 0 < told.now.metric }
+    requires is_kind { advertised.now.kind ≡ LinkKind.PointToPoint }
+    requires counts { 0 < advertised.now.metric }
     ensures adds { OnOk result (Adds (IsToRouter root.now area.now.nodes.now area.now.entries.now
-        router told.now)
+        router advertised.now)
         links.old.items links.new.items) }
     ensures fits { OnOk result (All CostFits links.old.items → All CostFits links.new.items) }
 {
-    let far = RouterId::new(told.link_id);
+    let far = RouterId::new(advertised.link_id);
     match neighbor_at(area, far, EntryKind::PointToPoint, router.number()) {
         None => Ok(()),
-        Some(to) => add_exits(root, router, told.link_data, told.metric, to, links),
+        Some(to) => add_exits(root, router, advertised.link_data, advertised.metric, to, links),
     }
 }
 
@@ -275,20 +276,20 @@ fn add_own_transits(
         links.old.items links.new.items) }
     ensures fits { OnOk result (All CostFits links.old.items → All CostFits links.new.items) }
 {
-    for told in lsa.links.as_slice() {
-        if is_transit_to(told, id) {
-            add_own(root, told.link_data, told.metric, to, links)?;
+    for advertised in lsa.links.as_slice() {
+        if is_transit_to(advertised, id) {
+            add_own(root, advertised.link_data, advertised.metric, to, links)?;
         }
     }
     Ok(())
 }
 
 // Whether it is a transit link to this ID, of a metric above 0.
-fn is_transit_to(told: &ToldLink, id: u32) -> bool
-    ensures { IsTrue result ↔ ((told.now.kind ≡ LinkKind.Transit) × (told.now.link_id ≡ id)
-        × (0 < told.now.metric)) }
+fn is_transit_to(advertised: &RouterLink, id: u32) -> bool
+    ensures { IsTrue result ↔ ((advertised.now.kind ≡ LinkKind.Transit)
+        × (advertised.now.link_id ≡ id) × (0 < advertised.now.metric)) }
 {
-    told.kind == LinkKind::Transit && told.link_id == id && told.metric > 0
+    advertised.kind == LinkKind::Transit && advertised.link_id == id && advertised.metric > 0
 }
 
 // Adds one link to a network: of several transit links to its Link State ID only the cheapest can

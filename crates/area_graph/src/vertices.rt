@@ -46,12 +46,12 @@ pub fn graph_of(
         root.now nodes.now graph.items) }
 {
     let bodies = db.bodies_at(alloc, Some(NETWORK_LSA), moment)?;
-    let told = Advertised {
+    let advertised = Advertised {
         db,
         moment,
         bodies: &bodies,
     };
-    let entries = entries_of(alloc, &told, nodes)?;
+    let entries = entries_of(alloc, &advertised, nodes)?;
     let starts = starts_of(alloc, nodes, &entries)?;
     let area = AreaTopology {
         nodes,
@@ -59,27 +59,27 @@ pub fn graph_of(
         slots,
         starts: &starts,
     };
-    let graph = vertices_of(alloc, &told, root, &area)?;
+    let graph = vertices_of(alloc, &advertised, root, &area)?;
     Ok(graph)
 }
 
 // The vertices of all nodes, each at the index of its node.
 fn vertices_of(
     alloc: Global,
-    told: &Advertised<'_>,
+    advertised: &Advertised<'_>,
     root: &Root,
     area: &AreaTopology<'_>,
 ) -> Result<Vec<Vertex>, AllocError>
-    requires area { IsArea (said_at told.now.moment told.now.db.now.present) told.now.bodies.now
-        area.now.nodes.now area.now.entries.now }
+    requires area { IsArea (said_at advertised.now.moment advertised.now.db.now.present)
+        advertised.now.bodies.now area.now.nodes.now area.now.entries.now }
     requires interfaces { length root.now.addresses ≤ 63 }
-    ensures { IfOk result (λ graph. AreVertices (said_at told.now.moment told.now.db.now.present)
-        root.now area.now.nodes.now graph.items) }
+    ensures { IfOk result (λ graph. AreVertices (said_at advertised.now.moment
+        advertised.now.db.now.present) root.now area.now.nodes.now graph.items) }
 {
     let nodes = area.nodes;
     let mut graph = Vec::new(alloc);
     for at in 0..nodes.len() {
-        let vertex = vertex_of(alloc, told, root, area, &nodes[at], at)?;
+        let vertex = vertex_of(alloc, advertised, root, area, &nodes[at], at)?;
         graph.push(vertex)?;
     }
     Ok(graph)
@@ -88,20 +88,20 @@ fn vertices_of(
 // The vertex of the node at this index.
 fn vertex_of(
     alloc: Global,
-    told: &Advertised<'_>,
+    advertised: &Advertised<'_>,
     root: &Root,
     area: &AreaTopology<'_>,
     node: &Node,
     place: usize,
 ) -> Result<Vertex, AllocError>
-    requires area { IsArea (said_at told.now.moment told.now.db.now.present) told.now.bodies.now
-        area.now.nodes.now area.now.entries.now }
+    requires area { IsArea (said_at advertised.now.moment advertised.now.db.now.present)
+        advertised.now.bodies.now area.now.nodes.now area.now.entries.now }
     requires interfaces { length root.now.addresses ≤ 63 }
-    ensures { IfOk result (λ vertex. IsVertexOf (said_at told.now.moment told.now.db.now.present)
-        root.now area.now.nodes.now node.now vertex) }
+    ensures { IfOk result (λ vertex. IsVertexOf (said_at advertised.now.moment
+        advertised.now.db.now.present) root.now area.now.nodes.now node.now vertex) }
 {
     let kind = kind_of(node);
-    let links = links_from(alloc, told, root, area, node, place)?;
+    let links = links_from(alloc, advertised, root, area, node, place)?;
     Ok(Vertex { kind, links })
 }
 

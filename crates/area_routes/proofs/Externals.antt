@@ -12,18 +12,18 @@ use Rattle.candidates.specs.declared.graph.AreaGraph.{AreaGraph}
 use Rattle.area_routes.specs.Kept.{AreOffersOf, ExternalsSayTheSame, KeptRoutes, KnowsExternals}
 
 -- it is unchanged while they say the same
-externals_stay : (old new : Said) (told : List ExternalAdvertisement) → ExternalsSayTheSame old new
-    → AreExternals old told → AreExternals new told
-externals_stay old new told same are e = (
+externals_stay : (old new : Said) (advertised : List ExternalAdvertisement) → ExternalsSayTheSame old new
+    → AreExternals old advertised → AreExternals new advertised
+externals_stay old new advertised same are e = (
   (λ t. let p = (are e).0 t in (p.0, sym (same p.0.0 p.2.is_type) ∙ p.1, p.2)),
   (λ p. (are e).1 (p.0, same p.0.0 p.2.is_type ∙ p.1, p.2)),
 )
 
 carried : (old new : Said) (kept : Option (Vec ExternalAdvertisement)) → ExternalsSayTheSame old new
-    → IfSome kept (λ told. AreExternals old told.items)
-    → IfSome kept (λ told. AreExternals new told.items)
+    → IfSome kept (λ advertised. AreExternals old advertised.items)
+    → IfSome kept (λ advertised. AreExternals new advertised.items)
 carried old new None same are = are
-carried old new (Some told) same are = externals_stay old new told.items same are
+carried old new (Some advertised) same are = externals_stay old new advertised.items same are
 
 -- what is kept after an event, if they say the same
 pub externals_after : (old new : Said) (stay : Bool) (kept next last : KeptRoutes)
@@ -33,11 +33,11 @@ pub externals_after : (old new : Said) (stay : Bool) (kept next last : KeptRoute
 externals_after old new true kept next last same followed stays forgotten knows =
     let is : last.externals ≡ kept.externals = stays refl ∙ followed in
     subst (λ (o : Option (Vec ExternalAdvertisement)). IfSome o
-    (λ told. AreExternals new told.items)) (sym is)
+    (λ advertised. AreExternals new advertised.items)) (sym is)
     (carried old new kept.externals (same refl) knows)
 externals_after old new false kept next last same followed stays forgotten knows =
     subst (λ (o : Option (Vec ExternalAdvertisement)). IfSome o
-    (λ told. AreExternals new told.items))
+    (λ advertised. AreExternals new advertised.items))
     (sym (forgotten refl)) tt
 
 -- candidates and walk don't depend on what is kept of them, nor on the graph

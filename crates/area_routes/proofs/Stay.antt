@@ -7,7 +7,7 @@ use Rattle.std.proofs.lemmas.List.Elements.{Contains-push_cases}
 use Rattle.std.specs.List.{Contains}
 use Rattle.lsa.specs.declared.body.LsaBody.{LsaBody}
 use Rattle.lsa.specs.declared.body.LsaBody.TheVariants as body
-use Rattle.lsa.specs.declared.body.RouterLink.{RouterLink as Told}
+use Rattle.lsa.specs.declared.body.RouterLink.{RouterLink}
 use Rattle.lsa.specs.declared.body.LinkKind.{LinkKind}
 use Rattle.lsa.specs.declared.body.LinkKind.TheVariants.{PointToPoint, Transit}
 use Rattle.lsa.specs.declared.body.NetworkLsa.{NetworkLsa}
@@ -158,7 +158,7 @@ module _ (old new : Said) (nodes : List Node) (places : List ℕ)
 
   -- ---- links
 
-  has_link : (router : ℕ) (link : Told) → old (router_key router) ≡ new (router_key router)
+  has_link : (router : ℕ) (link : RouterLink) → old (router_key router) ≡ new (router_key router)
       → HasLink old router link → HasLink new router link
   has_link router link same has = record {
     lsa = has.lsa;
@@ -189,7 +189,7 @@ module _ (old new : Said) (nodes : List Node) (places : List ℕ)
   }
 
   -- a link of the LSA that was recorded is one of what it said
-  of_was : (router : ℕ) (n : RouterNoted router) (link : Told)
+  of_was : (router : ℕ) (n : RouterNoted router) (link : RouterLink)
       → HasLink old router link → Contains n.was.links link
   of_was router n link has = subst (λ (l : RouterLsa). Contains l.links link)
       (same_router has.lsa n.was (sym has.its ∙ n.before)) has.among
@@ -322,7 +322,7 @@ all_covered old new nodes places keys others covered key few =
 -- what is recorded is still so with more indices
 module _ (nodes : List Node) (few more : List ℕ)
     (kept : (place : ℕ) → Contains few place → Contains more place) where
-  pub end_more : (link : Told) → IsEndAmong nodes few link → IsEndAmong nodes more link
+  pub end_more : (link : RouterLink) → IsEndAmong nodes few link → IsEndAmong nodes more link
   end_more link end = record {
     router = λ is at here. kept at (end.router is at here);
     networks = λ is by at here. kept at (end.networks is by at here);

@@ -2,7 +2,7 @@
 -- 2328, section 16.1).
 use Rattle.std.specs.Prelude.{◌≡◌, ◌<◌, ◌⊎◌, ℕ, List, Option, None, Some}
 use Rattle.std.specs.List.{Contains}
-use Rattle.lsa.specs.declared.body.RouterLink.{RouterLink as Told}
+use Rattle.lsa.specs.declared.body.RouterLink.{RouterLink}
 use Rattle.lsa.specs.declared.body.LinkKind.{LinkKind}
 use Rattle.lsa.specs.declared.body.LinkKind.TheVariants.{PointToPoint, Transit}
 use Rattle.lsa.specs.declared.body.RouterLsa.{RouterLsa}
@@ -25,7 +25,7 @@ IsOfId id (ANetwork its by) = its ≡ id
 -- the LSA has a link of this kind to this Link ID
 abbrev pub HasLinkTo : RouterLsa → LinkKind → (id : ℕ) → Type 0
 HasLinkTo lsa kind id =
-    (link : Told) × Contains lsa.links link × (link.kind ≡ kind) × (link.link_id ≡ id)
+    (link : RouterLink) × Contains lsa.links link × (link.kind ≡ kind) × (link.link_id ≡ id)
 
 -- the index of a router, if it has a link of this kind to this Link ID
 abbrev pub IsNeighbor : Said → List Node → RouterNumber → LinkKind → (id : ℕ) → Option ℕ → Type 0
@@ -35,31 +35,31 @@ IsNeighbor said nodes router kind id (Some at) =
 
 -- to the router at the far end of a point-to-point link that may count, which has a link back
 pub record IsToNeighbor (said : Said) (root : Root) (nodes : List Node) (router : RouterNumber)
-    (told : Told) (link : VertexLink) : Type 0 where
-  pub is_kind : told.kind ≡ PointToPoint
-  pub counts : 0 < told.metric
-  pub stands : StandsAt nodes (ARouter told.link_id) link.to
-  pub back : LinksBack said told.link_id PointToPoint router
-  pub leads : IsExitTo root router link.to told.metric told.link_data link
+    (advertised : RouterLink) (link : VertexLink) : Type 0 where
+  pub is_kind : advertised.kind ≡ PointToPoint
+  pub counts : 0 < advertised.metric
+  pub stands : StandsAt nodes (ARouter advertised.link_id) link.to
+  pub back : LinksBack said advertised.link_id PointToPoint router
+  pub leads : IsExitTo root router link.to advertised.metric advertised.link_data link
 
 -- to a network with the Link ID of a transit link that may count, which lists the router
 pub record IsToNetwork (said : Said) (root : Root) (nodes : List Node) (router : RouterNumber)
-    (told : Told) (link : VertexLink) : Type 0 where
-  pub is_kind : told.kind ≡ Transit
-  pub counts : 0 < told.metric
-  pub listed : IsListedAt said nodes router told.link_id link.to
-  pub leads : IsExitTo root router link.to told.metric told.link_data link
+    (advertised : RouterLink) (link : VertexLink) : Type 0 where
+  pub is_kind : advertised.kind ≡ Transit
+  pub counts : 0 < advertised.metric
+  pub listed : IsListedAt said nodes router advertised.link_id link.to
+  pub leads : IsExitTo root router link.to advertised.metric advertised.link_data link
 
 -- to the network at this index
-abbrev pub IsToNetworkAt : Said → Root → List Node → RouterNumber → Told → (place : ℕ) → VertexLink
+abbrev pub IsToNetworkAt : Said → Root → List Node → RouterNumber → RouterLink → (place : ℕ) → VertexLink
     → Type 0
-IsToNetworkAt said root nodes router told place link =
-    (link.to ≡ place) × IsToNetwork said root nodes router told link
+IsToNetworkAt said root nodes router advertised place link =
+    (link.to ≡ place) × IsToNetwork said root nodes router advertised link
 
 -- to a node that the link of the router's LSA leads to
-abbrev pub IsToEnd : Said → Root → List Node → RouterNumber → Told → VertexLink → Type 0
-IsToEnd said root nodes router told link =
-    IsToNeighbor said root nodes router told link ⊎ IsToNetwork said root nodes router told link
+abbrev pub IsToEnd : Said → Root → List Node → RouterNumber → RouterLink → VertexLink → Type 0
+IsToEnd said root nodes router advertised link =
+    IsToNeighbor said root nodes router advertised link ⊎ IsToNetwork said root nodes router advertised link
 
 -- from a network with this Link State ID to a router that it lists and that has a link back, at
 -- cost 0

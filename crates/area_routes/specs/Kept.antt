@@ -71,7 +71,7 @@ KnowsInner said root kept = IfSome kept.inner (AreInnerBy said root kept.walk)
 
 -- what is kept of it, if anything, is that of what the LSAs say
 abbrev pub KnowsExternals : Said → KeptRoutes → Type 0
-KnowsExternals said kept = IfSome kept.externals (λ told. AreExternals said told.items)
+KnowsExternals said kept = IfSome kept.externals (λ advertised. AreExternals said advertised.items)
 
 -- AS-external-LSAs say the same
 abbrev pub ExternalsSayTheSame : (old : Said) → (new : Said) → Type 0

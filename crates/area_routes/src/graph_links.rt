@@ -15,7 +15,7 @@ ghost use Rattle.routes.specs.declared.node.Node.TheVariants.{ANetwork};
 use crate::surroundings::{Surroundings, has_link_to, network_lsa, places_of, router_lsa};
 use area_graph::{add_exits, kind_of};
 use candidates::find;
-use lsa::{LinkKind, NetworkLsa, RouterLink as ToldLink, RouterLsa};
+use lsa::{LinkKind, NetworkLsa, RouterLink, RouterLsa};
 use routes::{Node, Root, Vertex, VertexLink};
 use std::alloc::{AllocError, Global};
 use words::{LinkStateId, RouterId};
@@ -43,22 +43,22 @@ fn add_neighbor(
     at: &Surroundings<'_>,
     root: &Root,
     router: RouterId,
-    told: &ToldLink,
+    advertised: &RouterLink,
     links: &mut Vec<VertexLink>,
 ) -> Result<(), AllocError>
     requires nodes { AreNodes (said_at at.now.moment at.now.db.now.present) at.now.nodes.now }
     requires interfaces { length root.now.addresses ≤ 63 }
-    requires is_kind { told.now.kind ≡ LinkKind.PointToPoint }
-    requires counts { 0 < told.now.metric }
+    requires is_kind { advertised.now.kind ≡ LinkKind.PointToPoint }
+    requires counts { 0 < advertised.now.metric }
     ensures adds { OnOk result (Adds (IsToNeighbor
-        (said_at at.now.moment at.now.db.now.present) root.now at.now.nodes.now router told.now)
-        links.old.items links.new.items) }
+        (said_at at.now.moment at.now.db.now.present) root.now at.now.nodes.now router
+        advertised.now) links.old.items links.new.items) }
     ensures fits { OnOk result (All CostFits links.old.items → All CostFits links.new.items) }
 {
-    let far = RouterId::new(told.link_id);
+    let far = RouterId::new(advertised.link_id);
     match neighbor_at(at, far, LinkKind::PointToPoint, router.number()) {
         None => Ok(()),
-        Some(to) => add_exits(root, router, told.link_data, told.metric, to, links),
+        Some(to) => add_exits(root, router, advertised.link_data, advertised.metric, to, links),
     }
 }
 
@@ -128,23 +128,23 @@ fn add_network(
     at: &Surroundings<'_>,
     root: &Root,
     router: RouterId,
-    told: &ToldLink,
+    advertised: &RouterLink,
     place: usize,
     links: &mut Vec<VertexLink>,
 ) -> Result<(), AllocError>
     requires nodes { AreNodes (said_at at.now.moment at.now.db.now.present) at.now.nodes.now }
     requires interfaces { length root.now.addresses ≤ 63 }
-    requires is_kind { told.now.kind ≡ LinkKind.Transit }
-    requires counts { 0 < told.now.metric }
+    requires is_kind { advertised.now.kind ≡ LinkKind.Transit }
+    requires counts { 0 < advertised.now.metric }
     ensures adds { OnOk result (Adds (IsToNetworkAt
-        (said_at at.now.moment at.now.db.now.present) root.now at.now.nodes.now router told.now
-        place) links.old.items links.new.items) }
+        (said_at at.now.moment at.now.db.now.present) root.now at.now.nodes.now router
+        advertised.now place) links.old.items links.new.items) }
     ensures fits { OnOk result (All CostFits links.old.items → All CostFits links.new.items) }
 {
-    if !lists_at(at, place, LinkStateId::new(told.link_id), router) {
+    if !lists_at(at, place, LinkStateId::new(advertised.link_id), router) {
         return Ok(());
     }
-    add_exits(root, router, told.link_data, told.metric, place, links)
+    add_exits(root, router, advertised.link_data, advertised.metric, place, links)
 }
 
 // Adds the links to the networks that have the Link ID of a transit link and list the router.
@@ -152,31 +152,31 @@ fn add_networks(
     at: &Surroundings<'_>,
     root: &Root,
     router: RouterId,
-    told: &ToldLink,
+    advertised: &RouterLink,
     links: &mut Vec<VertexLink>,
 ) -> Result<(), AllocError>
     requires nodes { AreNodes (said_at at.now.moment at.now.db.now.present) at.now.nodes.now }
     requires interfaces { length root.now.addresses ≤ 63 }
-    requires is_kind { told.now.kind ≡ LinkKind.Transit }
-    requires counts { 0 < told.now.metric }
+    requires is_kind { advertised.now.kind ≡ LinkKind.Transit }
+    requires counts { 0 < advertised.now.metric }
     ensures adds { OnOk result (Adds (IsToNetwork
-        (said_at at.now.moment at.now.db.now.present) root.now at.now.nodes.now router told.now)
-        links.old.items links.new.items) }
+        (said_at at.now.moment at.now.db.now.present) root.now at.now.nodes.now router
+        advertised.now) links.old.items links.new.items) }
     ensures fits { OnOk result (All CostFits links.old.items → All CostFits links.new.items) }
 {
-    let (first, end) = places_of(at, LinkStateId::new(told.link_id));
+    let (first, end) = places_of(at, LinkStateId::new(advertised.link_id));
     for place in first..end {
-        add_network(at, root, router, told, place, links)?;
+        add_network(at, root, router, advertised, place, links)?;
     }
     Ok(())
 }
 
 // A link of metric 0 doesn't count, unlike in RFC 2328, section 16.1: the calculation needs costs
 // above 0 (`routes::is_graph`).
-fn counts(told: &ToldLink) -> bool
-    ensures { IsTrue result ↔ (0 < told.now.metric) }
+fn counts(advertised: &RouterLink) -> bool
+    ensures { IsTrue result ↔ (0 < advertised.now.metric) }
 {
-    told.metric > 0
+    advertised.metric > 0
 }
 
 // Adds the links of the graph that one link of the router's LSA stands for.
@@ -184,22 +184,22 @@ fn add_ends(
     at: &Surroundings<'_>,
     root: &Root,
     router: RouterId,
-    told: &ToldLink,
+    advertised: &RouterLink,
     links: &mut Vec<VertexLink>,
 ) -> Result<(), AllocError>
     requires nodes { AreNodes (said_at at.now.moment at.now.db.now.present) at.now.nodes.now }
     requires interfaces { length root.now.addresses ≤ 63 }
     ensures adds { OnOk result (Adds (IsToEnd
-        (said_at at.now.moment at.now.db.now.present) root.now at.now.nodes.now router told.now)
-        links.old.items links.new.items) }
+        (said_at at.now.moment at.now.db.now.present) root.now at.now.nodes.now router
+        advertised.now) links.old.items links.new.items) }
     ensures fits { OnOk result (All CostFits links.old.items → All CostFits links.new.items) }
 {
-    if !counts(told) {
+    if !counts(advertised) {
         return Ok(());
     }
-    match told.kind {
-        LinkKind::PointToPoint => add_neighbor(at, root, router, told, links),
-        LinkKind::Transit => add_networks(at, root, router, told, links),
+    match advertised.kind {
+        LinkKind::PointToPoint => add_neighbor(at, root, router, advertised, links),
+        LinkKind::Transit => add_networks(at, root, router, advertised, links),
         LinkKind::Stub => Ok(()),
         LinkKind::Virtual => Ok(()),
     }
@@ -220,8 +220,8 @@ fn add_all(
         lsa.now.links) links.old.items links.new.items) }
     ensures fits { OnOk result (All CostFits links.old.items → All CostFits links.new.items) }
 {
-    for told in lsa.links.as_slice() {
-        add_ends(at, root, router, told, links)?;
+    for advertised in lsa.links.as_slice() {
+        add_ends(at, root, router, advertised, links)?;
     }
     Ok(())
 }

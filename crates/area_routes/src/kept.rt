@@ -159,12 +159,12 @@ fn externals_now(
     area: &Area,
     moment: Second,
 ) -> Result<Vec<ExternalAdvertisement>, AllocError>
-    ensures { IfOk result (λ told. AreExternals
-        (said_at moment area.now.present.database) told.items) }
+    ensures { IfOk result (λ advertised. AreExternals
+        (said_at moment area.now.present.database) advertised.items) }
 {
     let db = area.database();
-    let told = externals_at(alloc, db, moment)?;
-    Ok(told)
+    let advertised = externals_at(alloc, db, moment)?;
+    Ok(advertised)
 }
 
 // The candidates by this walk, given what AS-external-LSAs advertise.
@@ -191,7 +191,7 @@ fn calculate_by(
 #[derive(Drop)]
 struct Made {
     calculated: Calculated,
-    told: Option<Vec<ExternalAdvertisement>>,
+    advertised: Option<Vec<ExternalAdvertisement>>,
 }
 
 // The candidates by this walk. `kept` is what AS-external-LSAs advertise, if that is known.
@@ -203,29 +203,29 @@ fn calculated(
     kept: &Option<Vec<ExternalAdvertisement>>,
 ) -> Result<Made, AllocError>
     requires walk { IsWalkOf (said_at moment area.now.present.database) walk.now }
-    requires externals { IfSome kept.now (λ told. AreExternals
-        (said_at moment area.now.present.database) told.items) }
+    requires externals { IfSome kept.now (λ advertised. AreExternals
+        (said_at moment area.now.present.database) advertised.items) }
     ensures routes { IfOk result (λ made. AreCandidates (said_at moment area.now.present.database)
         walk.now.root made.calculated.routes.items) }
     ensures inner { IfOk result (λ made. AreInnerBy (said_at moment area.now.present.database)
         walk.now.root walk.now made.calculated.inner) }
-    ensures externals { IfOk result (λ made. IfSome made.told (λ told. AreExternals
-        (said_at moment area.now.present.database) told.items)) }
+    ensures externals { IfOk result (λ made. IfSome made.advertised (λ advertised. AreExternals
+        (said_at moment area.now.present.database) advertised.items)) }
 {
     match kept {
-        Some(told) => {
-            let calculated = calculate_by(alloc, area, walk, moment, told)?;
+        Some(advertised) => {
+            let calculated = calculate_by(alloc, area, walk, moment, advertised)?;
             Ok(Made {
                 calculated,
-                told: None,
+                advertised: None,
             })
         }
         None => {
-            let told = externals_now(alloc, area, moment)?;
-            let calculated = calculate_by(alloc, area, walk, moment, &told)?;
+            let advertised = externals_now(alloc, area, moment)?;
+            let calculated = calculate_by(alloc, area, walk, moment, &advertised)?;
             Ok(Made {
                 calculated,
-                told: Some(told),
+                advertised: Some(advertised),
             })
         }
     }
@@ -236,12 +236,12 @@ fn kept_or(
     kept: Option<Vec<ExternalAdvertisement>>,
     made: Option<Vec<ExternalAdvertisement>>,
 ) -> Option<Vec<ExternalAdvertisement>>
-    ensures { (said : Said) → IfSome kept (λ told. AreExternals said told.items)
-        → IfSome made (λ told. AreExternals said told.items)
-        → IfSome result (λ told. AreExternals said told.items) }
+    ensures { (said : Said) → IfSome kept (λ advertised. AreExternals said advertised.items)
+        → IfSome made (λ advertised. AreExternals said advertised.items)
+        → IfSome result (λ advertised. AreExternals said advertised.items) }
 {
     match kept {
-        Some(told) => Some(told),
+        Some(advertised) => Some(advertised),
         None => made,
     }
 }
@@ -732,10 +732,10 @@ impl AreaRoutes {
         }
         let made = calculated(alloc, area, &self.walk, moment, &self.externals)?;
         let lacks = is_stale(alloc, &made.calculated.routes, answers)?;
-        let Made { calculated, told } = made;
+        let Made { calculated, advertised } = made;
         let Calculated { inner, routes } = calculated;
         let kept = self.externals.take();
-        self.externals = kept_or(kept, told);
+        self.externals = kept_or(kept, advertised);
         self.inner = Some(inner);
         self.candidates = Some(routes);
         Ok(lacks)

@@ -15,7 +15,7 @@ use Rattle.routes.specs.declared.root.Root.{Root}
 use Rattle.routes.proofs.Listed.{routes_among}
 use Rattle.candidates.specs.Bodies.{HaveAll, OfSaid}
 use Rattle.candidates.specs.Borders.{AreFlagged, Tells}
-use Rattle.candidates.specs.Externals.{AreExternals, OfTold}
+use Rattle.candidates.specs.Externals.{AreExternals, OfAdvertised}
 use Rattle.candidates.specs.Gathering.{Adds, OfEach}
 use Rattle.candidates.specs.Sources.{IsInner, OfExternal}
 use Rattle.candidates.specs.Ways.{AreWays, Ways}
@@ -43,10 +43,10 @@ module _ (said : Said) (root : Root) (ways : Ways) (are : AreWays said root ways
               (inner_back said root ways are routers flagged o k))),
         )
 
-    pub of_told : (told : List Route) → AreRoutesAmong (OfEach (Tells root routers) bodies) told
-        → AreRoutesAmong (OfSaid (Tells root routers) said) told
-    of_told told all = let Q = Tells root routers in
-        routes_among (OfEach Q bodies) (OfSaid Q said) told (of_said 4 said bodies have Q)
+    pub of_told : (advertised : List Route) → AreRoutesAmong (OfEach (Tells root routers) bodies) advertised
+        → AreRoutesAmong (OfSaid (Tells root routers) said) advertised
+    of_told advertised all = let Q = Tells root routers in
+        routes_among (OfEach Q bodies) (OfSaid Q said) advertised (of_said 4 said bodies have Q)
         (of_each 4 said bodies have Q (told_up_to root routers)) all
 
     pub of_networks : (first : List Offer) (networks : List Route)
@@ -60,27 +60,27 @@ module _ (said : Said) (root : Root) (ways : Ways) (are : AreWays said root ways
   -- ---- with external destinations
 
   module _ (externals : List ExternalTold) (tell : AreExternals said externals)
-      (told networks : List Route) (all_told : AreRoutesAmong (OfSaid (Tells root routers) said)
-      told) (inside : AreRoutesAmong (OffersInside said root) networks) where
-    of_external : (o : Offer) → OfEach (OfTold root routers told networks) externals o
+      (advertised networks : List Route) (all_told : AreRoutesAmong (OfSaid (Tells root routers) said)
+      advertised) (inside : AreRoutesAmong (OffersInside said root) networks) where
+    of_external : (o : Offer) → OfEach (OfAdvertised root routers advertised networks) externals o
         → Offers said root o
     of_external o (e, among, k) =
         let one = (tell e).0 among in
-        External (external_forth said root ways are routers flagged told all_told networks inside o
-        (one.0, one.1, of_told_one root routers told networks one.0 e one.2 o k))
+        External (external_forth said root ways are routers flagged advertised all_told networks inside o
+        (one.0, one.1, of_told_one root routers advertised networks one.0 e one.2 o k))
 
     of_inner : (o : Offer) → OffersInside said root o → Offers said root o
     of_inner o (inl w) = Within w
     of_inner o (inr b) = Between b
 
-    by_external : (o : Offer) → OfSaid (OfExternal root routers told networks) said o
-        → OfEach (OfTold root routers told networks) externals o
-    by_external o (one, is, k) = let t = told_of root routers told networks one o k in
+    by_external : (o : Offer) → OfSaid (OfExternal root routers advertised networks) said o
+        → OfEach (OfAdvertised root routers advertised networks) externals o
+    by_external o (one, is, k) = let t = told_of root routers advertised networks one o k in
         (t.0, (tell t.0).1 (one, is, t.1), t.2)
 
     pub are_candidates : (first all : List Offer) (routes : List Route)
         → ((o : Offer) → Contains first o ↔ OffersInside said root o)
-        → Adds first all (OfEach (OfTold root routers told networks) externals)
+        → Adds first all (OfEach (OfAdvertised root routers advertised networks) externals)
         → AreRoutesAmong (λ o. Contains all o) routes → AreCandidates said root routes
     are_candidates first all routes same more best =
         let put : (o : Offer) → OffersInside said root o → Contains all o =
@@ -96,6 +96,6 @@ module _ (said : Said) (root : Root) (ways : Ways) (are : AreWays said root ways
           | Within w ↦ put o (inl w)
           | Between b ↦ put o (inr b)
           | External e ↦ (more o).1 (inr (by_external o
-              (external_back said root ways are routers flagged told all_told networks inside o e)))
+              (external_back said root ways are routers flagged advertised all_told networks inside o e)))
         ])
         best

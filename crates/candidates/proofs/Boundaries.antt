@@ -22,38 +22,38 @@ pub below_longest : (routes : List Route) (address : ℕ) (route : Route) → Ar
     → IsJust (IsLongest routes address) (Some route) → route.cost < 2147483648
 below_longest routes address route below just = below route ((just route).1 refl).among
 
-module _ (routers : List Flagged) (told : List Route) (router : ℕ) where
+module _ (routers : List Flagged) (advertised : List Route) (router : ℕ) where
   pub inside : (way : Way) → IsJust (IsListed routers router 2) (Some way)
-      → IsJust (IsBoundary routers told router) (Some way)
+      → IsJust (IsBoundary routers advertised router) (Some way)
   inside way just = λ x. (by_case x, λ e. Inside ((just x).1 e))
     where
-      by_case : (x : Way) → IsBoundary routers told router x → x ≡ way
+      by_case : (x : Way) → IsBoundary routers advertised router x → x ≡ way
       by_case x (Inside k) = (just x).0 k
       by_case x (Outside none route f e) = absurd (none way ((just way).1 refl))
 
   module _ (prefix : Network) (is_host : prefix ≡ host router)
       (none : IsJust (IsListed routers router 2) None) where
-    pub no_boundary : IsJust (IsFound told prefix) None
-        → IsJust (IsBoundary routers told router) None
+    pub no_boundary : IsJust (IsFound advertised prefix) None
+        → IsJust (IsBoundary routers advertised router) None
     no_boundary unfound = λ x b. by_case x b
       where
-        by_case : (x : Way) → IsBoundary routers told router x → ⊥
+        by_case : (x : Way) → IsBoundary routers advertised router x → ⊥
         by_case x (Inside k) = none x k
         by_case x (Outside others route f e) =
-            unfound route (subst (λ p. IsFound told p route) (sym is_host) f)
+            unfound route (subst (λ p. IsFound advertised p route) (sym is_host) f)
 
-    pub outside : (route : Route) (made : Way) → IsJust (IsFound told prefix) (Some route)
-        → made ≡ way_by route → IsJust (IsBoundary routers told router) (Some made)
+    pub outside : (route : Route) (made : Way) → IsJust (IsFound advertised prefix) (Some route)
+        → made ≡ way_by route → IsJust (IsBoundary routers advertised router) (Some made)
     outside route made just is = λ x. (
       by_case x,
       λ e. Outside none route
-          (subst (λ p. IsFound told p route) is_host ((just route).1 refl)) (e ∙ is),
+          (subst (λ p. IsFound advertised p route) is_host ((just route).1 refl)) (e ∙ is),
     )
       where
-        by_case : (x : Way) → IsBoundary routers told router x → x ≡ made
+        by_case : (x : Way) → IsBoundary routers advertised router x → x ≡ made
         by_case x (Inside k) = absurd (none x k)
         by_case x (Outside others other f e) =
-            e ∙ ap way_by ((just other).0 (subst (λ p. IsFound told p other) (sym is_host) f))
+            e ∙ ap way_by ((just other).0 (subst (λ p. IsFound advertised p other) (sym is_host) f))
             ∙ sym is
 
 -- ---- what is advertised costs little

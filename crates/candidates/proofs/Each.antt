@@ -9,7 +9,7 @@ use Rattle.routes.specs.declared.offer.Offer.{Offer}
 use Rattle.routes.specs.declared.root.Root.{Root}
 use Rattle.candidates.specs.Bodies.{HaveAll, OfSaid}
 use Rattle.candidates.specs.Borders.{Tells}
-use Rattle.candidates.specs.Externals.{AreExternals, AreToldBy}
+use Rattle.candidates.specs.Externals.{AreExternals, AreAdvertisedBy}
 use Rattle.candidates.specs.Gathering.{OfEach}
 use Rattle.candidates.specs.Sources.{IsInner}
 use Rattle.candidates.specs.Sources.IsInner.{ByNetwork, ByRouter, BySummary}
@@ -51,9 +51,9 @@ up_to_bodies last said bodies are = record {
 
 -- what the LSAs of a list advertise about external destinations is what those of the database
 -- advertise
-pub all_external : (said : Said) (bodies : List (Key × LsaBody)) (told : List ExternalAdvertisement)
-    → AreBodies None said bodies → AreToldBy bodies told → AreExternals said told
-all_external said bodies told are by e = (
+pub all_external : (said : Said) (bodies : List (Key × LsaBody)) (advertised : List ExternalAdvertisement)
+    → AreBodies None said bodies → AreAdvertisedBy bodies advertised → AreExternals said advertised
+all_external said bodies advertised are by e = (
   (λ t. let p = (by e).0 t in ((p.0.0, p.0.1), ((are.each p.0.0 p.0.1).0 p.1).1, p.2)),
   (λ p. (by e).1 ((p.0.0, p.0.1), (are.each p.0.0 p.0.1).1 (tt, p.1), p.2)),
 )

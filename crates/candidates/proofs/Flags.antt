@@ -63,11 +63,11 @@ module _ {X : Type 0} (Before : X → X → Type 0) where
 module _ {X : Type 0} (Q : X → Flagged → Type 0) where
   pub all_told : (xs : List X) (i : ℕ) (routers : List Flagged) → length xs ≤ i
       → AreTold Q (take i xs) routers → AreTold Q xs routers
-  all_told xs i routers past told = let P : List X → Type 0 = λ ys. AreTold Q ys routers in
-      subst P (take_all i xs past) told
+  all_told xs i routers past advertised = let P : List X → Type 0 = λ ys. AreTold Q ys routers in
+      subst P (take_all i xs past) advertised
 
   module _ (xs : List X) (i : ℕ) (x : X) (is : x ≡ get_or xs i x) (lt : i < length xs)
-      (routers : List Flagged) (told : AreTold Q (take i xs) routers) where
+      (routers : List Flagged) (advertised : AreTold Q (take i xs) routers) where
     split : take (i + 1) xs ≡ take i xs ++ x ∷ []
     split = take_more xs i x lt ∙ ap (λ (y : X). take i xs ++ y ∷ []) (sym is)
 
@@ -92,14 +92,14 @@ module _ {X : Type 0} (Q : X → Flagged → Type 0) where
     pub told_same : ((r : Flagged) → Q x r → ⊥) → AreTold Q (take (i + 1) xs) routers
     told_same none = record {
       each = λ r. (
-        (λ t. still r ((told.each r).0 t)),
+        (λ t. still r ((advertised.each r).0 t)),
         (λ p.
             elim (either r p) [
-              | inl old ↦ (told.each r).1 old
+              | inl old ↦ (advertised.each r).1 old
               | inr q ↦ absurd (none r q)
             ]),
       );
-      ascend = told.ascend;
+      ascend = advertised.ascend;
     }
 
     pub told_more : (Before : X → X → Type 0)
@@ -110,19 +110,19 @@ module _ {X : Type 0} (Q : X → Flagged → Type 0) where
       each = λ r. (
         (λ t.
             elim (Contains-push_cases routers new r t) [
-              | inl old ↦ still r ((told.each r).0 old)
+              | inl old ↦ still r ((advertised.each r).0 old)
               | inr same ↦ here r ((just r).1 (sym same))
             ]),
         (λ p.
             elim (either r p) [
-              | inl old ↦ Contains-append_left routers (new ∷ []) r ((told.each r).1 old)
+              | inl old ↦ Contains-append_left routers (new ∷ []) r ((advertised.each r).1 old)
               | inr q ↦ subst (Contains (routers ++ new ∷ [])) (sym ((just r).0 q))
                   (Contains-push routers new)
             ]),
       );
-      ascend = all_pairs_push Lower routers new told.ascend (λ k d within.
+      ascend = all_pairs_push Lower routers new advertised.ascend (λ k d within.
           let r = get_or routers k d in
-          let p = (told.each r).0 (Contains-get_or routers k d within) in
+          let p = (advertised.each r).0 (Contains-get_or routers k d within) in
           let before : Before p.0 x = subst (Before p.0) (sym is)
           (before_at Before xs i x order lt p.0 p.1) in
           up p.0 x r new before p.2 ((just new).1 refl));
@@ -175,7 +175,7 @@ module _ (ways : Ways) where
 
   pub are_close : (bodies : List (Key × LsaBody)) (routers : List Flagged) → AreNear ways
       → AreTold (TellsFlags ways) bodies routers → AreCloseBy routers
-  are_close bodies routers near told r among = let p = (told.each r).0 among in
+  are_close bodies routers near advertised r among = let p = (advertised.each r).0 among in
       near (ARouter p.0.0.advertising_router) r.way p.2.reached
 
   pub has_one : (flags flag : ℕ) → IsBorderFlag flag → bit_and flags flag ≡ flag
@@ -186,7 +186,7 @@ module _ (ways : Ways) where
   pub are_flagged : (said : Said) (bodies : List (Key × LsaBody)) (routers : List Flagged)
       → HaveAll 1 said bodies → AreTold (TellsFlags ways) bodies routers
       → AreFlagged said ways routers
-  are_flagged said bodies routers have told router flag way is_flag = (
+  are_flagged said bodies routers have advertised router flag way is_flag = (
     (λ k.
         let r : Flagged = record { router = router; flags = k.lsa.flags; way = way } in
         let tells : TellsFlags ways (router_key router, body.Router k.lsa) r = record {
@@ -201,7 +201,7 @@ module _ (ways : Ways) where
         } in
         record {
           listed = r;
-          among = (told.each r).1 (
+          among = (advertised.each r).1 (
             (router_key router, body.Router k.lsa),
             have.all (router_key router) (body.Router k.lsa) (omega arith) k.its,
             tells,
@@ -211,7 +211,7 @@ module _ (ways : Ways) where
           its_way = refl;
         }),
     (λ k.
-        let p = (told.each k.listed).0 k.among in
+        let p = (advertised.each k.listed).0 k.among in
         let key = p.0.0 in
         let tells = p.2 in
         let by : key.advertising_router ≡ router = sym tells.its_router ∙ k.its_router in

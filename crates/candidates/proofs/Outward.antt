@@ -17,7 +17,7 @@ use Rattle.routes.specs.Routes.{AreRoutesAmong, IsBestAmong, IsNoWorse, IsRouteA
 use Rattle.routes.specs.Routes.IsNoLater.{ByTag}
 use Rattle.routes.specs.Routes.IsNoWorse.{ByCost, ByDistance, ByKind}
 use Rattle.routes.specs.Said.{Said}
-use Rattle.routes.specs.Summaries.{IsBoundaryWay, IsToldOf, IsWayBetween, OffersInside, inter}
+use Rattle.routes.specs.Summaries.{IsBoundaryWay, IsAdvertised, IsWayBetween, OffersInside, inter}
 use Rattle.routes.specs.Summaries.{summary_key}
 use Rattle.routes.specs.Summaries.IsBoundaryWay.{Inside as InsideWay, Outside as OutsideWay}
 use Rattle.routes.specs.declared.graph.Way.{Way}
@@ -51,7 +51,7 @@ module _ (said : Said) (root : Root) (ways : Ways) (are : AreWays said root ways
 
   record TellsOf (router : ℕ) (o : Offer) : Type 0 where
     border : WalkWay
-    told : IsToldOf said root router o.cost border
+    advertised : IsAdvertised said root router o.cost border
     hops : o.hops ≡ border.hops
     kind : o.kind ≡ Inter
     distance : o.distance ≡ 0
@@ -70,7 +70,7 @@ module _ (said : Said) (root : Root) (ways : Ways) (are : AreWays said root ways
       } in
       record {
         border = as_way k.border;
-        told = record {
+        advertised = record {
           originator = by;
           lsa = k.lsa;
           its = ap said (sym here) ∙ is ∙ ap (λ (b : LsaBody). Some b) k.its;
@@ -84,7 +84,7 @@ module _ (said : Said) (root : Root) (ways : Ways) (are : AreWays said root ways
         tag = ap (λ (x : Offer). x.tag) k.is;
       }
 
-  offer_of : (router distance : ℕ) (border : WalkWay) → IsToldOf said root router distance border
+  offer_of : (router distance : ℕ) (border : WalkWay) → IsAdvertised said root router distance border
       → Told (inter (host router) distance border.hops)
   offer_of router distance border t =
       let c = counted_back said root ways are routers flagged t.originator t.lsa border t.counts in
@@ -107,8 +107,8 @@ module _ (said : Said) (root : Root) (ways : Ways) (are : AreWays said root ways
   same_rank : (router : ℕ) (o : Offer) → TellsOf router o → rank o.kind ≡ 1
   same_rank router o t = ap (λ k. rank k) t.kind
 
-  module _ (told : List Route) (all : AreRoutesAmong Told told) where
-    between_forth : (router : ℕ) (route : Route) → IsFound told (host router) route
+  module _ (advertised : List Route) (all : AreRoutesAmong Told advertised) where
+    between_forth : (router : ℕ) (route : Route) → IsFound advertised (host router) route
         → IsWayBetween said root router (as_way (way_by route))
     between_forth router route f =
         let k : IsRouteAmong Told route = (all.each route).0 f.among in
@@ -116,7 +116,7 @@ module _ (said : Said) (root : Root) (ways : Ways) (are : AreWays said root ways
         told_of router k.first k.is_best.offered (k.is_best.is_for ∙ f.is_for) in
         record {
           border = first.border;
-          told = subst (λ d. IsToldOf said root router d first.border) (sym k.cost) first.told;
+          advertised = subst (λ d. IsAdvertised said root router d first.border) (sym k.cost) first.advertised;
           least = λ distance other t.
               let o : Offer = inter (host router) distance other.hops in
               let no_worse : IsNoWorse k.first o =
@@ -131,7 +131,7 @@ module _ (said : Said) (root : Root) (ways : Ways) (are : AreWays said root ways
                 (k.is_best.best h.0 h.1.offered h.1.is_for) in
                 let cost : h.0.cost ≡ route.cost = same.cost ∙ sym k.cost in (
                   o.border,
-                  subst (λ d. IsToldOf said root router d o.border) cost o.told,
+                  subst (λ d. IsAdvertised said root router d o.border) cost o.advertised,
                   subst (λ n. IsTrue (has_interface n i)) o.hops h.2,
                 )),
             (λ h.
@@ -164,7 +164,7 @@ module _ (said : Said) (root : Root) (ways : Ways) (are : AreWays said root ways
     between_back : (router : ℕ) (way : WalkWay) → IsWayBetween said root router way
         → IsRouteAmong Told (route_to router way)
     between_back router way b =
-        let best_of : (border : WalkWay) → IsToldOf said root router way.distance border
+        let best_of : (border : WalkWay) → IsAdvertised said root router way.distance border
         → IsBestAmong Told (host router) (inter (host router) way.distance border.hops) =
         λ border t.
         record {
@@ -172,7 +172,7 @@ module _ (said : Said) (root : Root) (ways : Ways) (are : AreWays said root ways
           is_for = refl;
           best = λ x p e.
               let o : TellsOf router x = told_of router x p e in
-              let least : way.distance ≤ x.cost = b.least x.cost o.border o.told in
+              let least : way.distance ≤ x.cost = b.least x.cost o.border o.advertised in
               let ranks : 1 ≡ rank x.kind = sym (same_rank router x o) in
               elim (cases_lt way.distance x.cost) [
                 | inl less ↦ ByCost ranks (omega (arith, less))
@@ -181,7 +181,7 @@ module _ (said : Said) (root : Root) (ways : Ways) (are : AreWays said root ways
               ];
         } in
         let first : Offer = inter (host router) way.distance b.border.hops in
-        let its_best : IsBestAmong Told (host router) first = best_of b.border b.told in
+        let its_best : IsBestAmong Told (host router) first = best_of b.border b.advertised in
         record {
           first = first;
           is_best = its_best;
@@ -200,14 +200,14 @@ module _ (said : Said) (root : Root) (ways : Ways) (are : AreWays said root ways
                 (its_best.best h.0 h.1.offered h.1.is_for) in
                 (b.hops i).1 (
                   o.border,
-                  subst (λ d. IsToldOf said root router d o.border) same.cost
-                      o.told,
+                  subst (λ d. IsAdvertised said root router d o.border) same.cost
+                      o.advertised,
                   subst (λ n. IsTrue (has_interface n i)) o.hops h.2,
                 )),
           );
         }
 
-    boundary_way_forth : (router : ℕ) (w : Way) → IsBoundary routers told router w
+    boundary_way_forth : (router : ℕ) (w : Way) → IsBoundary routers advertised router w
         → IsBoundaryWay said root router (as_way w)
     boundary_way_forth router w (Inside k) =
         InsideWay (boundary_forth said root ways are routers flagged router w k)
@@ -218,10 +218,10 @@ module _ (said : Said) (root : Root) (ways : Ways) (are : AreWays said root ways
         (between_forth router route f))
 
     boundary_way_back : (router : ℕ) (way : WalkWay) → IsBoundaryWay said root router way
-        → IsBoundary routers told router (as_found way)
+        → IsBoundary routers advertised router (as_found way)
     boundary_way_back router way (InsideWay k) =
         let b = boundary_back said root ways are routers flagged router way k in
-        subst (IsBoundary routers told router) (ap as_found b.2) (Inside b.1)
+        subst (IsBoundary routers advertised router) (ap as_found b.2) (Inside b.1)
     boundary_way_back router way (OutsideWay none b) =
         Outside (λ other k. none (as_way other)
         (boundary_forth said root ways are routers flagged router other k))
@@ -235,7 +235,7 @@ module _ (said : Said) (root : Root) (ways : Ways) (are : AreWays said root ways
 
     module _ (inner : List Route) (inside : AreRoutesAmong (OffersInside said root) inner) where
       outward_forth : (originator : ℕ) (lsa : ExternalLsa) (w : Way)
-          → IsOutward routers told inner originator lsa w
+          → IsOutward routers advertised inner originator lsa w
           → IsExternalWay said root originator lsa (as_way w)
       outward_forth originator lsa w k = record {
         boundary = as_way k.boundary;
@@ -254,7 +254,7 @@ module _ (said : Said) (root : Root) (ways : Ways) (are : AreWays said root ways
 
       outward_back : (originator : ℕ) (lsa : ExternalLsa) (way : WalkWay)
           → IsExternalWay said root originator lsa way
-          → IsOutward routers told inner originator lsa (as_found way)
+          → IsOutward routers advertised inner originator lsa (as_found way)
       outward_back originator lsa way k = record {
         boundary = as_found k.boundary;
         reaches = boundary_way_back originator k.boundary k.reaches;
@@ -271,7 +271,7 @@ module _ (said : Said) (root : Root) (ways : Ways) (are : AreWays said root ways
             );
       }
 
-      pub external_forth : (o : Offer) → OfSaid (OfExternal root routers told inner) said o
+      pub external_forth : (o : Offer) → OfSaid (OfExternal root routers advertised inner) said o
           → OffersExternal said root o
       external_forth o ((key, says), is, k) =
           let id = key.link_state_id in
@@ -296,7 +296,7 @@ module _ (said : Said) (root : Root) (ways : Ways) (are : AreWays said root ways
           }
 
       pub external_back : (o : Offer) → OffersExternal said root o
-          → OfSaid (OfExternal root routers told inner) said o
+          → OfSaid (OfExternal root routers advertised inner) said o
       external_back o k =
           let key : Key = record {
             ls_type = 5;

@@ -57,18 +57,18 @@ one_ascends (Some it) = λ i j d before within. absurd (omega (arith, before, wi
 -- ---- what one LSA tells
 
 module _ {R : Type 0} (Q : Key × LsaBody → R → Type 0) (key : Key) (says : LsaBody)
-    (told : Option LsaBody)
-    (is : told ≡ Some says) where
-  pub of_it : (r : R) → Q (key, says) r → OfOne Q key told r
+    (advertised : Option LsaBody)
+    (is : advertised ≡ Some says) where
+  pub of_it : (r : R) → Q (key, says) r → OfOne Q key advertised r
   of_it r q = (says, is, q)
 
-  pub by_it : (r : R) → OfOne Q key told r → Q (key, says) r
+  pub by_it : (r : R) → OfOne Q key advertised r → Q (key, says) r
   by_it r p =
       let both : Some p.0 ≡ Some says = sym p.1 ∙ is in
       let same : p.0 ≡ says = cc in
       subst (λ (b : LsaBody). Q (key, b) r) same p.2
 
-  pub just_of_it : (o : Option R) → IsJust (Q (key, says)) o → IsJust (OfOne Q key told) o
+  pub just_of_it : (o : Option R) → IsJust (Q (key, says)) o → IsJust (OfOne Q key advertised) o
   just_of_it None none = λ r p. none r (by_it r p)
   just_of_it (Some it) just = λ r. (λ p. (just r).0 (by_it r p), λ e. of_it r ((just r).1 e))
 
@@ -105,23 +105,23 @@ module _ (root : Root) (ways : Ways)
   no_network id by way is =
       let it : None ≡ Some way = sym (are_alone (ANetwork id by)) ∙ is in cc
 
-  pub one_close : (key : Key) (told : Option LsaBody) (o : Option Flagged) → AreNear ways
-      → IsJust (OfOne (TellsFlags ways) key told) o → AreCloseBy (list_of o)
-  one_close key told o near just r among =
+  pub one_close : (key : Key) (advertised : Option LsaBody) (o : Option Flagged) → AreNear ways
+      → IsJust (OfOne (TellsFlags ways) key advertised) o → AreCloseBy (list_of o)
+  one_close key advertised o near just r among =
       let tells = its o just (of_list o r among) in
       near (ARouter key.advertising_router) r.way tells.2.reached
     where
-      its : (p : Option Flagged) → IsJust (OfOne (TellsFlags ways) key told) p → p ≡ Some r
-          → OfOne (TellsFlags ways) key told r
+      its : (p : Option Flagged) → IsJust (OfOne (TellsFlags ways) key advertised) p → p ≡ Some r
+          → OfOne (TellsFlags ways) key advertised r
       its None j is = absurd (cc)
       its (Some it) j is = let same : r ≡ it = cc in (j r).1 same
 
-  module _ (said : Said) (told : Option LsaBody) (own : told ≡ said (router_key root.router)) where
+  module _ (said : Said) (advertised : Option LsaBody) (own : advertised ≡ said (router_key root.router)) where
     abbrev its_key : Key
     its_key = router_key root.router
 
     abbrev Told : Flagged → Type 0
-    Told = OfOne (TellsFlags ways) its_key told
+    Told = OfOne (TellsFlags ways) its_key advertised
 
     just_some : (o : Option Flagged) → IsJust Told o → (r : Flagged) → o ≡ Some r → Told r
     just_some None j r is = absurd (cc)
@@ -146,7 +146,7 @@ module _ (root : Root) (ways : Ways)
             its_router = sym same;
             its_flags = refl;
           } in
-          let is : told ≡ Some (body.Router k.lsa) =
+          let is : advertised ≡ Some (body.Router k.lsa) =
           own ∙ ap (λ n. said (router_key n)) same ∙ k.its in
           record {
             listed = r;
@@ -178,7 +178,7 @@ module _ (root : Root) (ways : Ways)
           ((flagged originator 1 border (inl refl)).1 counts.reaches).reached))
 
       only_own : (o : Offer) → OfSaid (IsInner root ways routers) said o
-          → OfOne (IsInner root ways routers) its_key told o
+          → OfOne (IsInner root ways routers) its_key advertised o
       only_own o ((key, says), is, ByRouter k) =
           let by : root.router ≡ key.advertising_router =
           is_root key.advertising_router k.way k.reached in
@@ -197,10 +197,10 @@ module _ (root : Root) (ways : Ways)
           absurd (not_counted key.advertising_router k.lsa k.border k.counts)
 
       pub own_inside : (offers : List Offer)
-          → Adds [] offers (OfOne (IsInner root ways routers) its_key told)
+          → Adds [] offers (OfOne (IsInner root ways routers) its_key advertised)
           → (o : Offer) → Contains offers o ↔ OffersInside said root o
       own_inside offers adds o =
-          let P = OfOne (IsInner root ways routers) its_key told in (
+          let P = OfOne (IsInner root ways routers) its_key advertised in (
             (λ t.
                 let p = such offers P adds o t in
                 inner_forth said root ways are routers flagged o
@@ -217,7 +217,7 @@ module _ (root : Root) (ways : Ways)
           (λ o k. absurd (not_counted k.0.0.advertising_router k.2.lsa k.2.border k.2.counts)) all
 
       pub own_networks : (offers : List Offer) (networks : List Route)
-          → Adds [] offers (OfOne (IsInner root ways routers) its_key told)
+          → Adds [] offers (OfOne (IsInner root ways routers) its_key advertised)
           → AreRoutesAmong (λ o. Contains offers o) networks
           → AreRoutesAmong (OffersInside said root) networks
       own_networks offers networks adds all =

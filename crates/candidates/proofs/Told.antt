@@ -21,7 +21,7 @@ use Rattle.routes.specs.declared.graph.Way.{Way}
 use Rattle.routes.specs.declared.offer.Offer.{Offer}
 use Rattle.routes.specs.declared.root.Root.{Root}
 use Rattle.candidates.specs.Borders.{IsOutwardBy}
-use Rattle.candidates.specs.Externals.{AreToldBy, OfTold, TellsExternal, offer_by}
+use Rattle.candidates.specs.Externals.{AreAdvertisedBy, OfAdvertised, TellsExternal, offer_by}
 use Rattle.candidates.specs.Gathering.{IsJust}
 use Rattle.candidates.specs.Sources.{OfExternal}
 use Rattle.candidates.specs.declared.externals.ExternalAdvertisement.{ExternalAdvertisement}
@@ -114,15 +114,15 @@ lsa_by e = record {
 abbrev walk_way : Way → WalkWay
 walk_way w = record { distance = w.distance; hops = w.hops }
 
-module _ (root : Root) (routers : List Flagged) (told inner : List Route) where
+module _ (root : Root) (routers : List Flagged) (advertised inner : List Route) where
   module _ (e : ExternalAdvertisement) where
-    pub no_way_out : IsJust (IsOutwardBy routers told inner e.originator e.forwarding) None
-        → IsJust (OfTold root routers told inner e) None
+    pub no_way_out : IsJust (IsOutwardBy routers advertised inner e.originator e.forwarding) None
+        → IsJust (OfAdvertised root routers advertised inner e) None
     no_way_out none = λ o k. none k.way k.is_way
 
     pub offered_by : (way : Way) (made : Offer) → e.metric < 16777215 → e.originator ≢ root.router
-        → IsJust (IsOutwardBy routers told inner e.originator e.forwarding) (Some way)
-        → made ≡ offer_by e way → IsJust (OfTold root routers told inner e) (Some made)
+        → IsJust (IsOutwardBy routers advertised inner e.originator e.forwarding) (Some way)
+        → made ≡ offer_by e way → IsJust (OfAdvertised root routers advertised inner e) (Some made)
     offered_by way made low other just is = λ o. (
       λ k. let w : k.way ≡ way = (just k.way).0 k.is_way in
           k.is ∙ ap (λ (x : Way). offer_by e x) w ∙ sym is,
@@ -136,8 +136,8 @@ module _ (root : Root) (routers : List Flagged) (told inner : List Route) where
     )
 
   module _ (one : Key × LsaBody) where
-    pub told_of : (o : Offer) → OfExternal root routers told inner one o
-        → (e : ExternalAdvertisement) × TellsExternal one e × OfTold root routers told inner e o
+    pub told_of : (o : Offer) → OfExternal root routers advertised inner one o
+        → (e : ExternalAdvertisement) × TellsExternal one e × OfAdvertised root routers advertised inner e o
     told_of o k =
         let e : ExternalAdvertisement = record {
           prefix = k.prefix;
@@ -170,13 +170,13 @@ module _ (root : Root) (routers : List Flagged) (told inner : List Route) where
         )
 
     pub of_told_one : (e : ExternalAdvertisement) → TellsExternal one e → (o : Offer)
-        → OfTold root routers told inner e o → OfExternal root routers told inner one o
+        → OfAdvertised root routers advertised inner e o → OfExternal root routers advertised inner one o
     of_told_one e t o k =
         let by = one.0.advertising_router in
         let named : offer_by e k.way ≡ external_offer t.lsa.kind e.prefix (lsa_by e) by
         (walk_way k.way) = λ i. external_offer (t.kind i) e.prefix (lsa_by e) (t.originator i)
         (walk_way k.way) in
-        let IsOut : ℕ → ℕ → Type 0 = λ originator forwarding. IsOutwardBy routers told inner
+        let IsOut : ℕ → ℕ → Type 0 = λ originator forwarding. IsOutwardBy routers advertised inner
         originator forwarding k.way in
         record {
           is_type = t.is_type;
@@ -194,19 +194,19 @@ module _ (root : Root) (routers : List Flagged) (told inner : List Route) where
         }
 
     pub by_none_told : IsJust (TellsExternal one) None
-        → IsJust (OfExternal root routers told inner one) None
+        → IsJust (OfExternal root routers advertised inner one) None
     by_none_told none = λ o k. let t = told_of o k in none t.0 t.1
 
     pub by_told : (e : ExternalAdvertisement) → IsJust (TellsExternal one) (Some e)
-        → (given : Option Offer) → IsJust (OfTold root routers told inner e) given
-        → IsJust (OfExternal root routers told inner one) given
+        → (given : Option Offer) → IsJust (OfAdvertised root routers advertised inner e) given
+        → IsJust (OfExternal root routers advertised inner one) given
     by_told e just None none = λ o k.
         let t = told_of o k in
-        none o (subst (λ (x : ExternalAdvertisement). OfTold root routers told inner x o)
+        none o (subst (λ (x : ExternalAdvertisement). OfAdvertised root routers advertised inner x o)
         ((just t.0).0 t.1) t.2)
     by_told e just (Some it) its = λ o. (
       λ k. let t = told_of o k in (its o).0
-          (subst (λ (x : ExternalAdvertisement). OfTold root routers told inner x o)
+          (subst (λ (x : ExternalAdvertisement). OfAdvertised root routers advertised inner x o)
           ((just t.0).0 t.1) t.2),
       λ same. of_told_one e ((just e).1 refl) o ((its o).1 same),
     )
@@ -216,15 +216,15 @@ module _ (root : Root) (routers : List Flagged) (told inner : List Route) where
 abbrev IsTold : List (Key × LsaBody) → ExternalAdvertisement → Type 0
 IsTold bodies e = (one : Key × LsaBody) × Contains bodies one × TellsExternal one e
 
-pub all_told : (bodies : List (Key × LsaBody)) (i : ℕ) (told : List ExternalAdvertisement)
-    → length bodies ≤ i → AreToldBy (take i bodies) told → AreToldBy bodies told
-all_told bodies i told past are = let P : List (Key × LsaBody) → Type 0 = λ xs. AreToldBy xs told in
+pub all_told : (bodies : List (Key × LsaBody)) (i : ℕ) (advertised : List ExternalAdvertisement)
+    → length bodies ≤ i → AreAdvertisedBy (take i bodies) advertised → AreAdvertisedBy bodies advertised
+all_told bodies i advertised past are = let P : List (Key × LsaBody) → Type 0 = λ xs. AreAdvertisedBy xs advertised in
     subst P (take_all i bodies past) are
 
 module _ (bodies : List (Key × LsaBody)) (i : ℕ) (one : Key × LsaBody)
     (is : one ≡ get_or bodies i one)
-    (lt : i < length bodies) (told : List ExternalAdvertisement)
-    (are : AreToldBy (take i bodies) told) where
+    (lt : i < length bodies) (advertised : List ExternalAdvertisement)
+    (are : AreAdvertisedBy (take i bodies) advertised) where
   split : take (i + 1) bodies ≡ take i bodies ++ one ∷ []
   split = take_more bodies i one lt ∙ ap (λ (y : Key × LsaBody). take i bodies ++ y ∷ []) (sym is)
 
@@ -247,7 +247,7 @@ module _ (bodies : List (Key × LsaBody)) (i : ℕ) (one : Key × LsaBody)
         | inr same ↦ inr (subst (λ (y : Key × LsaBody). TellsExternal y e) (sym same) p.2)
       ]
 
-  pub told_same : IsJust (TellsExternal one) None → AreToldBy (take (i + 1) bodies) told
+  pub told_same : IsJust (TellsExternal one) None → AreAdvertisedBy (take (i + 1) bodies) advertised
   told_same none e = (
     (λ t. still e ((are e).0 t)),
     (λ p.
@@ -258,17 +258,17 @@ module _ (bodies : List (Key × LsaBody)) (i : ℕ) (one : Key × LsaBody)
   )
 
   pub told_more : (new : ExternalAdvertisement) → IsJust (TellsExternal one) (Some new)
-      → AreToldBy (take (i + 1) bodies) (told ++ new ∷ [])
+      → AreAdvertisedBy (take (i + 1) bodies) (advertised ++ new ∷ [])
   told_more new just e = (
     (λ t.
-        elim (Contains-push_cases told new e t) [
+        elim (Contains-push_cases advertised new e t) [
           | inl old ↦ still e ((are e).0 old)
           | inr same ↦ here e ((just e).1 (sym same))
         ]),
     (λ p.
         elim (either e p) [
-          | inl old ↦ Contains-append_left told (new ∷ []) e ((are e).1 old)
-          | inr q ↦ subst (Contains (told ++ new ∷ [])) (sym ((just e).0 q))
-              (Contains-push told new)
+          | inl old ↦ Contains-append_left advertised (new ∷ []) e ((are e).1 old)
+          | inr q ↦ subst (Contains (advertised ++ new ∷ [])) (sym ((just e).0 q))
+              (Contains-push advertised new)
         ]),
   )

@@ -111,11 +111,11 @@ pub record IsFound (routes : List Route) (prefix : Network) (route : Route) : Ty
   pub is_for : route.prefix ≡ prefix
 
 -- within the area if there is such a way, else as summary-LSAs advertise
-pub data IsBoundary (routers : List Flagged) (told : List Route) (router : ℕ)
+pub data IsBoundary (routers : List Flagged) (advertised : List Route) (router : ℕ)
     (way : Way) : Type 0 where
-  Inside : IsListed routers router 2 way → IsBoundary routers told router way
+  Inside : IsListed routers router 2 way → IsBoundary routers advertised router way
   Outside : ((other : Way) → IsListed routers router 2 other → ⊥) → (route : Route)
-      → IsFound told (host router) route → way ≡ way_by route → IsBoundary routers told router way
+      → IsFound advertised (host router) route → way ≡ way_by route → IsBoundary routers advertised router way
 
 -- ---- forwarding addresses
 
@@ -139,15 +139,15 @@ pub record IsLongest (routes : List Route) (address : ℕ) (route : Route) : Typ
       → other.prefix.length ≤ route.prefix.length
 
 -- the way to an external destination: by the originator, or by the forwarding address
-pub record IsOutwardBy (routers : List Flagged) (told inner : List Route) (originator : ℕ)
+pub record IsOutwardBy (routers : List Flagged) (advertised inner : List Route) (originator : ℕ)
     (forwarding : ℕ) (way : Way) : Type 0 where
   pub boundary : Way
-  pub reaches : IsBoundary routers told originator boundary
+  pub reaches : IsBoundary routers advertised originator boundary
   pub direct : forwarding ≡ 0 → way ≡ boundary
   pub forwarded : forwarding ≢ 0
       → (route : Route) × IsLongest inner forwarding route × (way ≡ way_by route)
 
 -- the same for what an LSA says
-abbrev pub IsOutward : List Flagged → (told inner : List Route) → ℕ → ExternalLsa → Way → Type 0
-IsOutward routers told inner originator lsa way =
-    IsOutwardBy routers told inner originator lsa.forwarding way
+abbrev pub IsOutward : List Flagged → (advertised inner : List Route) → ℕ → ExternalLsa → Way → Type 0
+IsOutward routers advertised inner originator lsa way =
+    IsOutwardBy routers advertised inner originator lsa.forwarding way

@@ -31,15 +31,15 @@ pub record TellsExternal (one : Key × LsaBody) (e : ExternalAdvertisement) : Ty
   pub tag : e.tag ≡ lsa.tag
 
 -- exactly what these LSAs advertise
-abbrev pub AreToldBy : List (Key × LsaBody) → List ExternalAdvertisement → Type 0
-AreToldBy bodies told =
-    (e : ExternalAdvertisement) → Contains told e
+abbrev pub AreAdvertisedBy : List (Key × LsaBody) → List ExternalAdvertisement → Type 0
+AreAdvertisedBy bodies advertised =
+    (e : ExternalAdvertisement) → Contains advertised e
     ↔ ((one : Key × LsaBody) × Contains bodies one × TellsExternal one e)
 
 -- exactly what the LSAs of the database advertise
 abbrev pub AreExternals : Said → List ExternalAdvertisement → Type 0
-AreExternals said told =
-    (e : ExternalAdvertisement) → Contains told e
+AreExternals said advertised =
+    (e : ExternalAdvertisement) → Contains advertised e
     ↔ ((one : Key × LsaBody) × (said one.0 ≡ Some one.1) × TellsExternal one e)
 
 -- the offer with this way to the originator or forwarding address
@@ -57,11 +57,11 @@ offer_by e way =
     e.originator (record { distance = way.distance; hops = way.hops })
 
 -- the offer of an external destination: of another router, with a metric below LSInfinity
-pub record OfTold (root : Root) (routers : List Flagged) (told inner : List Route)
+pub record OfAdvertised (root : Root) (routers : List Flagged) (advertised inner : List Route)
     (e : ExternalAdvertisement)
     (o : Offer) : Type 0 where
   pub reachable : e.metric < ls_infinity
   pub of_another : e.originator ≢ root.router
   pub way : Way
-  pub is_way : IsOutwardBy routers told inner e.originator e.forwarding way
+  pub is_way : IsOutwardBy routers advertised inner e.originator e.forwarding way
   pub is : o ≡ offer_by e way

@@ -16,13 +16,13 @@ use Rattle.routes.specs.declared.root.Root.{Root}
 -- each list is sorted, and no cost plus a metric exceeds 32 bits
 pub record AreSearchable (inner : InnerRoutes) : Type 0 where
   pub flagged : AscendByRouter inner.flagged.items × AreCloseBy inner.flagged.items
-  pub told : Ascend inner.told.items × AreBelow inner.told.items
+  pub advertised : Ascend inner.advertised.items × AreBelow inner.advertised.items
   pub networks : Ascend inner.networks.items × AreBelow inner.networks.items
   pub lengths : HasLengths inner.networks.items inner.lengths
 
 -- the results from what the LSAs say, given the ways by their links
 pub record AreInner (said : Said) (root : Root) (ways : Ways) (inner : InnerRoutes) : Type 0 where
   pub flagged : AreFlagged said ways inner.flagged.items
-  pub told : AreRoutesAmong (OfSaid (Tells root inner.flagged.items) said) inner.told.items
+  pub advertised : AreRoutesAmong (OfSaid (Tells root inner.flagged.items) said) inner.advertised.items
   pub networks : AreRoutesAmong (OffersInside said root) inner.networks.items
   pub offers : (o : Offer) → Contains inner.offers.items o ↔ OffersInside said root o

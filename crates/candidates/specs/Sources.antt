@@ -79,7 +79,7 @@ pub data IsInner (root : Root) (ways : Ways) (routers : List Flagged) (one : Key
 
 -- ---- external destinations (section 16.4)
 
-pub record OfExternal (root : Root) (routers : List Flagged) (told inner : List Route)
+pub record OfExternal (root : Root) (routers : List Flagged) (advertised inner : List Route)
     (one : Key × LsaBody) (o : Offer) : Type 0 where
   pub is_type : one.0.ls_type ≡ 5
   pub lsa : ExternalLsa
@@ -89,7 +89,7 @@ pub record OfExternal (root : Root) (routers : List Flagged) (told inner : List 
   pub prefix : Network
   pub is_prefix : IsPrefix one.0.link_state_id lsa.mask prefix
   pub way : Way
-  pub is_way : IsOutward routers told inner one.0.advertising_router lsa way
+  pub is_way : IsOutward routers advertised inner one.0.advertising_router lsa way
   pub is : o
       ≡ external_offer lsa.kind prefix lsa one.0.advertising_router
       (record { distance = way.distance; hops = way.hops })

@@ -41,7 +41,7 @@ pub fn counted_border(
 
 /// What the summary-LSA with this key advertises about an AS boundary router, as an offer for the
 /// router's host prefix (RFC 2328, section 16.4).
-pub fn told_offer(root: &Root, routers: &[Flagged], key: &Key, body: &LsaBody) -> Option<Offer>
+pub fn advertised_offer(root: &Root, routers: &[Flagged], key: &Key, body: &LsaBody) -> Option<Offer>
     requires ascend { AscendByRouter routers.now }
     requires close { AreCloseBy routers.now }
     ensures { IsJust (Tells root.now routers.now (key.now, body.now)) result }
@@ -65,19 +65,19 @@ pub fn told_offer(root: &Root, routers: &[Flagged], key: &Key, body: &LsaBody) -
 pub fn boundary_way(
     routers: &[Flagged],
     place: usize,
-    told: &[Route],
+    advertised: &[Route],
     router: RouterId,
 ) -> Option<Way>
     requires routers { AscendByRouter routers.now × AreCloseBy routers.now }
-    requires ascend { Ascend told.now }
-    requires few { AreBelow told.now }
-    ensures just { IsJust (IsBoundary routers.now told.now router) result }
+    requires ascend { Ascend advertised.now }
+    requires few { AreBelow advertised.now }
+    ensures just { IsJust (IsBoundary routers.now advertised.now router) result }
     ensures near { IfSome result (λ way. way.distance < 2147483648) }
 {
     match flagged_way(routers, place, router, BOUNDARY) {
         Some(way) => Some(way),
         None => {
-            let route = find(told, host(router.number()))?;
+            let route = find(advertised, host(router.number()))?;
             Some(way_by(route))
         }
     }

@@ -90,11 +90,12 @@ pub fn externals_at(
     db: &Lsdb,
     moment: Second,
 ) -> Result<Vec<ExternalAdvertisement>, AllocError>
-    ensures { IfOk result (λ told. AreExternals (said_at moment db.now.present) told.items) }
+    ensures { IfOk result (λ advertised. AreExternals (said_at moment db.now.present)
+        advertised.items) }
 {
     let bodies = db.bodies_at(alloc, None, moment)?;
-    let told = externals_of(alloc, &bodies)?;
-    Ok(told)
+    let advertised = externals_of(alloc, &bodies)?;
+    Ok(advertised)
 }
 
 /// The candidates of a database at a moment as `routes_of` gives them, with what external
@@ -164,7 +165,7 @@ fn with_externals(
         return Ok(networks);
     }
     let by = Inner {
-        routers: &inner.told,
+        routers: &inner.advertised,
         flagged: &inner.flagged,
         networks: &inner.networks,
         lengths: &inner.lengths,

@@ -8,7 +8,7 @@ ghost use Rattle.candidates.specs.Borders.{
   HasLengths,
   IsOutwardBy,
 };
-ghost use Rattle.candidates.specs.Externals.{OfTold, TellsExternal};
+ghost use Rattle.candidates.specs.Externals.{OfAdvertised, TellsExternal};
 ghost use Rattle.candidates.specs.Gathering.{IsJust};
 ghost use Rattle.candidates.specs.Sources.{OfExternal};
 
@@ -49,7 +49,7 @@ pub struct ExternalAdvertisement {
 }
 
 /// What the AS-external-LSA with this key advertises, if it is one and its mask gives a network.
-pub fn told_external(key: &Key, body: &LsaBody) -> Option<ExternalAdvertisement>
+pub fn advertised_external(key: &Key, body: &LsaBody) -> Option<ExternalAdvertisement>
     ensures { IsJust (TellsExternal (key.now, body.now)) result }
 {
     if key.ls_type != 5 {
@@ -95,24 +95,24 @@ fn outward_way(
 
 /// The offer of an AS-external-LSA that advertises this. The search for its originator begins at
 /// index `place`.
-pub fn offer_told(
+pub fn offer_advertised(
     root: &Root,
     inner: &Inner<'_>,
     place: usize,
-    told: &ExternalAdvertisement,
+    advertised: &ExternalAdvertisement,
 ) -> Option<Offer>
     requires flagged { AscendByRouter inner.now.flagged.now × AreCloseBy inner.now.flagged.now }
     requires routers { Ascend inner.now.routers.now × AreBelow inner.now.routers.now }
     requires networks { Ascend inner.now.networks.now × AreBelow inner.now.networks.now }
     requires lengths { HasLengths inner.now.networks.now inner.now.lengths.now }
-    ensures { IsJust (OfTold root.now inner.now.flagged.now inner.now.routers.now
-        inner.now.networks.now told.now) result }
+    ensures { IsJust (OfAdvertised root.now inner.now.flagged.now inner.now.routers.now
+        inner.now.networks.now advertised.now) result }
 {
-    if told.metric >= LS_INFINITY || told.originator == root.router {
+    if advertised.metric >= LS_INFINITY || advertised.originator == root.router {
         return None;
     }
-    let way = outward_way(inner, place, told.originator, told.forwarding)?;
-    Some(external(told, way))
+    let way = outward_way(inner, place, advertised.originator, advertised.forwarding)?;
+    Some(external(advertised, way))
 }
 
 /// What an AS-external-LSA offers.
@@ -124,6 +124,6 @@ pub fn external_offer(root: &Root, inner: &Inner<'_>, key: &Key, body: &LsaBody)
     ensures { IsJust (OfExternal root.now inner.now.flagged.now inner.now.routers.now
         inner.now.networks.now (key.now, body.now)) result }
 {
-    let told = told_external(key, body)?;
-    offer_told(root, inner, 0, &told)
+    let advertised = advertised_external(key, body)?;
+    offer_advertised(root, inner, 0, &advertised)
 }

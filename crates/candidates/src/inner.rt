@@ -9,7 +9,7 @@ ghost use Rattle.routes.specs.Said.{Said};
 
 use crate::flagged::{Flagged, flagged_routers};
 use crate::order::routes_of_offers;
-use crate::passes::{inner_offers, told_routes};
+use crate::passes::{inner_offers, advertised_routes};
 use crate::search::lengths_of;
 use crate::ways::Ways;
 use lsdb::KeyedBody;
@@ -24,7 +24,7 @@ pub struct InnerRoutes {
     pub flagged: Vec<Flagged>,
     /// What summary-LSAs advertise about AS boundary routers, as routes to the routers' host
     /// prefixes.
-    pub told: Vec<Route>,
+    pub advertised: Vec<Route>,
     /// The networks within the area and between areas, in the order of their prefixes.
     pub networks: Vec<Route>,
     /// The lengths that the networks' prefixes have.
@@ -52,13 +52,13 @@ pub fn inner_of<W: Ways>(
         → AreInner said root.now (W.ways ways.now) inner) }
 {
     let flagged = flagged_routers(alloc, ways, bodies)?;
-    let told = told_routes(alloc, root, &flagged, bodies)?;
+    let advertised = advertised_routes(alloc, root, &flagged, bodies)?;
     let mut offers = inner_offers(alloc, root, ways, &flagged, bodies)?;
     let networks = routes_of_offers(alloc, &mut offers)?;
     let lengths = lengths_of(&networks);
     Ok(InnerRoutes {
         flagged,
-        told,
+        advertised,
         networks,
         lengths,
         offers,

@@ -41,28 +41,28 @@ pub fn inter(prefix: Prefix, cost: u32, hops: u64) -> Offer
 }
 
 /// An offer of an AS boundary router. The way leads to it or to the forwarding address.
-pub fn external(told: &ExternalAdvertisement, way: Way) -> Offer
+pub fn external(advertised: &ExternalAdvertisement, way: Way) -> Offer
     requires near { way.distance < 2147483648 }
-    requires metric { told.now.metric < ls_infinity }
-    ensures { result ≡ offer_by told.now way }
+    requires metric { advertised.now.metric < ls_infinity }
+    ensures { result ≡ offer_by advertised.now way }
 {
-    match told.kind {
+    match advertised.kind {
         ExternalType::Type1 => Offer {
-            prefix: told.prefix,
+            prefix: advertised.prefix,
             kind: RouteKind::External1,
-            cost: way.distance + told.metric,
+            cost: way.distance + advertised.metric,
             distance: 0,
-            originator: told.originator,
-            tag: told.tag,
+            originator: advertised.originator,
+            tag: advertised.tag,
             hops: Hops::from_bits(way.hops),
         },
         ExternalType::Type2 => Offer {
-            prefix: told.prefix,
+            prefix: advertised.prefix,
             kind: RouteKind::External2,
-            cost: told.metric,
+            cost: advertised.metric,
             distance: way.distance,
-            originator: told.originator,
-            tag: told.tag,
+            originator: advertised.originator,
+            tag: advertised.tag,
             hops: Hops::from_bits(way.hops),
         },
     }

@@ -10,13 +10,13 @@ ghost use Rattle.candidates.specs.Borders.{
   Tells,
 };
 ghost use Rattle.candidates.specs.Gathering.{Adds, AreCheap, OfEach};
-ghost use Rattle.candidates.specs.Externals.{AreToldBy, OfTold};
+ghost use Rattle.candidates.specs.Externals.{AreAdvertisedBy, OfAdvertised};
 ghost use Rattle.candidates.specs.Sources.{IsInner};
 ghost use Rattle.candidates.specs.Ways.{AreNear};
 
 use crate::area::push_inner;
-use crate::borders::told_offer;
-use crate::externals::{ExternalAdvertisement, Inner, offer_told, told_external};
+use crate::borders::advertised_offer;
+use crate::externals::{ExternalAdvertisement, Inner, offer_advertised, advertised_external};
 use crate::flagged::{Flagged, slots_of};
 use crate::gathering::push_offer;
 use crate::order::routes_of_offers;
@@ -30,7 +30,7 @@ use words::Route;
 ///
 /// # Errors
 /// `AllocError` if an allocation is refused.
-pub fn told_routes(
+pub fn advertised_routes(
     alloc: Global,
     root: &Root,
     routers: &[Flagged],
@@ -47,7 +47,7 @@ pub fn told_routes(
     for one in bodies {
         push_offer(
             &mut offers,
-            told_offer(root, routers, one.key(), one.body()),
+            advertised_offer(root, routers, one.key(), one.body()),
         )?;
     }
     let routes = routes_of_offers(alloc, &mut offers)?;
@@ -88,12 +88,12 @@ pub fn externals_of(
     alloc: Global,
     bodies: &[KeyedBody<'_>],
 ) -> Result<Vec<ExternalAdvertisement>, AllocError>
-    ensures { IfOk result (λ told. AreToldBy bodies.now told.items) }
+    ensures { IfOk result (λ advertised. AreAdvertisedBy bodies.now advertised.items) }
 {
     let mut all = Vec::new(alloc);
     for one in bodies {
-        if let Some(told) = told_external(one.key(), one.body()) {
-            all.push(told)?;
+        if let Some(advertised) = advertised_external(one.key(), one.body()) {
+            all.push(advertised)?;
         }
     }
     Ok(all)
@@ -115,13 +115,13 @@ pub fn push_externals(
     requires networks { Ascend inner.now.networks.now × AreBelow inner.now.networks.now }
     requires lengths { HasLengths inner.now.networks.now inner.now.lengths.now }
     ensures { OnOk result (Adds offers.old.items offers.new.items
-        (OfEach (OfTold root.now inner.now.flagged.now inner.now.routers.now
+        (OfEach (OfAdvertised root.now inner.now.flagged.now inner.now.routers.now
         inner.now.networks.now) externals.now)) }
 {
     let slots = slots_of(alloc, inner.flagged)?;
-    for told in externals {
-        let place = slots.expected_at(told.originator.number());
-        push_offer(offers, offer_told(root, inner, place, told))?;
+    for advertised in externals {
+        let place = slots.expected_at(advertised.originator.number());
+        push_offer(offers, offer_advertised(root, inner, place, advertised))?;
     }
     Ok(())
 }

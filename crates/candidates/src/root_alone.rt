@@ -102,14 +102,14 @@ pub fn inner_alone<W: Ways>(
     let body = db.body_at(moment, &key);
     let flagged = listed(alloc, flagged_by(ways, &key, body))?;
     let mut none = Vec::new(alloc);
-    let told = routes_of_offers(alloc, &mut none)?;
+    let advertised = routes_of_offers(alloc, &mut none)?;
     let mut offers = Vec::new(alloc);
     push_by(root, ways, &flagged, &key, body, &mut offers)?;
     let networks = routes_of_offers(alloc, &mut offers)?;
     let lengths = lengths_of(&networks);
     Ok(InnerRoutes {
         flagged,
-        told,
+        advertised,
         networks,
         lengths,
         offers,

@@ -12,7 +12,7 @@ use Rattle.routes.specs.Said.{Said}
 use Rattle.routes.specs.declared.root.Root.{Root}
 use Rattle.routes.proofs.Lists.{of_empty}
 use Rattle.kept_routes.specs.Sameness.{SayTheSame}
-use Rattle.external_updates.specs.Changes.{AreAllTold, IsUntouched, OthersSayTheSame}
+use Rattle.external_updates.specs.Changes.{AreAllAdvertised, IsUntouched, OthersSayTheSame}
 use Rattle.external_updates.specs.Placing.{AreHalfway, HasAnother, HasAnotherTo, IsEither}
 use Rattle.external_updates.specs.Placing.{IsRenewed}
 use Rattle.external_updates.proofs.Networks.{among_or_not, same_or_not}
@@ -122,9 +122,9 @@ module _ (old new : Said) (root : Root) where
       (r, (half.each r).1 (inl (among, k)), none)
 
   module _ (same : SayTheSame (Some 4) old new) (keys : List Key) (prefixes : List Network)
-      (others : OthersSayTheSame keys old new) (told : AreAllTold old new keys prefixes) where
+      (others : OthersSayTheSame keys old new) (advertised : AreAllAdvertised old new keys prefixes) where
     stays : (prefix : Network) → (Contains prefixes prefix → ⊥) → IsUntouched old new prefix
-    stays prefix none key t = others key (λ among. none (told key prefix among t))
+    stays prefix none key t = others key (λ among. none (advertised key prefix among t))
 
     pub all_done : (routes : List Route) → AreHalfway old new root prefixes routes
         → AreCandidates new root routes

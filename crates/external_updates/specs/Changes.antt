@@ -19,8 +19,8 @@ pub record TellsOf (old : Said) (new : Said) (key : Key) (prefix : Network) : Ty
   pub is_prefix : IsPrefix key.link_state_id lsa.mask prefix
 
 -- the networks that these keys' AS-external-LSAs advertise or advertised are among these
-abbrev pub AreAllTold : (old : Said) → (new : Said) → List Key → List Network → Type 0
-AreAllTold old new keys prefixes =
+abbrev pub AreAllAdvertised : (old : Said) → (new : Said) → List Key → List Network → Type 0
+AreAllAdvertised old new keys prefixes =
     (key : Key) (prefix : Network) → Contains keys key → TellsOf old new key prefix
     → Contains prefixes prefix
 

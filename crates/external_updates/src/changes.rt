@@ -2,7 +2,7 @@
 ghost use Rattle.std.specs.Prelude.{◌≡◌, ◌↔◌, ◌≤◌, IfOk, IsTrue, MatchOption, OnOk, Some};
 ghost use Rattle.std.specs.Prelude.{option_copied};
 ghost use Rattle.std.specs.List.{Contains};
-ghost use Rattle.external_updates.specs.Changes.{AreAllTold, OthersSayTheSame};
+ghost use Rattle.external_updates.specs.Changes.{AreAllAdvertised, OthersSayTheSame};
 ghost use Rattle.lsa.specs.declared.body.LsaBody.TheVariants as body;
 ghost use Rattle.lsa.specs.declared.body.ExternalLsa.{ExternalLsa as ExternalValue};
 ghost use Rattle.routes.specs.Offers.{IsPrefix};
@@ -65,13 +65,13 @@ fn external_of(says: Option<&LsaBody>) -> Option<&ExternalLsa>
 }
 
 // Records the network, if there is one and it isn't recorded yet.
-fn note(prefixes: &mut Vec<Prefix>, told: Option<Prefix>) -> Result<(), AllocError>
+fn note(prefixes: &mut Vec<Prefix>, advertised: Option<Prefix>) -> Result<(), AllocError>
     ensures kept { OnOk result ((prefix : Network) → Contains prefixes.old.items prefix
         → Contains prefixes.new.items prefix) }
-    ensures noted { OnOk result ((prefix : Network) → told ≡ Some prefix
+    ensures noted { OnOk result ((prefix : Network) → advertised ≡ Some prefix
         → Contains prefixes.new.items prefix) }
 {
-    match told {
+    match advertised {
         None => Ok(()),
         Some(prefix) => {
             if is_among(prefixes.as_slice(), prefix) {
@@ -117,7 +117,7 @@ pub fn networks_told(
     moment: Second,
     keys: &[Key],
 ) -> Result<Vec<Prefix>, AllocError>
-    ensures { IfOk result (λ prefixes. AreAllTold
+    ensures { IfOk result (λ prefixes. AreAllAdvertised
         (said_at before db.now.committed) (said_at moment db.now.present)
         keys.now prefixes.items) }
 {

@@ -12,7 +12,7 @@ use Rattle.routes.specs.Offers.{Attaches, OffersWithin, ReachesBoundaryRouter}
 use Rattle.routes.specs.Paths.{IsWay, Way}
 use Rattle.routes.specs.Routes.{IsForwarded, IsRouteAmong}
 use Rattle.routes.specs.Said.{Said}
-use Rattle.routes.specs.Summaries.{CountsAsSummary, IsBoundaryWay, IsToldOf, IsWayBetween}
+use Rattle.routes.specs.Summaries.{CountsAsSummary, IsBoundaryWay, IsAdvertised, IsWayBetween}
 use Rattle.routes.specs.Summaries.{OffersBetween, OffersInside, ReachesBorderRouter, summary_key}
 use Rattle.routes.specs.Summaries.IsBoundaryWay.{Inside, Outside}
 use Rattle.routes.specs.declared.node.Node.{Node}
@@ -110,9 +110,9 @@ module _ (old new : Said) (same : AgreeInside old new) (root : Root) where
     reached = way (ARouter router) w k.reached;
   }
 
-  told : (router distance : ℕ) (w : Way) → IsToldOf old root router distance w
-      → IsToldOf new root router distance w
-  told router distance w k = record {
+  advertised : (router distance : ℕ) (w : Way) → IsAdvertised old root router distance w
+      → IsAdvertised new root router distance w
+  advertised router distance w k = record {
     originator = k.originator;
     lsa = k.lsa;
     its = sym (same (summary_key 4 router k.originator) (omega arith)) ∙ k.its;
@@ -130,12 +130,12 @@ module _ (old new : Said) (same : AgreeInside old new) (root : Root) where
       → IsWayBetween new root router w
   way_between router w k = record {
     border = k.border;
-    told = told old new same root router w.distance k.border k.told;
+    advertised = advertised old new same root router w.distance k.border k.advertised;
     least = λ distance other t. k.least distance other
-        (told new old back root router distance other t);
+        (advertised new old back root router distance other t);
     hops = λ i. (
-      (λ t. let h = (k.hops i).0 t in (h.0, told old new same root router w.distance h.0 h.1, h.2)),
-      (λ h. (k.hops i).1 (h.0, told new old back root router w.distance h.0 h.1, h.2)),
+      (λ t. let h = (k.hops i).0 t in (h.0, advertised old new same root router w.distance h.0 h.1, h.2)),
+      (λ h. (k.hops i).1 (h.0, advertised new old back root router w.distance h.0 h.1, h.2)),
     );
   }
 

@@ -159,8 +159,8 @@ module _ (before moment : ℕ) (old new : Database) (walk : KeptWalk) where
           let f = flagged is walk.root (way_in walk.reached) walks.ways router way k in
           un.inside f.0 f.1
       unreached router way (Outside none k) un =
-          let key = summary_key 4 router k.told.originator in
-          un.outside (key, there (finite.get new key) _ k.told.its, (refl, refl))
+          let key = summary_key 4 router k.advertised.originator in
+          un.outside (key, there (finite.get new key) _ k.advertised.its, (refl, refl))
         where
           there : (o : Option DatabaseCopy) (b : LsaBody) → said_by moment o ≡ Some b
               → is_some o ≡ true

@@ -16,7 +16,7 @@ use Rattle.routes.specs.Offers.{Attaches, ReachesBoundaryRouter}
 use Rattle.routes.specs.Paths.{IsLeastWalk, IsWay, Step, Way}
 use Rattle.routes.specs.Routes.{rank}
 use Rattle.routes.specs.Said.{Said}
-use Rattle.routes.specs.Summaries.{IsBoundaryWay, IsToldOf, OffersBetween}
+use Rattle.routes.specs.Summaries.{IsBoundaryWay, IsAdvertised, OffersBetween}
 use Rattle.routes.specs.Summaries.IsBoundaryWay.{Inside, Outside}
 use Rattle.routes.specs.declared.node.Node.{Node}
 use Rattle.routes.specs.declared.node.Node.TheVariants.{ARouter}
@@ -114,16 +114,16 @@ module _ (said : Said) (plain : AreBoundariesPlain said) (root : Root) where
   }
 
   by_told : (o : Offer) (x : OffersExternal said root o) (border : Way)
-      → IsToldOf said root x.originator x.is_way.boundary.distance border
+      → IsAdvertised said root x.originator x.is_way.boundary.distance border
       → IsSent said root o border.hops
-  by_told o x border told = record {
-    originator = told.originator;
-    of_another = told.counts.of_another;
+  by_told o x border advertised = record {
+    originator = advertised.originator;
+    of_another = advertised.counts.of_another;
     toward = Told x (plain.direct x.id x.originator x.lsa x.its)
-        (λ lsa its. plain.elsewhere x.originator told.originator told.lsa told.its lsa its) border
-        told refl refl;
+        (λ lsa its. plain.elsewhere x.originator advertised.originator advertised.lsa advertised.its lsa its) border
+        advertised refl refl;
     way = border;
-    reached = told.counts.reaches.reached;
+    reached = advertised.counts.reaches.reached;
     hops_are = refl;
   }
 
@@ -161,9 +161,9 @@ module _ (said : Said) (plain : AreBoundariesPlain said) (root : Root) where
           × IsTrue (has_interface o.hops i)
       by_way (Inside r) = by_sent o.hops (by_boundary o x r)
       by_way (Outside never b) =
-          let k = by_sent b.border.hops (by_told o x b.border b.told) in
+          let k = by_sent b.border.hops (by_told o x b.border b.advertised) in
           let Has : ℕ → Type 0 = λ h. IsTrue (has_interface h k.0) in
-          (k.0, subst Has (sym (hops_of o x)) ((b.hops k.0).1 (b.border, b.told, k.1)))
+          (k.0, subst Has (sym (hops_of o x)) ((b.hops k.0).1 (b.border, b.advertised, k.1)))
 
 -- ---- on to the last router
 

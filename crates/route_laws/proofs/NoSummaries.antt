@@ -41,7 +41,7 @@ module _ (moment : ℕ) (es : Entries) (none : list_all is_no_summary (sayings e
       → ReachesBoundaryRouter (said_at moment (database es)) root router way
   is_inside router way (Inside x) = x
   is_inside router way (Outside no_way x) =
-      let t = x.told in
+      let t = x.advertised in
       absurd (
       let e : false ≡ true =
       all_pass is_no_summary (sayings es) none

@@ -7,7 +7,7 @@ use Rattle.routes.specs.Routes.{IsForwarded}
 use Rattle.routes.specs.declared.offer.Offer.{Offer}
 use Rattle.routes.proofs.Determined.{one_route, one_way, same_hops}
 use Rattle.route_laws.specs.Laws.{BoundaryWaysAreDetermined, ForwardingIsDetermined}
-use Rattle.routes.specs.Summaries.{IsToldOf, IsWayBetween, OffersInside}
+use Rattle.routes.specs.Summaries.{IsAdvertised, IsWayBetween, OffersInside}
 use Rattle.routes.specs.Summaries.IsBoundaryWay.{Inside, Outside}
 use Rattle.routes.specs.Links.{Leads}
 use Rattle.routes.specs.declared.node.Node.TheVariants.{ARouter}
@@ -36,14 +36,14 @@ forwarding said root = one_forward (OffersInside said root)
 one_between : (said : Said) (root : Root) (router : ℕ) (a b : Way) → IsWayBetween said root router a
     → IsWayBetween said root router b → a ≡ b
 one_between said root router a b p q =
-    let there : a.distance ≤ b.distance = p.least b.distance q.border q.told in
-    let here : b.distance ≤ a.distance = q.least a.distance p.border p.told in
+    let there : a.distance ≤ b.distance = p.least b.distance q.border q.advertised in
+    let here : b.distance ≤ a.distance = q.least a.distance p.border p.advertised in
     let distance : a.distance ≡ b.distance = omega (arith, there, here) in
     let hops : a.hops ≡ b.hops = same_hops a.hops b.hops
     (λ i t. let h = (p.hops i).0 t in
-    (q.hops i).1 (h.0, subst (λ d. IsToldOf said root router d h.0) distance h.1, h.2))
+    (q.hops i).1 (h.0, subst (λ d. IsAdvertised said root router d h.0) distance h.1, h.2))
     (λ i t. let h = (q.hops i).0 t in
-    (p.hops i).1 (h.0, subst (λ d. IsToldOf said root router d h.0) (sym distance) h.1, h.2)) in
+    (p.hops i).1 (h.0, subst (λ d. IsAdvertised said root router d h.0) (sym distance) h.1, h.2)) in
     λ i. record { distance = distance i; hops = hops i }
 
 pub boundary : BoundaryWaysAreDetermined

@@ -25,7 +25,7 @@ use Rattle.routes.specs.Routes.{IsNoWorse, rank}
 use Rattle.routes.specs.Routes.IsNoWorse.{ByCost as NoDearer, ByDistance as NoFarther}
 use Rattle.routes.specs.Routes.IsNoWorse.{ByKind as NoWorseKind}
 use Rattle.routes.specs.Said.{Said}
-use Rattle.routes.specs.Summaries.{IsBoundaryWay, IsToldOf, IsWayBetween, OffersBetween, inter}
+use Rattle.routes.specs.Summaries.{IsBoundaryWay, IsAdvertised, IsWayBetween, OffersBetween, inter}
 use Rattle.routes.specs.Summaries.IsBoundaryWay.{Inside, Outside}
 use Rattle.routes.specs.declared.node.Node.{Node}
 use Rattle.routes.specs.declared.node.Node.TheVariants.{ARouter}
@@ -230,7 +230,7 @@ module _ (said : Said) (root next : Root) (own : NamesItsInterfaces said next) (
 
   module _ (router : ℕ) where
     abbrev Telling : ℕ → Way → Type 0
-    Telling distance border = IsToldOf said next router distance border
+    Telling distance border = IsAdvertised said next router distance border
 
     abbrev LeastTelling : Type 0
     LeastTelling = (distance : ℕ) × (border : Way) × Telling distance border
@@ -238,13 +238,13 @@ module _ (said : Said) (root next : Root) (own : NamesItsInterfaces said next) (
 
     least_telling : (n distance : ℕ) (border : Way) → distance ≤ n → Telling distance border
         → (LeastTelling → ⊥) → ⊥
-    least_telling zero distance border low told none =
-        none (distance, border, told, λ other by its. omega (arith, low))
-    least_telling (suc n) distance border low told none =
+    least_telling zero distance border low advertised none =
+        none (distance, border, advertised, λ other by its. omega (arith, low))
+    least_telling (suc n) distance border low advertised none =
         none (
           distance,
           border,
-          told,
+          advertised,
           λ other by its.
               elim (cases_lt other distance) [
                 | inl less ↦ absurd (least_telling n other by (omega (arith, less, low)) its none)
@@ -265,15 +265,15 @@ module _ (said : Said) (root next : Root) (own : NamesItsInterfaces said next) (
     -- the way that is advertised at the next router
     way_told : (distance : ℕ) (border : Way) → Telling distance border
         → (((way : Way) × IsWayBetween said next router way × (way.distance ≤ distance)) → ⊥) → ⊥
-    way_told distance border told none =
+    way_told distance border advertised none =
         let n : ℕ = length next.addresses + 1 in
-        least_telling distance distance border (omega arith) told (λ l.
+        least_telling distance distance border (omega arith) advertised (λ l.
         least.chosen (HopOf l.0) n (λ c.
         none (
           record { distance = l.0; hops = c.hops },
           record {
             border = l.1;
-            told = l.2;
+            advertised = l.2;
             least = λ other by its. l.3 other by its;
             hops = λ k.
                 elim (cases_lt k n) [
@@ -286,41 +286,41 @@ module _ (said : Said) (root next : Root) (own : NamesItsInterfaces said next) (
                   )
                 ];
           },
-          l.3 distance border told,
+          l.3 distance border advertised,
         )))
 
   again_told : (x : OffersExternal said root o) → x.lsa.forwarding ≡ 0
       → ((lsa : RouterLsa) → IsRouterLsa said x.originator lsa → ⊥)
-      → (border : Way) (told : IsToldOf said root x.originator x.is_way.boundary.distance
-      border) → IsTrue (has_interface border.hops i) → (next.router ≡ told.originator → ⊥)
+      → (border : Way) (advertised : IsAdvertised said root x.originator x.is_way.boundary.distance
+      border) → IsTrue (has_interface border.hops i) → (next.router ≡ advertised.originator → ⊥)
       → (Again said next o → ⊥) → ⊥
-  again_told x direct foreign border told t other none =
-      let s = shorter said root next own (ARouter told.originator) border
-      told.counts.reaches.reached i t end in
-      way_on said root next own (ARouter told.originator) border.distance s (λ w.
-      let here : IsToldOf said next x.originator (w.0.distance + told.lsa.metric) w.0 = record {
-        originator = told.originator;
-        lsa = told.lsa;
-        its = told.its;
+  again_told x direct foreign border advertised t other none =
+      let s = shorter said root next own (ARouter advertised.originator) border
+      advertised.counts.reaches.reached i t end in
+      way_on said root next own (ARouter advertised.originator) border.distance s (λ w.
+      let here : IsAdvertised said next x.originator (w.0.distance + advertised.lsa.metric) w.0 = record {
+        originator = advertised.originator;
+        lsa = advertised.lsa;
+        its = advertised.its;
         counts = record {
-          reachable = told.counts.reachable;
+          reachable = advertised.counts.reachable;
           of_another = λ e. other (sym e);
           reaches = record {
-            lsa = told.counts.reaches.lsa;
-            its = told.counts.reaches.its;
-            has_b = told.counts.reaches.has_b;
+            lsa = advertised.counts.reaches.lsa;
+            its = advertised.counts.reaches.its;
+            has_b = advertised.counts.reaches.has_b;
             reached = w.1;
           };
         };
         is = refl;
       } in
-      way_told x.originator (w.0.distance + told.lsa.metric) w.0 here (λ b.
+      way_told x.originator (w.0.distance + advertised.lsa.metric) w.0 here (λ b.
       let near : Way = b.0 in
       let far : Way = x.way in
       let less : near.distance < far.distance =
-      omega (arith, b.2, w.2, told.is, ap (λ (y : Way). y.distance) (x.is_way.direct direct)) in
+      omega (arith, b.2, w.2, advertised.is, ap (λ (y : Way). y.distance) (x.is_way.direct direct)) in
       let P : Offer → Type 0 = λ y. Again said next y in
-      let itself = next_says (ARouter told.originator) border told.counts.reaches.reached t in
+      let itself = next_says (ARouter advertised.originator) border advertised.counts.reaches.reached t in
       none (subst P (sym x.is) (record {
         offer = external_offer x.lsa.kind x.prefix x.lsa x.originator near;
         offered = External (record {
@@ -355,9 +355,9 @@ module _ (said : Said) (root next : Root) (own : NamesItsInterfaces said next) (
       let Has : ℕ → Type 0 = λ h. IsTrue (has_interface h i) in
       let P : ℕ → Type 0 = λ n. ReachesBoundaryRouter said root n way in
       again_external x (subst Has by t) direct way (subst P (sym e) r) (λ f. other (f ∙ e)) none
-  again originator hops (Told x direct foreign border told e by) t other none =
+  again originator hops (Told x direct foreign border advertised e by) t other none =
       let Has : ℕ → Type 0 = λ h. IsTrue (has_interface h i) in
-      again_told x direct foreign border told (subst Has by t) (λ f. other (f ∙ e)) none
+      again_told x direct foreign border advertised (subst Has by t) (λ f. other (f ∙ e)) none
 
   short_toward : (originator hops : ℕ) → IsToward said root o originator hops
       → IsTrue (has_interface hops i) → (here : Way)
@@ -382,11 +382,11 @@ module _ (said : Said) (root next : Root) (own : NamesItsInterfaces said next) (
       (subst Has (by ∙ ap (λ (y : Offer). y.hops) x.is
       ∙ external_hops x.lsa.kind x.prefix x.lsa x.originator x.way
       ∙ ap (λ (w : Way). w.hops) same) t) end
-  short_toward originator hops (Told x direct foreign border told e by) t here is =
+  short_toward originator hops (Told x direct foreign border advertised e by) t here is =
       let Has : ℕ → Type 0 = λ h. IsTrue (has_interface h i) in
       let R : ℕ → Type 0 = λ n. IsWay (Leads said root) (ARouter root.router) (ARouter n) border in
       let same : border ≡ here = one_way (Leads said root) (ARouter root.router)
-      (ARouter originator) border here (subst R e told.counts.reaches.reached) is in
+      (ARouter originator) border here (subst R e advertised.counts.reaches.reached) is in
       shorter said root next own (ARouter originator) here is i
       (subst Has (by ∙ ap (λ (w : Way). w.hops) same) t) end
 

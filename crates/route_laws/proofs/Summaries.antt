@@ -18,7 +18,7 @@ use Rattle.routes.specs.Links.{IsRouterLsa, Leads}
 use Rattle.routes.specs.Offers.{OffersWithin, ReachesBoundaryRouter}
 use Rattle.routes.specs.Paths.{Step, Way}
 use Rattle.routes.specs.Said.{Said, said_at}
-use Rattle.routes.specs.Summaries.{CountsAsSummary, IsBoundaryWay, IsToldOf, OffersBetween}
+use Rattle.routes.specs.Summaries.{CountsAsSummary, IsBoundaryWay, IsAdvertised, OffersBetween}
 use Rattle.routes.specs.Summaries.{ReachesBorderRouter, inter, summary_key}
 use Rattle.routes.specs.Summaries.IsBoundaryWay.{Inside, Outside}
 use Rattle.routes.specs.declared.node.Node.{Node}
@@ -272,7 +272,7 @@ module _ (flags distant_flags : ℕ) (has_e : bit_and distant_flags 2 ≡ 2) whe
   by_neighbor : (router its_flags : ℕ) (links : List RouterLink) (to_it : Way) (metric : ℕ)
       → IsRouterLsa said router (flagged its_flags links)
       → IsWayFrom entries summaries_root router to_it → (cost : ℕ) (its_way : Way)
-      (x : IsToldOf said summaries_root beyond cost its_way) → x.originator ≡ router
+      (x : IsAdvertised said summaries_root beyond cost its_way) → x.originator ≡ router
       → x.lsa ≡ summary metric
       → (cost ≡ to_it.distance + metric) × (to_it ≡ its_way) × (bit_and its_flags 1 ≡ 1)
   by_neighbor router its_flags links to_it metric says_it there cost its_way x from same =
@@ -290,7 +290,7 @@ module _ (flags distant_flags : ℕ) (has_e : bit_and distant_flags 2 ≡ 2) whe
             ∙ reaches.has_b),
       )
 
-  told_is : (cost : ℕ) (way : Way) → IsToldOf said summaries_root beyond cost way
+  told_is : (cost : ℕ) (way : Way) → IsAdvertised said summaries_root beyond cost way
       → ByBorder cost way ⊎ ByDistant cost way
   told_is cost way x =
       elim (told_of (summary_key 4 beyond x.originator) (body.RouterSummary x.lsa) x.its) [
@@ -305,7 +305,7 @@ module _ (flags distant_flags : ℕ) (has_e : bit_and distant_flags 2 ≡ 2) whe
       → IsBoundaryWay said summaries_root beyond way → ⊥
   not_beyond no_b nor_b way (Inside x) = none_beyond way x
   not_beyond no_b nor_b way (Outside none x) =
-      elim (told_is way.distance x.border x.told) [
+      elim (told_is way.distance x.border x.advertised) [
         | inl by ↦ no_b by.2
         | inr by ↦ nor_b by.2
       ]
@@ -396,7 +396,7 @@ counts_7 = record {
   reaches = reaches_border;
 }
 
-told_beyond : IsToldOf said_b summaries_root beyond 17 border_way
+told_beyond : IsAdvertised said_b summaries_root beyond 17 border_way
 told_beyond = record {
   originator = border;
   lsa = summary 7;
@@ -406,14 +406,14 @@ told_beyond = record {
 }
 
 -- the other way costs 101
-no_nearer : (cost : ℕ) (other : Way) → IsToldOf said_b summaries_root beyond cost other → 17 ≤ cost
+no_nearer : (cost : ℕ) (other : Way) → IsAdvertised said_b summaries_root beyond cost other → 17 ≤ cost
 no_nearer cost other t =
     elim (told_is 1 3 refl cost other t) [
       | inl by ↦ let c : cost ≡ 17 = by.0 in omega (arith, c)
       | inr by ↦ let c : cost ≡ 101 = by.0 in omega (arith, c)
     ]
 
-at_17 : (other : Way) → IsToldOf said_b summaries_root beyond 17 other → border_way ≡ other
+at_17 : (other : Way) → IsAdvertised said_b summaries_root beyond 17 other → border_way ≡ other
 at_17 other t =
     elim (told_is 1 3 refl 17 other t) [
       | inl by ↦ by.1
@@ -425,7 +425,7 @@ to_beyond =
     Outside (none_beyond 1 3 refl)
     (record {
       border = border_way;
-      told = told_beyond;
+      advertised = told_beyond;
       least = λ cost other t. no_nearer cost other t;
       hops = λ i. (
         (λ t. (border_way, told_beyond, t)),

@@ -17,7 +17,7 @@ use Rattle.routes.specs.Offers.{Attaches, ReachesBoundaryRouter}
 use Rattle.routes.specs.Paths.{IsWay, Way}
 use Rattle.routes.specs.Routes.{rank}
 use Rattle.routes.specs.Said.{Said}
-use Rattle.routes.specs.Summaries.{IsToldOf, OffersBetween, summary_key}
+use Rattle.routes.specs.Summaries.{IsAdvertised, OffersBetween, summary_key}
 use Rattle.routes.specs.declared.node.Node.TheVariants.{ARouter}
 use Rattle.routes.specs.declared.offer.Offer.{Offer}
 use Rattle.routes.specs.declared.root.Root.{Root}
@@ -42,8 +42,8 @@ pub data IsToward (said : Said) (root : Root) (offer : Offer) (router hops : ℕ
   Told : (external : OffersExternal said root offer) → external.lsa.forwarding ≡ 0
       → ((lsa : RouterLsa) → IsRouterLsa said external.originator lsa → ⊥)
       → (border : Way)
-      → (told : IsToldOf said root external.originator external.is_way.boundary.distance border)
-      → told.originator ≡ router → hops ≡ border.hops → IsToward said root offer router hops
+      → (advertised : IsAdvertised said root external.originator external.is_way.boundary.distance border)
+      → advertised.originator ≡ router → hops ≡ border.hops → IsToward said root offer router hops
 
 -- a router forwards packets to the next router by a route: by a next hop that the route has from
 -- one of the best offers for the prefix, which leads to this originator

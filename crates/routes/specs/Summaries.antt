@@ -68,7 +68,7 @@ OffersInside said root o = OffersWithin said root o ⊎ OffersBetween said root 
 -- ---- AS boundary routers (section 16.4)
 
 -- an area border router advertises a way with this cost to the router
-pub record IsToldOf (said : Said) (root : Root) (router distance : ℕ) (border : Way) : Type 0 where
+pub record IsAdvertised (said : Said) (root : Root) (router distance : ℕ) (border : Way) : Type 0 where
   pub originator : ℕ
   pub lsa : SummaryLsa
   pub its : Says said (summary_key 4 router originator) (body.RouterSummary lsa)
@@ -78,11 +78,11 @@ pub record IsToldOf (said : Said) (root : Root) (router distance : ℕ) (border 
 -- the least cost among those ways, with the next hops of all of that cost
 pub record IsWayBetween (said : Said) (root : Root) (router : ℕ) (way : Way) : Type 0 where
   pub border : Way
-  pub told : IsToldOf said root router way.distance border
-  pub least : (distance : ℕ) (other : Way) → IsToldOf said root router distance other
+  pub advertised : IsAdvertised said root router way.distance border
+  pub least : (distance : ℕ) (other : Way) → IsAdvertised said root router distance other
       → way.distance ≤ distance
   pub hops : (interface : ℕ) → IsTrue (has_interface way.hops interface)
-      ↔ ((other : Way) × IsToldOf said root router way.distance other
+      ↔ ((other : Way) × IsAdvertised said root router way.distance other
       × IsTrue (has_interface other.hops interface))
 
 -- within the area if there is such a way, else between areas

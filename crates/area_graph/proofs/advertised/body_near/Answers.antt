@@ -7,8 +7,8 @@ use Rattle.area_graph.proofs.advertised.body_near.Goals as goal
 
 pub returns-then-is_same_key : goal.returns-then-is_same_key
 returns-then-is_same_key c =
-    let said = said_at c.args.told.now.moment c.args.told.now.db.now.present in
-    let bodies = c.args.told.now.bodies.now in
+    let said = said_at c.args.advertised.now.moment c.args.advertised.now.db.now.present in
+    let bodies = c.args.advertised.now.bodies.now in
     let at = c.loop-at.at in
     let one = c.index-bodies-at.result in
     let here : slice_get bodies at ≡ Some one =

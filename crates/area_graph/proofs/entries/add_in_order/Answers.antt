@@ -10,7 +10,7 @@ use Rattle.area_graph.proofs.entries.add_in_order.Goals as goal
 pub returns : goal.returns
 returns c =
     let P : AdvertisedLink → Type 0 =
-    TellsOf (said_at c.args.told.now.moment c.args.told.now.db.now.present)
+    TellsOf (said_at c.args.advertised.now.moment c.args.advertised.now.db.now.present)
     c.args.node.now c.args.place in
     let old = c.args.entries.now.items in
     let new = c.push_all.new.entries.items in

@@ -13,7 +13,7 @@ use Rattle.area_graph.proofs.entries.add_node.Goals as goal
 
 pub returns-in-Some : goal.returns-in-Some
 returns-in-Some c =
-    let said = said_at c.args.told.now.moment c.args.told.now.db.now.present in
+    let said = said_at c.args.advertised.now.moment c.args.advertised.now.db.now.present in
     let router = c.in-ARouter.router in
     let lsa = c.in-Some.lsa.now in
     let old = c.args.entries.now.items in
@@ -30,7 +30,7 @@ returns-in-Some c =
 
 pub returns-in-Some-network_lsa : goal.returns-in-Some-network_lsa
 returns-in-Some-network_lsa c =
-    let said = said_at c.args.told.now.moment c.args.told.now.db.now.present in
+    let said = said_at c.args.advertised.now.moment c.args.advertised.now.db.now.present in
     let id = c.in-ANetwork.id in
     let by = c.in-ANetwork.by in
     let lsa = c.in-Some-network_lsa.lsa.now in

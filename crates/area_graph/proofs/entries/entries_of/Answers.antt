@@ -8,7 +8,7 @@ use Rattle.area_graph.proofs.entries.entries_of.Goals as goal
 
 pub loop-at-init : goal.loop-at-init
 loop-at-init c =
-    let said = said_at c.args.told.now.moment c.args.told.now.db.now.present in
+    let said = said_at c.args.advertised.now.moment c.args.advertised.now.db.now.present in
     let P : List AdvertisedLink → Type 0 = λ es. Adds (FromBelow said c.args.nodes.now 0) [] es in
     subst P (sym c.new-entries.ensures.items) (below_none said c.args.nodes.now [])
 
@@ -18,13 +18,13 @@ loop-at-preserved c =
     let here : StandsAt nodes c.index-nodes-at.result c.loop-at.at =
     slice_get_read nodes (length nodes) c.loop-at.at c.index-nodes-at.result refl (omega arith)
     c.index-nodes-at.is in
-    below_more (said_at c.args.told.now.moment c.args.told.now.db.now.present) nodes c.loop-at.at
+    below_more (said_at c.args.advertised.now.moment c.args.advertised.now.db.now.present) nodes c.loop-at.at
     c.index-nodes-at.result [] c.loop-at.entries.items c.add_in_order.new.entries.items here
     c.loop-at.invariant c.in_ok-add_in_order.ensures
 
 pub returns : goal.returns
 returns c =
-    are_entries (said_at c.args.told.now.moment c.args.told.now.db.now.present) c.args.nodes.now
+    are_entries (said_at c.args.advertised.now.moment c.args.advertised.now.db.now.present) c.args.nodes.now
     c.requires.nodes c.loop-at.at c.loop-at.entries.items c.sort.new.entries.items
     (omega (arith, c.loop-at-test.false)) c.loop-at.invariant c.in_ok-sort.ensures.same
     c.in_ok-sort.ensures.sorted

@@ -4,9 +4,9 @@ use Rattle.area_graph.specs.Links.{IsOwnTransit}
 use Rattle.area_graph.proofs.Lists.{OfFront}
 use Rattle.area_graph.proofs.links.add_own_transits.Given as goal
 
-abbrev pub invariant-loop-told : goal.invariant-loop-told
-invariant-loop-told l = record {
-  adds : Adds (OfFront (IsOwnTransit l.root l.id l.to) l.told-items l.told-index) l.fn.links.items
+abbrev pub invariant-loop-advertised : goal.invariant-loop-advertised
+invariant-loop-advertised l = record {
+  adds : Adds (OfFront (IsOwnTransit l.root l.id l.to) l.advertised-items l.advertised-index) l.fn.links.items
       l.links.items;
   fits : All CostFits l.fn.links.items → All CostFits l.links.items;
 }

@@ -16,11 +16,11 @@ use Rattle.area_graph.proofs.links.links_from.Goals.{in-ANetwork+in_default-netw
 
 pub returns-clause-links : goal.returns-clause-links
 returns-clause-links c =
-    let said = said_at c.args.told.now.moment c.args.told.now.db.now.present in
+    let said = said_at c.args.advertised.now.moment c.args.advertised.now.db.now.present in
     let root = c.args.root.now in
     let nodes = c.args.area.now.nodes.now in
     let entries = c.args.area.now.entries.now in
-    let told = c.requires.area.are_entries in
+    let advertised = c.requires.area.are_entries in
     let first = c.new-links.result.items in
     elim c.match-from.branch [
       | in-ARouter+in-Some+in_ok-add_routers-in-ARouter+in_ok-add_networks-in-ARouter w ↦
@@ -35,7 +35,7 @@ returns-clause-links c =
           sym w.router_lsa.ensures ∙ ap option_copied w.in-Some.is in
           rw w.links-is
           (subst R (sym w.in-ARouter.is)
-          (router_links said root nodes entries told router lsa is middle new
+          (router_links said root nodes entries advertised router lsa is middle new
           (subst B c.new-links.ensures.items w.in_ok-add_routers-in-ARouter.ensures.adds)
           w.in_ok-add_networks-in-ARouter.ensures.adds))
       | in-ARouter+in_default w ↦
@@ -56,7 +56,7 @@ returns-clause-links c =
           let is : network_lsa said id by ≡ Some lsa =
           sym w.network_lsa.ensures ∙ ap option_copied w.in-Some-network_lsa.is in
           rw w.links-is (subst R (sym w.in-ANetwork.is)
-          (network_links said root nodes entries told id by lsa is new
+          (network_links said root nodes entries advertised id by lsa is new
           (subst B c.new-links.ensures.items w.in_ok-add_listed-in-ANetwork.ensures.adds)))
       | in-ANetwork+in_default-network_lsa w ↦
           let id = w.in-ANetwork.id in
@@ -70,12 +70,12 @@ returns-clause-links c =
 
 pub add_routers-requires-clause-ordered : goal.add_routers-requires-clause-ordered
 add_routers-requires-clause-ordered c =
-    ordered (said_at c.args.told.now.moment c.args.told.now.db.now.present)
+    ordered (said_at c.args.advertised.now.moment c.args.advertised.now.db.now.present)
     c.args.area.now.nodes.now c.args.area.now.entries.now c.requires.area.are_entries
     c.requires.area.are_nodes
 
 pub add_listed-requires : goal.add_listed-requires
-add_listed-requires c = ordered (said_at c.args.told.now.moment c.args.told.now.db.now.present)
+add_listed-requires c = ordered (said_at c.args.advertised.now.moment c.args.advertised.now.db.now.present)
     c.args.area.now.nodes.now c.args.area.now.entries.now c.requires.area.are_entries
     c.requires.area.are_nodes
 

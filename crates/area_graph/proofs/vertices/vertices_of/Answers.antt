@@ -8,7 +8,7 @@ use Rattle.area_graph.proofs.vertices.vertices_of.Goals as goal
 
 pub loop-at-preserved : goal.loop-at-preserved
 loop-at-preserved c =
-    let said = said_at c.args.told.now.moment c.args.told.now.db.now.present in
+    let said = said_at c.args.advertised.now.moment c.args.advertised.now.db.now.present in
     let nodes = c.args.area.now.nodes.now in
     let old = c.loop-at.graph.items in
     let node = c.index-nodes-at.result in

@@ -13,7 +13,7 @@ pub returns-then-not-counts-clause-adds : goal.returns-then-not-counts-clause-ad
 returns-then-not-counts-clause-adds c =
     let said = said_at c.args.at.now.moment c.args.at.now.db.now.present in
     let away : c.counts.result ≡ false = grind (arith, common_steps) in
-    no_end said c.args.root.now c.args.at.now.nodes.now c.args.router c.args.told.now
+    no_end said c.args.root.now c.args.at.now.nodes.now c.args.router c.args.advertised.now
     c.args.links.now.items (λ lt. false≢true (sym away ∙ c.counts.ensures.1 lt))
 
 pub returns-in-PointToPoint-clause-adds : goal.returns-in-PointToPoint-clause-adds
@@ -22,12 +22,12 @@ returns-in-PointToPoint-clause-adds c =
     let root = c.args.root.now in
     let nodes = c.args.at.now.nodes.now in
     let router = c.args.router in
-    let told = c.args.told.now in
+    let advertised = c.args.advertised.now in
     let old = c.args.links.now.items in
     let new = c.add_neighbor.new.links.items in
-    on_ok c.add_neighbor.result (Adds (IsToNeighbor said root nodes router told) old new)
-    (Adds (IsToEnd said root nodes router told) old new)
-    (router_end said root nodes router told old new (is_no_transit told c.in-PointToPoint.is))
+    on_ok c.add_neighbor.result (Adds (IsToNeighbor said root nodes router advertised) old new)
+    (Adds (IsToEnd said root nodes router advertised) old new)
+    (router_end said root nodes router advertised old new (is_no_transit advertised c.in-PointToPoint.is))
     c.add_neighbor.ensures.adds
 
 pub returns-in-Transit-clause-adds : goal.returns-in-Transit-clause-adds
@@ -36,22 +36,22 @@ returns-in-Transit-clause-adds c =
     let root = c.args.root.now in
     let nodes = c.args.at.now.nodes.now in
     let router = c.args.router in
-    let told = c.args.told.now in
+    let advertised = c.args.advertised.now in
     let old = c.args.links.now.items in
     let new = c.add_networks.new.links.items in
-    on_ok c.add_networks.result (Adds (IsToNetwork said root nodes router told) old new)
-    (Adds (IsToEnd said root nodes router told) old new)
-    (network_end said root nodes router told old new (is_no_point told c.in-Transit.is))
+    on_ok c.add_networks.result (Adds (IsToNetwork said root nodes router advertised) old new)
+    (Adds (IsToEnd said root nodes router advertised) old new)
+    (network_end said root nodes router advertised old new (is_no_point advertised c.in-Transit.is))
     c.add_networks.ensures.adds
 
 pub returns-in-Stub-clause-adds : goal.returns-in-Stub-clause-adds
 returns-in-Stub-clause-adds c =
     let said = said_at c.args.at.now.moment c.args.at.now.db.now.present in
-    other_end said c.args.root.now c.args.at.now.nodes.now c.args.router c.args.told.now
+    other_end said c.args.root.now c.args.at.now.nodes.now c.args.router c.args.advertised.now
     c.args.links.now.items (λ p. absurd cc) (λ p. absurd cc)
 
 pub returns-in-Virtual-clause-adds : goal.returns-in-Virtual-clause-adds
 returns-in-Virtual-clause-adds c =
     let said = said_at c.args.at.now.moment c.args.at.now.db.now.present in
-    other_end said c.args.root.now c.args.at.now.nodes.now c.args.router c.args.told.now
+    other_end said c.args.root.now c.args.at.now.nodes.now c.args.router c.args.advertised.now
     c.args.links.now.items (λ p. absurd cc) (λ p. absurd cc)

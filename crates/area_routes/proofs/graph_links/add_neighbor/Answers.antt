@@ -14,16 +14,16 @@ returns-in-Some-clause-adds c =
     let root = c.args.root.now in
     let nodes = c.args.at.now.nodes.now in
     let router = c.args.router in
-    let told = c.args.told.now in
+    let advertised = c.args.advertised.now in
     let to = c.in-Some.to in
     let old = c.args.links.now.items in
     let new = c.add_exits.new.links.items in
     let F : ℕ → ℕ → Option ℕ → Type 0 = λ far id o. IsNeighbor said nodes far PointToPoint id o in
-    let at : IsNeighbor said nodes told.link_id PointToPoint router (Some to) =
+    let at : IsNeighbor said nodes advertised.link_id PointToPoint router (Some to) =
     subst (λ far. F far router (Some to)) c.new-far.ensures
     (subst (λ id. F c.new-far.result id (Some to)) c.number.ensures
     (subst (F c.new-far.result c.number.result) c.in-Some.is c.neighbor_at.ensures)) in
-    on_ok c.add_exits.result (Adds (IsExitTo root router to told.metric told.link_data) old new)
-    (Adds (IsToNeighbor said root nodes router told) old new)
-    (to_neighbor said root nodes router told to old new c.requires.nodes.ascend c.requires.is_kind
+    on_ok c.add_exits.result (Adds (IsExitTo root router to advertised.metric advertised.link_data) old new)
+    (Adds (IsToNeighbor said root nodes router advertised) old new)
+    (to_neighbor said root nodes router advertised to old new c.requires.nodes.ascend c.requires.is_kind
     c.requires.counts at) c.add_exits.ensures.adds

@@ -16,7 +16,7 @@ returns-then-not-lists_at-clause-adds c =
     let nodes = c.args.at.now.nodes.now in
     let L : ℕ → Type 0 = λ id. IsListedAt said nodes c.args.router id c.args.place in
     let away : c.lists_at.result ≡ false = grind (arith, common_steps) in
-    no_network said c.args.root.now nodes c.args.router c.args.told.now c.args.place
+    no_network said c.args.root.now nodes c.args.router c.args.advertised.now c.args.place
     c.args.links.now.items
     (λ l. false≢true (sym away ∙ c.lists_at.ensures.1 (subst L (sym c.new.ensures) l)))
 
@@ -26,13 +26,13 @@ returns-clause-adds c =
     let root = c.args.root.now in
     let nodes = c.args.at.now.nodes.now in
     let router = c.args.router in
-    let told = c.args.told.now in
+    let advertised = c.args.advertised.now in
     let place = c.args.place in
     let old = c.args.links.now.items in
     let new = c.add_exits.new.links.items in
     let L : ℕ → Type 0 = λ id. IsListedAt said nodes router id place in
     let here : c.lists_at.result ≡ true = grind (arith, common_steps) in
-    on_ok c.add_exits.result (Adds (IsExitTo root router place told.metric told.link_data) old new)
-    (Adds (IsToNetworkAt said root nodes router told place) old new)
-    (to_network said root nodes router told place old new c.requires.is_kind c.requires.counts
+    on_ok c.add_exits.result (Adds (IsExitTo root router place advertised.metric advertised.link_data) old new)
+    (Adds (IsToNetworkAt said root nodes router advertised place) old new)
+    (to_network said root nodes router advertised place old new c.requires.is_kind c.requires.counts
     (subst L c.new.ensures (c.lists_at.ensures.0 here))) c.add_exits.ensures.adds

@@ -13,7 +13,7 @@ loop-place-init c =
     let F : ℕ → Type 0 = λ id. (by place : ℕ) → StandsAt nodes (ANetwork id by) place
     → first ≤ place in
     record {
-      adds = none_below said c.args.root.now nodes c.args.router c.args.told.now first
+      adds = none_below said c.args.root.now nodes c.args.router c.args.advertised.now first
           c.args.links.now.items (subst F c.new.ensures c.places_of-first.ensures.first);
       fits = λ all. all;
     }
@@ -22,7 +22,7 @@ pub loop-place-preserved : goal.loop-place-preserved
 loop-place-preserved c =
     let said = said_at c.args.at.now.moment c.args.at.now.db.now.present in
     record {
-      adds = one_more said c.args.root.now c.args.at.now.nodes.now c.args.router c.args.told.now
+      adds = one_more said c.args.root.now c.args.at.now.nodes.now c.args.router c.args.advertised.now
           c.loop-place.place c.args.links.now.items c.loop-place.links.items
           c.add_network.new.links.items c.loop-place.invariant.adds
           c.in_ok-add_network.ensures.adds;
@@ -36,7 +36,7 @@ returns-clause-adds c =
     let end = c.places_of-first.result.1 in
     let L : ℕ → Type 0 = λ id. (by place : ℕ) → StandsAt nodes (ANetwork id by) place
     → place < end in
-    all_below said c.args.root.now nodes c.args.router c.args.told.now c.loop-place.place end
+    all_below said c.args.root.now nodes c.args.router c.args.advertised.now c.loop-place.place end
     c.args.links.now.items c.loop-place.links.items
     (subst L c.new.ensures c.places_of-first.ensures.end) (omega (arith, c.loop-place-test.false))
     c.loop-place.invariant.adds

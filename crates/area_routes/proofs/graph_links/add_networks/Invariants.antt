@@ -7,6 +7,6 @@ use Rattle.area_routes.proofs.graph_links.add_networks.Given as goal
 abbrev pub invariant-loop-place : goal.invariant-loop-place
 invariant-loop-place l = record {
   adds : Adds (IsToNetworkBelow (said_at l.at.moment l.at.db.now.present) l.root l.at.nodes.now
-      l.router l.told l.place) l.fn.links.items l.links.items;
+      l.router l.advertised l.place) l.fn.links.items l.links.items;
   fits : All CostFits l.fn.links.items → All CostFits l.links.items;
 }

@@ -11,7 +11,7 @@ calculate_by-requires-clause-externals c =
     let said = said_at c.args.moment c.args.area.now.present.database in
     subst (λ (xs : List ExternalAdvertisement). AreExternals said xs) (sym c.deref.ensures.value)
     (subst (λ (o : Option (Vec ExternalAdvertisement)). IfSome o
-    (λ told. AreExternals said told.items))
+    (λ advertised. AreExternals said advertised.items))
     c.in-Some.is c.requires.externals)
 
 pub calculate_by-requires-in-None-clause-externals :
@@ -20,4 +20,4 @@ calculate_by-requires-in-None-clause-externals c =
     let said = said_at c.args.moment c.args.area.now.present.database in
     subst (λ (xs : List ExternalAdvertisement). AreExternals said xs)
     (sym c.deref-in-None.ensures.value)
-    c.in_ok-told-in-None.ensures
+    c.in_ok-advertised-in-None.ensures

@@ -7,4 +7,4 @@ use Rattle.area_routes.proofs.kept.externals_now.Goals as goal
 pub returns : goal.returns
 returns c =
     subst (λ (d : RouterDatabase). AreExternals (said_at c.args.moment d.present)
-    c.in_ok-told.told.items) c.database-db.ensures c.in_ok-told.ensures
+    c.in_ok-advertised.advertised.items) c.database-db.ensures c.in_ok-advertised.ensures

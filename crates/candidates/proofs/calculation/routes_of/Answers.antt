@@ -6,6 +6,6 @@ use Rattle.candidates.proofs.calculation.routes_of.Goals as goal
 
 pub calculate-requires-clause-externals : goal.calculate-requires-clause-externals
 calculate-requires-clause-externals g c =
-    subst (λ (told : List ExternalAdvertisement). AreExternals
+    subst (λ (advertised : List ExternalAdvertisement). AreExternals
     (said_at c.args.moment c.args.db.now.present)
-    told) (sym c.deref.ensures.value) c.in_ok-externals.ensures
+    advertised) (sym c.deref.ensures.value) c.in_ok-externals.ensures

@@ -6,7 +6,7 @@ use Rattle.words.specs.declared.route.Route.{Route}
 use Rattle.candidates.specs.Borders.{AreBelow, AreCloseBy, Ascend, AscendByRouter, HasLengths}
 use Rattle.candidates.specs.declared.flagged.Flagged.{Flagged}
 use Rattle.candidates.specs.Gathering.{Adds, OfEach}
-use Rattle.candidates.specs.Externals.{OfTold}
+use Rattle.candidates.specs.Externals.{OfAdvertised}
 use Rattle.routes.specs.Summaries.{OffersInside}
 use Rattle.routes.specs.declared.offer.Offer.{Offer}
 use Rattle.candidates.proofs.All.{are_candidates}
@@ -19,7 +19,7 @@ use Rattle.candidates.proofs.calculation.with_externals.Goals as goal
 pub push_externals-requires-clause-routers : goal.push_externals-requires-clause-routers
 push_externals-requires-clause-routers c =
     let P : List Route → Type 0 = λ xs. Ascend xs × AreBelow xs in
-    subst P (sym c.deref-2.ensures.value) c.requires.told
+    subst P (sym c.deref-2.ensures.value) c.requires.advertised
 
 pub push_externals-requires-clause-flagged : goal.push_externals-requires-clause-flagged
 push_externals-requires-clause-flagged c =
@@ -46,23 +46,23 @@ returns c said ways are inner tell =
     ∙ ap (λ (xs : List Offer). xs ++ c.deref-5.result.now) c.in_ok-offers.ensures.items
     ∙ c.deref-5.ensures.value in
     let Q : List Flagged → List Route → List Route → Type 0 =
-    λ routers told networks. Adds c.extend_from_slice.new.self.items
-    c.push_externals.new.offers.items (OfEach (OfTold root routers told networks) externals)
+    λ routers advertised networks. Adds c.extend_from_slice.new.self.items
+    c.push_externals.new.offers.items (OfEach (OfAdvertised root routers advertised networks) externals)
     in
     let first : Q it.flagged.items c.deref-2.result.now c.deref-4.result.now =
     subst (λ (rs : List Flagged). Q rs c.deref-2.result.now c.deref-4.result.now)
     c.deref-3.ensures.value c.in_ok-push_externals.ensures in
-    let second : Q it.flagged.items it.told.items c.deref-4.result.now =
+    let second : Q it.flagged.items it.advertised.items c.deref-4.result.now =
     subst (λ (rs : List Route). Q it.flagged.items rs c.deref-4.result.now)
     c.deref-2.ensures.value first in
-    let third : Q it.flagged.items it.told.items it.networks.items =
-    subst (λ (rs : List Route). Q it.flagged.items it.told.items rs) c.deref-4.ensures.value
+    let third : Q it.flagged.items it.advertised.items it.networks.items =
+    subst (λ (rs : List Route). Q it.flagged.items it.advertised.items rs) c.deref-4.ensures.value
     second in
     let offered : (o : Offer) → Contains c.extend_from_slice.new.self.items o ↔ OffersInside said
     root o = subst (λ (xs : List Offer). (o : Offer) → Contains xs o ↔ OffersInside said root o)
     (sym copied) inner.offers in
-    are_candidates said root ways are it.flagged.items inner.flagged externals tell it.told.items
-    it.networks.items inner.told inner.networks
+    are_candidates said root ways are it.flagged.items inner.flagged externals tell it.advertised.items
+    it.networks.items inner.advertised inner.networks
     c.extend_from_slice.new.self.items c.push_externals.new.offers.items c.in_ok-routes.routes.items
     offered third c.in_ok-routes.ensures.routes
 
@@ -94,7 +94,7 @@ returns-then-is_empty c said ways are inner tell =
     } in
     subst (AreCandidates said root) (sym (c.in_ok-networks.ensures.items ∙ c.deref.ensures.value))
     (are_candidates said root ways are it.flagged.items inner.flagged c.args.externals.now tell
-    it.told.items networks inner.told inner.networks
+    it.advertised.items networks inner.advertised inner.networks
     offers offers networks inner.offers
-    (λ o. ((λ t. inl t), (λ s. elim s [ inl t ↦ t | inr told ↦ absurd (none told.0 told.1) ])))
+    (λ o. ((λ t. inl t), (λ s. elim s [ inl t ↦ t | inr advertised ↦ absurd (none advertised.0 advertised.1) ])))
     among)

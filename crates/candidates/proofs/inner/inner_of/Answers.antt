@@ -9,8 +9,8 @@ use Rattle.candidates.proofs.All.{of_inside, of_networks, of_told}
 use Rattle.candidates.proofs.Each.{fewer}
 use Rattle.candidates.proofs.inner.inner_of.Goals as goal
 
-pub told_routes-requires-clause-close : goal.told_routes-requires-clause-close
-told_routes-requires-clause-close g c =
+pub advertised_routes-requires-clause-close : goal.advertised_routes-requires-clause-close
+advertised_routes-requires-clause-close g c =
     subst AreCloseBy (sym c.deref.ensures.value) c.in_ok-flagged.ensures.close
 
 pub inner_offers-requires-clause-close : goal.inner_offers-requires-clause-close
@@ -20,7 +20,7 @@ inner_offers-requires-clause-close g c =
 pub returns-clause-searchable : goal.returns-clause-searchable
 returns-clause-searchable g c = record {
   flagged = (c.in_ok-flagged.ensures.ascend, c.in_ok-flagged.ensures.close);
-  told = (c.in_ok-told.ensures.routes.ascending, c.in_ok-told.ensures.few);
+  advertised = (c.in_ok-advertised.ensures.routes.ascending, c.in_ok-advertised.ensures.few);
   networks = (
     c.in_ok-networks.ensures.routes.ascending,
     c.in_ok-networks.ensures.few c.in_ok-offers.ensures.cheap,
@@ -36,8 +36,8 @@ returns-clause-inner g c said are have =
     let bodies = c.args.bodies.now in
     let routers = c.in_ok-flagged.flagged.items in
     let flagged = c.in_ok-flagged.ensures.flagged said (fewer 4 1 said bodies (omega arith) have) in
-    let told = subst (λ (rs : List Flagged). AreRoutesAmong (OfEach (Tells root rs) bodies)
-    c.in_ok-told.told.items) c.deref.ensures.value c.in_ok-told.ensures.routes in
+    let advertised = subst (λ (rs : List Flagged). AreRoutesAmong (OfEach (Tells root rs) bodies)
+    c.in_ok-advertised.advertised.items) c.deref.ensures.value c.in_ok-advertised.ensures.routes in
     let added = subst (λ (rs : List Flagged). Adds [] c.in_ok-offers.offers.items
     (OfEach (IsInner root ways rs) bodies)) c.deref-2.ensures.value c.in_ok-offers.ensures.adds
     in
@@ -45,7 +45,7 @@ returns-clause-inner g c said are have =
     c.in_ok-offers.offers.items added in
     record {
       flagged = flagged;
-      told = of_told said root ways are routers flagged bodies have c.in_ok-told.told.items told;
+      advertised = of_told said root ways are routers flagged bodies have c.in_ok-advertised.advertised.items advertised;
       networks = of_networks said root ways are routers flagged bodies have
           c.in_ok-offers.offers.items c.in_ok-networks.networks.items added
           c.in_ok-networks.ensures.routes;

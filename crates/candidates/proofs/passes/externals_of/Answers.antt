@@ -14,15 +14,15 @@ loop-one-preserved c =
     let one = c.one-item.result in
     let same : (c.key.result.now, c.body.result.now) ≡ one =
     λ i. (c.key.ensures i, c.body.ensures i) in
-    let its : IsJust (TellsExternal one) c.told_external.result =
-    subst (λ (x : Key × LsaBody). IsJust (TellsExternal x) c.told_external.result) same
-    c.told_external.ensures in
-    elim c.match-told_external.branch [
+    let its : IsJust (TellsExternal one) c.advertised_external.result =
+    subst (λ (x : Key × LsaBody). IsJust (TellsExternal x) c.advertised_external.result) same
+    c.advertised_external.ensures in
+    elim c.match-advertised_external.branch [
       | in-Some+in_ok-push w ↦
           let just = subst (λ o. IsJust (TellsExternal one) o) w.in-Some.is its in
           rw (w.all-is, w.in_ok-push.ensures.items)
           (told_more bodies i one c.one-item.is c.loop-one-test.true c.loop-one.all.items
-          c.loop-one.invariant w.in-Some.told just)
+          c.loop-one.invariant w.in-Some.advertised just)
       | in_default w ↦
           let none = subst (λ o. IsJust (TellsExternal one) o) w.in_default.is its in
           rw w.all-is (told_same bodies i one c.one-item.is c.loop-one-test.true

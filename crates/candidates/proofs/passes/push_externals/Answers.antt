@@ -1,21 +1,21 @@
 use Rattle.std.proofs.Common.{arith}
-use Rattle.candidates.specs.Externals.{OfTold}
+use Rattle.candidates.specs.Externals.{OfAdvertised}
 use Rattle.candidates.proofs.Gathered.{adds_just, all_of_them, one_more}
 use Rattle.candidates.proofs.passes.push_externals.Goals as goal
 
-pub loop-told-preserved : goal.loop-told-preserved
-loop-told-preserved c =
-    let Q = OfTold c.args.root.now c.args.inner.now.flagged.now c.args.inner.now.routers.now
+pub loop-advertised-preserved : goal.loop-advertised-preserved
+loop-advertised-preserved c =
+    let Q = OfAdvertised c.args.root.now c.args.inner.now.flagged.now c.args.inner.now.routers.now
     c.args.inner.now.networks.now in
-    one_more Q c.args.offers.now.items c.loop-told.offers.items c.push_offer.new.offers.items
-    c.args.externals.now c.loop-told.told-index c.told-item.result c.told-item.is
-    c.loop-told-test.true c.loop-told.invariant
-    (adds_just c.loop-told.offers.items c.push_offer.new.offers.items (Q c.told-item.result)
-    c.offer_told.result c.offer_told.ensures c.in_ok-push_offer.ensures)
+    one_more Q c.args.offers.now.items c.loop-advertised.offers.items c.push_offer.new.offers.items
+    c.args.externals.now c.loop-advertised.advertised-index c.advertised-item.result c.advertised-item.is
+    c.loop-advertised-test.true c.loop-advertised.invariant
+    (adds_just c.loop-advertised.offers.items c.push_offer.new.offers.items (Q c.advertised-item.result)
+    c.offer_advertised.result c.offer_advertised.ensures c.in_ok-push_offer.ensures)
 
 pub returns : goal.returns
 returns c =
-    let Q = OfTold c.args.root.now c.args.inner.now.flagged.now c.args.inner.now.routers.now
+    let Q = OfAdvertised c.args.root.now c.args.inner.now.flagged.now c.args.inner.now.routers.now
     c.args.inner.now.networks.now in
-    all_of_them Q c.args.offers.now.items c.loop-told.offers.items c.args.externals.now
-    c.loop-told.told-index (omega (arith, c.loop-told-test.false)) c.loop-told.invariant
+    all_of_them Q c.args.offers.now.items c.loop-advertised.offers.items c.args.externals.now
+    c.loop-advertised.advertised-index (omega (arith, c.loop-advertised-test.false)) c.loop-advertised.invariant

@@ -41,9 +41,9 @@ returns-clause-searchable g c = record {
         (one_close c.args.root.now (g.W.Ways.ways c.args.ways.now) c.requires.alone
         c.own_key-key.result _ c.flagged_by.result c.requires.near c.flagged_by.ensures),
   );
-  told = (
-    c.in_ok-told.ensures.routes.ascending,
-    c.in_ok-told.ensures.few (none_cheap _ c.new-none.ensures.items),
+  advertised = (
+    c.in_ok-advertised.ensures.routes.ascending,
+    c.in_ok-advertised.ensures.few (none_cheap _ c.new-none.ensures.items),
   );
   networks = (
     c.in_ok-networks.ensures.routes.ascending,
@@ -60,38 +60,38 @@ returns-clause-inner g c =
     let ways = g.W.Ways.ways c.args.ways.now in
     let said : Said = said_at c.args.moment c.args.db.now.present in
     let own_key : Key = router_key root.router in
-    let told : Option LsaBody = option_copied c.body_at-body.result in
-    let own : told ≡ said own_key = c.body_at-body.ensures ∙ ap said c.own_key-key.ensures in
-    let just : IsJust (OfOne (TellsFlags ways) own_key told) c.flagged_by.result =
-    subst (λ (k : Key). IsJust (OfOne (TellsFlags ways) k told) c.flagged_by.result)
+    let advertised : Option LsaBody = option_copied c.body_at-body.result in
+    let own : advertised ≡ said own_key = c.body_at-body.ensures ∙ ap said c.own_key-key.ensures in
+    let just : IsJust (OfOne (TellsFlags ways) own_key advertised) c.flagged_by.result =
+    subst (λ (k : Key). IsJust (OfOne (TellsFlags ways) k advertised) c.flagged_by.result)
     c.own_key-key.ensures c.flagged_by.ensures in
     let routers = c.in_ok-flagged.flagged.items in
     let flagged : AreFlagged said ways routers =
     subst (AreFlagged said ways) (sym c.in_ok-flagged.ensures)
-    (one_flagged root ways c.requires.alone said told own c.flagged_by.result just) in
+    (one_flagged root ways c.requires.alone said advertised own c.flagged_by.result just) in
     let offers = c.push_by.new.offers.items in
     let by_list : Adds c.new-offers.result.items offers (OfOne (IsInner root ways routers)
-    c.own_key-key.result told) =
+    c.own_key-key.result advertised) =
     subst (λ (rs : List Flagged). Adds c.new-offers.result.items offers
-    (OfOne (IsInner root ways rs) c.own_key-key.result told)) c.deref.ensures.value
+    (OfOne (IsInner root ways rs) c.own_key-key.result advertised)) c.deref.ensures.value
     c.in_ok-push_by.ensures.adds in
     let by_key : Adds c.new-offers.result.items offers (OfOne (IsInner root ways routers)
-    own_key told) =
+    own_key advertised) =
     subst (λ (k : Key). Adds c.new-offers.result.items offers
-    (OfOne (IsInner root ways routers) k told)) c.own_key-key.ensures by_list in
-    let adds : Adds [] offers (OfOne (IsInner root ways routers) own_key told) =
-    subst (λ (xs : List Offer). Adds xs offers (OfOne (IsInner root ways routers) own_key told))
+    (OfOne (IsInner root ways routers) k advertised)) c.own_key-key.ensures by_list in
+    let adds : Adds [] offers (OfOne (IsInner root ways routers) own_key advertised) =
+    subst (λ (xs : List Offer). Adds xs offers (OfOne (IsInner root ways routers) own_key advertised))
     c.new-offers.ensures.items by_key in
     let inside : (o : Offer) → Contains offers o ↔ OffersInside said root o =
-    own_inside root ways c.requires.alone said told own c.requires.ways routers flagged offers
+    own_inside root ways c.requires.alone said advertised own c.requires.ways routers flagged offers
     adds in
     record {
       flagged = flagged;
-      told = none_told root ways c.requires.alone said told own c.requires.ways routers flagged
-          c.in_ok-told.told.items
-          (subst (λ (xs : List Offer). AreRoutesAmong (λ o. Contains xs o) c.in_ok-told.told.items)
-          c.new-none.ensures.items c.in_ok-told.ensures.routes);
-      networks = own_networks root ways c.requires.alone said told own c.requires.ways routers
+      advertised = none_told root ways c.requires.alone said advertised own c.requires.ways routers flagged
+          c.in_ok-advertised.advertised.items
+          (subst (λ (xs : List Offer). AreRoutesAmong (λ o. Contains xs o) c.in_ok-advertised.advertised.items)
+          c.new-none.ensures.items c.in_ok-advertised.ensures.routes);
+      networks = own_networks root ways c.requires.alone said advertised own c.requires.ways routers
           flagged offers c.in_ok-networks.networks.items adds c.in_ok-networks.ensures.routes;
       offers = λ o. (
         (λ t. (inside o).0 ((c.routes_of_offers-2.ensures.same o).0 t)),

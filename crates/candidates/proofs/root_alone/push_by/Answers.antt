@@ -12,7 +12,7 @@ returns-in-Some-clause-adds g c =
     let Q = IsInner c.args.root.now (g.W.Ways.ways c.args.ways.now) c.args.routers.now in
     let key = c.args.key.now in
     let says : LsaBody = c.in-Some.body.now in
-    let told : Option LsaBody = option_copied c.args.body in
-    let is : told ≡ Some says = ap option_copied c.in-Some.is in
-    on_ok_weaker c.push_inner.result (λ adds. adds_same _ _ _ _ (of_it Q key says told is)
-    (by_it Q key says told is) adds) c.push_inner.ensures.adds
+    let advertised : Option LsaBody = option_copied c.args.body in
+    let is : advertised ≡ Some says = ap option_copied c.in-Some.is in
+    on_ok_weaker c.push_inner.result (λ adds. adds_same _ _ _ _ (of_it Q key says advertised is)
+    (by_it Q key says advertised is) adds) c.push_inner.ensures.adds

@@ -5,7 +5,7 @@ use Rattle.std.proofs.lemmas.List.Elements.{Contains-push_cases}
 use Rattle.words.specs.declared.key.Key.{Key}
 use Rattle.routes.proofs.Lists.{of_empty}
 use Rattle.routes.specs.Said.{said_at}
-use Rattle.external_updates.specs.Changes.{AreAllTold, TellsOf}
+use Rattle.external_updates.specs.Changes.{AreAllAdvertised, TellsOf}
 use Rattle.external_updates.proofs.changes.networks_told.Goals as goal
 
 pub loop-key-init : goal.loop-key-init
@@ -37,7 +37,7 @@ loop-key-preserved c key prefix among t =
 
 pub returns : goal.returns
 returns c =
-    subst (λ ks. AreAllTold (said_at c.args.before c.args.db.now.committed)
+    subst (λ ks. AreAllAdvertised (said_at c.args.before c.args.db.now.committed)
     (said_at c.args.moment c.args.db.now.present) ks c.loop-key.prefixes.items)
     (take_all c.loop-key.key-index c.args.keys.now (omega (arith, c.loop-key-test.false)))
     c.loop-key.invariant

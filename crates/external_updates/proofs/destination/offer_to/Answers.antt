@@ -12,7 +12,7 @@ use Rattle.external_updates.proofs.destination.offer_to.Goals as goal
 pub external_offer-requires-clause-routers : goal.external_offer-requires-clause-routers
 external_offer-requires-clause-routers c =
     let P : List Route → Type 0 = λ xs. Ascend xs × AreBelow xs in
-    subst P (sym c.deref.ensures.value) c.requires.told
+    subst P (sym c.deref.ensures.value) c.requires.advertised
 
 pub external_offer-requires-clause-flagged : goal.external_offer-requires-clause-flagged
 external_offer-requires-clause-flagged c =
@@ -36,14 +36,14 @@ returns-in-None c =
     let it = c.args.inner.now in
     let o = c.external_offer.result in
     let Q : List Flagged → List Route → List Route → Type 0 =
-    λ routers told networks. IsJust (OfExternal root routers told networks one) o in
+    λ routers advertised networks. IsJust (OfExternal root routers advertised networks one) o in
     let first = subst (λ (rs : List Flagged). Q rs c.deref.result.now c.deref-3.result.now)
     c.deref-2.ensures.value c.external_offer.ensures in
     let second = subst (λ (rs : List Route). Q it.flagged.items rs c.deref-3.result.now)
     c.deref.ensures.value first in
-    let third = subst (λ (rs : List Route). Q it.flagged.items it.told.items rs)
+    let third = subst (λ (rs : List Route). Q it.flagged.items it.advertised.items rs)
     c.deref-3.ensures.value second in
-    let none = subst (λ x. IsJust (OfExternal root it.flagged.items it.told.items it.networks.items
+    let none = subst (λ x. IsJust (OfExternal root it.flagged.items it.advertised.items it.networks.items
     one) x) c.in-None.is third in
     λ x p. none x p.0
 
@@ -54,13 +54,13 @@ returns-in-Some c =
     let it = c.args.inner.now in
     let o = c.external_offer.result in
     let Q : List Flagged → List Route → List Route → Type 0 =
-    λ routers told networks. IsJust (OfExternal root routers told networks one) o in
+    λ routers advertised networks. IsJust (OfExternal root routers advertised networks one) o in
     let first = subst (λ (rs : List Flagged). Q rs c.deref.result.now c.deref-3.result.now)
     c.deref-2.ensures.value c.external_offer.ensures in
     let second = subst (λ (rs : List Route). Q it.flagged.items rs c.deref-3.result.now)
     c.deref.ensures.value first in
-    let third = subst (λ (rs : List Route). Q it.flagged.items it.told.items rs)
+    let third = subst (λ (rs : List Route). Q it.flagged.items it.advertised.items rs)
     c.deref-3.ensures.value second in
-    let R = OfExternal root it.flagged.items it.told.items it.networks.items one in
+    let R = OfExternal root it.flagged.items it.advertised.items it.networks.items one in
     let some = subst (λ x. IsJust R x) c.in-Some.is third in
     just_to R c.args.prefix c.in-Some.offer c.to.result some c.to.ensures

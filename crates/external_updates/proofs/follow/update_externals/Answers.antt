@@ -2,7 +2,7 @@ use Rattle.std.proofs.Common.{Bool, List, Some, is_some, ap, subst, sym, ◌∙�
 use Rattle.words.specs.Prefixes.{Network}
 use Rattle.words.specs.declared.key.Key.{Key}
 use Rattle.routes.specs.Said.{said_at}
-use Rattle.external_updates.specs.Changes.{AreAllTold, OthersSayTheSame}
+use Rattle.external_updates.specs.Changes.{AreAllAdvertised, OthersSayTheSame}
 use Rattle.external_updates.proofs.Halfway.{all_done}
 use Rattle.external_updates.proofs.follow.update_externals.Goals as goal
 
@@ -18,9 +18,9 @@ returns-then-none_new c =
     let prefixes = c.deref-2.result.now in
     let others = subst (λ (ks : List Key). OthersSayTheSame ks old new) (sym c.deref.ensures.value)
     c.in_ok-keys.ensures in
-    let told = subst (λ (ps : List Network). AreAllTold old new keys ps)
+    let advertised = subst (λ (ps : List Network). AreAllAdvertised old new keys ps)
     (sym c.deref-2.ensures.value) c.in_ok-prefixes.ensures in (
-      all_done old new root c.requires.same keys prefixes others told c.renew_all.new.routes.items
+      all_done old new root c.requires.same keys prefixes others advertised c.renew_all.new.routes.items
           (c.in_ok-done.ensures.halfway (ap is_some c.in-Some.is) old c.requires.routes),
       c.in_ok-done.ensures.among (c.in-Some.is ∙ ap (λ (b : Bool). Some b) c.if-none_new.true),
     )
@@ -34,9 +34,9 @@ returns c =
     let prefixes = c.deref-2.result.now in
     let others = subst (λ (ks : List Key). OthersSayTheSame ks old new) (sym c.deref.ensures.value)
     c.in_ok-keys.ensures in
-    let told = subst (λ (ps : List Network). AreAllTold old new keys ps)
+    let advertised = subst (λ (ps : List Network). AreAllAdvertised old new keys ps)
     (sym c.deref-2.ensures.value) c.in_ok-prefixes.ensures in (
-      all_done old new root c.requires.same keys prefixes others told c.renew_all.new.routes.items
+      all_done old new root c.requires.same keys prefixes others advertised c.renew_all.new.routes.items
           (c.in_ok-done.ensures.halfway (ap is_some c.in-Some.is) old c.requires.routes),
       c.in_ok-done.ensures.another (c.in-Some.is ∙ ap (λ (b : Bool). Some b) c.if-none_new.false)
           old c.requires.routes,

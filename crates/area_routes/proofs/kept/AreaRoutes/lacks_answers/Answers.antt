@@ -66,6 +66,6 @@ returns-clause-externals c =
     c.requires.routes.externals in
     c.kept_or.ensures said
     (subst (λ (o : Option (Vec ExternalAdvertisement)). IfSome o
-    (λ told. AreExternals said told.items))
+    (λ advertised. AreExternals said advertised.items))
     (sym c.take-kept.ensures.value) knew)
     c.in_ok-made.ensures.externals

@@ -31,7 +31,7 @@ returns-clause-routes c =
     subst (λ (k : KeptRoutes). AreOffersOf router area c.args.moment k) (sym same)
     (same_but router area c.args.moment next last.externals last.graph
     c.in_ok-update_routes.ensures.routes) in
-    let told = externals_after old new c.externals_stay-stay.result c.args.self.now next middle
+    let advertised = externals_after old new c.externals_stay-stay.result c.args.self.now next middle
     c.externals_stay-stay.ensures c.update_routes.ensures.externals
     c.keep_externals.ensures.kept c.keep_externals.ensures.forgotten
     c.requires.routes.externals in
@@ -41,7 +41,7 @@ returns-clause-routes c =
       inner = offers.inner;
       externals = subst (λ (o : Option (Vec ExternalAdvertisement)). IfSome o
           (λ e. AreExternals new e.items))
-          (sym (ap (λ (k : KeptRoutes). k.externals) c.update_graph.ensures.others)) told;
+          (sym (ap (λ (k : KeptRoutes). k.externals) c.update_graph.ensures.others)) advertised;
       graph = c.update_graph.ensures.graph;
     }
 

@@ -71,12 +71,12 @@ returns-clause-none_new c brings =
     c.take-kept.ensures.value ∙ ap (λ (k : KeptRoutes). k.candidates) c.self.view_is
     ∙ brings.were in
     let are : next.candidates ≡ brings.now = same_Some _ _ brings.are in
-    let told = subst (λ (o : Option Next). IfSome o
+    let advertised = subst (λ (o : Option Next). IfSome o
     (λ n. n.none_new ≡ false → HaveAnother kept n.candidates.items)) c.in-Some.is
     c.followed-next.ensures.another in
     let another : next.none_new ≡ false → HasAnother brings.before.items brings.now.items = λ off.
     subst (λ (v : Vec Route Global). HasAnother brings.before.items v.items) are
-    (subst (λ (o : Option (Vec Route Global)). HaveAnother o next.candidates.items) were (told off))
+    (subst (λ (o : Option (Vec Route Global)). HaveAnother o next.candidates.items) were (advertised off))
     in
     and_true c.self.inside.answered next.none_new
     (none_another next.none_new brings.before.items brings.now.items another brings.among)

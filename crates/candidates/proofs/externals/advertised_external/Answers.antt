@@ -1,6 +1,6 @@
 use Rattle.std.proofs.Common.{rules}
 use Rattle.candidates.proofs.Told.{no_network, tells}
-use Rattle.candidates.proofs.externals.told_external.Goals as goal
+use Rattle.candidates.proofs.externals.advertised_external.Goals as goal
 
 pub returns-in_err-prefix : goal.returns-in_err-prefix
 returns-in_err-prefix c = rw c.from_residual.ensures

@@ -2,7 +2,7 @@ use Rattle.std.proofs.Common.{◌+◌, None, rules, ap, ◌∙◌}
 use Rattle.routes.specs.Summaries.{inter}
 use Rattle.candidates.specs.Borders.{host}
 use Rattle.candidates.proofs.Made.{none_told, of_told}
-use Rattle.candidates.proofs.borders.told_offer.Goals as goal
+use Rattle.candidates.proofs.borders.advertised_offer.Goals as goal
 
 pub returns-in_err-border : goal.returns-in_err-border
 returns-in_err-border c = rw c.from_residual.ensures

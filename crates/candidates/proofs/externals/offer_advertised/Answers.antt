@@ -1,6 +1,6 @@
 use Rattle.std.proofs.Common.{arith, rules}
 use Rattle.candidates.proofs.Told.{no_way_out, offered_by}
-use Rattle.candidates.proofs.externals.offer_told.Goals as goal
+use Rattle.candidates.proofs.externals.offer_advertised.Goals as goal
 
 pub returns-in_err-way : goal.returns-in_err-way
 returns-in_err-way c = rw c.from_residual.ensures (no_way_out _ _ _ _ _ c.in_err-way.ensures.just)
