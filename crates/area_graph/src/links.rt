@@ -134,7 +134,7 @@ fn neighbor_at(area: &AreaTopology<'_>, router: RouterId, kind: EntryKind, id: u
     requires of_link { rank kind < 2 }
     ensures { IsNeighborAt area.now.nodes.now area.now.entries.now router kind id result }
 {
-    let place = area.slots.place_of(area.nodes, &Node::ARouter(router));
+    let place = area.slots.index_of(area.nodes, &Node::ARouter(router));
     let start = start_at(area.starts, place).links;
     if has_entry_near(area.entries, start, router, kind, id) {
         Some(place)

@@ -55,7 +55,7 @@ fn node_of(key: &Key, body: &LsaBody) -> Option<Node>
 }
 
 /// The index of the first node that isn't before this one; their number if all are.
-pub fn place_of(nodes: &[Node], node: &Node) -> usize
+pub fn index_of(nodes: &[Node], node: &Node) -> usize
     requires { Ascend nodes.now }
     ensures within { result ≤ length nodes.now }
     ensures before { (k : ℕ) (other : Node) → slice_get nodes.now k ≡ Some other → k < result
@@ -77,7 +77,7 @@ pub fn place_of(nodes: &[Node], node: &Node) -> usize
 }
 
 /// The same, tried at this index first, which is usually right.
-pub fn place_near(nodes: &[Node], place: usize, node: &Node) -> usize
+pub fn index_near(nodes: &[Node], place: usize, node: &Node) -> usize
     requires { Ascend nodes.now }
     ensures within { result ≤ length nodes.now }
     ensures before { (k : ℕ) (other : Node) → slice_get nodes.now k ≡ Some other → k < result
@@ -88,7 +88,7 @@ pub fn place_near(nodes: &[Node], place: usize, node: &Node) -> usize
     if place < nodes.len() && is_same(&nodes[place], node) {
         return place;
     }
-    place_of(nodes, node)
+    index_of(nodes, node)
 }
 
 fn is_same(a: &Node, b: &Node) -> bool

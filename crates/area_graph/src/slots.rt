@@ -4,7 +4,7 @@ ghost use Rattle.std.specs.declared.cmp.Ordering.TheVariants.{Less};
 ghost use Rattle.area_graph.specs.Nodes.{Ascend, node_cmp};
 ghost use Rattle.routes.specs.declared.node.Node.{Node as NodeValue};
 
-use crate::nodes::place_near;
+use crate::nodes::index_near;
 use routes::Node;
 use std::alloc::{AllocError, Global};
 
@@ -64,7 +64,7 @@ impl Slots {
 
     /// The index of the first node that isn't before this one; their number if all are. It is
     /// searched for at its expected index, and then by binary search.
-    pub fn place_of(&self, nodes: &[Node], node: &Node) -> usize
+    pub fn index_of(&self, nodes: &[Node], node: &Node) -> usize
         requires { Ascend nodes.now }
         ensures within { result ≤ length nodes.now }
         ensures before { (k : ℕ) (other : NodeValue) → slice_get nodes.now k ≡ Some other
@@ -72,7 +72,7 @@ impl Slots {
         ensures beyond { (k : ℕ) (other : NodeValue) → slice_get nodes.now k ≡ Some other
             → result ≤ k → node_cmp other node.now ≡ Less → ⊥ }
     {
-        place_near(nodes, self.expected_at(number_of(node)), node)
+        index_near(nodes, self.expected_at(number_of(node)), node)
     }
 
     /// The index in the slot of this number, at which the search begins.

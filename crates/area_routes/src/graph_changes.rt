@@ -13,7 +13,7 @@ ghost use Rattle.routes.specs.Links.{network_key, router_key};
 ghost use Rattle.routes.specs.Said.{said_at};
 
 use crate::lookups::SPARE;
-use crate::surroundings::{Surroundings, places_of};
+use crate::surroundings::{Surroundings, index_range_of};
 use area_graph::NETWORK_LSA;
 use candidates::find;
 use lsa::{LinkKind, LsaBody, NetworkLsa, RouterLink, RouterLsa};
@@ -45,7 +45,7 @@ fn note_networks(
         → Contains places.new.items place) }
     ensures noted { OnOk result (AreNetworksAmong at.now.nodes.now places.new.items id) }
 {
-    let (first, end) = places_of(at, id);
+    let (first, end) = index_range_of(at, id);
     for place in first..end {
         places.push(place)?;
     }
@@ -255,7 +255,7 @@ fn note_key(
 ///
 /// # Errors
 /// `AllocError` if an allocation is refused.
-pub fn places_to_renew(
+pub fn indices_to_renew(
     alloc: Global,
     at: &Surroundings<'_>,
     before: Second,

@@ -12,7 +12,7 @@ ghost use Rattle.routes.specs.Links.{ListsRouter};
 ghost use Rattle.routes.specs.Said.{said_at};
 ghost use Rattle.routes.specs.declared.node.Node.TheVariants.{ANetwork};
 
-use crate::surroundings::{Surroundings, has_link_to, network_lsa, places_of, router_lsa};
+use crate::surroundings::{Surroundings, has_link_to, network_lsa, index_range_of, router_lsa};
 use area_graph::{add_exits, kind_of};
 use candidates::find;
 use lsa::{LinkKind, NetworkLsa, RouterLink, RouterLsa};
@@ -164,7 +164,7 @@ fn add_networks(
         advertised.now) links.old.items links.new.items) }
     ensures fits { OnOk result (All CostFits links.old.items → All CostFits links.new.items) }
 {
-    let (first, end) = places_of(at, LinkStateId::new(advertised.link_id));
+    let (first, end) = index_range_of(at, LinkStateId::new(advertised.link_id));
     for place in first..end {
         add_network(at, root, router, advertised, place, links)?;
     }

@@ -5,7 +5,7 @@ ghost use Rattle.area_routes.specs.Vertices.{IsRenewed, StayUnlessAmong};
 ghost use Rattle.routes.specs.Said.{said_at};
 ghost use Rattle.candidates.specs.AreaGraphs.{IsAreaGraph};
 
-use crate::graph_changes::places_to_renew;
+use crate::graph_changes::indices_to_renew;
 use crate::graph_links::vertex_of;
 use crate::lookups::are_costly;
 use crate::surroundings::Surroundings;
@@ -114,7 +114,7 @@ pub fn update_graph(
         nodes: &graph.nodes,
         slots: &graph.slots,
     };
-    match places_to_renew(alloc, &at, before, &keys)? {
+    match indices_to_renew(alloc, &at, before, &keys)? {
         None => Ok(None),
         Some(places) => {
             if are_costly(&at, &places) {

@@ -1,7 +1,7 @@
 //! How many lookups recalculating vertices takes.
 ghost use Rattle.area_graph.specs.Nodes.{Ascend};
 
-use crate::surroundings::{Surroundings, network_lsa, places_of, router_lsa};
+use crate::surroundings::{Surroundings, network_lsa, index_range_of, router_lsa};
 use lsa::{LinkKind, RouterLink, RouterLsa};
 use routes::Node;
 use words::LinkStateId;
@@ -39,7 +39,7 @@ fn lookups_for(at: &Surroundings<'_>, lsa: &RouterLsa, link: &RouterLink) -> usi
             if has_several(lsa, link.link_id) {
                 return usize::MAX;
             }
-            let (first, end) = places_of(at, LinkStateId::new(link.link_id));
+            let (first, end) = index_range_of(at, LinkStateId::new(link.link_id));
             end.saturating_sub(first)
         }
         LinkKind::Stub => 0,

@@ -86,7 +86,7 @@ fn is_of_id(node: &Node, id: LinkStateId) -> bool
 
 /// Where the networks whose LSAs have this Link State ID stand among the nodes: from the first
 /// index up to the second. There is one for each router that advertises it.
-pub fn places_of(at: &Surroundings<'_>, id: LinkStateId) -> (usize, usize)
+pub fn index_range_of(at: &Surroundings<'_>, id: LinkStateId) -> (usize, usize)
     requires { Ascend at.now.nodes.now }
     ensures within { result.1 ≤ length at.now.nodes.now }
     ensures first { (by place : ℕ) → StandsAt at.now.nodes.now (ANetwork id by) place
@@ -96,7 +96,7 @@ pub fn places_of(at: &Surroundings<'_>, id: LinkStateId) -> (usize, usize)
 {
     let first = at
         .slots
-        .place_of(at.nodes, &Node::ANetwork(id, RouterId::new(0)));
+        .index_of(at.nodes, &Node::ANetwork(id, RouterId::new(0)));
     for end in first..at.nodes.len() {
         if !is_of_id(&at.nodes[end], id) {
             return (first, end);

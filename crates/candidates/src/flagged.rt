@@ -104,7 +104,7 @@ fn compare(listed: &Flagged, router: RouterId) -> Ordering
 }
 
 // The element at this index, if it is this router.
-fn at_place(routers: &[Flagged], place: usize, router: RouterId) -> Option<Flagged>
+fn at_index(routers: &[Flagged], place: usize, router: RouterId) -> Option<Flagged>
     ensures { IfSome result (λ listed. Contains routers.now listed × (listed.router ≡ router)) }
 {
     if place >= routers.len() {
@@ -122,7 +122,7 @@ fn find_router(routers: &[Flagged], place: usize, router: RouterId) -> Option<Fl
     requires { AscendByRouter routers.now }
     ensures { IsJust (λ listed. Contains routers.now listed × (listed.router ≡ router)) result }
 {
-    if let Some(listed) = at_place(routers, place, router) {
+    if let Some(listed) = at_index(routers, place, router) {
         return Some(listed);
     }
     match routers.binary_search_by(|listed| compare(listed, router)) {

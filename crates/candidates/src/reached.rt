@@ -90,7 +90,7 @@ pub fn find(nodes: &[Node], slots: &Slots, node: &Node) -> Option<usize>
     ensures found { IfSome result (λ at. slice_get nodes.now at ≡ Some node.now) }
     ensures missing { IfNone result ((at : ℕ) → slice_get nodes.now at ≡ Some node.now → ⊥) }
 {
-    let at = slots.place_of(nodes, node);
+    let at = slots.index_of(nodes, node);
     if at == nodes.len() || is_before(node, &nodes[at]) {
         return None;
     }

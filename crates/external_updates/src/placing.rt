@@ -9,7 +9,7 @@ use std::alloc::AllocError;
 use words::{Prefix, Route};
 
 // The index of the route for the prefix, or else the index at which to insert it.
-fn place_of(routes: &[Route], prefix: Prefix) -> Result<usize, usize>
+fn index_of(routes: &[Route], prefix: Prefix) -> Result<usize, usize>
     requires { Ascend routes.now }
     ensures { MatchResult result (IsThere routes.now prefix) (IsGap routes.now prefix) }
 {
@@ -118,7 +118,7 @@ pub fn place(
     ensures stood { IfOk result (λ stood. IsTrue stood → HasStood routes.old.items best) }
     ensures another { IfOk result (λ stood. stood ≡ false → IsAnother routes.old.items best) }
 {
-    match place_of(routes.as_slice(), prefix) {
+    match index_of(routes.as_slice(), prefix) {
         Ok(at) => Ok(replace(routes, prefix, at, best)),
         Err(at) => add(routes, prefix, at, best),
     }

@@ -15,9 +15,9 @@ returns-then-has_entry_near c =
       metric = has.0;
       place = has.1.0;
     }) has.1.1 c.requires.of_link in
-    neighbor_is nodes entries c.args.router c.args.kind c.args.id c.place_of-place.result
-    c.requires.ordered.ascend among has c.place_of-place.ensures.before
-    c.place_of-place.ensures.beyond
+    neighbor_is nodes entries c.args.router c.args.kind c.args.id c.index_of-place.result
+    c.requires.ordered.ascend among has c.index_of-place.ensures.before
+    c.index_of-place.ensures.beyond
 
 pub returns-else-has_entry_near : goal.returns-else-has_entry_near
 returns-else-has_entry_near c = λ has. false≢true

@@ -30,5 +30,5 @@ loop-place-preserved c =
 
 pub returns-clause-noted : goal.returns-clause-noted
 returns-clause-noted c by at here =
-    c.loop-place.invariant.noted at (c.places_of-first.ensures.first by at here)
-    (omega (arith, c.places_of-first.ensures.end by at here, c.loop-place-test.false))
+    c.loop-place.invariant.noted at (c.index_range_of-first.ensures.first by at here)
+    (omega (arith, c.index_range_of-first.ensures.end by at here, c.loop-place-test.false))

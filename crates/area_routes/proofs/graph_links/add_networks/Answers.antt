@@ -9,12 +9,12 @@ pub loop-place-init : goal.loop-place-init
 loop-place-init c =
     let said = said_at c.args.at.now.moment c.args.at.now.db.now.present in
     let nodes = c.args.at.now.nodes.now in
-    let first = c.places_of-first.result.0 in
+    let first = c.index_range_of-first.result.0 in
     let F : ℕ → Type 0 = λ id. (by place : ℕ) → StandsAt nodes (ANetwork id by) place
     → first ≤ place in
     record {
       adds = none_below said c.args.root.now nodes c.args.router c.args.advertised.now first
-          c.args.links.now.items (subst F c.new.ensures c.places_of-first.ensures.first);
+          c.args.links.now.items (subst F c.new.ensures c.index_range_of-first.ensures.first);
       fits = λ all. all;
     }
 
@@ -33,10 +33,10 @@ pub returns-clause-adds : goal.returns-clause-adds
 returns-clause-adds c =
     let said = said_at c.args.at.now.moment c.args.at.now.db.now.present in
     let nodes = c.args.at.now.nodes.now in
-    let end = c.places_of-first.result.1 in
+    let end = c.index_range_of-first.result.1 in
     let L : ℕ → Type 0 = λ id. (by place : ℕ) → StandsAt nodes (ANetwork id by) place
     → place < end in
     all_below said c.args.root.now nodes c.args.router c.args.advertised.now c.loop-place.place end
     c.args.links.now.items c.loop-place.links.items
-    (subst L c.new.ensures c.places_of-first.ensures.end) (omega (arith, c.loop-place-test.false))
+    (subst L c.new.ensures c.index_range_of-first.ensures.end) (omega (arith, c.loop-place-test.false))
     c.loop-place.invariant.adds

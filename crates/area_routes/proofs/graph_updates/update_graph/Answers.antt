@@ -33,7 +33,7 @@ renewed-requires-clause-nodes c =
     let covered : AreCovered old new c.deref.result.now places c.deref-2.result.now =
     subst (λ (o : Option _). IfSome o
     (λ found. AreCovered old new c.deref.result.now found.items c.deref-2.result.now))
-    c.in-Some.is c.in_ok-places_to_renew.ensures in
+    c.in-Some.is c.in_ok-indices_to_renew.ensures in
     let on_nodes : AreCovered old new nodes places c.deref-2.result.now =
     subst (λ (ns : List Node). AreCovered old new ns places c.deref-2.result.now)
     c.deref.ensures.value covered in
@@ -53,7 +53,7 @@ renewed-requires-clause-others c =
     let covered : AreCovered old new c.deref.result.now places c.deref-2.result.now =
     subst (λ (o : Option _). IfSome o
     (λ found. AreCovered old new c.deref.result.now found.items c.deref-2.result.now))
-    c.in-Some.is c.in_ok-places_to_renew.ensures in
+    c.in-Some.is c.in_ok-indices_to_renew.ensures in
     let on_nodes : AreCovered old new nodes places c.deref-2.result.now =
     subst (λ (ns : List Node). AreCovered old new ns places c.deref-2.result.now)
     c.deref.ensures.value covered in

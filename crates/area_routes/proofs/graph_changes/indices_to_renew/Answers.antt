@@ -4,9 +4,9 @@ use Rattle.area_routes.proofs.Fronts.{front_all, front_more}
 use Rattle.area_routes.proofs.Stay.{covered_more}
 use Rattle.routes.specs.Said.{said_at}
 use Rattle.words.specs.declared.key.Key.{Key}
-use Rattle.area_routes.proofs.graph_changes.places_to_renew.Goals as goal
-use Rattle.area_routes.proofs.graph_changes.places_to_renew.Goals.{then-key-le-NETWORK_LSA+in_ok-note_key+else-not-branch+else-are_many}
-use Rattle.area_routes.proofs.graph_changes.places_to_renew.Goals.{else-key-le-NETWORK_LSA}
+use Rattle.area_routes.proofs.graph_changes.indices_to_renew.Goals as goal
+use Rattle.area_routes.proofs.graph_changes.indices_to_renew.Goals.{then-key-le-NETWORK_LSA+in_ok-note_key+else-not-branch+else-are_many}
+use Rattle.area_routes.proofs.graph_changes.indices_to_renew.Goals.{else-key-le-NETWORK_LSA}
 
 pub loop-key-preserved : goal.loop-key-preserved
 loop-key-preserved c =

@@ -2,7 +2,7 @@ use Rattle.std.proofs.Common.{◌≡◌, ◌+◌, ◌-◌, ◌/◌, ℕ, Some, l
 use Rattle.std.proofs.lemmas.Option.{slice_get_read}
 use Rattle.area_graph.specs.Nodes.{node_cmp}
 use Rattle.area_graph.proofs.KeyNodes.{go_down, go_up, lt_false, lt_true}
-use Rattle.area_graph.proofs.nodes.place_of.Goals as goal
+use Rattle.area_graph.proofs.nodes.index_of.Goals as goal
 
 pub loop-low-preserved-then-is_before : goal.loop-low-preserved-then-is_before
 loop-low-preserved-then-is_before c =

@@ -4,7 +4,7 @@ use Rattle.routes.specs.declared.node.Node.{Node}
 use Rattle.area_graph.specs.Graphs.{StandsAt}
 use Rattle.area_graph.proofs.KeyNodes.{go_down, in_places}
 use Rattle.area_graph.proofs.Whole.{never_before}
-use Rattle.area_graph.proofs.nodes.place_near.Goals as goal
+use Rattle.area_graph.proofs.nodes.index_near.Goals as goal
 
 pub returns-then-is_same-clause-before : goal.returns-then-is_same-clause-before
 returns-then-is_same-clause-before c =

@@ -2,7 +2,7 @@ use Rattle.std.proofs.Common.{◌≡◌, ◌-◌, ◌<◌, ◌≤◌, ℕ, Some,
 use Rattle.std.specs.declared.cmp.Ordering.TheVariants.{Less}
 use Rattle.routes.specs.declared.node.Node.{Node}
 use Rattle.area_graph.specs.Nodes.{node_cmp}
-use Rattle.area_graph.proofs.nodes.place_of.Given as goal
+use Rattle.area_graph.proofs.nodes.index_of.Given as goal
 
 abbrev pub invariant-loop-low : goal.invariant-loop-low
 invariant-loop-low l = record {

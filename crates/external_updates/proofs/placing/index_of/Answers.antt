@@ -4,7 +4,7 @@ use Rattle.words.specs.Orders.{network_cmp}
 use Rattle.words.specs.declared.route.Route.{Route}
 use Rattle.candidates.proofs.Ordered.{searchable}
 use Rattle.external_updates.proofs.Networks.{is_gap, is_there}
-use Rattle.external_updates.proofs.placing.place_of.Goals as goal
+use Rattle.external_updates.proofs.placing.index_of.Goals as goal
 
 pub returns-in-Ok : goal.returns-in-Ok
 returns-in-Ok c =

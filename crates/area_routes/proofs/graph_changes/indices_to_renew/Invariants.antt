@@ -3,7 +3,7 @@ use Rattle.area_routes.specs.GraphChanges.{IsCovered}
 use Rattle.area_routes.proofs.Fronts.{OfFront}
 use Rattle.routes.specs.Said.{said_at}
 use Rattle.words.specs.declared.key.Key.{Key}
-use Rattle.area_routes.proofs.graph_changes.places_to_renew.Given as goal
+use Rattle.area_routes.proofs.graph_changes.indices_to_renew.Given as goal
 
 abbrev pub invariant-loop-key : goal.invariant-loop-key
 invariant-loop-key l =
