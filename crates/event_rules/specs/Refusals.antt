@@ -81,15 +81,15 @@ MayRunOut refusal = (refusal ≡ Some error.ClockBack → ⊥) × (refusal ≡ S
 
 -- The result is the reason that applies, or `Ok` if none does. `Memory` is only possible if neither
 -- the clock nor the interface is the reason.
-abbrev pub Answers : {X : Type 0} → Router → ℕ → Occurrence → Result X CoreError → Type 0
-Answers old moment event (Ok x) =
+abbrev pub RefusesByRules : {X : Type 0} → Router → ℕ → Occurrence → Result X CoreError → Type 0
+RefusesByRules old moment event (Ok x) =
     (first_refusal old moment event ≡ None) × (WouldExceed old moment event → ⊥)
-Answers old moment event (Err error.Full) = WouldExceed old moment event
-Answers old moment event (Err error.Memory) = MayRunOut (first_refusal old moment event)
-Answers old moment event (Err (error.BadPacket f)) =
+RefusesByRules old moment event (Err error.Full) = WouldExceed old moment event
+RefusesByRules old moment event (Err error.Memory) = MayRunOut (first_refusal old moment event)
+RefusesByRules old moment event (Err (error.BadPacket f)) =
     first_refusal old moment event ≡ Some (error.BadPacket f)
-Answers old moment event (Err error.NoInterface) =
+RefusesByRules old moment event (Err error.NoInterface) =
     first_refusal old moment event ≡ Some error.NoInterface
-Answers old moment event (Err error.Clash) = first_refusal old moment event ≡ Some error.Clash
-Answers old moment event (Err error.ClockBack) =
+RefusesByRules old moment event (Err error.Clash) = first_refusal old moment event ≡ Some error.Clash
+RefusesByRules old moment event (Err error.ClockBack) =
     first_refusal old moment event ≡ Some error.ClockBack

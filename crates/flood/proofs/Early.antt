@@ -6,7 +6,7 @@ use Rattle.packet.specs.declared.refusal.PacketFault.{PacketFault}
 use Rattle.packet.specs.Reading.{fault_of}
 use Rattle.event_rules.specs.declared.model.CoreError.{CoreError}
 use Rattle.event_rules.specs.declared.model.CoreError.TheVariants as error
-use Rattle.event_rules.specs.Refusals.{Answers, MayRunOut, bad_packet, clashes, first_refusal}
+use Rattle.event_rules.specs.Refusals.{RefusesByRules, MayRunOut, bad_packet, clashes, first_refusal}
 use Rattle.event_rules.specs.Refusals.{is_clock_back, is_interface}
 use Rattle.event_rules.specs.Routers.{Occurrence, Router}
 use Rattle.flood.specs.Early.{early_refusal, early_refusal_of}
@@ -172,7 +172,7 @@ some_may (Some x) e = (λ p. absurd cc, λ p. absurd cc)
 -- an early reason is the result
 pub early_answers : (X : Type 0) (old : Router) (moment : ℕ) (o : Occurrence) (x : CoreError)
     → early_refusal old moment o ≡ Some x
-    → Answers {X = X} old moment o (Err x)
+    → RefusesByRules {X = X} old moment o (Err x)
 early_answers X old moment o error.Memory e = some_may _ (stands_first old moment o error.Memory e)
 early_answers X old moment o (error.BadPacket f) e = stands_first old moment o (error.BadPacket f) e
 early_answers X old moment o error.NoInterface e = stands_first old moment o error.NoInterface e

@@ -17,7 +17,7 @@ use Rattle.flood.specs.Occurrences.{brings_answers, occurrence_of}
 use Rattle.flood.specs.declared.book.entry.JournalEntry.{JournalEntry}
 use Rattle.flood.specs.declared.book.error.BookError.{BookError}
 use Rattle.flood.specs.declared.book.error.BookError.TheVariants as refusing
-use Rattle.flood.specs.Refusals.{Answers, AnswersAnew, IsFull, IsRefusedEarly, IsSpent}
+use Rattle.flood.specs.Refusals.{RefusesByRules, RefusesAnewByRules, IsFull, IsRefusedEarly, IsSpent}
 use Rattle.flood.specs.Replay.{BookView, EndsWith, IsLightened, IsNotedIn, IsSameOrAnew}
 use Rattle.flood.specs.Replay.{IsSameOrMarked, forgotten_at, marked_book}
 
@@ -83,23 +83,23 @@ happens_at a b moment e back outs new same router happens =
 
 -- a refusal looks at the router as it is now, and at how many events were taken
 pub answered_at : {X : Type 0} (a b : BookView) (moment : Moment) (e : Event)
-    (r : Result X BookError) → b.current ≡ a.current → b.taken ≡ a.taken → AnswersAnew b moment e r
-    → AnswersAnew a moment e r
+    (r : Result X BookError) → b.current ≡ a.current → b.taken ≡ a.taken → RefusesAnewByRules b moment e r
+    → RefusesAnewByRules a moment e r
 answered_at {X = X} a b moment e (Ok x) current taken (fresh, answers) = (
   (λ spent. fresh (taken ∙ spent)),
-  subst (λ (r : Router). router.Answers {X = X} r moment (occurrence_of e) (Ok x)) current answers,
+  subst (λ (r : Router). router.RefusesByRules {X = X} r moment (occurrence_of e) (Ok x)) current answers,
 )
 answered_at a b moment e (Err refusing.Journal) current taken spent = sym taken ∙ spent
 answered_at a b moment e (Err (refusing.Core x)) current taken (fresh, answers) = (
   (λ spent. fresh (taken ∙ spent)),
-  subst (λ (r : Router). router.Answers {X = Unit {0}} r moment (occurrence_of e) (Err x)) current
+  subst (λ (r : Router). router.RefusesByRules {X = Unit {0}} r moment (occurrence_of e) (Err x)) current
       answers,
 )
 
 -- if the journal has room, only a book that may take no more is full
 pub answered_anew : {X : Type 0} (b : BookView) (moment : Moment) (e : Event)
-    (r : Result X BookError) → length b.journal < 65536 → Answers b moment e r
-    → AnswersAnew b moment e r
+    (r : Result X BookError) → length b.journal < 65536 → RefusesByRules b moment e r
+    → RefusesAnewByRules b moment e r
 answered_anew b moment e (Ok x) room (free, answers) = ((λ spent. free (inr spent)), answers)
 answered_anew b moment e (Err refusing.Journal) room (inl long) = absurd (omega (arith, room, long))
 answered_anew b moment e (Err refusing.Journal) room (inr spent) = spent
@@ -108,10 +108,10 @@ answered_anew b moment e (Err (refusing.Core x)) room (free, answers) =
 
 pub answered_back : {X : Type 0} (a b : BookView) (moment : Moment) (e back : Event)
     (r : Result X BookError) → back ≡ e → b.current ≡ a.current → b.taken ≡ a.taken
-    → AnswersAnew b moment back r → AnswersAnew a moment e r
+    → RefusesAnewByRules b moment back r → RefusesAnewByRules a moment e r
 answered_back {X = X} a b moment e back r same current taken answers =
     answered_at {X = X} a b moment e r current taken
-    (subst (λ (x : Event). AnswersAnew {X = X} b moment x r) same answers)
+    (subst (λ (x : Event). RefusesAnewByRules {X = X} b moment x r) same answers)
 
 -- the answer is no refusal
 pub where_ok : {X E : Type 0} (r : Result X E) (P : Type 0) → is_err r ≡ false → OnOk r P → P

@@ -3,7 +3,7 @@ use Rattle.std.proofs.Common.{◌≡◌, ℕ, None, ◌∙◌}
 use Rattle.std.specs.Prelude.{Result, Ok, Err}
 use Rattle.event_rules.specs.declared.model.CoreError.{CoreError}
 use Rattle.event_rules.specs.declared.model.CoreError.TheVariants as error
-use Rattle.event_rules.specs.Refusals.{Answers}
+use Rattle.event_rules.specs.Refusals.{RefusesByRules}
 use Rattle.event_rules.specs.Routers.{Occurrence, Router}
 use Rattle.flood.specs.declared.part.Part.{Part}
 use Rattle.flood.specs.Early.{early_refusal}
@@ -15,7 +15,7 @@ module _ (X Y : Type 0) (old : Router) (moment : ℕ) (event : Occurrence)
     (none : early_refusal old moment event ≡ None) where
   -- the own part can't be read
   pub unread_answers : (x : CoreError) → Tells {X = X} (late_refusal old event) (Err x)
-      → Answers {X = Y} old moment event (Err x)
+      → RefusesByRules {X = Y} old moment event (Err x)
   unread_answers error.Memory tells = may_run_out old moment event none
   unread_answers (error.BadPacket f) tells = first_is_late old moment event none ∙ tells
   unread_answers error.NoInterface tells = first_is_late old moment event none ∙ tells
@@ -27,7 +27,7 @@ module _ (X Y : Type 0) (old : Router) (moment : ℕ) (event : Occurrence)
     -- a limit would be exceeded, or an allocation is refused
     pub limit_answers : (x : CoreError)
         → TellsLimit {X = X} (made_state old moment p).router (Err x)
-        → Answers {X = Y} old moment event (Err x)
+        → RefusesByRules {X = Y} old moment event (Err x)
     limit_answers error.Memory tells = may_run_out old moment event none
     limit_answers (error.BadPacket f) tells = absurd tells
     limit_answers error.NoInterface tells = absurd tells
@@ -38,7 +38,7 @@ module _ (X Y : Type 0) (old : Router) (moment : ℕ) (event : Occurrence)
 
     -- the event is accepted
     pub taken_answers : (x : X) (y : Y) → TellsLimit (made_state old moment p).router (Ok x)
-        → Answers old moment event (Ok y)
+        → RefusesByRules old moment event (Ok y)
     taken_answers x y tells = (
       first_is_late old moment event none ∙ read,
       made_stays_within old moment event p is tells,
@@ -47,7 +47,7 @@ module _ (X Y : Type 0) (old : Router) (moment : ℕ) (event : Occurrence)
 pub event_answers : (X : Type 0) (old : Router) (moment : ℕ) (event : Occurrence)
     → early_refusal old moment event ≡ None → (p : Part) → IsPartOf event p
     → late_refusal old event ≡ None → (r : Result X CoreError)
-    → TellsLimit (made_state old moment p).router r → Answers old moment event r
+    → TellsLimit (made_state old moment p).router r → RefusesByRules old moment event r
 event_answers X old moment event none p is read (Ok x) tells =
     taken_answers X X old moment event none p is read x x tells
 event_answers X old moment event none p is read (Err e) tells =

@@ -5,7 +5,7 @@ use Rattle.std.proofs.lemmas.List.{length-append, map-append}
 use Rattle.std.proofs.lemmas.List.Sums.{fold-append}
 use Rattle.event_rules.specs.declared.model.Out.{Out}
 use Rattle.event_rules.specs.Events.{Happens, Run, Step}
-use Rattle.event_rules.specs.Refusals.{Answers}
+use Rattle.event_rules.specs.Refusals.{RefusesByRules}
 use Rattle.event_rules.specs.Routers.{Occurrence, Router}
 use Rattle.router_runs.proofs.Clocks.{later_moment, one_more, taken_moment}
 use Rattle.flood.specs.Occurrences.{occurrence_of}
@@ -44,7 +44,7 @@ replays_on start journal before after e outs (steps, same, run) now = (
 
 -- an event that is taken is no earlier than the router's last one
 pub late_enough : {X : Type 0} (r : Router) (moment : ℕ) (event : Occurrence) (x : X)
-    → Answers {X = X} r moment event (Ok x) → r.moment ≤ moment
+    → RefusesByRules {X = X} r moment event (Ok x) → r.moment ≤ moment
 late_enough r moment event x answers =
     later_moment r moment (taken_moment r moment event answers.0)
 

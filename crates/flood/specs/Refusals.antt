@@ -25,21 +25,21 @@ IsRefusedEarly b moment e =
 
 -- A book that is refused for itself says so, and no other book does; else the router's answer
 -- stands.
-abbrev pub AnswersWhere : {X : Type 0} → (IsRefused : BookView → Type 0)
+abbrev pub RefusesWhere : {X : Type 0} → (IsRefused : BookView → Type 0)
     → BookView → Moment → Event → Result X BookError → Type 0
-AnswersWhere IsRefused b moment e (Ok x) =
-    (IsRefused b → ⊥) × router.Answers b.current moment (occurrence_of e) (Ok x)
-AnswersWhere IsRefused b moment e (Err refusing.Journal) = IsRefused b
-AnswersWhere IsRefused b moment e (Err (refusing.Core x)) =
-    (IsRefused b → ⊥) × router.Answers {X = Unit {0}} b.current moment (occurrence_of e) (Err x)
+RefusesWhere IsRefused b moment e (Ok x) =
+    (IsRefused b → ⊥) × router.RefusesByRules b.current moment (occurrence_of e) (Ok x)
+RefusesWhere IsRefused b moment e (Err refusing.Journal) = IsRefused b
+RefusesWhere IsRefused b moment e (Err (refusing.Core x)) =
+    (IsRefused b → ⊥) × router.RefusesByRules {X = Unit {0}} b.current moment (occurrence_of e) (Err x)
 
 -- a full book says so
-abbrev pub Answers : {X : Type 0} → BookView → Moment → Event → Result X BookError → Type 0
-Answers b moment e r = AnswersWhere IsFull b moment e r
+abbrev pub RefusesByRules : {X : Type 0} → BookView → Moment → Event → Result X BookError → Type 0
+RefusesByRules b moment e r = RefusesWhere IsFull b moment e r
 
 -- a book that starts anew if its journal is full
-abbrev pub AnswersAnew : {X : Type 0} → BookView → Moment → Event → Result X BookError → Type 0
-AnswersAnew b moment e r = AnswersWhere IsSpent b moment e r
+abbrev pub RefusesAnewByRules : {X : Type 0} → BookView → Moment → Event → Result X BookError → Type 0
+RefusesAnewByRules b moment e r = RefusesWhere IsSpent b moment e r
 
 -- the answer, of which a refusal gives the event back, without the event
 abbrev pub without_event : {X : Type 0} → Result X Refused → Result X BookError

@@ -7,7 +7,7 @@ ghost use Rattle.event_rules.specs.Events.{Happens};
 ghost use Rattle.flood.specs.Early.{early_refusal};
 ghost use Rattle.flood.specs.Occurrences.{occurrence_of};
 ghost use Rattle.flood.specs.Offers.{IsStaleNow};
-ghost use Rattle.flood.specs.Refusals.{Answers, AnswersAnew, IsFull, IsRefusedEarly};
+ghost use Rattle.flood.specs.Refusals.{RefusesByRules, RefusesAnewByRules, IsFull, IsRefusedEarly};
 ghost use Rattle.flood.specs.Refusals.{without_event};
 ghost use Rattle.flood.specs.Replay.{IsDue, IsLightened, IsNotedAtLast, IsSameOrAnew};
 ghost use Rattle.flood.specs.Replay.{IsSameOrMarked, Leads, Replays, entry, marked_book, start_of};
@@ -168,7 +168,7 @@ impl<L: Origin> Book<L> {
         }) }
         ensures share { OnOk result (mine.new.amount ≡ mine.old.amount + 1) }
         ensures parts { mine.new.parts ≡ mine.old.parts }
-        ensures refused { Answers self.old moment event result }
+        ensures refused { RefusesByRules self.old moment event result }
         ensures err { OnErr result
             ((self.new ≡ self.old) × (mine.new.amount ≡ mine.old.amount)) }
     {
@@ -216,7 +216,7 @@ impl<L: Origin> Book<L> {
         }) }
         ensures share { OnOk result (mine.new.amount ≡ mine.old.amount + 1) }
         ensures parts { mine.new.parts ≡ mine.old.parts }
-        ensures refused { Answers self.old moment event (without_event result) }
+        ensures refused { RefusesByRules self.old moment event (without_event result) }
         ensures back { IfErr result (λ refused. refused.event ≡ event) }
         ensures err { OnErr result
             ((self.new ≡ self.old) × (mine.new.amount ≡ mine.old.amount)) }
@@ -325,7 +325,7 @@ impl<L: Origin> Book<L> {
         ensures taken { OnOk result (self.new.taken ≡ self.old.taken + 1) }
         ensures share { OnOk result (mine.new.amount ≡ mine.old.amount + 1) }
         ensures parts { mine.new.parts ≡ mine.old.parts }
-        ensures refused { AnswersAnew self.old moment event result }
+        ensures refused { RefusesAnewByRules self.old moment event result }
         ensures early { IsRefusedEarly self.old moment event → self.new ≡ self.old }
         ensures short { result ≡ Err (BookError.Core CoreError.Memory)
             → self.new ≡ marked_book self.old }

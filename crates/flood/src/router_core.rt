@@ -4,7 +4,7 @@ ghost use Rattle.std.specs.FinMap as finite;
 ghost use Rattle.event_rules.specs.Commands.{is_for};
 ghost use Rattle.event_rules.specs.Events.{Happens, initial};
 ghost use Rattle.event_rules.specs.Originations.{external_key};
-ghost use Rattle.event_rules.specs.Refusals.{Answers};
+ghost use Rattle.event_rules.specs.Refusals.{RefusesByRules};
 ghost use Rattle.event_rules.specs.Routers.{in_profile, shown_at};
 ghost use Rattle.flood_laws.specs.Keeping.{KeepsWhatIsKnown};
 ghost use Rattle.flood.specs.Early.{early_refusal};
@@ -128,7 +128,7 @@ impl Core {
         ensures keeps { IfOk result (λ outs. KeepsWhatIsKnown self.old moment
             (occurrence_of event.now) outs.items self.new) }
         // Which refusal it is; none applies if the event is accepted.
-        ensures refused { Answers self.old moment (occurrence_of event.now) result }
+        ensures refused { RefusesByRules self.old moment (occurrence_of event.now) result }
         ensures err { OnErr result (self.new ≡ self.old) }
     {
         match take(

@@ -2,7 +2,7 @@
 ghost use Rattle.std.specs.Prelude.{◌≡◌, IfOk, None, OnErr, OnOk, false};
 ghost use Rattle.event_rules.specs.RoomLaws.{IsRoomy};
 ghost use Rattle.event_rules.specs.Events.{Happens};
-ghost use Rattle.event_rules.specs.Refusals.{Answers, exceeds, is_interface, no_interface};
+ghost use Rattle.event_rules.specs.Refusals.{RefusesByRules, exceeds, is_interface, no_interface};
 ghost use Rattle.area_routes.specs.flooding.Drafted.{nothing_at};
 ghost use Rattle.flood_laws.specs.InOrder.{IsInOrder};
 ghost use Rattle.flood_laws.specs.Keeping.{HoldsInstances, KeepsWhatIsKnown};
@@ -77,7 +77,7 @@ pub fn take(
         (occurrence_of event.now) outs.items router.new.present) }
     ensures order { OnOk result (IsInOrder router.new.present) }
     ensures holds { OnOk result (HoldsInstances router.new.present) }
-    ensures refused { Answers router.old.present moment (occurrence_of event.now) result }
+    ensures refused { RefusesByRules router.old.present moment (occurrence_of event.now) result }
     ensures limit { OnOk result (exceeds router.new.present ≡ false) }
     ensures committed { router.new.committed ≡ router.old.committed }
     ensures kept { OnOk result (AreKeptNow router.new.present routes.new) }
