@@ -38,7 +38,7 @@ impl HookAnswer {
     }
 }
 
-fn take(
+fn ask_by(
     reader: ProgramReader,
     front: &mut Front,
     input: &Input,
@@ -96,7 +96,7 @@ impl Asker {
         let Some(reader) = self.reader.take() else {
             unreachable!()
         };
-        let (reader, answer) = take(reader, &mut self.front, input, shared, seat);
+        let (reader, answer) = ask_by(reader, &mut self.front, input, shared, seat);
         self.reader = Some(reader);
         answer
     }

@@ -63,7 +63,7 @@ impl<X: HasSize + Drop> Filling<X> {
     }
 
     // Adds the item to the packet that is being filled, or to the next one if it doesn't fit.
-    fn take(&mut self, alloc: Global, item: X) -> Result<(), AllocError>
+    fn pack(&mut self, alloc: Global, item: X) -> Result<(), AllocError>
         requires filling { IsFilling self.old.start self.old.used self.old.taken.items }
         requires room { self.old.start + X.size item ≤ largest_packet }
         ensures filling { OnOk result
@@ -109,7 +109,7 @@ pub fn packed<X: HasSize + Drop>(
 {
     let mut filling = Filling::new(alloc, start);
     for item in items {
-        filling.take(alloc, item)?;
+        filling.pack(alloc, item)?;
     }
     filling.finish(alloc)
 }

@@ -19,16 +19,16 @@ loop-item-init g c =
       gives.1 ∙ c.args.items.ok.0 ∙ ap length (sym gives.0),
     )
 
-pub take-requires-clause-filling : goal.take-requires-clause-filling
-take-requires-clause-filling g c = c.loop-item.invariant.2.filling
+pub pack-requires-clause-filling : goal.pack-requires-clause-filling
+pack-requires-clause-filling g c = c.loop-item.invariant.2.filling
 
-pub take-requires-clause-room : goal.take-requires-clause-room
-take-requires-clause-room g c = next_room g.X.HasSize.size _ _ _ _ _ _ _ _ _ c.loop-item.invariant.2
+pub pack-requires-clause-room : goal.pack-requires-clause-room
+pack-requires-clause-room g c = next_room g.X.HasSize.size _ _ _ _ _ _ _ _ _ c.loop-item.invariant.2
     c.in-Some.ensures.steps.0
 
 pub loop-item-preserved : goal.loop-item-preserved
 loop-item-preserved g c =
-    let took = c.in_ok-take.ensures in (
+    let took = c.in_ok-pack.ensures in (
       tt,
       tt,
       more_packed g.X.HasSize.size c.args.start (into_iter_items c.into_iter-item-iterator.result) _
