@@ -23,7 +23,7 @@ mod profile;
 mod router_core;
 mod sending;
 mod start;
-mod taking;
+mod processing;
 
 pub use adjacency::{Interface, NeighborState};
 pub use area_routes::Offered;

@@ -15,7 +15,7 @@ ghost use Rattle.flood.specs.Owed.{owed_at};
 use crate::event::Event;
 use crate::profile::in_profile;
 use crate::start::begin;
-use crate::taking::{refuses, take};
+use crate::processing::{process_event, refuses};
 use adjacency::NeighborState;
 use area_routes::{AreaRoutes, Offered};
 use event_rules::{Config, ConfigError, CoreError, Out};
@@ -131,7 +131,7 @@ impl Core {
         ensures refused { RefusesByRules self.old moment (occurrence_of event.now) result }
         ensures err { OnErr result (self.new ≡ self.old) }
     {
-        match take(
+        match process_event(
             &mut self.router,
             &mut self.routes,
             self.alloc,

@@ -17,12 +17,12 @@ invariant_of-self c =
       ap (λ k. k.committed) c.commit_at.ensures ∙ sym is,
       subst IsRoomy (sym is)
           (stays_roomy c.self.inside.router.present c.args.moment (occurrence_of c.args.event.now)
-          c.in-Ok.outs.items c.take.new.router.present c.in-Ok.ensures.ok
+          c.in-Ok.outs.items c.process_event.new.router.present c.in-Ok.ensures.ok
           c.self.invariant.1),
       ap exceeds is ∙ c.in-Ok.ensures.limit,
       subst IsInOrder (sym is) c.in-Ok.ensures.order,
       subst HoldsInstances (sym is) c.in-Ok.ensures.holds,
-      subst (λ (s : Router). AreKeptNow s c.take.new.routes) (sym is) c.in-Ok.ensures.kept,
+      subst (λ (s : Router). AreKeptNow s c.process_event.new.routes) (sym is) c.in-Ok.ensures.kept,
       ap (λ k. k.drafted) c.commit_at.ensures
           ∙ sym (ap (λ (k : KeptRouter). nothing_at k.present.area.links) c.commit_at.ensures),
     )

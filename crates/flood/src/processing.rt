@@ -58,7 +58,7 @@ pub fn refuses(router: &Router, moment: Second, event: &Event) -> Option<CoreErr
 /// then the event's own part is done, then the end that all events share; last, what is kept for
 /// routes is updated. After a refusal the caller rolls the router back; the routes are unchanged.
 #[tactic(auto, using(crate::proofs::Early::may_run_out))]
-pub fn take(
+pub fn process_event(
     router: &mut Router,
     routes: &mut AreaRoutes,
     alloc: Global,

@@ -16,7 +16,7 @@ use Rattle.flood.proofs.Happening.{made_keeps, made_order}
 use Rattle.flood.proofs.Made.{few_drafts, if_ok, if_ok_with, made_drafts, made_router, made_sent}
 use Rattle.flood.proofs.Made.{made_whole, ok_if, on_ok, stays_within}
 use Rattle.flood.proofs.Refusing.{event_answers}
-use Rattle.flood.proofs.taking.take.Goals as goal
+use Rattle.flood.proofs.processing.process_event.Goals as goal
 
 pub make_part-requires : goal.make_part-requires
 make_part-requires c = record {
