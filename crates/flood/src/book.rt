@@ -40,7 +40,8 @@ pub const JOURNAL: usize = 65_536;
 /// The most events that a book takes in all, 2^63.
 pub const TAKEN: u64 = 1 << 63;
 
-/// A router with its past: the router at the start, the events since, and the router as it is now.
+/// A router as it is now; and, for contracts and tests alone, its past: the router at the start and
+/// the events since.
 ///
 /// Clauses see these and how many events were taken in all, before the start too. `L` is the ledger
 /// in which every event counts once, for the share that it was taken with, and names the router

@@ -4,12 +4,12 @@
 //! [`Core`] processes one [`Event`] after another, each with its moment, and returns what is to be
 //! sent. An event that is refused leaves it unchanged.
 //!
-//! A [`Book`] keeps a router with its past: where it started, the events since, and the router as
-//! it is now. It always keeps that its router now is what its events make of the router at the
-//! start, by the rules of a whole event (the crate `event_rules`), and that all the events that it
-//! ever took lead there from the router that its type names ([`Origin`]). How many events it has
-//! taken is counted by the shares of a ledger as well, so whoever brings every share knows the
-//! number.
+//! A [`Book`] keeps a router with its past, which is for contracts and tests alone: the router as
+//! it was at the start, and the events since. It always keeps that its router now is what its
+//! events make of the router at the start, by the rules of a whole event (the crate `event_rules`),
+//! and that all the events that it ever took lead there from the router that its type names
+//! ([`Origin`]). How many events it has taken is counted by the shares of a ledger as well, so
+//! whoever brings every share knows the number.
 #![tactic(auto)]
 
 mod book;

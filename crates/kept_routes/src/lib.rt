@@ -1,5 +1,5 @@
-//! A walk that is kept while the LSAs of types 1 and 2 say the same, and whether LSAs say the same
-//! after an event (RFC 2328, section 16).
+//! A walk that is kept while the LSAs of types 1 and 2 are unchanged, and whether they are after an
+//! event (RFC 2328, section 16).
 #![tactic(auto)]
 
 mod externals;

@@ -1,5 +1,5 @@
-//! Processing the LSAs of a received Link State Update, and flooding (RFC 2328, sections 13 and
-//! 13.3).
+//! Definitions of how the LSAs of a received Link State Update are processed and flooded (RFC 2328,
+//! sections 13 and 13.3). The implementation is the crate `flooding`.
 #![tactic(auto)]
 
 pub mod laws;

@@ -1,6 +1,6 @@
 //! Workers that take turns at one router ([`turn`]): what they start with, the loop of one over its
-//! link and its clock, and what they bring back; and links and a clock at the machine, UDP sockets
-//! and the system's seconds.
+//! transport and its clock, and what they bring back; and those of the machine, UDP sockets and the
+//! system's seconds.
 #![tactic(auto)]
 
 mod flag;
