@@ -8,7 +8,7 @@ ghost use Rattle.machine.specs.Helpers.{helper_of, Answers, Answered};
 ghost use Rattle.machine.specs.Label.{Label, Silent};
 ghost use Rattle.maps.specs.Words.{IsOf};
 ghost use Rattle.helpers.specs.Calls.{fault_of_call, fault_of_arguments};
-ghost use Rattle.helpers.specs.Seats.{Makes};
+ghost use Rattle.helpers.specs.Seats.{SeatMakes};
 
 use crate::counters::{counter_add, counter_read};
 use crate::lookups::{packet_byte, table_cost};
@@ -50,7 +50,7 @@ fn call_counter_add(
     seat: &mut Seat,
 ) -> Result<u64, Fault>
     requires table { IsOf shared.now seat.old }
-    ensures ok { IfOk result (λ answer. (label : Label) × Makes seat.old (label ∷ []) seat.new
+    ensures ok { IfOk result (λ answer. (label : Label) × SeatMakes seat.old (label ∷ []) seat.new
         × ((input : Given) → Answers CounterAdd input (first ∷ second ∷ []) label answer)) }
     ensures err { IfErr result (λ fault. fault_of_call (Some CounterAdd) first second
         ≡ Some fault) }
@@ -70,7 +70,7 @@ fn call_counter_read(
     seat: &mut Seat,
 ) -> Result<u64, Fault>
     requires table { IsOf shared.now seat.old }
-    ensures ok { IfOk result (λ answer. (label : Label) × Makes seat.old (label ∷ []) seat.new
+    ensures ok { IfOk result (λ answer. (label : Label) × SeatMakes seat.old (label ∷ []) seat.new
         × ((input : Given) → Answers CounterRead input (first ∷ []) label answer)) }
     ensures err { IfErr result (λ fault. fault_of_call (Some CounterRead) first second
         ≡ Some fault) }
@@ -119,7 +119,7 @@ pub fn call(
     seat: &mut Seat,
 ) -> Result<u64, Fault>
     requires table { IsOf shared.now seat.old }
-    ensures ok { IfOk result (λ answer. (label : Label) × Makes seat.old (label ∷ []) seat.new
+    ensures ok { IfOk result (λ answer. (label : Label) × SeatMakes seat.old (label ∷ []) seat.new
         × Answered hook number first second (given_by input.now) label answer) }
     ensures err { IfErr result (λ fault. fault_of_call (helper_of hook number) first second
         ≡ Some fault) }

@@ -6,7 +6,7 @@ ghost use Rattle.machine.specs.declared.state.Content.TheVariants.{Number};
 ghost use Rattle.machine.specs.Helpers.{Answers};
 ghost use Rattle.machine.specs.Label.{Label, Read, Cell, SetCell};
 ghost use Rattle.maps.specs.Words.{IsOf};
-ghost use Rattle.helpers.specs.Seats.{Makes};
+ghost use Rattle.helpers.specs.Seats.{SeatMakes};
 
 use maps::{Seat, Shared};
 
@@ -16,7 +16,7 @@ pub fn counter_add(shared: &Shared, seat: &mut Seat, counter: u64, amount: u64) 
     requires table { IsOf shared.now seat.old }
     requires counter { counter < 256 }
     requires amount { amount < 2 ^ 24 }
-    ensures { (label : Label) × Makes seat.old (label ∷ []) seat.new
+    ensures { (label : Label) × SeatMakes seat.old (label ∷ []) seat.new
         × ((input : Given) → Answers CounterAdd input (Number counter ∷ Number amount ∷ []) label
         result) }
 {
@@ -27,7 +27,7 @@ pub fn counter_add(shared: &Shared, seat: &mut Seat, counter: u64, amount: u64) 
 pub fn counter_read(shared: &Shared, seat: &mut Seat, counter: u64) -> u64
     requires table { IsOf shared.now seat.old }
     requires counter { counter < 256 }
-    ensures made { Makes seat.old (Read counter result ∷ []) seat.new }
+    ensures made { SeatMakes seat.old (Read counter result ∷ []) seat.new }
     ensures answers { (input : Given) → Answers CounterRead input (Number counter ∷ [])
         (Read counter result) result }
 {
@@ -38,7 +38,7 @@ pub fn counter_read(shared: &Shared, seat: &mut Seat, counter: u64) -> u64
 pub fn cell_read(shared: &Shared, seat: &mut Seat, cell: u64) -> u64
     requires table { IsOf shared.now seat.old }
     requires cell { cell < 64 }
-    ensures { Makes seat.old (Cell cell result ∷ []) seat.new }
+    ensures { SeatMakes seat.old (Cell cell result ∷ []) seat.new }
 {
     shared.cell(seat, cell as usize)
 }
@@ -47,7 +47,7 @@ pub fn cell_read(shared: &Shared, seat: &mut Seat, cell: u64) -> u64
 pub fn cell_write(shared: &Shared, seat: &mut Seat, cell: u64, word: u64)
     requires table { IsOf shared.now seat.old }
     requires cell { cell < 64 }
-    ensures { Makes seat.old (SetCell cell word ∷ []) seat.new }
+    ensures { SeatMakes seat.old (SetCell cell word ∷ []) seat.new }
 {
     shared.set_cell(seat, cell as usize, word);
 }

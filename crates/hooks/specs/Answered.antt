@@ -4,7 +4,7 @@ use mathlib.Core.List.{IsPrefix}
 use Rattle.machine.specs.Given.{Given}
 use Rattle.machine.specs.Label.{Label}
 use Rattle.maps.specs.Words.{SeatView}
-use Rattle.helpers.specs.Seats.{Makes}
+use Rattle.helpers.specs.Seats.{SeatMakes}
 use Rattle.hooks.specs.declared.operation.LoaderOperation.{LoaderOperation}
 use Rattle.hooks.specs.Operations.{Answers}
 
@@ -14,5 +14,5 @@ pub record IsAnswered (before now : List LoaderOperation) (old new : SeatView) (
     (word : ℕ) : Type 0 where
   pub labels : List Label
   pub begins : IsPrefix before now
-  pub made : Makes old labels new
+  pub made : SeatMakes old labels new
   pub answers : Answers now input labels word

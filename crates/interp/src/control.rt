@@ -7,7 +7,7 @@ ghost use Rattle.machine.specs.Label.{Label, Silent};
 ghost use Rattle.machine.specs.Steps.{Branches, test_result};
 ghost use Rattle.machine.specs.Helpers.{helper_of};
 ghost use Rattle.helpers.specs.Calls.{fault_of_call};
-ghost use Rattle.helpers.specs.Seats.{Makes};
+ghost use Rattle.helpers.specs.Seats.{SeatMakes};
 ghost use Rattle.maps.specs.Words.{IsOf};
 ghost use Rattle.interp.specs.Classes.{fault_of_test, fault_of_exit, CallsInto};
 
@@ -72,7 +72,7 @@ pub(crate) fn call(
     requires slot { state.old.slot < 4096 }
     requires table { IsOf shared.now seat.old }
     ensures ok { OnOk result ((label : Label) × CallsInto hook number (given_by input.now) state.old
-        label state.new × Makes seat.old (label ∷ []) seat.new) }
+        label state.new × SeatMakes seat.old (label ∷ []) seat.new) }
     ensures err { IfErr result (λ fault. fault_of_call (helper_of hook number) (held state.old 1)
         (held state.old 2) ≡ Some fault) }
     ensures still { OnErr result (state.new ≡ state.old) }

@@ -9,7 +9,7 @@ ghost use Rattle.machine.specs.State.{held, with_register};
 ghost use Rattle.machine.specs.Label.{Label, Silent};
 ghost use Rattle.machine.specs.Memory.{Loads, StackGives, load_length, number_of, loaded_number};
 ghost use Rattle.maps.specs.Words.{IsOf};
-ghost use Rattle.helpers.specs.Seats.{Makes};
+ghost use Rattle.helpers.specs.Seats.{SeatMakes};
 ghost use Rattle.interp.specs.Classes.{fault_of_load, fault_of_base_load, LoadsInto, LoadsFrom};
 
 use crate::{contents, pieces, registers};
@@ -101,7 +101,7 @@ fn load_map(
     requires table { IsOf shared.now seat.old }
     ensures ok { OnOk result ((label : Label) × ((input : Given)
         → LoadsInto size (pointers.Map map at) input target state.old label state.new)
-        × Makes seat.old (label ∷ []) seat.new) }
+        × SeatMakes seat.old (label ∷ []) seat.new) }
     ensures err { IfErr result (λ fault. fault_of_load state.old size (pointers.Map map at) target
         ≡ Some fault) }
     ensures still { OnErr result (state.new ≡ state.old) }
@@ -138,7 +138,7 @@ fn load_at(
     requires slot { state.old.slot < 4096 }
     requires table { IsOf shared.now seat.old }
     ensures ok { OnOk result ((label : Label) × LoadsInto size pointer (given_by input.now) target
-        state.old label state.new × Makes seat.old (label ∷ []) seat.new) }
+        state.old label state.new × SeatMakes seat.old (label ∷ []) seat.new) }
     ensures err { IfErr result (λ fault. fault_of_load state.old size pointer target ≡ Some fault) }
     ensures still { OnErr result (state.new ≡ state.old) }
     ensures unchanged { OnErr result (seat.new ≡ seat.old) }
@@ -164,7 +164,7 @@ pub(crate) fn load(
     requires slot { state.old.slot < 4096 }
     requires table { IsOf shared.now seat.old }
     ensures ok { OnOk result ((label : Label) × LoadsFrom size base offset (given_by input.now)
-        target state.old label state.new × Makes seat.old (label ∷ []) seat.new) }
+        target state.old label state.new × SeatMakes seat.old (label ∷ []) seat.new) }
     ensures err { IfErr result (λ fault. fault_of_base_load state.old size (held state.old base)
         offset target ≡ Some fault) }
     ensures still { OnErr result (state.new ≡ state.old) }

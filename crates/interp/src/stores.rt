@@ -6,7 +6,7 @@ ghost use Rattle.isa.specs.declared.map.Map.TheVariants.{Cells};
 ghost use Rattle.machine.specs.State.{held, operand};
 ghost use Rattle.machine.specs.Label.{Label, Silent};
 ghost use Rattle.maps.specs.Words.{IsOf};
-ghost use Rattle.helpers.specs.Seats.{Makes};
+ghost use Rattle.helpers.specs.Seats.{SeatMakes};
 ghost use Rattle.interp.specs.Classes.{fault_of_store, fault_of_base_store, StoresAt, StoresFrom};
 
 use crate::{contents, pieces, registers};
@@ -65,7 +65,7 @@ fn store_cell(
     requires slot { state.old.slot < 4096 }
     requires table { IsOf shared.now seat.old }
     ensures ok { OnOk result ((label : Label) × StoresAt size (pointers.Map Cells at)
-        (Number number) state.old label state.new × Makes seat.old (label ∷ []) seat.new) }
+        (Number number) state.old label state.new × SeatMakes seat.old (label ∷ []) seat.new) }
     ensures err { IfErr result (λ fault. fault_of_store size (pointers.Map Cells at) (Number number)
         ≡ Some fault) }
     ensures still { OnErr result (state.new ≡ state.old) }
@@ -95,7 +95,7 @@ fn store_at(
     requires slot { state.old.slot < 4096 }
     requires table { IsOf shared.now seat.old }
     ensures ok { OnOk result ((label : Label) × StoresAt size pointer content state.old label
-        state.new × Makes seat.old (label ∷ []) seat.new) }
+        state.new × SeatMakes seat.old (label ∷ []) seat.new) }
     ensures err { IfErr result (λ fault. fault_of_store size pointer content ≡ Some fault) }
     ensures still { OnErr result (state.new ≡ state.old) }
     ensures unchanged { OnErr result (seat.new ≡ seat.old) }
@@ -128,7 +128,7 @@ pub(crate) fn store(
     requires slot { state.old.slot < 4096 }
     requires table { IsOf shared.now seat.old }
     ensures ok { OnOk result ((label : Label) × StoresFrom size base offset source state.old label
-        state.new × Makes seat.old (label ∷ []) seat.new) }
+        state.new × SeatMakes seat.old (label ∷ []) seat.new) }
     ensures err { IfErr result (λ fault. fault_of_base_store size (held state.old base) offset
         (operand state.old source) ≡ Some fault) }
     ensures still { OnErr result (state.new ≡ state.old) }

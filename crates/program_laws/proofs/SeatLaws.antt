@@ -10,7 +10,7 @@ use Rattle.maps.specs.Access.{adds_made, floor, last_stored, one_if_add}
 use Rattle.maps.specs.Words.{SeatView}
 use Rattle.maps.proofs.Accesses.{adds_made-snoc}
 use Rattle.maps.proofs.Lists.{snoc_split}
-use Rattle.helpers.specs.Seats.{Allows, AllowsAll, Makes, acts}
+use Rattle.helpers.specs.Seats.{Allows, AllowsAll, SeatMakes, acts}
 use Rattle.helpers.proofs.Seats.{acts-append}
 use Rattle.program_laws.specs.Seats.{Grows, IsLawfulList}
 
@@ -82,7 +82,7 @@ lawful_along list (label ∷ labels) all was =
     subst IsLawfulList (along list label labels)
     (lawful_along (list ++ acts (label ∷ [])) labels all.1 (after_label list label all.0 was))
 
-pub lawful_after : (old new : SeatView) (labels : List Label) → Makes old labels new
+pub lawful_after : (old new : SeatView) (labels : List Label) → SeatMakes old labels new
     → IsLawfulList old.accesses → IsLawfulList new.accesses
 lawful_after old new labels made was =
     subst (λ (s : SeatView). IsLawfulList s.accesses) (sym made.grown)
@@ -114,7 +114,7 @@ spent_along list (label ∷ labels) all (suc k) inside is =
     let same = ap adds_made (along list label labels) in
     omega (arith, later, same)
 
-pub refused_last : (old new : SeatView) (labels : List Label) → Makes old labels new
+pub refused_last : (old new : SeatView) (labels : List Label) → SeatMakes old labels new
     → Contains labels Spent → 2147483648 ≤ adds_made new.accesses
 refused_last old new labels made among =
     subst (λ (s : SeatView). 2147483648 ≤ adds_made s.accesses) (sym made.grown)
@@ -122,7 +122,7 @@ refused_last old new labels made among =
 
 -- ---- growth
 
-pub grows : (old new : SeatView) (labels : List Label) → Makes old labels new → Grows old labels new
+pub grows : (old new : SeatView) (labels : List Label) → SeatMakes old labels new → Grows old labels new
 grows old new labels made = record {
   table = ap (λ (s : SeatView). s.table) made.grown;
   number = ap (λ (s : SeatView). s.number) made.grown;

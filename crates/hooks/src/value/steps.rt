@@ -3,7 +3,7 @@ ghost use Rattle.std.specs.Prelude.{◌≡◌, List, IfOk};
 ghost use Rattle.machine.specs.Given.{given_by};
 ghost use Rattle.machine.specs.Label.{Label};
 ghost use Rattle.maps.specs.Words.{IsOf};
-ghost use Rattle.helpers.specs.Seats.{Makes};
+ghost use Rattle.helpers.specs.Seats.{SeatMakes};
 ghost use Rattle.hooks.specs.Operations.{leaves, Answers, IsAsked};
 ghost use Rattle.hooks.specs.Shown.{published_operations, Stands, after_operation, vacant};
 ghost use Rattle.hooks.specs.Vacant.{AreVacancies};
@@ -60,7 +60,7 @@ impl Programs {
         requires asked { IsAsked (given_by input.now) }
         requires stands { Stands self.now }
         requires table { IsOf shared.now seat.old }
-        ensures answered { (labels : List Label) × Makes seat.old labels seat.new
+        ensures answered { (labels : List Label) × SeatMakes seat.old labels seat.new
             × Answers (published_operations self.now) (given_by input.now) labels result }
         ensures table { IsOf shared.now seat.new }
     {
