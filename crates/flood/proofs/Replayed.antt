@@ -11,7 +11,7 @@ use Rattle.router_runs.proofs.Clocks.{later_moment, one_more, taken_moment}
 use Rattle.flood.specs.Occurrences.{occurrence_of}
 use Rattle.flood.specs.declared.book.entry.JournalEntry.{JournalEntry}
 use Rattle.flood.specs.Bytes.{bytes_of, with_event}
-use Rattle.flood.specs.Replay.{Leads, Replays, entry_occurrence, step_occurrence}
+use Rattle.flood.specs.Replay.{IsAfterEvents, Replays, entry_occurrence, step_occurrence}
 
 abbrev step : JournalEntry → List Out → Step
 step e outs = record { moment = e.moment; event = occurrence_of e.event; outs = outs }
@@ -50,9 +50,9 @@ late_enough r moment event x answers =
 
 -- one event more, which is no earlier, leads on
 pub leads_on : (origin : Router) (taken : ℕ) (before after : Router) (e : JournalEntry)
-    (outs : List Out) → Leads origin taken before → before.moment ≤ e.moment
+    (outs : List Out) → IsAfterEvents origin taken before → before.moment ≤ e.moment
     → Happens before e.moment (occurrence_of e.event) outs after
-    → Leads origin (taken + 1) after
+    → IsAfterEvents origin (taken + 1) after
 leads_on origin taken before after e outs (steps, run, many, clock) late now =
     let longer = one_more steps origin before after (step e outs) run clock late now in (
       steps ++ step e outs ∷ [],

@@ -30,8 +30,8 @@ Replays start journal now =
 
 -- this many events, one after the other, lead from one router to the other, whatever they sent;
 -- none is earlier than the one before it, and the first no earlier than the router's last moment
-abbrev pub Leads : (origin : Router) → (taken : ℕ) → (now : Router) → Type 0
-Leads origin taken now =
+abbrev pub IsAfterEvents : (origin : Router) → (taken : ℕ) → (now : Router) → Type 0
+IsAfterEvents origin taken now =
     (steps : List Step) × Run origin steps now × (length steps ≡ taken)
     × ClockRunsOn origin.moment steps
 
@@ -128,7 +128,7 @@ IsNotedAtLast old e new = (before : BookView) × IsSameOrAnew old before × IsNo
 pub record IsKept (origin : Router) (start : Router) (journal : List JournalEntry) (now : Router)
     (noted taken total : ℕ) : Type 0 where
   pub replays : Replays start journal now
-  pub leads : Leads origin taken now
+  pub leads : IsAfterEvents origin taken now
   pub weighed : noted ≡ bytes_of journal
   pub room : length journal ≤ 65536
   pub few : taken ≤ 9223372036854775808

@@ -10,7 +10,8 @@ ghost use Rattle.flood.specs.Offers.{IsStaleNow};
 ghost use Rattle.flood.specs.Refusals.{RefusesByRules, RefusesAnewByRules, IsFull, IsRefusedEarly};
 ghost use Rattle.flood.specs.Refusals.{without_event};
 ghost use Rattle.flood.specs.Replay.{IsDue, IsLightened, IsNotedAtLast, IsSameOrAnew};
-ghost use Rattle.flood.specs.Replay.{IsSameOrMarked, Leads, Replays, entry, marked_book, start_of};
+ghost use Rattle.flood.specs.Replay.{IsSameOrMarked, IsAfterEvents, Replays, entry, marked_book};
+ghost use Rattle.flood.specs.Replay.{start_of};
 ghost use Rattle.flood.specs.Replay.{started_book};
 
 mod answers;
@@ -399,7 +400,7 @@ impl<L: Origin> Book<L> {
     /// began with.
     pub fn now(&self) -> &Core
         ensures router { result.now ≡ self.now.current }
-        ensures leads { Leads L.origin self.now.taken self.now.current }
+        ensures leads { IsAfterEvents L.origin self.now.taken self.now.current }
     {
         &self.current
     }

@@ -11,7 +11,7 @@ use Rattle.tables.specs.Parts.{Ascend}
 use Rattle.tables.specs.Rows.{rows_of}
 use Rattle.event_rules.specs.Routers.{Router}
 use Rattle.worker.specs.Offers.{IsTableNow}
-use Rattle.worker.specs.Replay.{Leads}
+use Rattle.worker.specs.Replay.{IsAfterEvents}
 use Rattle.worker.specs.Turns.{IsOfferedBySome, Offers}
 use Rattle.console.specs.Answers.{counters_text, neighbors_text, table_text}
 
@@ -26,7 +26,7 @@ pub record IsPartOf (routes part : List Route) : Type 0 where
 abbrev pub IsTableText : (origin : Router) → List ℕ → Type 0
 IsTableText origin text =
     (taken : ℕ) × (r : Router) × (table : List Route)
-    × Leads origin taken r × IsTableNow r table × (text ≡ table_text table)
+    × IsAfterEvents origin taken r × IsTableNow r table × (text ≡ table_text table)
 
 -- The text of a table that was offered: of candidates, and beside them the rows of those that are
 -- in the table, it is the text of just these.

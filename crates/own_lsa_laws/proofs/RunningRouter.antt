@@ -9,7 +9,7 @@ use Rattle.router_runs.specs.Clocks.{ClockRunsOn, RoutersRefuseClocksThatGoBack}
 use Rattle.own_lsa_laws.specs.OwnCopies.{EndsWithTick, NobodySpeaksForThisRouter, SpeaksForItself}
 use Rattle.flood.specs.declared.event.Event.{Event}
 use Rattle.flood.specs.declared.event.Event.TheVariants as event
-use Rattle.worker.specs.Replay.{Leads}
+use Rattle.worker.specs.Replay.{IsAfterEvents}
 use Rattle.worker.specs.Turns.{Sends}
 use Rattle.worker.specs.Work.TheVariants.{Tick}
 use Rattle.own_lsa_laws.specs.RunningRouter.{IsTicked, NobodySpeaksForTheRunningRouter}
@@ -19,12 +19,12 @@ from_start : RoutersRefuseClocksThatGoBack → (c : Config) (steps : List Step)
 from_start clocks c steps = subst (λ (m : ℕ). ClockRunsOn m steps) (clocks.start c)
 
 always : NobodySpeaksForThisRouter → RoutersRefuseClocksThatGoBack → (c : Config) (taken : ℕ)
-    (r : Router) → Leads (initial c) taken r → SpeaksForItself r
+    (r : Router) → IsAfterEvents (initial c) taken r → SpeaksForItself r
 always law clocks c taken r (steps, run, many, clock) =
     law.always c steps r (from_start clocks c steps clock) run
 
 ends : RoutersRefuseClocksThatGoBack → (c : Config) (taken : ℕ) (moment : Moment) (old new : Router)
-    (outs : List Out) → Leads (initial c) taken old → old.moment ≤ moment
+    (outs : List Out) → IsAfterEvents (initial c) taken old → old.moment ≤ moment
     → Happens old moment Occurrence.Tick outs new → EndsWithTick c moment new
 ends clocks c taken moment old new outs (steps, run, many, clock) later happens = record {
   steps = steps;

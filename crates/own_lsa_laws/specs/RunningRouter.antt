@@ -12,7 +12,7 @@ use Rattle.event_rules.specs.Routers.{Occurrence, Router}
 use Rattle.own_lsa_laws.specs.OwnCopies.{IsOwnCopy, SaysWhatIsWanted, SpeaksForItself}
 use Rattle.own_lsa_laws.specs.OwnCopies.{SpeaksForItselfAfterTick}
 use Rattle.hooks.specs.declared.operation.LoaderOperation.{LoaderOperation}
-use Rattle.worker.specs.Replay.{Leads}
+use Rattle.worker.specs.Replay.{IsAfterEvents}
 use Rattle.worker.specs.Turns.{IsOfferedBySome, TakesFor, took_from}
 use Rattle.worker.specs.Work.TheVariants.{Tick}
 
@@ -23,7 +23,7 @@ pub record IsTicked (c : Config) (moment : Moment) (outs : List Out) : Type 0 wh
   pub taken : ℕ
   pub old : Router
   pub new : Router
-  pub leads : Leads (initial c) taken old
+  pub leads : IsAfterEvents (initial c) taken old
   pub happens : Happens old moment Occurrence.Tick outs new
   pub speaks : SpeaksForItselfAfterTick new
   pub in_five_seconds : (key : Key) (copy : DatabaseCopy) → IsOwnCopy new key copy
@@ -31,7 +31,7 @@ pub record IsTicked (c : Config) (moment : Moment) (outs : List Out) : Type 0 wh
 
 pub record NobodySpeaksForTheRunningRouter : Type 0 where
   -- at each router to which the events lead that a book took, which began with the configured one
-  pub always : (c : Config) (taken : ℕ) (r : Router) → Leads (initial c) taken r
+  pub always : (c : Config) (taken : ℕ) (r : Router) → IsAfterEvents (initial c) taken r
       → SpeaksForItself r
   -- after each Tick that a turn gives to such a book
   pub tick : (c : Config) (known now : List LoaderOperation) (events : ℕ) (moment : Moment)

@@ -11,7 +11,7 @@ use Rattle.flood.specs.event_rules.Routers.{Router}
 use Rattle.flood.specs.declared.event.Event.{Event}
 use Rattle.flood.specs.Occurrences.{occurrence_of}
 use Rattle.flood.specs.Refusals.{RefusesAnewByRules}
-use Rattle.flood.specs.Replay.{BookView, Leads}
+use Rattle.flood.specs.Replay.{BookView, IsAfterEvents}
 use Rattle.flood.specs.declared.book.error.BookError.{BookError}
 use Rattle.flood.specs.declared.book.error.BookError.TheVariants as refusing
 use Rattle.flood.specs.Offers.{AreCandidatesNow, IsOffered, IsStaleNow}
@@ -20,7 +20,7 @@ use Rattle.turns.proofs.Tables.{rows_beside}
 
 pub sent_by_some : (origin : Router) (events taken : ℕ) (moment at : Moment) (e : Event)
     (old new : Router) (outs : List Out) (stale : Option Bool) → events ≤ taken
-    → Leads origin taken old → at ≡ taken_at e moment old.moment → old.moment ≤ at
+    → IsAfterEvents origin taken old → at ≡ taken_at e moment old.moment → old.moment ≤ at
     → Happens old at (occurrence_of e) outs new
     → IfSome stale (λ is. IsTrue is ↔ IsStaleNow new)
     → Sends origin events moment e outs stale
@@ -52,14 +52,14 @@ taken_then moment at e old new outs is h =
     subst (λ (m : Moment). Happens old m (occurrence_of e) outs new) is h
 
 pub offered_by_some : {V E : Type 0} (candidates : V → List Route) (rows : V → List TableRow)
-    (origin : Router) (taken : ℕ) (now : Router) (r : Result V E) → Leads origin taken now
+    (origin : Router) (taken : ℕ) (now : Router) (r : Result V E) → IsAfterEvents origin taken now
     → IfOk r (λ o. IsOffered now (candidates o) (rows o))
     → IfOk r (λ o. IsOfferedBySome origin (candidates o) (rows o))
 offered_by_some candidates rows origin taken now (Ok x) leads h = (taken, now, leads, h)
 offered_by_some candidates rows origin taken now (Err x) leads h = h
 
 pub candidates_of_some : {V E : Type 0} (candidates : V → List Route) (origin : Router) (taken : ℕ)
-    (now : Router) (r : Result V E) → Leads origin taken now
+    (now : Router) (r : Result V E) → IsAfterEvents origin taken now
     → IfOk r (λ c. AreCandidatesNow now (candidates c))
     → IfOk r (λ c. (rows : List TableRow) × IsOfferedBySome origin (candidates c) rows)
 candidates_of_some candidates origin taken now (Ok x) leads h =
@@ -81,7 +81,7 @@ refused_now {V = V} moment at e b (Err why) is h =
     (error_alone V b at e why h)
 
 pub refused_by_some : {V : Type 0} (origin : Router) (events : ℕ) (moment at : Moment) (e : Event)
-    (b : BookView) (r : Result V BookError) → events ≤ b.taken → Leads origin b.taken b.current
+    (b : BookView) (r : Result V BookError) → events ≤ b.taken → IsAfterEvents origin b.taken b.current
     → at ≡ taken_at e moment b.current.moment → RefusesAnewByRules b at e r
     → IfErr r (λ error. IsRefusedBySome origin events moment e error)
 refused_by_some origin events moment at e b (Ok x) least leads is h = tt

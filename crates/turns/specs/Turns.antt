@@ -32,7 +32,7 @@ use Rattle.flood.specs.declared.event.Event.TheVariants as event
 use Rattle.flood.specs.Occurrences.{occurrence_of}
 use Rattle.flood.specs.Offers.{IsOffered, IsStaleNow}
 use Rattle.flood.specs.Refusals.{RefusesAnewByRules}
-use Rattle.flood.specs.Replay.{BookView, Leads}
+use Rattle.flood.specs.Replay.{BookView, IsAfterEvents}
 use Rattle.flood.specs.NeighborState.{NeighborState}
 use Rattle.turns.specs.declared.turned.Turned.{Turned}
 use Rattle.turns.specs.declared.turned.TurnError.{TurnError}
@@ -113,7 +113,7 @@ IsAtTheEndOfTheClock {B = B} own moment_of moment =
 abbrev pub Sends : (origin : Router) → (events : ℕ) → Moment → Event → List Out
     → (stale : Option Bool) → Type 0
 Sends origin events moment e outs stale =
-    (taken : ℕ) × (old : Router) × (new : Router) × (events ≤ taken) × Leads origin taken old
+    (taken : ℕ) × (old : Router) × (new : Router) × (events ≤ taken) × IsAfterEvents origin taken old
     × (old.moment ≤ taken_at e moment old.moment)
     × Happens old (taken_at e moment old.moment) (occurrence_of e) outs new
     × IfSome stale (λ is. IsTrue is ↔ IsStaleNow new)
@@ -127,7 +127,7 @@ RefusesAt b moment e error =
 -- refused so, at a router to which events lead from there, at least as many as the port's
 abbrev pub IsRefusedBySome : (origin : Router) → (events : ℕ) → Moment → Event → BookError → Type 0
 IsRefusedBySome origin events moment e error =
-    (b : BookView) × (events ≤ b.taken) × Leads origin b.taken b.current
+    (b : BookView) × (events ≤ b.taken) × IsAfterEvents origin b.taken b.current
     × RefusesAt b moment e error
 
 -- All that is said of a book which began with this router. Nothing is known of a question that was
@@ -150,7 +150,7 @@ refuses_from origin = record {
 -- there
 abbrev pub IsOfferedBySome : (origin : Router) → List Route → List TableRow → Type 0
 IsOfferedBySome origin candidates rows =
-    (taken : ℕ) × (r : Router) × Leads origin taken r × IsOffered r candidates rows
+    (taken : ℕ) × (r : Router) × IsAfterEvents origin taken r × IsOffered r candidates rows
 
 -- whether a router announces the destination of this prefix
 abbrev pub announces : Router → Network → Bool
@@ -160,12 +160,12 @@ announces r prefix = is_for prefix (finite.get r.announced (external_key r.id pr
 -- doesn't, which took at least as many as those of the port that asks
 abbrev pub IsWantedBySome : (origin : Router) → (events : ℕ) → Network → Bool → Type 0
 IsWantedBySome origin events prefix wanted =
-    (taken : ℕ) × (r : Router) × (events ≤ taken) × Leads origin taken r
+    (taken : ℕ) × (r : Router) × (events ≤ taken) × IsAfterEvents origin taken r
     × (wanted ≡ announces r prefix)
 
 -- a book is one that began with this router
 abbrev pub IsOwn : (origin : Router) → BookView → Type 0
-IsOwn origin b = Leads origin b.taken b.current
+IsOwn origin b = IsAfterEvents origin b.taken b.current
 
 -- the neighbors at the interfaces from 1 to this number, each as it is found at its own
 pub record AreNeighbors (at : InterfaceNumber → Option (RouterNumber × NeighborState))

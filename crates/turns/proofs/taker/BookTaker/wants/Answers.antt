@@ -1,6 +1,6 @@
 use Rattle.std.proofs.Common.{◌≤◌, ap, subst, sym, ◌∙◌}
 use Rattle.flood.specs.event_rules.Routers.{Router}
-use Rattle.flood.specs.Replay.{BookView, Leads}
+use Rattle.flood.specs.Replay.{BookView, IsAfterEvents}
 use Rattle.turns.specs.Turns.{announces}
 use Rattle.turns.proofs.taker.BookTaker.wants.Goals as goal
 
@@ -11,7 +11,7 @@ returns-clause-now g c =
 
 pub returns-clause-some : goal.returns-clause-some
 returns-clause-some g c =
-    let P : Router → Type 0 = λ r. Leads g.L.Origin.origin c.audit.new.self.taken r in (
+    let P : Router → Type 0 = λ r. IsAfterEvents g.L.Origin.origin c.audit.new.self.taken r in (
       c.audit.new.self.taken,
       c.now.result.now,
       subst (λ (b : BookView). c.args.mine.now.amount ≤ b.taken) (sym c.audit.ensures.book)
