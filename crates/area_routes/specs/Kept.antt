@@ -120,7 +120,7 @@ pub record HaveStayed (before : Moment) (moment : Moment) (router : RouterNumber
 
 -- no walk is made over an event, and a walk remains valid if and only if all that it depends on is
 -- unchanged
-pub record ServesOnlyThen (before : Moment) (moment : Moment) (router : RouterNumber)
+pub record KeepsWalkUnlessChanged (before : Moment) (moment : Moment) (router : RouterNumber)
     (old : Area) (new : Area) (kept : KeptRoutes) (next : KeptRoutes) : Type 0 where
   pub walk : next.walk ≡ kept.walk
   pub serves : kept.behind ≡ false → HasStayed (Some 2) before moment router old new kept.walk

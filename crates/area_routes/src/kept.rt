@@ -3,7 +3,8 @@ ghost use Rattle.std.specs.Prelude.{◌≡◌, ◌+◌, ◌≤◌, ◌↔◌, �
 ghost use Rattle.std.specs.Prelude.{IfSome, IsSome, IsTrue, OnErr, OnOk, true};
 ghost use Rattle.std.specs.FinMap as finite;
 ghost use Rattle.area_routes.specs.Kept.{AreKept, AreRoutesOf, HaveStayed, KnowsAnswered};
-ghost use Rattle.area_routes.specs.Kept.{KnowsCandidates, KnowsInner, KnowsWalk, ServesOnlyThen};
+ghost use Rattle.area_routes.specs.Kept.{KnowsCandidates, KnowsInner, KnowsWalk};
+ghost use Rattle.area_routes.specs.Kept.{KeepsWalkUnlessChanged};
 ghost use Rattle.area_routes.specs.Kept.{AreInnerBy, AreOffersOf, AreOfOthers, BringsNoneNew};
 ghost use Rattle.area_routes.specs.Kept.{ExternalsSayTheSame, KnowsExternals, KnowsGraph};
 ghost use Rattle.candidates.specs.Externals.{AreExternals};
@@ -307,7 +308,7 @@ impl AreaRoutes {
             → AreKept router area.now.present moment answers self.new) }
         // It walks again later only if the router's addresses differ, or an LSA of type 1 or 2 was
         // added or removed, reached MaxAge or changed its contents.
-        ensures walks { OnOk result (ServesOnlyThen before moment router
+        ensures walks { OnOk result (KeepsWalkUnlessChanged before moment router
             area.now.committed area.now.present self.old self.new) }
         // If the only LSAs of any type for which that happened are external ones that offer
         // nothing, what is known of the candidates and of the answers is unchanged too.
@@ -391,7 +392,7 @@ impl AreaRoutes {
             (root_by router area.now.committed.links) answers self.old
             → KnowsAnswered (said_at moment area.now.present.database)
             (root_by router area.now.present.links) answers self.new) }
-        ensures walks { OnOk result (ServesOnlyThen before moment router
+        ensures walks { OnOk result (KeepsWalkUnlessChanged before moment router
             area.now.committed area.now.present self.old self.new) }
         ensures candidates { OnOk result (self.old.behind ≡ false
             → HaveStayed before moment router area.now.committed area.now.present self.old.walk

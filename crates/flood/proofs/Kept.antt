@@ -1,6 +1,6 @@
 -- What is kept for routes is valid for the router if it is valid for its parts.
 use Rattle.std.proofs.Common.{◌≡◌, ℕ, false, Option, None, Some, refl, subst, ◌∙◌}
-use Rattle.area_routes.specs.Kept.{AreKept, AreRoutesOf, KeptRoutes, ServesOnlyThen}
+use Rattle.area_routes.specs.Kept.{AreKept, AreRoutesOf, KeptRoutes, KeepsWalkUnlessChanged}
 use Rattle.area_routes.specs.Offers.{root_by}
 use Rattle.area_routes.proofs.AfterExternals.{unanswered}
 use Rattle.event_rules.specs.declared.model.CoreError.{CoreError}
@@ -24,20 +24,20 @@ are_kept r id area moment answers kept a b c d is =
 pub walks_then : (before : ℕ) (r : Router) (committed : Area) (id moment : ℕ) (old new : Area)
     (kept next last : KeptRoutes) → id ≡ r.id → old ≡ committed → new ≡ r.area → moment ≡ r.moment
     → last.walk ≡ next.walk → last.behind ≡ next.behind
-    → ServesOnlyThen before moment id old new kept next
-    → ServesOnlyThen before r.moment r.id committed r.area kept last
+    → KeepsWalkUnlessChanged before moment id old new kept next
+    → KeepsWalkUnlessChanged before r.moment r.id committed r.area kept last
 walks_then before r committed id moment old new kept next last a b c d e f is =
-    let then : ServesOnlyThen before moment id old new kept last =
+    let then : KeepsWalkUnlessChanged before moment id old new kept last =
     record {
       walk = e ∙ is.walk;
       serves = λ on stayed. f ∙ is.serves on stayed;
       falls = λ not. f ∙ is.falls not;
       lags = λ on. f ∙ is.lags on;
     } in
-    subst (λ x. ServesOnlyThen before x r.id committed r.area kept last) d
-    (subst (λ x. ServesOnlyThen before moment x committed r.area kept last) a
-    (subst (λ x. ServesOnlyThen before moment id x r.area kept last) b
-    (subst (λ x. ServesOnlyThen before moment id old x kept last) c then)))
+    subst (λ x. KeepsWalkUnlessChanged before x r.id committed r.area kept last) d
+    (subst (λ x. KeepsWalkUnlessChanged before moment x committed r.area kept last) a
+    (subst (λ x. KeepsWalkUnlessChanged before moment id x r.area kept last) b
+    (subst (λ x. KeepsWalkUnlessChanged before moment id old x kept last) c then)))
 
 -- the first walk is kept
 pub begun : (r : Router) (id : ℕ) (area : Area) (moment : ℕ) (kept : KeptRoutes) → id ≡ r.id

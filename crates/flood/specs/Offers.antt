@@ -4,7 +4,7 @@ use Rattle.std.specs.Prelude.{List}
 use Rattle.words.specs.declared.route.Route.{Route}
 use Rattle.words.specs.declared.route.TableRow.{TableRow}
 use Rattle.event_rules.specs.Routers.{Router}
-use Rattle.area_routes.specs.Kept.{AreKept, KeptRoutes, ServesOnlyThen}
+use Rattle.area_routes.specs.Kept.{AreKept, KeptRoutes, KeepsWalkUnlessChanged}
 use Rattle.area_routes.specs.Offers.{AreCandidatesOf, AreOffered, IsStaleOf, IsTableOf}
 
 -- its candidates at the moment of its last event
@@ -26,9 +26,9 @@ IsStaleNow r = IsStaleOf r.id r.area r.moment r.answers
 -- From one router to the next no walk is made (here: one calculation of all shortest paths), and
 -- the one that is kept stays valid, unless an LSA of type 1 or 2 was added or removed, has reached
 -- MaxAge or says something else, or the addresses of the router's interfaces differ.
-abbrev pub WalksOnlyThen : (old : Router) → (new : Router) → KeptRoutes → KeptRoutes → Type 0
-WalksOnlyThen old new kept next =
-    ServesOnlyThen old.moment new.moment new.id old.area new.area kept next
+abbrev pub WalkStaysUnlessChanged : (old : Router) → (new : Router) → KeptRoutes → KeptRoutes → Type 0
+WalkStaysUnlessChanged old new kept next =
+    KeepsWalkUnlessChanged old.moment new.moment new.id old.area new.area kept next
 
 -- what is kept for its routes is valid at the moment of its last event
 abbrev pub AreKeptNow : Router → KeptRoutes → Type 0

@@ -1,6 +1,6 @@
 //! The end of an event: what it sends, and what is kept for routes between events.
 ghost use Rattle.std.specs.Prelude.{◌≡◌, ◌≤◌, List, IfOk, OnErr, OnOk, false, length};
-ghost use Rattle.area_routes.specs.Kept.{AreKept, ServesOnlyThen};
+ghost use Rattle.area_routes.specs.Kept.{AreKept, KeepsWalkUnlessChanged};
 ghost use Rattle.event_rules.specs.received.Links.{Link as LinkOfArea};
 ghost use Rattle.event_rules.specs.received.Outcomes.{Send};
 ghost use Rattle.event_rules.specs.Packing.{outs_of};
@@ -33,7 +33,7 @@ fn keep(
     requires answers { brings_answers (occurrence_of event.now) ≡ false
         → router.now.present.answers ≡ router.now.committed.answers }
     ensures kept { OnOk result (AreKeptNow router.now.present routes.new) }
-    ensures walks { OnOk result (ServesOnlyThen before router.now.present.moment
+    ensures walks { OnOk result (KeepsWalkUnlessChanged before router.now.present.moment
         router.now.present.id router.now.committed.area router.now.present.area
         routes.old routes.new) }
     ensures err { OnErr result (routes.new ≡ routes.old) }
@@ -80,7 +80,7 @@ pub fn pack_and_update_routes(
         → AreDrafts links sends drafts.items → OnOk result (AreTexts own links sends) }
     ensures limit { TellsLimit router.now.present result }
     ensures kept { OnOk result (AreKeptNow router.now.present routes.new) }
-    ensures walks { OnOk result (ServesOnlyThen before router.now.present.moment
+    ensures walks { OnOk result (KeepsWalkUnlessChanged before router.now.present.moment
         router.now.present.id router.now.committed.area router.now.present.area
         routes.old routes.new) }
     ensures err { OnErr result (routes.new ≡ routes.old) }

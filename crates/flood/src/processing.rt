@@ -8,7 +8,7 @@ ghost use Rattle.flood_laws.specs.InOrder.{IsInOrder};
 ghost use Rattle.flood_laws.specs.Keeping.{HoldsInstances, KeepsWhatIsKnown};
 ghost use Rattle.flood.specs.Early.{early_refusal};
 ghost use Rattle.flood.specs.Occurrences.{occurrence_of};
-ghost use Rattle.flood.specs.Offers.{AreKeptNow, WalksOnlyThen};
+ghost use Rattle.flood.specs.Offers.{AreKeptNow, WalkStaysUnlessChanged};
 
 use crate::event::Event;
 use crate::keeping::pack_and_update_routes;
@@ -83,7 +83,7 @@ pub fn process_event(
     ensures kept { OnOk result (AreKeptNow router.new.present routes.new) }
     // No walk is made, and the one that is kept stays valid unless an LSA of type 1 or 2 was added
     // or removed, has reached MaxAge or says something else, or the interfaces' addresses differ.
-    ensures walks { OnOk result (WalksOnlyThen router.old.present router.new.present
+    ensures walks { OnOk result (WalkStaysUnlessChanged router.old.present router.new.present
         routes.old routes.new) }
     ensures err { OnErr result (routes.new ≡ routes.old) }
 {

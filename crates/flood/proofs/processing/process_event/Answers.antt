@@ -1,5 +1,5 @@
 use Rattle.std.proofs.Common.{◌≡◌, ◌≤◌, None, sym, ap, ◌∙◌, subst, arith}
-use Rattle.area_routes.specs.Kept.{AreKept, ServesOnlyThen}
+use Rattle.area_routes.specs.Kept.{AreKept, KeepsWalkUnlessChanged}
 use Rattle.event_rules.specs.Routers.{Router}
 use Rattle.flood_laws.specs.Keeping.{AreTexts}
 use Rattle.procedures.specs.Full.{full_routers}
@@ -269,9 +269,9 @@ returns-clause-walks c =
     ∙ c.in_ok-make_part.ensures.committed ∙ c.in_ok-age.ensures.committed
     ∙ c.requires.committed in
     on_ok c.pack_and_update_routes.result
-    (λ walks. subst (λ m. ServesOnlyThen m new.moment new.id c.args.router.now.present.area
+    (λ walks. subst (λ m. KeepsWalkUnlessChanged m new.moment new.id c.args.router.now.present.area
     new.area old c.pack_and_update_routes.new.routes) c.moment-before.ensures
-    (subst (λ (s : Router). ServesOnlyThen c.moment-before.result new.moment new.id s.area new.area
+    (subst (λ (s : Router). KeepsWalkUnlessChanged c.moment-before.result new.moment new.id s.area new.area
     old c.pack_and_update_routes.new.routes) committed walks))
     c.pack_and_update_routes.ensures.walks
 

@@ -3,7 +3,7 @@ use Rattle.std.specs.Prelude.{IfSome}
 use Rattle.std.specs.Global.{Vec}
 use Rattle.candidates.specs.Externals.{AreExternals}
 use Rattle.candidates.specs.declared.externals.ExternalAdvertisement.{ExternalAdvertisement}
-use Rattle.area_routes.specs.Kept.{AreOffersOf, KeptRoutes, KnowsAnswered, ServesOnlyThen}
+use Rattle.area_routes.specs.Kept.{AreOffersOf, KeptRoutes, KnowsAnswered, KeepsWalkUnlessChanged}
 use Rattle.area_routes.specs.Offers.{root_by}
 use Rattle.area_routes.proofs.Externals.{both_else, externals_after, same_but}
 use Rattle.routes.specs.Said.{said_at}
@@ -62,7 +62,7 @@ returns-clause-walks c =
     let served = c.in_ok-update_routes.ensures.walks in
     let same = both_else c.update_routes.new.self c.keep_externals.new.self c.update_graph.new.self
     c.keep_externals.ensures.others c.update_graph.ensures.others in
-    subst (λ (k : KeptRoutes). ServesOnlyThen c.args.before c.args.moment c.args.router
+    subst (λ (k : KeptRoutes). KeepsWalkUnlessChanged c.args.before c.args.moment c.args.router
     c.args.area.now.committed c.args.area.now.present c.args.self.now k) (sym same)
     (record {
       walk = served.walk;
