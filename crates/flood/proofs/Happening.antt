@@ -19,12 +19,12 @@ use Rattle.event_rules.specs.Routers.{Occurrence, Router}
 use Rattle.event_rules.proofs.Outcomes.{determined}
 use Rattle.flood.specs.declared.part.Part.{Part}
 use Rattle.flood.specs.Occurrences.{brings_answers}
-use Rattle.flood.specs.Parts.{IsMade, IsPartOf, after_part, made_state}
+use Rattle.flood.specs.Parts.{PartHappens, IsPartOf, after_part, made_state}
 use Rattle.flood.proofs.Answering.{answers_stay}
 
 module _ (old : Router) (moment : ℕ) (event : Occurrence) (p : Part) (is : IsPartOf event p) where
   -- the result happens
-  pub made_happens : (outs : List Out) (new : Router) → IsMade old moment p outs new
+  pub made_happens : (outs : List Out) (new : Router) → PartHappens old moment p outs new
       → Happens old moment event outs new
   made_happens outs new made_state = record {
     after = after_part p moment (start_event moment old);
@@ -34,7 +34,7 @@ module _ (old : Router) (moment : ℕ) (event : Occurrence) (p : Part) (is : IsP
   }
 
   -- and keeps what is known, if the packets are encoded correctly
-  pub made_keeps : (outs : List Out) (new : Router) → IsMade old moment p outs new
+  pub made_keeps : (outs : List Out) (new : Router) → PartHappens old moment p outs new
       → AnnouncesAddress event → IsInOrder old → HoldsInstances old
       → AreTexts old.id old.area.links (made_state old moment p).sends
       → KeepsWhatIsKnown old moment event outs new
@@ -43,12 +43,12 @@ module _ (old : Router) (moment : ℕ) (event : Occurrence) (p : Part) (is : IsP
       events_keep_what_is_known old moment event outs new (made_happens outs new made_state) address
       order holds texts
 
-  pub made_order : (outs : List Out) (new : Router) → IsMade old moment p outs new → IsInOrder old
+  pub made_order : (outs : List Out) (new : Router) → PartHappens old moment p outs new → IsInOrder old
       → IsInOrder new
   made_order outs new made_state order =
       routers_stay_in_order.event old moment event outs new (made_happens outs new made_state) order
 
-  pub made_holds : (outs : List Out) (new : Router) → IsMade old moment p outs new
+  pub made_holds : (outs : List Out) (new : Router) → PartHappens old moment p outs new
       → AnnouncesAddress event → IsInOrder old → HoldsInstances old → HoldsInstances new
   made_holds outs new made_state address order holds =
       instances_stay_in_range.event old moment event outs new (made_happens outs new made_state)

@@ -20,7 +20,7 @@ use Rattle.procedures.proofs.Making.{makes_then, making_starts}
 use Rattle.procedures.specs.Kept.{KeptRouter}
 use Rattle.flood.specs.declared.part.Part.{Part}
 use Rattle.flood.specs.Drafts.{AreDrafts, AreDraftsFrom}
-use Rattle.flood.specs.Parts.{IsMade, TellsLimit, after_event, after_part, made_state}
+use Rattle.flood.specs.Parts.{PartHappens, RefusesAtLimit, after_event, after_part, made_state}
 use Rattle.flood.proofs.Drafting.{are_drafts}
 
 pub on_ok : {A E P Q : Type 0} (r : Result A E) → (P → Q) → OnOk r P → OnOk r Q
@@ -44,7 +44,7 @@ ok_if (Ok a) f p = f a p
 ok_if (Err e) f p = tt
 
 -- no limit is exceeded if that isn't the refusal
-pub stays_within : {X : Type 0} (r : Result X CoreError) (new : Router) → TellsLimit {X = X} new r
+pub stays_within : {X : Type 0} (r : Result X CoreError) (new : Router) → RefusesAtLimit {X = X} new r
     → OnOk r (exceeds new ≡ false)
 stays_within (Ok x) new tells = tells
 stays_within (Err error.Memory) new tells = tt
@@ -111,7 +111,7 @@ module _ (old made : KeptRouter) (new : Router) (drafts : List Drafted) (moment 
   -- what is sent
   pub made_sent : (own : ℕ) (sent : List Out) → own ≡ old.present.id
       → sent ≡ outs_of own old.present.area.links (made_state old.present moment p).sends
-      → IsMade old.present moment p sent new
+      → PartHappens old.present moment p sent new
   made_sent own sent same outs = record {
     router = made_router;
     outs = outs ∙ ap (λ id. outs_of id old.present.area.links

@@ -58,7 +58,7 @@ abbrev pub made_state : Router → Moment → Part → EventState
 made_state old moment p = after_event old moment p (record { router = old; sends = [] })
 
 -- the event sends these packets and results in the router `new`
-pub record IsMade (old : Router) (moment : Moment) (p : Part) (sent : List Out) (new : Router)
+pub record PartHappens (old : Router) (moment : Moment) (p : Part) (sent : List Out) (new : Router)
     : Type 0 where
   pub router : new ≡ (made_state old moment p).router
   pub outs : sent ≡ outs_of old.id old.area.links (made_state old moment p).sends
@@ -75,21 +75,21 @@ late_refusal old (Occurrence.Install answers) = None
 late_refusal old (Occurrence.LinkDown number) = None
 
 -- the result is the refusal that applies, or that an allocation was refused
-abbrev pub Tells : {X : Type 0} → Option CoreError → Result X CoreError → Type 0
-Tells refusal (Ok x) = refusal ≡ None
-Tells refusal (Err error.Memory) = Unit {0}
-Tells refusal (Err (error.BadPacket f)) = refusal ≡ Some (error.BadPacket f)
-Tells refusal (Err error.NoInterface) = refusal ≡ Some error.NoInterface
-Tells refusal (Err error.Clash) = refusal ≡ Some error.Clash
-Tells refusal (Err error.ClockBack) = refusal ≡ Some error.ClockBack
-Tells refusal (Err error.Full) = refusal ≡ Some error.Full
+abbrev pub RefusesAs : {X : Type 0} → Option CoreError → Result X CoreError → Type 0
+RefusesAs refusal (Ok x) = refusal ≡ None
+RefusesAs refusal (Err error.Memory) = Unit {0}
+RefusesAs refusal (Err (error.BadPacket f)) = refusal ≡ Some (error.BadPacket f)
+RefusesAs refusal (Err error.NoInterface) = refusal ≡ Some error.NoInterface
+RefusesAs refusal (Err error.Clash) = refusal ≡ Some error.Clash
+RefusesAs refusal (Err error.ClockBack) = refusal ≡ Some error.ClockBack
+RefusesAs refusal (Err error.Full) = refusal ≡ Some error.Full
 
 -- `Full` if and only if the router exceeds a limit; otherwise an allocation was refused
-abbrev pub TellsLimit : {X : Type 0} → Router → Result X CoreError → Type 0
-TellsLimit new (Ok x) = exceeds new ≡ false
-TellsLimit new (Err error.Full) = exceeds new ≡ true
-TellsLimit new (Err error.Memory) = Unit {0}
-TellsLimit new (Err (error.BadPacket f)) = ⊥
-TellsLimit new (Err error.NoInterface) = ⊥
-TellsLimit new (Err error.Clash) = ⊥
-TellsLimit new (Err error.ClockBack) = ⊥
+abbrev pub RefusesAtLimit : {X : Type 0} → Router → Result X CoreError → Type 0
+RefusesAtLimit new (Ok x) = exceeds new ≡ false
+RefusesAtLimit new (Err error.Full) = exceeds new ≡ true
+RefusesAtLimit new (Err error.Memory) = Unit {0}
+RefusesAtLimit new (Err (error.BadPacket f)) = ⊥
+RefusesAtLimit new (Err error.NoInterface) = ⊥
+RefusesAtLimit new (Err error.Clash) = ⊥
+RefusesAtLimit new (Err error.ClockBack) = ⊥

@@ -8,7 +8,7 @@ ghost use Rattle.flood_laws.specs.Keeping.{AreTexts};
 ghost use Rattle.flood.specs.Drafts.{AreDrafts};
 ghost use Rattle.flood.specs.Occurrences.{brings_answers, occurrence_of};
 ghost use Rattle.flood.specs.Offers.{AreKeptNow};
-ghost use Rattle.flood.specs.Parts.{TellsLimit};
+ghost use Rattle.flood.specs.Parts.{RefusesAtLimit};
 
 use crate::event::Event;
 use crate::sending::outs;
@@ -78,7 +78,7 @@ pub fn pack_and_update_routes(
     // Each packet is encoded correctly.
     ensures texts { (links : List LinkOfArea) (sends : List Send)
         → AreDrafts links sends drafts.items → OnOk result (AreTexts own links sends) }
-    ensures limit { TellsLimit router.now.present result }
+    ensures limit { RefusesAtLimit router.now.present result }
     ensures kept { OnOk result (AreKeptNow router.now.present routes.new) }
     ensures walks { OnOk result (KeepsWalkUnlessChanged before router.now.present.moment
         router.now.present.id router.now.committed.area router.now.present.area

@@ -6,7 +6,7 @@ ghost use Rattle.packet.specs.Reading.{fault_of};
 ghost use Rattle.flood_laws.specs.Keeping.{AnnouncesAddress};
 ghost use Rattle.flood.specs.Early.{early_refusal_of};
 ghost use Rattle.flood.specs.Occurrences.{occurrence_of, words_of};
-ghost use Rattle.flood.specs.Parts.{HasInterface, IsPartOf, Tells, late_refusal};
+ghost use Rattle.flood.specs.Parts.{HasInterface, IsPartOf, RefusesAs, late_refusal};
 
 use crate::clash::clashes;
 use crate::event::{Event, check_address};
@@ -38,7 +38,7 @@ fn read_packet(alloc: Global, number: u16, bytes: &[u8]) -> Result<Part, CoreErr
     ensures part { IfOk result (λ part. IsPartOf (Occurrence.Packet number bytes.now) part) }
     ensures interface { IfOk result (λ part. (count : ℕ)
         → 1 ≤ number → number ≤ count → HasInterface part count) }
-    ensures tells { Tells (bad_packet (fault_of bytes.now)) result }
+    ensures tells { RefusesAs (bad_packet (fault_of bytes.now)) result }
 {
     let packet = read(alloc, bytes)?;
     Ok(Part::Packet(usize::from(number), packet))
@@ -50,7 +50,7 @@ fn read_answers(router: &Router, tag: &TagAnswer, price: &PriceAnswer) -> Result
     ensures part { IfOk result (λ part. IsPartOf (Occurrence.Redistribute
         tag.now.external tag.now.word price.now.external price.now.word) part) }
     ensures interface { IfOk result (λ part. (count : ℕ) → HasInterface part count) }
-    ensures tells { Tells (late_refusal router.now.present (Occurrence.Redistribute
+    ensures tells { RefusesAs (late_refusal router.now.present (Occurrence.Redistribute
         tag.now.external tag.now.word price.now.external price.now.word)) result }
     ensures address { price.now.external.prefix.address < 2 ^ 32 }
 {
@@ -89,7 +89,7 @@ pub fn read_part(router: &Router, alloc: Global, event: &Event) -> Result<Part, 
     ensures part { IfOk result (λ part. IsPartOf (occurrence_of event.now) part) }
     ensures interface { IfOk result (λ part. HasInterface part
         (length router.now.present.area.links)) }
-    ensures tells { Tells (late_refusal router.now.present (occurrence_of event.now)) result }
+    ensures tells { RefusesAs (late_refusal router.now.present (occurrence_of event.now)) result }
     ensures address { AnnouncesAddress (occurrence_of event.now) }
 {
     match event {

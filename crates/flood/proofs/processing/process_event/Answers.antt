@@ -8,7 +8,7 @@ use Rattle.procedures.specs.Making.{interfaces_of}
 use Rattle.procedures.proofs.Making.{as_many_links}
 use Rattle.flood.specs.Early.{early_refusal}
 use Rattle.flood.specs.Occurrences.{occurrence_of}
-use Rattle.flood.specs.Parts.{HasInterface, TellsLimit, made_state}
+use Rattle.flood.specs.Parts.{HasInterface, RefusesAtLimit, made_state}
 use Rattle.flood.proofs.Answering.{clock_is_on}
 use Rattle.flood.proofs.Early.{first_is_late, none_of_event}
 use Rattle.flood.proofs.Happening.{made_answers, made_happens, made_has_room, made_holds, made_id}
@@ -245,7 +245,7 @@ returns-clause-refused c =
     sym c.refuses.ensures ∙ c.in_default.is in
     event_answers _ old.present c.args.moment event none c.in_ok-part.part c.in_ok-part.ensures.part
     c.in_ok-part.ensures.tells c.pack_and_update_routes.result
-    (subst (λ (r : Router). TellsLimit r c.pack_and_update_routes.result) at
+    (subst (λ (r : Router). RefusesAtLimit r c.pack_and_update_routes.result) at
     c.pack_and_update_routes.ensures.limit)
 
 pub returns-clause-limit : goal.returns-clause-limit
