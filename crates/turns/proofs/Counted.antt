@@ -9,7 +9,7 @@ use Rattle.hooks.specs.Answered.{IsAnswered}
 use Rattle.hooks.specs.Questions.{count_input}
 use Rattle.flood.specs.declared.book.error.BookError.TheVariants as book_error
 use Rattle.flood.specs.declared.event.Event.{Event}
-use Rattle.turns.specs.Turns.{AsksFor, CountsFor, IsCounted, IsFor, IsInstalling, IsUnaskedFor}
+use Rattle.turns.specs.Turns.{AsksFor, CountsFor, IsCounted, IsEventOfWork, IsInstalling, RefusesQuestions}
 use Rattle.turns.specs.Turns.{Lack, Offers, Refuses, Took}
 use Rattle.turns.specs.declared.turned.TurnError.{TurnError}
 use Rattle.turns.specs.declared.turned.TurnError.TheVariants as turn_error
@@ -44,9 +44,9 @@ asks took number moment packet bytes w same is asked =
     (subst (λ (p : List ℕ). took.asked (count_input number moment p)) same asked)
 
 pub installs : (offers : Offers) (known now : List LoaderOperation) (w : Work) (moment : Moment)
-    (e : Event) → IsFor offers known now w moment e → w ≡ work.Refresh → IsInstalling e
+    (e : Event) → IsEventOfWork offers known now w moment e → w ≡ work.Refresh → IsInstalling e
 installs offers known now w moment e is refresh =
-    let i = subst (λ (x : Work). IsFor offers known now x moment e) refresh is in (i.2, i.5)
+    let i = subst (λ (x : Work). IsEventOfWork offers known now x moment e) refresh is in (i.2, i.5)
 
 away_not_back : turn_error.Away ≡ turn_error.Book (book_error.Core core_error.ClockBack) → ⊥
 away_not_back same = cc
@@ -56,7 +56,7 @@ memory_not_back : turn_error.Book (book_error.Core core_error.Memory)
 memory_not_back same = cc
 
 pub unasked : (refuses : Refuses) (w : Work) (moment : Moment) (e : TurnError)
-    → IsUnaskedFor refuses w moment e → e ≡ turn_error.Book (book_error.Core core_error.ClockBack)
+    → RefusesQuestions refuses w moment e → e ≡ turn_error.Book (book_error.Core core_error.ClockBack)
     → ⊥
 unasked refuses (work.Datagram number bytes) moment e short clock =
     memory_not_back (sym short.0 ∙ clock)

@@ -14,7 +14,7 @@ use Rattle.hooks.specs.declared.operation.LoaderOperation.{LoaderOperation}
 use Rattle.hooks.specs.Questions.{ExternalAnswer, RouteAnswer}
 use Rattle.hooks.proofs.Fronts.{prefix_trans}
 use Rattle.flood.specs.declared.event.Event.{Event}
-use Rattle.turns.specs.Turns.{AreAsked, AreBeside, AreVetoes, IsChangedSince, IsFor, IsInstall}
+use Rattle.turns.specs.Turns.{AreAsked, AreBeside, AreVetoes, IsChangedSince, IsEventOfWork, IsInstall}
 use Rattle.turns.specs.Turns.{IsPriceOn, IsRedistribute, IsTagOn, IsTurned, IsUnchanged}
 use Rattle.turns.specs.Turns.{IsUnrefreshed, IsVetoOn, IsWordOn, Offers, Refuses, RefusesFor}
 use Rattle.turns.specs.Turns.{TakesFor, Took}
@@ -83,7 +83,7 @@ module _ (known more now most : List LoaderOperation) (longer : IsPrefix known m
       (tag, price, asked_longer offers external moment tag price asked, is)
 
   pub for_longer : (offers : Offers) (w : Work) (moment : Moment) (e : Event)
-      → IsFor offers more now w moment e → IsFor offers known most w moment e
+      → IsEventOfWork offers more now w moment e → IsEventOfWork offers known most w moment e
   for_longer offers (work.Datagram number bytes) moment e h = h
   for_longer offers work.Tick moment e h = h
   for_longer offers (work.Add external) moment e h = redistribute_longer offers external moment e h

@@ -10,7 +10,7 @@ use Rattle.hooks.specs.declared.operation.LoaderOperation.{LoaderOperation}
 use Rattle.hooks.specs.Questions.{ExternalAnswer}
 use Rattle.flood.specs.declared.event.Event.{Event}
 use Rattle.flood.specs.declared.event.Event.TheVariants as event
-use Rattle.turns.specs.Turns.{AreBeside, IsFor, IsOfferedBySome, Sends, TakesFor, took_from}
+use Rattle.turns.specs.Turns.{AreBeside, IsEventOfWork, IsOfferedBySome, Sends, TakesFor, took_from}
 use Rattle.turns.specs.declared.work.Work.TheVariants as work
 
 -- A turn for a datagram gives the packet of just these bytes from just this interface, and sends
@@ -30,7 +30,7 @@ AnswersAreBesideATable =
     (origin : Router) (candidates : List Route) (rows : List TableRow)
     (known now : List LoaderOperation) (moment : Moment) (external : External) (e : Event)
     → IsOfferedBySome origin candidates rows
-    → IsFor (IsOfferedBySome origin) known now (work.Add external) moment e
+    → IsEventOfWork (IsOfferedBySome origin) known now (work.Add external) moment e
     → (candidates : List Route) × (rows : List TableRow)
     × (tag : ExternalAnswer) × (price : ExternalAnswer)
     × IsOfferedBySome origin candidates rows × AreBeside known now external moment rows tag price

@@ -284,21 +284,21 @@ IsRedistribute offers known now external moment e =
 
 -- the event is that of the work, with answers to its questions, by a port that knew the first of
 -- these operations when it began to ask, and knows the others then
-abbrev pub IsFor : Offers → (known now : List LoaderOperation) → Work → Moment → Event → Type 0
-IsFor offers known now (work.Datagram number bytes) moment e = e ≡ event.Packet number bytes
-IsFor offers known now work.Tick moment e = e ≡ event.Tick
-IsFor offers known now (work.Add external) moment e =
+abbrev pub IsEventOfWork : Offers → (known now : List LoaderOperation) → Work → Moment → Event → Type 0
+IsEventOfWork offers known now (work.Datagram number bytes) moment e = e ≡ event.Packet number bytes
+IsEventOfWork offers known now work.Tick moment e = e ≡ event.Tick
+IsEventOfWork offers known now (work.Add external) moment e =
     IsRedistribute offers known now external moment e
-IsFor offers known now (work.Withdraw prefix) moment e = e ≡ event.Withdraw prefix
-IsFor offers known now (work.Down number) moment e = e ≡ event.LinkDown number
-IsFor offers known now work.Refresh moment e = IsInstall offers known now moment e
+IsEventOfWork offers known now (work.Withdraw prefix) moment e = e ≡ event.Withdraw prefix
+IsEventOfWork offers known now (work.Down number) moment e = e ≡ event.LinkDown number
+IsEventOfWork offers known now work.Refresh moment e = IsInstall offers known now moment e
 
 -- the work's event was given at this moment, by a port with this number of events until then, sent
 -- these, and left the router so
 abbrev pub TakesFor : Offers → Took → (known now : List LoaderOperation) → (events : ℕ) → Moment
     → Work → List Out → (stale : Option Bool) → Type 0
 TakesFor offers took known now events moment w outs stale =
-    (e : Event) × IsFor offers known now w moment e × took.taken events moment e outs stale
+    (e : Event) × IsEventOfWork offers known now w moment e × took.taken events moment e outs stale
 
 -- ---- refusals
 
@@ -307,13 +307,13 @@ abbrev pub IsInstalling : Event → Type 0
 IsInstalling e = (answers : List RouteAnswer) × (e ≡ event.Install answers)
 
 -- memory was refused, and that is why
-abbrev pub IsShort : Refuses → TurnError → Type 0
-IsShort refuses error =
+abbrev pub LacksMemory : Refuses → TurnError → Type 0
+LacksMemory refuses error =
     (error ≡ turn_error.Book (book_error.Core core_error.Memory)) × refuses.lacks Lack.Memory
 
 -- a question of this got no reading, and that is why
-abbrev pub IsAway : Refuses → (asks : Given → Type 0) → TurnError → Type 0
-IsAway refuses asks error =
+abbrev pub LacksReading : Refuses → (asks : Given → Type 0) → TurnError → Type 0
+LacksReading refuses asks error =
     (error ≡ turn_error.Away) × ((input : Given) × refuses.lacks (Lack.Reading input) × asks input)
 
 -- the questions of an announcement, and of a refresh
@@ -327,30 +327,30 @@ AsksOfRoutes moment input =
 
 -- What a work is refused for before its event is given. A datagram has no question, but is copied;
 -- a Tick, a withdrawal and a link's end need neither a reading nor memory.
-abbrev pub IsUnaskedFor : Refuses → Work → Moment → TurnError → Type 0
-IsUnaskedFor refuses (work.Datagram number bytes) moment error = IsShort refuses error
-IsUnaskedFor refuses work.Tick moment error = ⊥
-IsUnaskedFor refuses (work.Add external) moment error =
-    IsAway refuses (AsksOf external moment) error ⊎ IsShort refuses error
-IsUnaskedFor refuses (work.Withdraw prefix) moment error = ⊥
-IsUnaskedFor refuses (work.Down number) moment error = ⊥
-IsUnaskedFor refuses work.Refresh moment error =
-    IsAway refuses (AsksOfRoutes moment) error ⊎ IsShort refuses error
+abbrev pub RefusesQuestions : Refuses → Work → Moment → TurnError → Type 0
+RefusesQuestions refuses (work.Datagram number bytes) moment error = LacksMemory refuses error
+RefusesQuestions refuses work.Tick moment error = ⊥
+RefusesQuestions refuses (work.Add external) moment error =
+    LacksReading refuses (AsksOf external moment) error ⊎ LacksMemory refuses error
+RefusesQuestions refuses (work.Withdraw prefix) moment error = ⊥
+RefusesQuestions refuses (work.Down number) moment error = ⊥
+RefusesQuestions refuses work.Refresh moment error =
+    LacksReading refuses (AsksOfRoutes moment) error ⊎ LacksMemory refuses error
 
 -- the work's event was given at this moment, by a port with this number of events until then, and
 -- refused, for this
-abbrev pub IsGivenInVain : Offers → Refuses → (known now : List LoaderOperation) → (events : ℕ)
+abbrev pub RefusesEvent : Offers → Refuses → (known now : List LoaderOperation) → (events : ℕ)
     → Moment → Work → TurnError → Type 0
-IsGivenInVain offers refuses known now events moment w error =
-    (e : Event) × (why : BookError) × IsFor offers known now w moment e
+RefusesEvent offers refuses known now events moment w error =
+    (e : Event) × (why : BookError) × IsEventOfWork offers known now w moment e
     × refuses.refused events moment e why × (error ≡ turn_error.Book why)
 
 -- that is why, or one of its questions was refused before
 abbrev pub RefusesFor : Offers → Refuses → (known now : List LoaderOperation) → (events : ℕ)
     → Moment → Work → TurnError → Type 0
 RefusesFor offers refuses known now events moment w error =
-    IsUnaskedFor refuses w moment error
-    ⊎ IsGivenInVain offers refuses known now events moment w error
+    RefusesQuestions refuses w moment error
+    ⊎ RefusesEvent offers refuses known now events moment w error
 
 -- after `events` events, a number of changes of the programs was read that isn't `before`
 abbrev pub IsChangedSince : Refuses → (events : ℕ) → ℕ → Type 0

@@ -7,11 +7,11 @@ ghost use Rattle.turns.specs.Turns.{
   AreVetoes,
   AsksFor,
   CountsFor,
-  IsFor,
+  IsEventOfWork,
   IsInstall,
   IsPriceOn,
   IsTagOn,
-  IsUnaskedFor,
+  RefusesQuestions,
   IsVetoOn,
 };
 
@@ -37,11 +37,11 @@ pub fn asked<L: Site, B: Taker<L>, R: Wait>(
 ) -> Result<Event, TurnError>
     requires { IsOf L.words seat.old }
     ensures event { IfOk result (λ event.
-        IsFor B.offers (known_to asker.old) (known_to asker.new) work.now moment event) }
+        IsEventOfWork B.offers (known_to asker.old) (known_to asker.new) work.now moment event) }
     ensures counted { CountsFor B.refuses (known_to asker.old) (known_to asker.new)
         seat.old seat.new work.now moment }
     ensures asked { AsksFor B.took moment work.now }
-    ensures err { IfErr result (IsUnaskedFor B.refuses work.now moment) }
+    ensures err { IfErr result (RefusesQuestions B.refuses work.now moment) }
     ensures seat { IsOf L.words seat.new }
     ensures history { asks_of asker.new ≡ asks_of asker.old }
     ensures known { IsPrefix (known_to asker.old) (known_to asker.new) }
@@ -72,9 +72,9 @@ fn redistribution<L: Site, B: Taker<L>, R: Wait>(
 ) -> Result<Event, TurnError>
     requires { IsOf L.words seat.old }
     ensures event { IfOk result (λ event.
-        IsFor B.offers (known_to asker.old) (known_to asker.new)
+        IsEventOfWork B.offers (known_to asker.old) (known_to asker.new)
         (Work.Add external.now) moment event) }
-    ensures err { IfErr result (IsUnaskedFor B.refuses (Work.Add external.now) moment) }
+    ensures err { IfErr result (RefusesQuestions B.refuses (Work.Add external.now) moment) }
     ensures seat { IsOf L.words seat.new }
     ensures history { asks_of asker.new ≡ asks_of asker.old }
     ensures known { IsPrefix (known_to asker.old) (known_to asker.new) }
@@ -97,9 +97,9 @@ fn beside_table<L: Site, B: Taker<L>, R: Wait>(
 ) -> Result<Event, TurnError>
     requires { IsOf L.words seat.old }
     ensures event { IfOk result (λ event.
-        IsFor B.offers (known_to asker.old) (known_to asker.new)
+        IsEventOfWork B.offers (known_to asker.old) (known_to asker.new)
         (Work.Add external.now) moment event) }
-    ensures err { IfErr result (IsUnaskedFor B.refuses (Work.Add external.now) moment) }
+    ensures err { IfErr result (RefusesQuestions B.refuses (Work.Add external.now) moment) }
     ensures seat { IsOf L.words seat.new }
     ensures history { asks_of asker.new ≡ asks_of asker.old }
     ensures known { IsPrefix (known_to asker.old) (known_to asker.new) }
@@ -125,7 +125,7 @@ fn answers<L: Site, B: Taker<L>>(
     ensures price { IfOk result (λ r.
         IsPriceOn (known_to asker.old) (known_to asker.new) external.now moment
         offered.now.rows.items r.1) }
-    ensures err { IfErr result (IsUnaskedFor B.refuses (Work.Add external.now) moment) }
+    ensures err { IfErr result (RefusesQuestions B.refuses (Work.Add external.now) moment) }
     ensures seat { IsOf shared.now seat.new }
     ensures history { asks_of asker.new ≡ asks_of asker.old }
     ensures known { IsPrefix (known_to asker.old) (known_to asker.new) }
@@ -149,7 +149,7 @@ fn tag<L: Site, B: Taker<L>>(
     requires { IsOf shared.now seat.old }
     ensures answer { IfOk result (λ a.
         IsTagOn (known_to asker.old) (known_to asker.new) external.now moment rows.now a) }
-    ensures err { IfErr result (IsUnaskedFor B.refuses (Work.Add external.now) moment) }
+    ensures err { IfErr result (RefusesQuestions B.refuses (Work.Add external.now) moment) }
     ensures seat { IsOf shared.now seat.new }
     ensures history { asks_of asker.new ≡ asks_of asker.old }
     ensures known { IsPrefix (known_to asker.old) (known_to asker.new) }
@@ -171,7 +171,7 @@ fn price<L: Site, B: Taker<L>>(
     requires { IsOf shared.now seat.old }
     ensures answer { IfOk result (λ a.
         IsPriceOn (known_to asker.old) (known_to asker.new) external.now moment rows.now a) }
-    ensures err { IfErr result (IsUnaskedFor B.refuses (Work.Add external.now) moment) }
+    ensures err { IfErr result (RefusesQuestions B.refuses (Work.Add external.now) moment) }
     ensures seat { IsOf shared.now seat.new }
     ensures history { asks_of asker.new ≡ asks_of asker.old }
     ensures known { IsPrefix (known_to asker.old) (known_to asker.new) }
@@ -194,7 +194,7 @@ pub fn installation<L: Site, B: Taker<L>, R: Wait>(
     requires { IsOf L.words seat.old }
     ensures event { IfOk result (λ event.
         IsInstall B.offers (known_to asker.old) (known_to asker.new) moment event) }
-    ensures err { IfErr result (IsUnaskedFor B.refuses Work.Refresh moment) }
+    ensures err { IfErr result (RefusesQuestions B.refuses Work.Refresh moment) }
     ensures seat { IsOf L.words seat.new }
     ensures history { asks_of asker.new ≡ asks_of asker.old }
     ensures known { IsPrefix (known_to asker.old) (known_to asker.new) }
@@ -220,7 +220,7 @@ fn vetoed<L: Site, B: Taker<L>, R: Wait>(
     requires { IsOf L.words seat.old }
     ensures event { IfOk result (λ event.
         IsInstall B.offers (known_to asker.old) (known_to asker.new) moment event) }
-    ensures err { IfErr result (IsUnaskedFor B.refuses Work.Refresh moment) }
+    ensures err { IfErr result (RefusesQuestions B.refuses Work.Refresh moment) }
     ensures seat { IsOf L.words seat.new }
     ensures history { asks_of asker.new ≡ asks_of asker.old }
     ensures known { IsPrefix (known_to asker.old) (known_to asker.new) }
@@ -241,7 +241,7 @@ fn vetoes<L: Site, B: Taker<L>>(
     requires { IsOf shared.now seat.old }
     ensures answers { IfOk result (λ answers. AreVetoes (known_to asker.old) (known_to asker.new)
         moment offered.now.rows.items offered.now.candidates.items answers.items) }
-    ensures err { IfErr result (IsUnaskedFor B.refuses Work.Refresh moment) }
+    ensures err { IfErr result (RefusesQuestions B.refuses Work.Refresh moment) }
     ensures seat { IsOf shared.now seat.new }
     ensures history { asks_of asker.new ≡ asks_of asker.old }
     ensures known { IsPrefix (known_to asker.old) (known_to asker.new) }
@@ -267,7 +267,7 @@ fn veto<L: Site, B: Taker<L>>(
     ensures answer { IfOk result (λ a.
         (a.route ≡ route.now)
         × IsVetoOn (known_to asker.old) (known_to asker.new) moment rows.now a) }
-    ensures err { IfErr result (IsUnaskedFor B.refuses Work.Refresh moment) }
+    ensures err { IfErr result (RefusesQuestions B.refuses Work.Refresh moment) }
     ensures seat { IsOf shared.now seat.new }
     ensures history { asks_of asker.new ≡ asks_of asker.old }
     ensures known { IsPrefix (known_to asker.old) (known_to asker.new) }

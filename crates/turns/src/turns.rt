@@ -8,9 +8,9 @@ ghost use Rattle.turns.specs.Turns.{
   HasCountedFor,
   IsAtTheEndOfTheClock,
   IsChangedSince,
-  IsGivenInVain,
+  RefusesEvent,
   IsTurned,
-  IsUnaskedFor,
+  RefusesQuestions,
   RefusesFor,
   TakesFor,
   is_counted,
@@ -67,9 +67,9 @@ pub fn turn<L: Site, B: Taker<L>, G: Gate, R: Wait>(
     ensures asked { AsksFor B.took moment work.now }
     ensures passed { OnOk result (G.passes gate.old port.old.number gate.new) }
     ensures held { IfErr result (λ error.
-        ((gate.new ≡ gate.old) × IsUnaskedFor B.refuses work.now moment error)
+        ((gate.new ≡ gate.old) × RefusesQuestions B.refuses work.now moment error)
         ⊎ (G.passes gate.old port.old.number gate.new
-        × IsGivenInVain B.offers B.refuses (known_to port.old.asker) (known_to port.new.asker)
+        × RefusesEvent B.offers B.refuses (known_to port.old.asker) (known_to port.new.asker)
         port.old.share.amount moment work.now error)) }
     ensures err { OnErr result (port.new.share.amount ≡ port.old.share.amount) }
     ensures clock { work.now ≡ Work.Refresh
