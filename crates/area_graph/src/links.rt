@@ -124,7 +124,14 @@ fn add_router(
     let far = RouterId::new(advertised.link_id);
     match neighbor_at(area, far, EntryKind::PointToPoint, router.number()) {
         None => Ok(()),
-        Some(to) => add_exits(root, router, advertised.link_data, advertised.metric, to, links),
+        Some(to) => add_exits(
+            root,
+            router,
+            advertised.link_data,
+            advertised.metric,
+            to,
+            links,
+        ),
     }
 }
 

@@ -12,7 +12,7 @@ ghost use Rattle.routes.specs.Links.{ListsRouter};
 ghost use Rattle.routes.specs.Said.{said_at};
 ghost use Rattle.routes.specs.declared.node.Node.TheVariants.{ANetwork};
 
-use crate::surroundings::{Surroundings, has_link_to, network_lsa, index_range_of, router_lsa};
+use crate::surroundings::{Surroundings, has_link_to, index_range_of, network_lsa, router_lsa};
 use area_graph::{add_exits, kind_of};
 use candidates::find;
 use lsa::{LinkKind, NetworkLsa, RouterLink, RouterLsa};
@@ -58,7 +58,14 @@ fn add_neighbor(
     let far = RouterId::new(advertised.link_id);
     match neighbor_at(at, far, LinkKind::PointToPoint, router.number()) {
         None => Ok(()),
-        Some(to) => add_exits(root, router, advertised.link_data, advertised.metric, to, links),
+        Some(to) => add_exits(
+            root,
+            router,
+            advertised.link_data,
+            advertised.metric,
+            to,
+            links,
+        ),
     }
 }
 
@@ -144,7 +151,14 @@ fn add_network(
     if !lists_at(at, place, LinkStateId::new(advertised.link_id), router) {
         return Ok(());
     }
-    add_exits(root, router, advertised.link_data, advertised.metric, place, links)
+    add_exits(
+        root,
+        router,
+        advertised.link_data,
+        advertised.metric,
+        place,
+        links,
+    )
 }
 
 // Adds the links to the networks that have the Link ID of a transit link and list the router.

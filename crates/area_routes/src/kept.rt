@@ -733,7 +733,10 @@ impl AreaRoutes {
         }
         let made = calculated(alloc, area, &self.walk, moment, &self.externals)?;
         let lacks = is_stale(alloc, &made.calculated.routes, answers)?;
-        let Made { calculated, advertised } = made;
+        let Made {
+            calculated,
+            advertised,
+        } = made;
         let Calculated { inner, routes } = calculated;
         let kept = self.externals.take();
         self.externals = kept_or(kept, advertised);

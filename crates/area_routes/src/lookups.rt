@@ -1,7 +1,7 @@
 //! How many lookups recalculating vertices takes.
 ghost use Rattle.area_graph.specs.Nodes.{Ascend};
 
-use crate::surroundings::{Surroundings, network_lsa, index_range_of, router_lsa};
+use crate::surroundings::{Surroundings, index_range_of, network_lsa, router_lsa};
 use lsa::{LinkKind, RouterLink, RouterLsa};
 use routes::Node;
 use words::LinkStateId;

@@ -41,7 +41,12 @@ pub fn counted_border(
 
 /// What the summary-LSA with this key advertises about an AS boundary router, as an offer for the
 /// router's host prefix (RFC 2328, section 16.4).
-pub fn advertised_offer(root: &Root, routers: &[Flagged], key: &Key, body: &LsaBody) -> Option<Offer>
+pub fn advertised_offer(
+    root: &Root,
+    routers: &[Flagged],
+    key: &Key,
+    body: &LsaBody,
+) -> Option<Offer>
     requires ascend { AscendByRouter routers.now }
     requires close { AreCloseBy routers.now }
     ensures { IsJust (Tells root.now routers.now (key.now, body.now)) result }

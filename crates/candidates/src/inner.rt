@@ -9,7 +9,7 @@ ghost use Rattle.routes.specs.Said.{Said};
 
 use crate::flagged::{Flagged, flagged_routers};
 use crate::order::routes_of_offers;
-use crate::passes::{inner_offers, advertised_routes};
+use crate::passes::{advertised_routes, inner_offers};
 use crate::search::lengths_of;
 use crate::ways::Ways;
 use lsdb::KeyedBody;

@@ -16,7 +16,7 @@ ghost use Rattle.candidates.specs.Ways.{AreNear};
 
 use crate::area::push_inner;
 use crate::borders::advertised_offer;
-use crate::externals::{ExternalAdvertisement, Inner, offer_advertised, advertised_external};
+use crate::externals::{ExternalAdvertisement, Inner, advertised_external, offer_advertised};
 use crate::flagged::{Flagged, slots_of};
 use crate::gathering::push_offer;
 use crate::order::routes_of_offers;

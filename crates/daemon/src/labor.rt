@@ -5,11 +5,11 @@ ghost use Rattle.worker.specs.Ends.{has_failed};
 ghost use Rattle.worker.specs.Lives.{standing};
 ghost use Rattle.daemon.specs.Labors.{HasServed, HasServedOn, senses_at};
 
-use transports::{Seconds, Transport};
 use log::{Level, Log, Logged, warn};
 use std::alloc::Global;
 use std::sync::Wait;
 use std::sync::atomic::AtomicBool;
+use transports::{Seconds, Transport};
 use worker::{Book, DatagramSocket, Flag, Hub, LinkEnd, Open, Port, Site, Sockets, Waits, run};
 
 /// What the workers of all interfaces have.

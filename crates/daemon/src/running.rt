@@ -23,7 +23,6 @@ use crate::texts::WritesTexts;
 use crate::totals::{Printed, print_totals};
 use console::{Config, Configured, ConfiguredInterface, Interface, read_configuration};
 use hooks::Loader;
-use transports::Seconds;
 use log::Log;
 use operator::{Desk, Outlet};
 use std::alloc::{AllocError, Global};
@@ -36,6 +35,7 @@ use std::sync::Wait;
 use std::sync::atomic::AtomicBool;
 use std::thread::Threads;
 use std::time::Clock;
+use transports::Seconds;
 use words::Sequence;
 use worker::{
     Closed, ConfigError, Core, Setup, Site, Sockets, SystemSeconds, Wire, bind_each, listening,

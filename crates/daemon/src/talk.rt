@@ -21,10 +21,10 @@ ghost use Rattle.daemon.specs.Texts.{HasFailed};
 
 use crate::lines::{Given, ReadsBytes, next_line};
 use crate::texts::WritesTexts;
-use transports::{Seconds, Transport};
 use operator::{Desk, Outlet, Told};
 use std::rt::Files;
 use std::sync::Wait;
+use transports::{Seconds, Transport};
 use worker::{Hub, Port, Site, Taker, Work};
 
 /// Where an operator's lines come from, what they are carried out with, and where the answers go.

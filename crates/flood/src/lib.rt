@@ -19,11 +19,11 @@ mod keeping;
 pub mod laws;
 mod making;
 mod part;
+mod processing;
 mod profile;
 mod router_core;
 mod sending;
 mod start;
-mod processing;
 
 pub use adjacency::{Interface, NeighborState};
 pub use area_routes::Offered;

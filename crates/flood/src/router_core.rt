@@ -13,9 +13,9 @@ ghost use Rattle.flood.specs.Occurrences.{occurrence_of};
 ghost use Rattle.flood.specs.Owed.{owed_at};
 
 use crate::event::Event;
+use crate::processing::{process_event, refuses};
 use crate::profile::in_profile;
 use crate::start::begin;
-use crate::processing::{process_event, refuses};
 use adjacency::NeighborState;
 use area_routes::{AreaRoutes, Offered};
 use event_rules::{Config, ConfigError, CoreError, Out};

@@ -5,8 +5,8 @@ ghost use Rattle.hooks.specs.Known.{known_to};
 ghost use Rattle.worker.specs.Lives.{IsSent, senses_of, standing};
 ghost use Rattle.operator.specs.Answers.{IsDone, IsRefusedOnce, IsServed};
 
-use transports::{Seconds, Transport};
 use std::sync::Wait;
+use transports::{Seconds, Transport};
 use worker::{Hub, Open, Port, Site, Taker, TurnError, Turned, Work, send_all, tried};
 
 /// The link and the clock of port 0.

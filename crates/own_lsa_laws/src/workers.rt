@@ -6,8 +6,8 @@ ghost use Rattle.own_lsa_laws.specs.Deeds.{LivesAreDeedsInOrder};
 ghost use Rattle.own_lsa_laws.specs.RunningRouter.{NobodySpeaksForTheRunningRouter};
 
 use crate::nobody_speaks_for_this_router;
-use transports::{Seconds, Transport};
 use router_runs::routers_refuse_clocks_that_go_back;
+use transports::{Seconds, Transport};
 use worker::{Flag, Site, Taker};
 
 /// Whatever rounds a worker has lived, it did one thing after the other: it looked at its clock, it

@@ -2,8 +2,8 @@
 //! system clock implement, and scripted versions for tests.
 #![tactic(auto)]
 
-mod transport;
 mod script;
+mod transport;
 
-pub use transport::{SocketFault, Seconds, Transport, datagram};
 pub use script::{Answer, Script, Times};
+pub use transport::{Seconds, SocketFault, Transport, datagram};

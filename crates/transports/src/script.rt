@@ -2,7 +2,7 @@
 ghost use Rattle.std.specs.Prelude.{◌≡◌, ◌≢◌, ℕ, ◌+◌, ◌<◌, ◌≤◌, IfSome, length};
 ghost use Rattle.transports.specs.declared.script.Played.TheVariants.{Fault};
 
-use crate::transport::{SocketFault, Seconds, Transport, datagram};
+use crate::transport::{Seconds, SocketFault, Transport, datagram};
 use std::alloc::Global;
 use std::sync::atomic::{AtomicBool, Ordering};
 use words::{Second, Sequence};

@@ -1,12 +1,12 @@
 //! An operator who changes the programs while a turn passes its gate.
 use crate::side_by_side::number_of;
 use crate::stage::Stage;
-use transports::{Script, Times};
 use operator::{Desk, Outlet, ReadsFiles};
 use std::alloc::Global;
 use std::marker::PhantomData;
 use std::sync::Wait;
 use std::sync::atomic::AtomicBool;
+use transports::{Script, Times};
 use whole_files::ReadFault;
 use words::Second;
 use worker::{Gate, Hub, Port, Site, Taker, Work, turn};

@@ -1,9 +1,9 @@
 //! A worker over a link that plays back what it hears, and may fail.
 use crate::samples::HELLO;
-use transports::{Answer, Script, Times};
 use std::alloc::{AllocError, Global};
 use std::sync::Wait;
 use std::sync::atomic::AtomicBool;
+use transports::{Answer, Script, Times};
 use words::Sequence;
 use worker::{Hub, Open, Port, Signal, Site, Taker, run};
 

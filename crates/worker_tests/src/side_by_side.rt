@@ -1,11 +1,11 @@
 //! Turns of one port, alone, by a clock, or while another port is held at its gate.
 use crate::stage::{Deed, work_of};
-use transports::{Seconds, Times};
 use std::alloc::Global;
 use std::sync::Wait;
 use std::sync::atomic::{AtomicBool, Ordering};
 use std::thread::{Threads, join, sleep};
 use std::time::{Clock, Duration};
+use transports::{Seconds, Times};
 use words::Second;
 use worker::{Gate, Hub, Open, Port, Site, Taker, TurnError, Turned, Work, tried, turn};
 

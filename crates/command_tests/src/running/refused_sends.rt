@@ -1,8 +1,8 @@
 //! A link whose socket refuses sends, as by a rule of a firewall, for some calls.
-use transports::Transport;
 use std::io;
 use std::process::Abort;
 use std::sync::atomic::{AtomicUsize, Ordering};
+use transports::Transport;
 use worker::{DatagramSocket, Sockets, Wire, came, sent};
 
 // EPERM, EACCES, EAGAIN, ENOMEM, EMSGSIZE, EADDRNOTAVAIL, ENETDOWN, ENETUNREACH, ENETRESET,

@@ -2,8 +2,8 @@
 ghost use Rattle.std.specs.Prelude.{◌≡◌, IfErr, IfOk, IsErr, IsFalse, IsTrue, true, false};
 ghost use Rattle.worker.specs.SocketRefusals.{is_lost, is_passing, is_passing_kind, is_passing_number};
 
-use transports::SocketFault;
 use std::io::{self, ErrorKind};
+use transports::SocketFault;
 
 fn is_passing_kind(kind: ErrorKind) -> bool
     ensures { result ≡ is_passing_kind kind }

@@ -13,11 +13,11 @@ use crate::sockets::refusals::{came, sent};
 use crate::sockets::socket::DatagramSocket;
 use crate::sockets::waiting::{Ear, ListensAt, SystemPoller, Waits};
 use crate::sockets::wire::{Wire, wire_at};
-use transports::{SocketFault, Transport, datagram};
 use mio::net::UdpSocket;
 use std::alloc::Global;
 use std::io::ErrorKind;
 use std::net::Net;
+use transports::{SocketFault, Transport, datagram};
 use words::Sequence;
 
 /// A worker's link: it sends at each interface, and receives at its own, if it has one. Once it has
