@@ -10,7 +10,6 @@ use Rattle.helpers.specs.Seats.{acts}
 use Rattle.hooks.specs.declared.operation.LoaderOperation.{LoaderOperation}
 use Rattle.hooks.specs.Answered.{IsAnswered}
 use Rattle.hooks.specs.Operations.{Program, RunsTo, default_of, leaves}
-use Rattle.hooks.proofs.Fronts.{prefix_length}
 use Rattle.hooks.proofs.Leaves.{number-injective}
 use Rattle.program_laws.specs.Answers.{AnswersAreOfWhatStands}
 use Rattle.program_laws.proofs.SeatLaws.{lawful_after}
@@ -68,6 +67,6 @@ pub of_what_stands : AnswersAreOfWhatStands
 of_what_stands = record {
   default = by_default;
   program = by_program;
-  known = λ before now old new input word a. prefix_length before now a.begins;
+  known = λ before now old new input word a. a.begins;
   lawful = λ before now old new input word a was. lawful_after old new a.labels a.made was;
 }

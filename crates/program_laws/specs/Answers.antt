@@ -1,5 +1,6 @@
 -- What an answer at a hook depends on.
-use Rattle.std.specs.Prelude.{◌≡◌, ◌≤◌, ℕ, List, ◌++◌, length, Some, None}
+use Rattle.std.specs.Prelude.{◌≡◌, ℕ, List, ◌++◌, Some, None}
+use mathlib.Core.List.{IsPrefix}
 use Rattle.isa.specs.declared.hook.Hook.{Hook}
 use Rattle.machine.specs.Given.{Given}
 use Rattle.machine.specs.Input.{IsOfHook}
@@ -24,9 +25,9 @@ pub record AnswersAreOfWhatStands : Type 0 where
       → IsOfHook hook input → leaves hook now ≡ Some program
       → (labels : List Label) × RunsTo program input labels word
       × (new.accesses ≡ old.accesses ++ acts labels)
-  -- the caller knows of no fewer operations than before
+  -- the operations that the asker knows begin with those that it knew
   pub known : (before now : List LoaderOperation) (old new : SeatView) (input : Given) (word : ℕ)
-      → IsAnswered before now old new input word → length before ≤ length now
+      → IsAnswered before now old new input word → IsPrefix before now
   -- and the accesses of the seat are still lawful
   pub lawful : (before now : List LoaderOperation) (old new : SeatView) (input : Given) (word : ℕ)
       → IsAnswered before now old new input word → IsLawfulList old.accesses
