@@ -1,5 +1,5 @@
 -- The definitions of accepted programs, applied to small ones.
-use Rattle.std.specs.Prelude.{◌≡◌, ℕ, List, [], ◌∷◌, Some, pos, negsuc, slice_get}
+use Rattle.std.specs.Prelude.{◌≡◌, ℕ, List, [], ◌∷◌, replicate, Some, pos, negsuc, slice_get}
 use Rattle.isa.specs.declared.code.Slot.{Slot}
 use Rattle.isa.specs.declared.code.Slot.TheVariants.{SecondHalf, Start}
 use Rattle.isa.specs.declared.hook.Hook.{Hook}
@@ -50,12 +50,12 @@ pub record LoadsAreOfTheirMap : Type 0 where
   pub cells : (hook : Hook) (kept : List Region) → AreKeptRegions (loads_of_map 1) hook kept
       → slice_get kept 2 ≡ Some regions.Cells
 
--- the statement at the first slot about r0 and r1, and these bytes of the stack
+-- the statement at the first slot about r0 and r1; nothing is said of r2 to r9 and the stack
 abbrev pub says_first : StatedKind → StatedKind → StatementParts
 says_first first second = record {
   slot = 0;
   rank = constant_rank 0;
-  kinds = first ∷ second ∷ [];
+  kinds = first ∷ second ∷ replicate 8 Empty;
   stack = no_bytes;
 }
 
