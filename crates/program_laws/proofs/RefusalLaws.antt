@@ -19,9 +19,9 @@ use Rattle.segments.specs.Refusals.{FallsOff, IsBadTarget, IsStray, IsUnreached}
 use Rattle.segments.specs.Refusals.{IsUnstated, IsWellMade, JumpsNowhere, LacksHelperAt, MayRefuse}
 use Rattle.segments.proofs.Plain.{never}
 use Rattle.verifier.specs.Examples.{then_exit, says, seven, test_on}
-use Rattle.program_laws.specs.Refusals.{HelpersAndBoundAreNamedAptly, IsOfSound}
+use Rattle.program_laws.specs.Refusals.{HelpersAndTheBoundAreChecked, MayRefuseSound}
 use Rattle.program_laws.specs.Refusals.{LaterRulesDontCount, RulesCountInTheirOrder}
-use Rattle.program_laws.specs.Refusals.{SoundCodeIsNotNamed, astray_code, cut_code, jumping_code}
+use Rattle.program_laws.specs.Refusals.{SoundProgramsBreakNoRuleOnCode, astray_code, cut_code, jumping_code}
 use Rattle.program_laws.specs.Refusals.{jumping_statements, open_code, test_by, unstated_code}
 
 none_is_some : {A : Type 0} {x : A} → None ≡ Some x → ⊥
@@ -81,7 +81,7 @@ within_code : (slot : ℕ) (i : Instruction) → BeginsAt i (then_exit seven) sl
 within_code = each (λ slot i. slot < 2) (omega arith) (omega arith)
 
 named_of_straight : (hook : Hook) (slot : ℕ) (rule : Rule)
-    → MayRefuse hook (then_exit seven) 0 [] slot rule → IsOfSound 2 slot rule
+    → MayRefuse hook (then_exit seven) 0 [] slot rule → MayRefuseSound 2 slot rule
 named_of_straight hook slot rules.Target may = target_is_well slot may
 named_of_straight hook slot rules.FallsOff may = end_is_well slot may
 named_of_straight hook slot rules.Unreached may = reached_is_well slot may
@@ -196,7 +196,7 @@ within_jumping = of_jumping (λ slot i. slot < 4) (omega arith) (omega arith) (o
     (omega arith)
 
 named_of_jumping : (hook : Hook) (slot : ℕ) (rule : Rule)
-    → MayRefuse hook jumping_code 0 jumping_statements slot rule → IsOfSound 4 slot rule
+    → MayRefuse hook jumping_code 0 jumping_statements slot rule → MayRefuseSound 4 slot rule
 named_of_jumping hook slot rules.Target may = jumping_targets slot may
 named_of_jumping hook slot rules.FallsOff may = jumping_ends slot may
 named_of_jumping hook slot rules.Unreached may = jumping_reached slot may
@@ -215,7 +215,7 @@ named_of_jumping hook slot rules.ExitKind may = within_jumping slot may.0 may.1
 named_of_jumping hook slot rules.Frame may = jumping_writes slot may.instruction may.at may.writes
 named_of_jumping hook slot rules.Memory may = may
 
-pub named_of_sound : SoundCodeIsNotNamed
+pub named_of_sound : SoundProgramsBreakNoRuleOnCode
 named_of_sound = record { straight = named_of_straight; jumping = named_of_jumping }
 
 -- ---- `call 1; exit`, and the bound
@@ -241,7 +241,7 @@ helper_is_there hook slot lacks =
     (λ number is none. exit_is_no_call number is)
     slot (Call lacks.number) lacks.at lacks.number refl lacks.none
 
-pub named_aptly : HelpersAndBoundAreNamedAptly
+pub named_aptly : HelpersAndTheBoundAreChecked
 named_aptly = record {
   helper = helper_is_there;
   within = λ hook slot may. let more = may.over in omega (arith, more);

@@ -18,16 +18,16 @@ use Rattle.verifier.specs.Examples.{then_exit, says, seven, test_on}
 -- For a sound program: `Memory` at slot 0, and at its slots a rule for which only the domain knows
 -- whether it is broken; none of the rules on jumps, statements, the end of the code, helpers, the
 -- bound and r10.
-abbrev pub IsOfSound : (slots : ℕ) → ℕ → Rule → Type 0
-IsOfSound slots slot rules.Target = ⊥
-IsOfSound slots slot rules.FallsOff = ⊥
-IsOfSound slots slot rules.Unreached = ⊥
-IsOfSound slots slot rules.Unstated = ⊥
-IsOfSound slots slot rules.Helper = ⊥
-IsOfSound slots slot rules.Budget = ⊥
-IsOfSound slots slot rules.Frame = ⊥
-IsOfSound slots slot rules.Memory = slot ≡ 0
-IsOfSound slots slot other = slot < slots
+abbrev pub MayRefuseSound : (slots : ℕ) → ℕ → Rule → Type 0
+MayRefuseSound slots slot rules.Target = ⊥
+MayRefuseSound slots slot rules.FallsOff = ⊥
+MayRefuseSound slots slot rules.Unreached = ⊥
+MayRefuseSound slots slot rules.Unstated = ⊥
+MayRefuseSound slots slot rules.Helper = ⊥
+MayRefuseSound slots slot rules.Budget = ⊥
+MayRefuseSound slots slot rules.Frame = ⊥
+MayRefuseSound slots slot rules.Memory = slot ≡ 0
+MayRefuseSound slots slot other = slot < slots
 
 -- `if r0 == 0 goto`, the given number of slots after the next one
 abbrev pub test_by : ℕ → Instruction
@@ -42,17 +42,17 @@ jumping_statements = says 3 any_number 0 ∷ []
 
 -- a sound program may not be refused by a rule that depends only on the code and the statements:
 -- neither `r0 = 7; exit`, nor one that jumps to a statement
-pub record SoundCodeIsNotNamed : Type 0 where
+pub record SoundProgramsBreakNoRuleOnCode : Type 0 where
   pub straight : (hook : Hook) (slot : ℕ) (rule : Rule)
-      → MayRefuse hook (then_exit seven) 0 [] slot rule → IsOfSound 2 slot rule
+      → MayRefuse hook (then_exit seven) 0 [] slot rule → MayRefuseSound 2 slot rule
   pub jumping : (hook : Hook) (slot : ℕ) (rule : Rule)
-      → MayRefuse hook jumping_code 0 jumping_statements slot rule → IsOfSound 4 slot rule
+      → MayRefuse hook jumping_code 0 jumping_statements slot rule → MayRefuseSound 4 slot rule
 
 -- The rules on helpers and on the bound mean what their names say. No rule reports a missing helper
 -- for `call 1; exit`, whose helper exists. With the rank 499,999 at its entry, `r0 = 7; exit` may
 -- execute exactly 1,000,000 instructions, which is within the bound; with the next rank it exceeds
 -- the bound, which is reported at slot 0.
-pub record HelpersAndBoundAreNamedAptly : Type 0 where
+pub record HelpersAndTheBoundAreChecked : Type 0 where
   pub helper : (hook : Hook) (slot : ℕ) → MayRefuse hook (then_exit (Call (pos 1))) 0 [] slot
       rules.Helper
       → ⊥

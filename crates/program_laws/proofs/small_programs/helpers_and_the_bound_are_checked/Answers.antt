@@ -1,5 +1,5 @@
 use Rattle.program_laws.proofs.RefusalLaws.{named_aptly}
-use Rattle.program_laws.proofs.helpers_and_bound_are_named_aptly.Goals as goal
+use Rattle.program_laws.proofs.small_programs.helpers_and_the_bound_are_checked.Goals as goal
 
 pub returns : goal.returns
 returns c = named_aptly
