@@ -1,8 +1,10 @@
 -- Refusals of small programs.
-use Rattle.std.proofs.Common.{◌≡◌, ℕ, zero, suc, ◌<◌, Bool, true, false, cond, []}
+use Rattle.std.proofs.Common.{◌≡◌, ℕ, zero, suc, ◌<◌, Bool, true, false, cond, List, [], ◌∷◌}
 use Rattle.std.proofs.Common.{Some, None, IsSome, inl, ⊎_elim, refl, sym, subst, eqb-true}
 use Rattle.std.proofs.Common.{arith}
 use Rattle.std.specs.Prelude.{◌==◌, ℤ, pos}
+use Rattle.isa.specs.declared.code.Slot.{Slot}
+use Rattle.isa.specs.declared.code.Slot.TheVariants.{Start}
 use Rattle.isa.specs.declared.hook.Hook.{Hook}
 use Rattle.isa.specs.declared.instruction.Instruction.{Instruction}
 use Rattle.isa.specs.declared.instruction.Instruction.TheVariants.{Call, Exit}
@@ -21,7 +23,8 @@ use Rattle.segments.proofs.Plain.{never}
 use Rattle.verifier.specs.Examples.{then_exit, says, seven, test_on}
 use Rattle.program_laws.specs.Refusals.{HelpersAndTheBoundAreChecked, MayRefuseSound}
 use Rattle.program_laws.specs.Refusals.{LaterRulesDontCount, RulesCountInTheirOrder}
-use Rattle.program_laws.specs.Refusals.{SoundProgramsBreakNoRuleOnCode, astray_code, cut_code, jumping_code}
+use Rattle.program_laws.specs.Refusals.{SoundProgramsBreakNoRuleOnCode, astray_code, cut_code}
+use Rattle.program_laws.specs.Refusals.{jumping_code}
 use Rattle.program_laws.specs.Refusals.{jumping_statements, open_code, test_by, unstated_code}
 
 none_is_some : {A : Type 0} {x : A} → None ≡ Some x → ⊥
@@ -244,6 +247,7 @@ helper_is_there hook slot lacks =
 pub named_aptly : HelpersAndTheBoundAreChecked
 named_aptly = record {
   helper = helper_is_there;
+  missing = λ hook. record { number = pos 9; at = refl; none = refl };
   within = λ hook slot may. let more = may.over in omega (arith, more);
   over = λ hook. record { first = refl; over = omega arith };
   there = λ hook slot may. may.first;
@@ -251,19 +255,21 @@ named_aptly = record {
 
 -- ---- `r0 = 7; if r0 == 0 goto L; L: exit`, without a statement at L
 
-of_three : (P : ℕ → Instruction → Type 0) → P 0 seven → P 1 test_on → P 2 Exit
-    → (slot : ℕ) (i : Instruction) → BeginsAt i unstated_code slot → P slot i
-of_three P first second third zero i at =
+of_three : (middle : Instruction) (P : ℕ → Instruction → Type 0) → P 0 seven → P 1 middle → P 2 Exit
+    → (slot : ℕ) (i : Instruction)
+    → BeginsAt i (Start seven ∷ Start middle ∷ Start Exit ∷ []) slot → P slot i
+of_three middle P first second third zero i at =
     subst (λ k. P 0 k) (same_instruction seven i refl at) first
-of_three P first second third (suc zero) i at =
-    subst (λ k. P 1 k) (same_instruction test_on i refl at) second
-of_three P first second third (suc (suc zero)) i at =
+of_three middle P first second third (suc zero) i at =
+    subst (λ k. P 1 k) (same_instruction middle i refl at) second
+of_three middle P first second third (suc (suc zero)) i at =
     subst (λ k. P 2 k) (same_instruction Exit i refl at) third
-of_three P first second third (suc (suc (suc slot))) i at = absurd (none_is_some at)
+of_three middle P first second third (suc (suc (suc slot))) i at = absurd (none_is_some at)
 
 jumps_to : (slot : ℕ) (i : Instruction) → BeginsAt i unstated_code slot → (to : ℕ)
     → jump_target slot i ≡ Some to → (slot ≡ 1) × (to ≡ 2)
-jumps_to = of_three (λ slot i. (to : ℕ) → jump_target slot i ≡ Some to → (slot ≡ 1) × (to ≡ 2))
+jumps_to = of_three test_on (λ slot i. (to : ℕ) → jump_target slot i ≡ Some to
+    → (slot ≡ 1) × (to ≡ 2))
     (λ to is. absurd (none_is_some is)) (λ to is. (refl, sym (some_is_one is)))
     (λ to is. absurd (none_is_some is))
 
@@ -277,7 +283,8 @@ second_targets slot =
 
 second_ends : (slot : ℕ) → FallsOff unstated_code slot → ⊥
 second_ends slot off =
-    of_three (λ at i. slot_after at i ≡ 3 → goes_on i ≡ true → ⊥) (λ last on. omega (arith, last))
+    of_three test_on (λ at i. slot_after at i ≡ 3 → goes_on i ≡ true → ⊥)
+    (λ last on. omega (arith, last))
     (λ last on. omega (arith, last)) (λ last on. never on)
     slot off.instruction off.at off.last off.on
 
@@ -287,7 +294,7 @@ fourth_is_none begins = none_is_some begins.1
 second_reached : (slot : ℕ) → IsUnreached unstated_code [] slot → ⊥
 second_reached slot unreached =
     let cut = unreached.cut_off in
-    of_three (λ before i. (to : ℕ) → slot_after before i ≡ to → goes_on i ≡ false
+    of_three test_on (λ before i. (to : ℕ) → slot_after before i ≡ to → goes_on i ≡ false
     → Begins unstated_code to → ⊥)
     (λ to behind leaves begins. never (sym leaves)) (λ to behind leaves begins. never (sym leaves))
     (λ to behind leaves begins. fourth_is_none
@@ -306,17 +313,19 @@ first_is_well = record {
       unstated.jumps).0 in omega (arith, from);
 }
 
-below_one : (before : ℕ) → before < 1 → IsWellMade unstated_code [] before
-below_one zero below = first_is_well
-below_one (suc before) below = absurd (omega (arith, below))
+below : (code : List Slot) → IsWellMade code [] 0 → (before : ℕ) → before < 1
+    → IsWellMade code [] before
+below code first zero less = first
+below code first (suc before) less = absurd (omega (arith, less))
 
 not_made : IsWellMade unstated_code [] 1 → ⊥
 not_made made = made.stated is_unstated
 
 pub later_dont_count : LaterRulesDontCount
 later_dont_count = record {
+  breaks = λ hook. is_unstated;
   unstated = record {
-    earlier = below_one;
+    earlier = below unstated_code first_is_well;
     here = (second_targets 1, second_ends 1, second_reached 1);
   };
   kind = λ first. not_made first.here;
@@ -350,16 +359,111 @@ cut = record {
   unstated = refl;
 }
 
+-- ---- the rule that is broken counts
+
+astray_start : (slot : ℕ) (i : Instruction) → BeginsAt i astray_code slot → slot ≡ 0 → (to : ℕ)
+    → jump_target slot i ≡ Some to → ⊥
+astray_start = of_three (test_by 7)
+    (λ slot i. slot ≡ 0 → (to : ℕ) → jump_target slot i ≡ Some to → ⊥)
+    (λ from to is. none_is_some is) (λ from to is. omega (arith, from))
+    (λ from to is. none_is_some is)
+
+astray_ends : (slot : ℕ) (i : Instruction) → BeginsAt i astray_code slot → slot ≡ 0
+    → slot_after slot i ≡ 3 → ⊥
+astray_ends = of_three (test_by 7) (λ slot i. slot ≡ 0 → slot_after slot i ≡ 3 → ⊥)
+    (λ from last. omega (arith, last)) (λ from last. omega (arith, from))
+    (λ from last. omega (arith, from))
+
+none_before : (slot : ℕ) (i : Instruction) → BeginsAt i astray_code slot → slot_after slot i ≡ 0 → ⊥
+none_before = of_three (test_by 7) (λ slot i. slot_after slot i ≡ 0 → ⊥)
+    (λ behind. omega (arith, behind)) (λ behind. omega (arith, behind))
+    (λ behind. omega (arith, behind))
+
+astray_first : IsWellMade astray_code [] 0
+astray_first = record {
+  target = ⊎_elim
+      (λ (jump : JumpsNowhere astray_code 0). astray_start 0 jump.instruction jump.at refl jump.to
+      jump.jumps)
+      (λ (stray : IsStray astray_code [] 0). never stray.stated);
+  ends = λ off. astray_ends 0 off.instruction off.at refl off.last;
+  reached = λ unreached. let cut_off = unreached.cut_off in
+      none_before cut_off.before cut_off.instruction cut_off.at cut_off.behind;
+  stated = λ unstated. astray_start 0 unstated.instruction unstated.at refl unstated.to
+      unstated.jumps;
+}
+
+of_open : (P : ℕ → Instruction → Type 0) → P 0 seven → (slot : ℕ) (i : Instruction)
+    → BeginsAt i open_code slot → P slot i
+of_open P first zero i at = subst (λ k. P 0 k) (same_instruction seven i refl at) first
+of_open P first (suc slot) i at = absurd (none_is_some at)
+
+open_targets : (slot : ℕ) → IsBadTarget open_code [] slot → ⊥
+open_targets slot =
+    ⊎_elim
+    (λ (jump : JumpsNowhere open_code slot).
+    of_open (λ at i. (to : ℕ) → jump_target at i ≡ Some to → ⊥) (λ to is. none_is_some is) slot
+    jump.instruction jump.at jump.to jump.jumps)
+    (λ (stray : IsStray open_code [] slot). never stray.stated)
+
+of_cut : (P : ℕ → Instruction → Type 0) → P 0 Exit → P 1 Exit → (slot : ℕ) (i : Instruction)
+    → BeginsAt i cut_code slot → P slot i
+of_cut P first second zero i at = subst (λ k. P 0 k) (same_instruction Exit i refl at) first
+of_cut P first second (suc zero) i at = subst (λ k. P 1 k) (same_instruction Exit i refl at) second
+of_cut P first second (suc (suc slot)) i at = absurd (none_is_some at)
+
+cut_jumps_not : (slot : ℕ) (i : Instruction) → BeginsAt i cut_code slot → (to : ℕ)
+    → jump_target slot i ≡ Some to → ⊥
+cut_jumps_not = of_cut (λ slot i. (to : ℕ) → jump_target slot i ≡ Some to → ⊥)
+    (λ to is. none_is_some is) (λ to is. none_is_some is)
+
+cut_targets : (slot : ℕ) → IsBadTarget cut_code [] slot → ⊥
+cut_targets slot =
+    ⊎_elim
+    (λ (jump : JumpsNowhere cut_code slot). cut_jumps_not slot jump.instruction jump.at jump.to
+    jump.jumps)
+    (λ (stray : IsStray cut_code [] slot). never stray.stated)
+
+cut_ends : (slot : ℕ) → FallsOff cut_code slot → ⊥
+cut_ends slot off =
+    of_cut (λ at i. goes_on i ≡ true → ⊥) (λ on. never on) (λ on. never on) slot off.instruction
+    off.at off.on
+
+none_before_cut : (slot : ℕ) (i : Instruction) → BeginsAt i cut_code slot → slot_after slot i ≡ 0
+    → ⊥
+none_before_cut = of_cut (λ slot i. slot_after slot i ≡ 0 → ⊥) (λ behind. omega (arith, behind))
+    (λ behind. omega (arith, behind))
+
+cut_first : IsWellMade cut_code [] 0
+cut_first = record {
+  target = cut_targets 0;
+  ends = cut_ends 0;
+  reached = λ unreached. let cut_off = unreached.cut_off in
+      none_before_cut cut_off.before cut_off.instruction cut_off.at cut_off.behind;
+  stated = λ unstated. cut_jumps_not 0 unstated.instruction unstated.at unstated.to unstated.jumps;
+}
+
 pub in_their_order : RulesCountInTheirOrder
 in_their_order = record {
+  astray_breaks = λ hook. astray;
+  astray_counts = record { earlier = below astray_code astray_first; here = tt };
   astray_ends = λ first. first.here astray;
   astray_unreached = λ first. first.here.0 astray;
   astray_unstated = λ first. first.here.0 astray;
   astray_kind = λ first. first.here.target astray;
   stated_kind = λ first. first.here.target (inl leads_astray);
+  open_breaks = λ hook. falls;
+  open_counts = record {
+    earlier = λ before less. absurd (omega (arith, less));
+    here = open_targets 0;
+  };
   open_unreached = λ first. first.here.1 falls;
   open_unstated = λ first. first.here.1 falls;
   open_kind = λ first. first.here.ends falls;
+  cut_breaks = λ hook. cut;
+  cut_counts = record {
+    earlier = below cut_code cut_first;
+    here = (cut_targets 1, cut_ends 1);
+  };
   cut_unstated = λ first. first.here.2 cut;
   cut_kind = λ first. first.here.reached cut;
 }

@@ -49,13 +49,14 @@ pub record SoundProgramsBreakNoRuleOnCode : Type 0 where
       → MayRefuse hook jumping_code 0 jumping_statements slot rule → MayRefuseSound 4 slot rule
 
 -- The rules on helpers and on the bound mean what their names say. No rule reports a missing helper
--- for `call 1; exit`, whose helper exists. With the rank 499,999 at its entry, `r0 = 7; exit` may
--- execute exactly 1,000,000 instructions, which is within the bound; with the next rank it exceeds
--- the bound, which is reported at slot 0.
+-- for `call 1; exit`, whose helper exists; `call 9; exit` may be refused for that. With the rank
+-- 499,999 at its entry, `r0 = 7; exit` may execute exactly 1,000,000 instructions, which is within
+-- the bound; with the next rank it exceeds the bound, which is reported at slot 0.
 pub record HelpersAndTheBoundAreChecked : Type 0 where
   pub helper : (hook : Hook) (slot : ℕ) → MayRefuse hook (then_exit (Call (pos 1))) 0 [] slot
       rules.Helper
       → ⊥
+  pub missing : (hook : Hook) → MayRefuse hook (then_exit (Call (pos 9))) 0 [] 0 rules.Helper
   pub within : (hook : Hook) (slot : ℕ)
       → MayRefuse hook (then_exit seven) 499999 [] slot rules.Budget
       → ⊥
@@ -68,9 +69,10 @@ pub record HelpersAndTheBoundAreChecked : Type 0 where
 abbrev pub unstated_code : List Slot
 unstated_code = Start seven ∷ Start test_on ∷ Start Exit ∷ []
 
--- Its second slot breaks a rule. So no later rule counts there, not even one on an edge, and none
--- at a later slot.
+-- Its second slot breaks a rule, the first one that is broken. So no later rule counts there, not
+-- even one on an edge, and none at a later slot.
 pub record LaterRulesDontCount : Type 0 where
+  pub breaks : (hook : Hook) → MayRefuse hook unstated_code 0 [] 1 rules.Unstated
   pub unstated : IsFirst unstated_code [] 1 rules.Unstated
   pub kind : IsFirst unstated_code [] 1 rules.Kind → ⊥
   pub frame : IsFirst unstated_code [] 1 rules.Frame → ⊥
@@ -97,16 +99,22 @@ cut_code = Start Exit ∷ Start Exit ∷ []
 -- The rules on jumps, statements and the end of the code have an order: if a slot breaks the one on
 -- targets, none of the three after it counts there; if it breaks the one on the end, neither of the
 -- two after it; if it is unreachable, the last doesn't count. No rule on registers counts at any of
--- these slots.
+-- these slots. The one that is broken does.
 pub record RulesCountInTheirOrder : Type 0 where
+  pub astray_breaks : (hook : Hook) → MayRefuse hook astray_code 0 [] 1 rules.Target
+  pub astray_counts : IsFirst astray_code [] 1 rules.Target
   pub astray_ends : IsFirst astray_code [] 1 rules.FallsOff → ⊥
   pub astray_unreached : IsFirst astray_code [] 1 rules.Unreached → ⊥
   pub astray_unstated : IsFirst astray_code [] 1 rules.Unstated → ⊥
   pub astray_kind : IsFirst astray_code [] 1 rules.Kind → ⊥
   -- the same if only the rule on targets is broken
   pub stated_kind : IsFirst astray_code astray_statements 1 rules.Kind → ⊥
+  pub open_breaks : (hook : Hook) → MayRefuse hook open_code 0 [] 0 rules.FallsOff
+  pub open_counts : IsFirst open_code [] 0 rules.FallsOff
   pub open_unreached : IsFirst open_code [] 0 rules.Unreached → ⊥
   pub open_unstated : IsFirst open_code [] 0 rules.Unstated → ⊥
   pub open_kind : IsFirst open_code [] 0 rules.Kind → ⊥
+  pub cut_breaks : (hook : Hook) → MayRefuse hook cut_code 0 [] 1 rules.Unreached
+  pub cut_counts : IsFirst cut_code [] 1 rules.Unreached
   pub cut_unstated : IsFirst cut_code [] 1 rules.Unstated → ⊥
   pub cut_kind : IsFirst cut_code [] 1 rules.Kind → ⊥
