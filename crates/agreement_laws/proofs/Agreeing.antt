@@ -15,7 +15,7 @@ use Rattle.event_rules.specs.Events.{Step}
 use Rattle.event_rules.specs.LsaInstances.{LsaInstance, instance_of_header, instance_of_lsa}
 use Rattle.event_rules.specs.Routers.{Occurrence, Router}
 use Rattle.agreement_laws.specs.Exchanged.{Conversation, Describes, conversation_with}
-use Rattle.agreement_laws.specs.HeldWasTold.{is_exchange_done}
+use Rattle.agreement_laws.specs.HeldWasExchanged.{is_exchange_done}
 use Rattle.agreement_laws.specs.NeighborHistories.{Ends, IsHistory, Pair, Party, Side, Turn}
 use Rattle.agreement_laws.specs.NeighborHistories.{event_of, interface_of, other_side, party}
 use Rattle.agreement_laws.specs.NeighborHistories.{text_at}

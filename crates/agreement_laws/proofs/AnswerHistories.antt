@@ -19,7 +19,7 @@ use Rattle.flood_laws.proofs.Acknowledged.{routers_stay_in_order}
 use Rattle.flood_laws.proofs.Known.{router_stays}
 use Rattle.flood_laws.proofs.Lists.{of_empty}
 use Rattle.agreement_laws.specs.Exchanged.{Conversation, Converses, conversation_with}
-use Rattle.agreement_laws.specs.HeldWasTold.{is_exchange_done}
+use Rattle.agreement_laws.specs.HeldWasExchanged.{is_exchange_done}
 use Rattle.agreement_laws.specs.NeighborHistories.{BeginsAnew, Doing, Ends, HasBegun, IsHistory}
 use Rattle.agreement_laws.specs.NeighborHistories.{OfTurn, Pair, Party, Side, TakesEvent, Turn}
 use Rattle.agreement_laws.specs.NeighborHistories.{event_of, event_taken, interface_of}

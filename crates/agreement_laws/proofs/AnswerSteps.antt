@@ -38,7 +38,7 @@ use Rattle.event_rules.specs.Hellos.{is_foreign}
 use Rattle.flood_laws.proofs.Flooding.{flooding_so}
 use Rattle.flood_laws.proofs.Lists.{of_cons, of_empty}
 use Rattle.agreement_laws.specs.Exchanged.{Conversation, conversation_with}
-use Rattle.agreement_laws.specs.HeldWasTold.{is_exchange_done}
+use Rattle.agreement_laws.specs.HeldWasExchanged.{is_exchange_done}
 use Rattle.agreement_laws.specs.Answers.{HasRole, IsOpening}
 use Rattle.agreement_laws.specs.Accepted.{accepts_description, is_accepting}
 use Rattle.agreement_laws.proofs.Lists.{some_same}

@@ -57,7 +57,7 @@ use Rattle.event_rules.specs.Routers.{Occurrence, Router, fresh_link, unannounce
 use Rattle.event_rules.specs.Ticks.{again, expire_timers, with_hello_sent, without_acknowledgments}
 use Rattle.event_rules.proofs.Walk.{Brings, Invariant, IsKeptByParts, originate_or_wait_kept}
 use Rattle.event_rules.proofs.Walk as walk
-use Rattle.agreement_laws.specs.HeldWasTold.{NothingIsLeftToDescribe, is_exchange_done}
+use Rattle.agreement_laws.specs.HeldWasExchanged.{NothingIsLeftToDescribe, is_exchange_done}
 use Rattle.agreement_laws.proofs.Verdicts.{as_slave_or_master, first_two, mismatch_or_accepted}
 use Rattle.agreement_laws.proofs.Steps as steps
 use Rattle.agreement_laws.proofs.AtInterface as interface

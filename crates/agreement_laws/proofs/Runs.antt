@@ -41,8 +41,9 @@ use Rattle.flood_laws.proofs.Leaving.{stepped_kept}
 use Rattle.router_runs.specs.Clocks.{ClockRunsOn}
 use Rattle.agreement_laws.specs.Exchanged.{Conversation, Converses, GoesOn}
 use Rattle.agreement_laws.specs.Exchanged.{IsExchanged, WasExchanged, conversation_with}
-use Rattle.agreement_laws.specs.HeldWasTold.{FullNeighborsWereTold, WasExchangedAsNew, IsNotOwed}
-use Rattle.agreement_laws.specs.HeldWasTold.{WhatIsHeldWasTold, is_exchange_done}
+use Rattle.agreement_laws.specs.HeldWasExchanged.{IsNotOwed, WasExchangedAsNew}
+use Rattle.agreement_laws.specs.HeldWasExchanged.{WasExchangedWithFullNeighbors}
+use Rattle.agreement_laws.specs.HeldWasExchanged.{WhatIsHeldWasExchanged, is_exchange_done}
 use Rattle.agreement_laws.specs.Ranks.{is_at_least}
 use Rattle.agreement_laws.proofs.Describing.{held, instance_at}
 use Rattle.agreement_laws.proofs.Done.{nothing_is_left}
@@ -310,18 +311,18 @@ module _ (c : Config) (steps : List Step) (r : Router) (run : Run (initial c) st
           absurd cc
       by_place (inr (inr k)) = by_saying k.0 k.2 k.1
 
-pub held_was_told : WhatIsHeldWasTold
-held_was_told c steps r run clock number n at on key copy there free =
+pub held_was_exchanged : WhatIsHeldWasExchanged
+held_was_exchanged c steps r run clock number n at on key copy there free =
     known c steps r run clock number n at on key copy there free
     (its_settled c steps r run clock number n at on key copy there free)
 
 -- ---- for a Full neighbor
 
-pub full_told : FullNeighborsWereTold
-full_told c steps r run clock number n at full key copy there free =
+pub exchanged_with_full : WasExchangedWithFullNeighbors
+exchanged_with_full c steps r run clock number n at full key copy there free =
     let empty : n.summary ≡ finite.empty =
     nothing_is_left c steps r run number n at (ap is_exchange_done full) in
-    held_was_told c steps r run clock number n at (ap is_exchange_or_later full) key copy there
+    held_was_exchanged c steps r run clock number n at (ap is_exchange_or_later full) key copy there
     (record {
       acknowledged = free;
       described =

@@ -13,7 +13,7 @@ use Rattle.received.specs.Outcomes.{Send}
 use Rattle.event_rules.specs.Endings.{end_event}
 use Rattle.event_rules.specs.Events.{Step}
 use Rattle.agreement_laws.specs.Exchanged.{Conversation, Converses, conversation_with}
-use Rattle.agreement_laws.specs.HeldWasTold.{is_exchange_done}
+use Rattle.agreement_laws.specs.HeldWasExchanged.{is_exchange_done}
 use Rattle.agreement_laws.specs.NeighborHistories.{Doing, Ends, InSomeTurnSince, IsHistory, OfTurn}
 use Rattle.agreement_laws.specs.NeighborHistories.{Pair, Party, Side, Turn, event_of, interface_of}
 use Rattle.agreement_laws.specs.NeighborHistories.{is_same_side, other_side, party}

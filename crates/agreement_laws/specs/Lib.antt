@@ -2,7 +2,7 @@ pub mod Ranks
 pub mod WorkedRanks
 pub mod Exchanged
 pub mod WorkedExchanges
-pub mod HeldWasTold
+pub mod HeldWasExchanged
 pub mod CopiesClimb
 pub mod WorkedCopies
 pub mod SaidIsHeld

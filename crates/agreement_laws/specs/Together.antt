@@ -6,7 +6,7 @@ use Rattle.packet.specs.declared.model.Description.{Description}
 use Rattle.adjacency.specs.Neighbors.{Neighbor}
 use Rattle.received.specs.Links.{neighbor_at}
 use Rattle.agreement_laws.specs.Exchanged.{Conversation, conversation_with}
-use Rattle.agreement_laws.specs.HeldWasTold.{is_exchange_done}
+use Rattle.agreement_laws.specs.HeldWasExchanged.{is_exchange_done}
 use Rattle.agreement_laws.specs.NeighborHistories.{Ends, IsHistory, Pair, Side, interface_of}
 use Rattle.agreement_laws.specs.NeighborHistories.{other_side, party}
 use Rattle.agreement_laws.specs.Answers.{IsAccepted, IsOf, IsOpening}

@@ -1,11 +1,13 @@
 //! Laws about when the databases of neighbors agree, each the contract of a function that does
-//! nothing: how new instances are, and that what a router holds was said to its neighbors. On the
-//! exchange of Descriptions: what is requested, what moves it, and how it goes on between two.
+//! nothing: how new instances are, and that what a router holds was exchanged with its neighbors.
+//! On the exchange of Descriptions: what is requested, what moves it, and how it goes on between
+//! two.
 #![tactic(auto)]
 
 ghost use Rattle.agreement_laws.specs.CopiesClimb.{CopiesClimb};
-ghost use Rattle.agreement_laws.specs.HeldWasTold.{FullNeighborsWereTold};
-ghost use Rattle.agreement_laws.specs.HeldWasTold.{NothingIsLeftToDescribe, WhatIsHeldWasTold};
+ghost use Rattle.agreement_laws.specs.HeldWasExchanged.{NothingIsLeftToDescribe};
+ghost use Rattle.agreement_laws.specs.HeldWasExchanged.{WasExchangedWithFullNeighbors};
+ghost use Rattle.agreement_laws.specs.HeldWasExchanged.{WhatIsHeldWasExchanged};
 ghost use Rattle.agreement_laws.specs.NeighborsAgree.{NeighborsAgreeOnWhatWasRenewed};
 ghost use Rattle.agreement_laws.specs.Ranks.{RanksFollowTheComparison};
 ghost use Rattle.agreement_laws.specs.SaidIsHeld.{WhatIsSaidIsHeld};
@@ -31,8 +33,8 @@ pub fn ranks_follow_the_comparison()
 /// to it, then in their present conversation it was described to that neighbor, or the neighbor
 /// sent an instance that is at least as new, in a Database Description, a Link State Update or a
 /// Link State Acknowledgment (RFC 2328, sections 10.3, 10.6, 13.3 and 13.7).
-pub fn what_is_held_was_told()
-    ensures { WhatIsHeldWasTold }
+pub fn what_is_held_was_exchanged()
+    ensures { WhatIsHeldWasExchanged }
 {}
 
 /// After every run: the Database summary list of a neighbor in Loading or Full is empty (RFC 2328,
@@ -44,8 +46,8 @@ pub fn nothing_is_left_to_describe()
 /// So for Full neighbors: if a router holds an instance that isn't on the neighbor's retransmission
 /// list, it was described to the neighbor in their present conversation, or the neighbor sent an
 /// instance that is at least as new.
-pub fn full_neighbors_were_told()
-    ensures { FullNeighborsWereTold }
+pub fn was_exchanged_with_full_neighbors()
+    ensures { WasExchangedWithFullNeighbors }
 {}
 
 /// In each event a copy stays, or is replaced by one that is at least as new, or is removed from

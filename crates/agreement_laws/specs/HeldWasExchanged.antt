@@ -1,8 +1,8 @@
--- What a router holds was said to its neighbors (RFC 2328, sections 10.3, 10.6 and 13.3): each of
--- its copies is on a neighbor's retransmission list, or is still to be described to it; or, in
--- their present conversation, it was described to the neighbor, or a packet of the neighbor had an
--- instance that is at least as new. This holds whatever is received: nothing is assumed about loss,
--- repetition or delay.
+-- What a router holds was exchanged with its neighbors (RFC 2328, sections 10.3, 10.6 and 13.3):
+-- each of its copies is on a neighbor's retransmission list, or is still to be described to it; or,
+-- in their present conversation, it was described to the neighbor, or a packet of the neighbor had
+-- an instance that is at least as new. This holds whatever is received: nothing is assumed about
+-- loss, repetition or delay.
 use Rattle.std.specs.Prelude.{◌≡◌, Bool, true, false, List, Some}
 use Rattle.std.specs.FinMap as finite
 use Rattle.words.specs.Numbers.{InterfaceNumber}
@@ -39,8 +39,8 @@ pub record IsNotOwed (n : Neighbor) (key : Key) : Type 0 where
 
 -- after every run: if an instance is held and is on neither list of a neighbor in Exchange or
 -- later, one that is at least as new was exchanged
-abbrev pub WhatIsHeldWasTold : Type 0
-WhatIsHeldWasTold =
+abbrev pub WhatIsHeldWasExchanged : Type 0
+WhatIsHeldWasExchanged =
     (c : Config) (steps : List Step) (r : Router) → Run (initial c) steps r
     → ClockRunsOn c.start steps
     → (number : InterfaceNumber) (n : Neighbor) → neighbor_at number r.area.links ≡ Some n
@@ -69,8 +69,8 @@ NothingIsLeftToDescribe =
 
 -- so if an instance is held and isn't on the retransmission list of a Full neighbor, one that is at
 -- least as new was exchanged
-abbrev pub FullNeighborsWereTold : Type 0
-FullNeighborsWereTold =
+abbrev pub WasExchangedWithFullNeighbors : Type 0
+WasExchangedWithFullNeighbors =
     (c : Config) (steps : List Step) (r : Router) → Run (initial c) steps r
     → ClockRunsOn c.start steps
     → (number : InterfaceNumber) (n : Neighbor) → neighbor_at number r.area.links ≡ Some n
