@@ -45,7 +45,7 @@ mod AnswerParts
 mod AnswerWalk
 mod Conversing
 mod AnswerHistories
-mod Together
+mod BothDone
 mod Latest
 mod Taking
 mod Described

@@ -12,7 +12,7 @@ use Rattle.agreement_laws.specs.NeighborHistories.{Ends, IsHistory, Pair, Side, 
 use Rattle.agreement_laws.specs.NeighborsAgree.{HoldsAsNew, is_as_new}
 use Rattle.agreement_laws.specs.Answers.{IsOf}
 use Rattle.agreement_laws.specs.Held.{WasLost}
-use Rattle.agreement_laws.specs.Together.{IsDone, NoneIsMistaken, NumbersServeOnce}
+use Rattle.agreement_laws.specs.BothDone.{BothDone, NumbersServeOnce}
 
 -- each header of its key in the Descriptions of the conversation names an instance as new
 abbrev pub AreDescribedAsNew : (ends : Ends) → Side → Conversation → LsaInstance → (now : Pair)
@@ -27,16 +27,11 @@ abbrev pub WhatWasDescribedIsHeld : Type 0
 WhatWasDescribedIsHeld =
     (ends : Ends) (side : Side) (now : Pair) (earlier : List Pair)
     (h : IsHistory ends now earlier)
-    → (mine : IsDone ends side now) (its : IsDone ends (other_side side) now)
-    → its.neighbor.state ≡ Full
-    → NoneIsMistaken ends side (conversation_with mine.neighbor) (conversation_with its.neighbor)
-    now earlier h
-    → NoneIsMistaken ends (other_side side) (conversation_with its.neighbor)
-    (conversation_with mine.neighbor) now earlier h
-    → NumbersServeOnce ends side (conversation_with mine.neighbor) now earlier h
+    → (both : BothDone ends side now earlier h) → both.its.neighbor.state ≡ Full
+    → NumbersServeOnce ends side (conversation_with both.mine.neighbor) now earlier h
     → (name : LsaInstance)
-    → AreDescribedAsNew ends side (conversation_with mine.neighbor) name now earlier h
-    → (d : Description) → IsOf ends side (conversation_with mine.neighbor) d now earlier h
+    → AreDescribedAsNew ends side (conversation_with both.mine.neighbor) name now earlier h
+    → (d : Description) → IsOf ends side (conversation_with both.mine.neighbor) d now earlier h
     → (g : Header) → Contains d.headers g → key_of g ≡ name.key
     → HoldsAsNew (party (other_side side) now).router name
-    ⊎ WasLost ends (other_side side) (conversation_with its.neighbor) name.key now earlier h
+    ⊎ WasLost ends (other_side side) (conversation_with both.its.neighbor) name.key now earlier h

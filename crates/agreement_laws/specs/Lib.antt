@@ -17,7 +17,7 @@ pub mod WorkedRequests
 pub mod Moves
 pub mod Numbers
 pub mod Answers
-pub mod Together
+pub mod BothDone
 pub mod Held
 pub mod Described
 pub mod WorkedAnswers

@@ -1,8 +1,8 @@
 //! Laws on how an exchange of Descriptions goes on between two neighbors.
 ghost use Rattle.agreement_laws.specs.Answers.{DescriptionsAreAnswered};
+ghost use Rattle.agreement_laws.specs.BothDone.{WhatWasDescribedWasAccepted};
 ghost use Rattle.agreement_laws.specs.Described.{WhatWasDescribedIsHeld};
 ghost use Rattle.agreement_laws.specs.Held.{WhatWasAcceptedIsHeld};
-ghost use Rattle.agreement_laws.specs.Together.{TheExchangeEndsTogether};
 ghost use Rattle.agreement_laws.specs.WorkedAnswers.{WorkedAnswers};
 
 use crate::requests::{requests_are_met, requests_stay, what_is_accepted_is_requested};
@@ -21,8 +21,8 @@ pub fn descriptions_are_answered()
 /// which the first one sent in it too, and so the very Description, unless a number served twice;
 /// or else a Description of another conversation was taken for one of this (RFC 2328, sections 10.6
 /// and 10.8).
-pub fn the_exchange_ends_together()
-    ensures { TheExchangeEndsTogether }
+pub fn what_was_described_was_accepted()
+    ensures { WhatWasDescribedWasAccepted }
 {
     descriptions_are_answered();
 }
@@ -50,7 +50,7 @@ pub fn what_was_accepted_is_held()
 pub fn what_was_described_is_held()
     ensures { WhatWasDescribedIsHeld }
 {
-    the_exchange_ends_together();
+    what_was_described_was_accepted();
     what_was_accepted_is_held();
 }
 

@@ -3,4 +3,4 @@ use Rattle.agreement_laws.proofs.answers.what_was_described_is_held.Goals as goa
 
 pub returns : goal.returns
 returns c =
-    described_is_held c.the_exchange_ends_together.ensures c.what_was_accepted_is_held.ensures
+    described_is_held c.what_was_described_was_accepted.ensures c.what_was_accepted_is_held.ensures

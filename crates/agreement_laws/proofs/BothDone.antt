@@ -1,4 +1,4 @@
--- An exchange of Descriptions ends only together.
+-- What was described in an exchange that both are done with was accepted.
 use Rattle.std.proofs.Common.{◌≡◌, ℕ, Bool, true, false, not, ◌⊎◌, inl, inr, List, refl, sym, ap}
 use Rattle.std.proofs.Common.{subst, ◌∙◌, arith}
 use Rattle.std.specs.Prelude.{nat_lt}
@@ -9,8 +9,8 @@ use Rattle.agreement_laws.specs.Exchanged.{conversation_with}
 use Rattle.agreement_laws.specs.NeighborHistories.{Ends, IsHistory, Pair, Side, other_side, party}
 use Rattle.agreement_laws.specs.Answers.{DescriptionsAreAnswered, HasRole, IsAccepted, IsAnswered}
 use Rattle.agreement_laws.specs.Answers.{IsOf, IsOpening}
-use Rattle.agreement_laws.specs.Together.{IsDone, NoneIsMistaken, NumbersServeOnce}
-use Rattle.agreement_laws.specs.Together.{TheExchangeEndsTogether, WasAccepted}
+use Rattle.agreement_laws.specs.BothDone.{BothDone, NumbersServeOnce, WasAccepted}
+use Rattle.agreement_laws.specs.BothDone.{WhatWasDescribedWasAccepted}
 use Rattle.agreement_laws.proofs.Done.{exchange_then}
 
 pub back : (side : Side) → other_side (other_side side) ≡ side
@@ -27,18 +27,14 @@ not_twice false true e = refl
 not_twice false false e = absurd cc
 
 module _ (laws : DescriptionsAreAnswered) (ends : Ends) (side : Side) (now : Pair)
-    (earlier : List Pair) (h : IsHistory ends now earlier) (mine : IsDone ends side now)
-    (its : IsDone ends (other_side side) now)
-    (current : NoneIsMistaken ends side (conversation_with mine.neighbor)
-    (conversation_with its.neighbor) now earlier h)
-    (its_current : NoneIsMistaken ends (other_side side) (conversation_with its.neighbor)
-    (conversation_with mine.neighbor) now earlier h) (d : Description)
-    (sent : IsOf ends side (conversation_with mine.neighbor) d now earlier h) where
+    (earlier : List Pair) (h : IsHistory ends now earlier)
+    (both : BothDone ends side now earlier h) (d : Description)
+    (sent : IsOf ends side (conversation_with both.mine.neighbor) d now earlier h) where
   abbrev n : Neighbor
-  n = mine.neighbor
+  n = both.mine.neighbor
 
   abbrev m : Neighbor
-  m = its.neighbor
+  m = both.its.neighbor
 
   abbrev own : ℕ
   own = (party side now).router.id
@@ -53,14 +49,15 @@ module _ (laws : DescriptionsAreAnswered) (ends : Ends) (side : Side) (now : Pai
 
   my_role : HasRole n.is_master own other
   my_role =
-      subst (HasRole n.is_master own) mine.other
-      (laws.roles ends side now earlier h n mine.there (exchange_then n.state mine.done))
+      subst (HasRole n.is_master own) both.mine.other
+      (laws.roles ends side now earlier h n both.mine.there (exchange_then n.state both.mine.done))
 
   its_role : HasRole m.is_master other own
   its_role =
       subst (HasRole m.is_master other)
-      (its.other ∙ ap (λ (s : Side). (party s now).router.id) (back side))
-      (laws.roles ends (other_side side) now earlier h m its.there (exchange_then m.state its.done))
+      (both.its.other ∙ ap (λ (s : Side). (party s now).router.id) (back side))
+      (laws.roles ends (other_side side) now earlier h m both.its.there
+      (exchange_then m.state both.its.done))
 
   -- one of the two leads
   roles_differ : (a b : Bool) → HasRole a own other → HasRole b other own → b ≡ not a
@@ -77,7 +74,7 @@ module _ (laws : DescriptionsAreAnswered) (ends : Ends) (side : Side) (now : Pai
         taken = a.answer;
         accepted = a.accepted;
         sent = subst (λ (s : Side). IsOf ends s (conversation_with n) a.answer now earlier h)
-            (back side) (its_current a.answer a.accepted);
+            (back side) (both.none_mistaken_there a.answer a.accepted);
         number = a.number ∙ number;
         role = a.role ∙ not_twice e.master d.master role;
       })
@@ -85,13 +82,14 @@ module _ (laws : DescriptionsAreAnswered) (ends : Ends) (side : Side) (now : Pai
   -- this router leads
   as_master : n.is_master ≡ true → m.is_master ≡ false → Result
   as_master leads follows =
-      by_answer (laws.master ends side now earlier h n mine.there mine.done leads d sent)
+      by_answer (laws.master ends side now earlier h n both.mine.there both.mine.done leads d sent)
     where
       by_answer : (d.master ≡ true)
           × IsAnswered ends side (conversation_with n) d now earlier h → Result
       by_answer (first, a) =
-          by_other (laws.slave ends (other_side side) now earlier h m its.there
-          (exchange_then m.state its.done) follows a.answer (current a.answer a.accepted))
+          by_other (laws.slave ends (other_side side) now earlier h m both.its.there
+          (exchange_then m.state both.its.done) follows a.answer
+          (both.none_mistaken_here a.answer a.accepted))
         where
           by_other : IsOpening a.answer
               ⊎ IsAnswered ends (other_side side) (conversation_with m) a.answer now earlier h
@@ -103,15 +101,16 @@ module _ (laws : DescriptionsAreAnswered) (ends : Ends) (side : Side) (now : Pai
   -- the other one does
   as_slave : n.is_master ≡ false → m.is_master ≡ true → Result
   as_slave follows leads =
-      by_answer (laws.slave ends side now earlier h n mine.there
-      (exchange_then n.state mine.done) follows d sent)
+      by_answer (laws.slave ends side now earlier h n both.mine.there
+      (exchange_then n.state both.mine.done) follows d sent)
     where
       by_answer : IsOpening d ⊎ IsAnswered ends side (conversation_with n) d now earlier h → Result
       by_answer (inl o) = inl o
       by_answer (inr a) =
           taken_by a.answer a.number a.role
-          (laws.master ends (other_side side) now earlier h m its.there its.done leads a.answer
-          (current a.answer a.accepted)).1
+          (laws.master ends (other_side side) now earlier h m both.its.there both.its.done leads
+          a.answer
+          (both.none_mistaken_here a.answer a.accepted)).1
 
   pub result : Result
   result = by_role n.is_master refl
@@ -135,10 +134,10 @@ module _ (laws : DescriptionsAreAnswered) (ends : Ends) (side : Side) (now : Pai
           IsAccepted ends (other_side side) (conversation_with m) e now earlier h)
           (once w.taken d w.sent sent w.number w.role) w.accepted)
 
-pub together : DescriptionsAreAnswered → TheExchangeEndsTogether
-together laws = record {
-  accepted = λ ends side now earlier h mine its current its_current d sent.
-      result laws ends side now earlier h mine its current its_current d sent;
-  same = λ ends side now earlier h mine its current its_current once d sent.
-      the_same laws ends side now earlier h mine its current its_current d sent once;
+pub was_accepted : DescriptionsAreAnswered → WhatWasDescribedWasAccepted
+was_accepted laws = record {
+  accepted = λ ends side now earlier h both d sent.
+      result laws ends side now earlier h both d sent;
+  same = λ ends side now earlier h both once d sent.
+      the_same laws ends side now earlier h both d sent once;
 }

@@ -1,6 +1,6 @@
--- An exchange of Descriptions ends only together (RFC 2328, sections 10.6 and 10.8): once both
--- neighbors are done with it, each has accepted what the other described; unless a Description of
--- another conversation was taken for one of this, which has the same DD sequence number.
+-- What one neighbor described in an exchange the other one accepted, once both are done with it
+-- (RFC 2328, sections 10.6 and 10.8); unless a Description of another conversation, which has the
+-- same DD sequence number, was taken for one of this.
 use Rattle.std.specs.Prelude.{◌≡◌, ◌⊎◌, true, List, Some}
 use Rattle.packet.specs.declared.model.Description.{Description}
 use Rattle.adjacency.specs.Neighbors.{Neighbor}
@@ -27,6 +27,17 @@ pub record IsDone (ends : Ends) (side : Side) (now : Pair) : Type 0 where
   pub done : is_exchange_done neighbor.state ≡ true
   pub other : neighbor.router ≡ (party (other_side side) now).router.id
 
+-- Both are done with the exchange, the router of this side and the other one, and neither took a
+-- Description of another conversation for one of this.
+pub record BothDone (ends : Ends) (side : Side) (now : Pair) (earlier : List Pair)
+    (h : IsHistory ends now earlier) : Type 0 where
+  pub mine : IsDone ends side now
+  pub its : IsDone ends (other_side side) now
+  pub none_mistaken_here : NoneIsMistaken ends side (conversation_with mine.neighbor)
+      (conversation_with its.neighbor) now earlier h
+  pub none_mistaken_there : NoneIsMistaken ends (other_side side)
+      (conversation_with its.neighbor) (conversation_with mine.neighbor) now earlier h
+
 -- the other one accepted a Description with this one's number, which the router of this side sent
 pub record WasAccepted (ends : Ends) (side : Side) (mine its : Conversation) (d : Description)
     (now : Pair) (earlier : List Pair) (h : IsHistory ends now earlier) : Type 0 where
@@ -44,28 +55,19 @@ NumbersServeOnce ends side mine now earlier h =
     (a b : Description) → IsOf ends side mine a now earlier h → IsOf ends side mine b now earlier h
     → a.sequence ≡ b.sequence → a.master ≡ b.master → a ≡ b
 
--- in every history of two neighbors
-pub record TheExchangeEndsTogether : Type 0 where
+-- in every history of two neighbors: each that the router of this side sent in the conversation,
+-- but an empty opening one
+pub record WhatWasDescribedWasAccepted : Type 0 where
   pub accepted : (ends : Ends) (side : Side) (now : Pair) (earlier : List Pair)
-      (h : IsHistory ends now earlier)
-      → (mine : IsDone ends side now) (its : IsDone ends (other_side side) now)
-      → NoneIsMistaken ends side (conversation_with mine.neighbor)
-      (conversation_with its.neighbor) now earlier h
-      → NoneIsMistaken ends (other_side side) (conversation_with its.neighbor)
-      (conversation_with mine.neighbor) now earlier h
-      → (d : Description) → IsOf ends side (conversation_with mine.neighbor) d now earlier h
+      (h : IsHistory ends now earlier) → (both : BothDone ends side now earlier h)
+      → (d : Description) → IsOf ends side (conversation_with both.mine.neighbor) d now earlier h
       → IsOpening d
-      ⊎ WasAccepted ends side (conversation_with mine.neighbor) (conversation_with its.neighbor) d
-      now earlier h
+      ⊎ WasAccepted ends side (conversation_with both.mine.neighbor)
+      (conversation_with both.its.neighbor) d now earlier h
   -- so the very Description, if numbers serve once
   pub same : (ends : Ends) (side : Side) (now : Pair) (earlier : List Pair)
-      (h : IsHistory ends now earlier)
-      → (mine : IsDone ends side now) (its : IsDone ends (other_side side) now)
-      → NoneIsMistaken ends side (conversation_with mine.neighbor)
-      (conversation_with its.neighbor) now earlier h
-      → NoneIsMistaken ends (other_side side) (conversation_with its.neighbor)
-      (conversation_with mine.neighbor) now earlier h
-      → NumbersServeOnce ends side (conversation_with mine.neighbor) now earlier h
-      → (d : Description) → IsOf ends side (conversation_with mine.neighbor) d now earlier h
+      (h : IsHistory ends now earlier) → (both : BothDone ends side now earlier h)
+      → NumbersServeOnce ends side (conversation_with both.mine.neighbor) now earlier h
+      → (d : Description) → IsOf ends side (conversation_with both.mine.neighbor) d now earlier h
       → IsOpening d
-      ⊎ IsAccepted ends (other_side side) (conversation_with its.neighbor) d now earlier h
+      ⊎ IsAccepted ends (other_side side) (conversation_with both.its.neighbor) d now earlier h
