@@ -1,8 +1,8 @@
 -- A Description that is accepted: the three tests that it passes, and what its event does first.
 use Rattle.std.proofs.Common.{◌≡◌, ℕ, Bool, true, false, cond, not, ◌&&◌, ◌||◌, Option, Some}
-use Rattle.std.proofs.Common.{ap, subst, ◌∙◌}
-use Rattle.std.specs.Prelude.{nat_lt}
-use Rattle.std.proofs.lemmas.Bool.{and_from, and_parts, eq-eqb, not-true}
+use Rattle.std.proofs.Common.{ap, subst, sym, ◌∙◌}
+use Rattle.std.specs.Prelude.{◌==◌, nat_lt}
+use Rattle.std.proofs.lemmas.Bool.{and_from, and_parts, eq-eqb, eqb-true, not-true}
 use Rattle.packet.specs.declared.model.PacketBody.{PacketBody}
 use Rattle.packet.specs.declared.model.PacketBody.TheVariants as body
 use Rattle.packet.specs.declared.model.Description.{Description}
@@ -21,7 +21,9 @@ use Rattle.event_rules.specs.Packets.{after_packet, from_neighbor, is_from, is_h
 use Rattle.event_rules.specs.Packets.{receive_description}
 use Rattle.event_rules.specs.Packets.{any_exchange_or_later}
 use Rattle.event_rules.specs.Routers.{Occurrence, Router}
-use Rattle.agreement_laws.specs.Accepted.{AcceptsDescription, accepts_description, is_accepting}
+use Rattle.flood_laws.proofs.EventWalk.{IsHeard}
+use Rattle.agreement_laws.specs.Accepted.{AcceptsDescription, BringsDescription}
+use Rattle.agreement_laws.specs.Accepted.{accepts_description, is_accepting}
 
 -- ---- the tests
 
@@ -48,6 +50,30 @@ by_tests own moment m d p =
     (is_accepting (verdict own (two_way_received moment m).neighbor d))
     (and_from fits (knows_types d) (ap not p.0) p.1) p.2
 
+-- ---- one that comes from the neighbor at the interface
+
+pub brought : {start : EventState} {event : Occurrence} {place : ℕ} {packet : Packet}
+    → (number : ℕ) (m : Neighbor) (d : Description) → IsHeard start event place packet
+    → packet.body ≡ body.Description d → neighbor_at number start.router.area.links ≡ Some m
+    → (number == place) ≡ true → BringsDescription event number m.router d
+brought {start} {event} {place} {packet} number m d heard says at here = record {
+  bytes = heard.bytes;
+  packet = packet;
+  is = heard.is ∙ ap (λ (i : ℕ). Occurrence.Packet i heard.bytes) (sym same);
+  text = heard.text;
+  from = sym (eqb-true m.router packet.router its_router);
+  says = says;
+}
+  where
+    same : number ≡ place
+    same = eqb-true number place here
+
+    its_router : (m.router == packet.router) ≡ true
+    its_router =
+        ap (is_from packet.router)
+        (sym (ap (λ (i : ℕ). neighbor_at i start.router.area.links) (sym same) ∙ at))
+        ∙ heard.from (ap is_hello says)
+
 -- ---- the event
 
 -- its packet is heard
@@ -56,27 +82,34 @@ pub is_taken : (old : Router) (moment : ℕ) (event : Occurrence) (number : ℕ)
     → OwnPart moment event (start_event moment old) after
     → after ≡ on_area (receive_description old.id moment number d) (start_event moment old)
 is_taken old moment event number n d a after own =
-    by_packet (subst (λ (e : Occurrence). OwnPart moment e begins after) a.is own)
+    by_packet (subst (λ (e : Occurrence). OwnPart moment e begins after) a.brings.is own)
   where
     begins : EventState
     begins = start_event moment old
 
+    its_other : is_foreign old.id a.brings.packet.router ≡ true
+    its_other = subst (λ (i : ℕ). is_foreign old.id i ≡ true) (sym a.brings.from) a.other
+
     of_body : (says : PacketBody) → says ≡ body.Description d → (o : Option Neighbor) → o ≡ Some n
-        → cond (is_foreign old.id a.packet.router && (is_hello says || is_from a.packet.router o))
-        (from_neighbor moment number a.packet.router (any_exchange_or_later o) says begins) begins
+        → cond (is_foreign old.id a.brings.packet.router &&
+        (is_hello says || is_from a.brings.packet.router o))
+        (from_neighbor moment number a.brings.packet.router (any_exchange_or_later o) says begins)
+        begins
         ≡ on_area (receive_description old.id moment number d) begins
     of_body says its o at =
-        (λ i. cond (is_foreign old.id a.packet.router &&
-        (is_hello (its i) || is_from a.packet.router (at i)))
-        (from_neighbor moment number a.packet.router (any_exchange_or_later (at i)) (its i)
+        (λ i. cond (is_foreign old.id a.brings.packet.router &&
+        (is_hello (its i) || is_from a.brings.packet.router (at i)))
+        (from_neighbor moment number a.brings.packet.router (any_exchange_or_later (at i)) (its i)
         begins) begins)
-        ∙ (λ i. cond (a.other i && (false || eq-eqb n.router a.packet.router a.from i))
+        ∙ (λ i. cond (its_other i &&
+        (false || eq-eqb n.router a.brings.packet.router (sym a.brings.from) i))
         (on_area (receive_description old.id moment number d) begins) begins)
 
-    by_packet : (packet : Packet) × PacketText a.bytes packet
+    by_packet : (packet : Packet) × PacketText a.brings.bytes packet
         × (after ≡ after_packet moment number packet begins) → after
         ≡ on_area (receive_description old.id moment number d) begins
     by_packet k =
         k.2 ∙ ap (λ (p : Packet). after_packet moment number p begins)
-        (one_packet a.bytes k.0 a.packet k.1 a.text)
-        ∙ of_body a.packet.body a.says (neighbor_at number begins.router.area.links) a.there
+        (one_packet a.brings.bytes k.0 a.brings.packet k.1 a.brings.text)
+        ∙ of_body a.brings.packet.body a.brings.says (neighbor_at number begins.router.area.links)
+        a.there

@@ -1,10 +1,8 @@
 -- What a whole event keeps of the Descriptions that were sent at an interface, and of its neighbor:
 -- each is right by the neighbor's role.
-use Rattle.std.proofs.Common.{◌≡◌, ℕ, true, List, [], None, Some, refl, sym, ap, subst}
-use Rattle.std.proofs.Common.{◌∙◌}
+use Rattle.std.proofs.Common.{◌≡◌, ℕ, true, List, [], None, Some, refl}
 use Rattle.std.specs.Prelude.{◌==◌}
 use Rattle.std.specs.FinMap as finite
-use Rattle.std.proofs.lemmas.Bool.{eqb-true}
 use Rattle.lsdb.specs.Keys.{ByKey}
 use Rattle.packet.specs.declared.model.PacketBody.TheVariants as body
 use Rattle.packet.specs.declared.model.Description.{Description}
@@ -20,7 +18,7 @@ use Rattle.event_rules.specs.EventState.{EventState}
 use Rattle.event_rules.specs.Events.{Happens}
 use Rattle.event_rules.specs.Hellos.{is_foreign}
 use Rattle.event_rules.specs.Originations.{new_instance}
-use Rattle.event_rules.specs.Packets.{is_from, is_hello, requested_lsas}
+use Rattle.event_rules.specs.Packets.{requested_lsas}
 use Rattle.event_rules.specs.Routers.{Occurrence, Router}
 use Rattle.event_rules.proofs.Walk.{outcome}
 use Rattle.flood_laws.specs.InOrder.{IsInOrder}
@@ -28,6 +26,7 @@ use Rattle.flood_laws.proofs.Acknowledged.{in_order, order_begun, order_brings, 
 use Rattle.flood_laws.proofs.EventWalk.{IsHeard, IsKeptToo, event_kept_too}
 use Rattle.agreement_laws.specs.Exchanged.{Conversation}
 use Rattle.agreement_laws.specs.Accepted.{AcceptsDescription, accepts_description}
+use Rattle.agreement_laws.proofs.Accepting.{brought}
 use Rattle.agreement_laws.proofs.AnswerParts.{Aged, Stands}
 use Rattle.agreement_laws.proofs.AnswerParts as parts
 
@@ -51,26 +50,11 @@ module _ (old : Router) (moment : ℕ) (event : Occurrence) (number : ℕ)
         → is_foreign old.id m.router ≡ true → accepts_description old.id moment m d ≡ true → Acc d
     taken place packet d heard says m there here foreign accepted =
         takes m d (record {
-          bytes = heard.bytes;
-          packet = packet;
-          is = heard.is ∙ ap (λ (i : ℕ). Occurrence.Packet i heard.bytes) (sym same);
-          text = heard.text;
-          says = says;
-          other = subst (λ (i : ℕ). is_foreign old.id i ≡ true) its_router foreign;
-          from = its_router;
+          brings = brought number m d heard says there here;
+          other = foreign;
           there = there;
           accepted = accepted;
         })
-      where
-        same : number ≡ place
-        same = eqb-true number place here
-
-        its_router : m.router ≡ packet.router
-        its_router =
-            eqb-true m.router packet.router
-            (ap (is_from packet.router)
-            (sym (ap (λ (i : ℕ). neighbor_at i start.router.area.links) (sym same) ∙ there))
-            ∙ heard.from (ap is_hello says))
 
     each_part : IsKeptToo (in_order old.id) X X start moment event
     each_part = record {

@@ -1,11 +1,10 @@
 -- What an event makes of an exchange: it stays as it is, unless the neighbor's Description comes
 -- in, or the conversation is over.
 use Rattle.std.proofs.Common.{◌≡◌, ℕ, Bool, true, false, cond, ◌⊎◌, inl, inr, List, [], ◌∷◌, map}
-use Rattle.std.proofs.Common.{Option, None, Some, refl, sym, ap, subst, ◌∙◌}
+use Rattle.std.proofs.Common.{Option, None, Some, refl, sym, ap, subst}
 use Rattle.std.specs.Prelude.{◌==◌}
 use Rattle.std.specs.FinMap as finite
 use Rattle.std.specs.List.{fold}
-use Rattle.std.proofs.lemmas.Bool.{eqb-true}
 use Rattle.words.specs.declared.key.Key.{Key}
 use Rattle.lsdb.specs.Copies.{DatabaseCopy, age_prematurely, has_just_aged_out, install_flooded}
 use Rattle.lsdb.specs.Copies.{install_originated, lsa_now}
@@ -35,7 +34,7 @@ use Rattle.event_rules.specs.EventState.{EventState, flood_from_nobody}
 use Rattle.event_rules.specs.Hellos.{accepts, names}
 use Rattle.event_rules.specs.Originations.{new_instance}
 use Rattle.event_rules.specs.Packets.{accept_hello, receive_hello, receive_hello_on, with_neighbor}
-use Rattle.event_rules.specs.Packets.{is_from, is_hello, receive_description}
+use Rattle.event_rules.specs.Packets.{receive_description}
 use Rattle.event_rules.specs.Ticks.{again, expire_timers, with_hello_sent, without_acknowledgments}
 use Rattle.event_rules.specs.declared.model.Out.{Out}
 use Rattle.event_rules.specs.Events.{Happens}
@@ -46,8 +45,10 @@ use Rattle.flood_laws.specs.InOrder.{IsInOrder}
 use Rattle.flood_laws.proofs.Acknowledged.{in_order, order_begun, order_brings, order_kept}
 use Rattle.flood_laws.proofs.EventWalk.{IsHeard, IsKeptToo, event_kept_too}
 use Rattle.agreement_laws.specs.Exchanged.{Conversation, conversation_with}
-use Rattle.agreement_laws.specs.Moves.{BecameOfExchange, BringsDescription}
+use Rattle.agreement_laws.specs.Accepted.{BringsDescription}
+use Rattle.agreement_laws.specs.Moves.{BecameOfExchange}
 use Rattle.agreement_laws.specs.Moves.{OnlyDescriptionsMoveAnExchange}
+use Rattle.agreement_laws.proofs.Accepting.{brought}
 use Rattle.agreement_laws.proofs.ExchangeSteps.{IsSame, Standing}
 use Rattle.agreement_laws.proofs.ExchangeSteps as steps
 use Rattle.agreement_laws.proofs.Steps as kept
@@ -60,7 +61,7 @@ module _ (old : Router) (moment : ℕ) (event : Occurrence) (number : ℕ) (n : 
   start = start_event moment old
 
   abbrev Described : Type 0
-  Described = BringsDescription event number n.router
+  Described = (d : Description) × BringsDescription event number n.router d
 
   abbrev StandsThere : Option Neighbor → Type 0
   StandsThere None = Unit {0}
@@ -208,22 +209,11 @@ module _ (old : Router) (moment : ℕ) (event : Occurrence) (number : ℕ) (n : 
 
       its_text : (m : Neighbor) → neighbor_at number start.router.area.links ≡ Some m
           → (number == place) ≡ true → m.router ≡ n.router → Described
-      its_text m at here same = record {
-        bytes = heard.bytes;
-        packet = packet;
-        is = heard.is ∙ ap (λ i. Occurrence.Packet i heard.bytes)
-            (sym (eqb-true number place here));
-        text = heard.text;
-        from = sym (eqb-true m.router packet.router its_router) ∙ same;
-        d = d;
-        says = says;
-      }
-        where
-          its_router : (m.router == packet.router) ≡ true
-          its_router =
-              ap (is_from packet.router) (sym
-              (ap (λ i. neighbor_at i start.router.area.links)
-              (sym (eqb-true number place here)) ∙ at)) ∙ heard.from (ap is_hello says)
+      its_text m at here same = (
+        d,
+        subst (λ (r : ℕ). BringsDescription event number r d) same
+            (brought number m d heard says at here),
+      )
 
       one : (link : Link) (o : Option Neighbor) → SameThere o
           → neighbor_at number start.router.area.links ≡ o
@@ -306,7 +296,7 @@ module _ (old : Router) (moment : ℕ) (event : Occurrence) (number : ℕ) (n : 
     router = new;
     sends = [];
   })) → BecameOfExchange event number n new
-  said new (inl told) = BecameOfExchange.Moved told
+  said new (inl told) = BecameOfExchange.Moved told.0 told.1
   said new (inr k) = in_law new (neighbor_at number new.area.links) refl k
 
   became : (outs : List Out) (new : Router) → Happens old moment event outs new → IsInOrder old

@@ -5,7 +5,7 @@ use Rattle.std.proofs.Common.{[], map, Option, None, Some, refl, sym, ap, subst,
 use Rattle.std.specs.Prelude.{◌==◌}
 use Rattle.std.specs.FinMap as finite
 use Rattle.std.specs.List.{Contains}
-use Rattle.std.proofs.lemmas.Bool.{eq-eqb, eqb-true}
+use Rattle.std.proofs.lemmas.Bool.{eq-eqb}
 use Rattle.words.specs.declared.key.Key.{Key}
 use Rattle.lsdb.specs.Copies.{Database, DatabaseCopy, copy_now, newer_than_copy}
 use Rattle.lsdb.specs.Headers.{Header, Lsa, key_of, lsa_key}
@@ -32,7 +32,7 @@ use Rattle.event_rules.specs.Endings.{end_event, start_event}
 use Rattle.event_rules.specs.EventState.{EventState}
 use Rattle.event_rules.specs.Events.{Happens, OwnPart}
 use Rattle.event_rules.specs.Hellos.{accepts}
-use Rattle.event_rules.specs.Packets.{is_from, is_hello, receive_description, requested_lsas}
+use Rattle.event_rules.specs.Packets.{receive_description, requested_lsas}
 use Rattle.event_rules.specs.Routers.{Occurrence, Router}
 use Rattle.event_rules.proofs.Walk.{OfEvent, outcome}
 use Rattle.flood_laws.specs.InOrder.{IsInOrder}
@@ -46,7 +46,8 @@ use Rattle.flood_laws.proofs.Retransmitted as retransmitted
 use Rattle.agreement_laws.specs.Exchanged.{Conversation, conversation_with}
 use Rattle.agreement_laws.specs.Ranks.{RanksFollowTheComparison, is_at_least}
 use Rattle.agreement_laws.specs.CopiesClimb.{HasHad}
-use Rattle.agreement_laws.specs.Accepted.{AcceptsDescription, IsLastOfItsKey, accepts_description}
+use Rattle.agreement_laws.specs.Accepted.{AcceptsDescription, BringsDescription, IsLastOfItsKey}
+use Rattle.agreement_laws.specs.Accepted.{accepts_description}
 use Rattle.agreement_laws.specs.Requests.{AcceptsKey, BecameOfRequest, IsRequestedOrHeld}
 use Rattle.agreement_laws.specs.Requests.{RequestsAreMet, WhatIsAcceptedIsRequested}
 use Rattle.agreement_laws.specs.Stays.{BringsNone, IsForeignAndAbsent, IsRequested, RequestsStay}
@@ -60,7 +61,7 @@ use Rattle.agreement_laws.proofs.Asking.{Asking}
 use Rattle.agreement_laws.proofs.Requesting.{HasKey, accepted_one, any_described}
 use Rattle.agreement_laws.proofs.Holding.{entry_as_new, in_words}
 use Rattle.agreement_laws.proofs.RequestParts as parts
-use Rattle.agreement_laws.proofs.Accepting.{is_taken}
+use Rattle.agreement_laws.proofs.Accepting.{brought, is_taken}
 use Rattle.agreement_laws.proofs.Ranks.{itself_at_least}
 use Rattle.agreement_laws.proofs.Conversing.{is_over, with_nobody}
 
@@ -153,16 +154,11 @@ module _ (ranks : RanksFollowTheComparison) (old : Router) (moment : ℕ) (event
         → conversation_with m ≡ with_it → (number == place) ≡ true
         → accepts_description old.id moment m d ≡ true → HasKey d.headers key → Told
     tells m at same here accepts has = record {
-      bytes = heard.bytes;
-      packet = packet;
-      is = heard.is ∙ ap (λ n. Occurrence.Packet n heard.bytes) (sym (eqb-true number place here));
-      text = heard.text;
-      from = sym (eqb-true m.router packet.router its_router)
-          ∙ ap (λ (c : Conversation). c.router) same;
       d = d;
-      says = says;
+      brings = subst (λ (r : ℕ). BringsDescription event number r d) its_router
+          (brought number m d heard says at here);
       neighbor = m;
-      its = ap (λ (c : Conversation). c.router) same;
+      its = its_router;
       there = at;
       accepted = accepts;
       header = has.0;
@@ -170,12 +166,8 @@ module _ (ranks : RanksFollowTheComparison) (old : Router) (moment : ℕ) (event
       of_key = has.2;
     }
       where
-        its_router : (m.router == packet.router) ≡ true
-        its_router =
-            ap (is_from packet.router) (sym
-            (ap (λ n. neighbor_at n start.router.area.links) (sym (eqb-true number place here))
-            ∙ at))
-            ∙ heard.from (ap is_hello says)
+        its_router : m.router ≡ n.router
+        its_router = ap (λ (c : Conversation). c.router) same
 
     -- told again, or still asked
     abbrev Goes : Option Neighbor → Type 0

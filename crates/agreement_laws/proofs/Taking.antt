@@ -31,7 +31,7 @@ use Rattle.agreement_laws.specs.NeighborHistories.{Pair, Party, Side, TakesEvent
 use Rattle.agreement_laws.specs.NeighborHistories.{interface_of, other_side, party}
 use Rattle.agreement_laws.specs.NeighborsAgree.{HoldsAsNew, IsWithout, is_as_new}
 use Rattle.agreement_laws.specs.Ranks.{RanksFollowTheComparison}
-use Rattle.agreement_laws.specs.Accepted.{AcceptsDescription}
+use Rattle.agreement_laws.specs.Accepted.{AcceptsDescription, BringsDescription}
 use Rattle.agreement_laws.specs.Requests.{AcceptsKey, BecameOfRequest, IsRequestedOrHeld}
 use Rattle.agreement_laws.specs.Requests.{RequestsAreMet, WhatIsAcceptedIsRequested}
 use Rattle.agreement_laws.specs.Stays.{BringsNone, IsForeignAndAbsent, IsRequested, RequestsStay}
@@ -215,14 +215,9 @@ module _ (laws : Laws) (ends : Ends) (side : Side) (name : LsaInstance) where
         → AcceptsKey p t.moment t.event number n.router key → Result
     again n there k =
         fresh k.neighbor k.d (record {
-          bytes = k.bytes;
-          packet = k.packet;
-          is = k.is;
-          text = k.text;
-          says = k.says;
-          other = subst (λ (r : ℕ). is_foreign p.id r ≡ true) (sym k.from)
+          brings = subst (λ (r : ℕ). BringsDescription t.event number r k.d) (sym k.its) k.brings;
+          other = subst (λ (r : ℕ). is_foreign p.id r ≡ true) (sym k.its)
               (subst (Holds (λ (y : Neighbor). is_foreign p.id y.router ≡ true)) there foreign);
-          from = k.its ∙ sym k.from;
           there = k.there;
           accepted = k.accepted;
         }) k.header k.among k.of_key

@@ -18,7 +18,19 @@ use Rattle.event_rules.specs.Endings.{start_event}
 use Rattle.event_rules.specs.Hellos.{is_foreign}
 use Rattle.event_rules.specs.Routers.{Occurrence, Router}
 
--- ---- a Description that is accepted
+-- ---- a Description that comes
+
+-- the event's packet is this Description, which came in at this interface from this router
+pub record BringsDescription (event : Occurrence) (number : InterfaceNumber)
+    (router : RouterNumber) (d : Description) : Type 0 where
+  pub bytes : List ℕ
+  pub packet : Packet
+  pub is : event ≡ Occurrence.Packet number bytes
+  pub text : PacketText bytes packet
+  pub from : packet.router ≡ router
+  pub says : packet.body ≡ body.Description d
+
+-- ---- one that is accepted
 
 -- the next one in Exchange, or the one that ends the negotiation
 abbrev pub is_accepting : Verdict → Bool
@@ -36,17 +48,12 @@ accepts_description own moment n d =
     not (nat_lt largest_packet d.mtu) && knows_types d
     && is_accepting (verdict own (two_way_received moment n).neighbor d)
 
--- the event's packet is a Description of the neighbor at this interface, as it is once copies have
--- come to MaxAge, and is accepted
+-- the event's packet is this Description of the neighbor at this interface, as it is once copies
+-- have come to MaxAge, and is accepted; the neighbor is another router
 pub record AcceptsDescription (old : Router) (moment : Moment) (event : Occurrence)
     (number : InterfaceNumber) (n : Neighbor) (d : Description) : Type 0 where
-  pub bytes : List ℕ
-  pub packet : Packet
-  pub is : event ≡ Occurrence.Packet number bytes
-  pub text : PacketText bytes packet
-  pub says : packet.body ≡ body.Description d
-  pub other : is_foreign old.id packet.router ≡ true
-  pub from : n.router ≡ packet.router
+  pub brings : BringsDescription event number n.router d
+  pub other : is_foreign old.id n.router ≡ true
   pub there : neighbor_at number (start_event moment old).router.area.links ≡ Some n
   pub accepted : accepts_description old.id moment n d ≡ true
 

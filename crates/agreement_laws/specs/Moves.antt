@@ -1,11 +1,8 @@
 -- What moves an exchange of Descriptions (RFC 2328, sections 10.6 and 10.8): the neighbor's
 -- Descriptions, and nothing else while the conversation goes on.
-use Rattle.std.specs.Prelude.{◌≡◌, ℕ, List, Some}
-use Rattle.words.specs.Numbers.{InterfaceNumber, Moment, RouterNumber}
-use Rattle.packet.specs.declared.model.PacketBody.TheVariants as body
+use Rattle.std.specs.Prelude.{◌≡◌, List, Some}
+use Rattle.words.specs.Numbers.{InterfaceNumber, Moment}
 use Rattle.packet.specs.declared.model.Description.{Description}
-use Rattle.packet.specs.declared.model.Packet.{Packet}
-use Rattle.packet.specs.Text.{PacketText}
 use Rattle.adjacency.specs.Neighbors.{Neighbor}
 use Rattle.received.specs.Links.{neighbor_at}
 use Rattle.event_rules.specs.declared.model.Out.{Out}
@@ -13,6 +10,7 @@ use Rattle.event_rules.specs.Events.{Happens}
 use Rattle.event_rules.specs.Routers.{Occurrence, Router}
 use Rattle.flood_laws.specs.InOrder.{IsInOrder}
 use Rattle.agreement_laws.specs.Exchanged.{Converses, conversation_with}
+use Rattle.agreement_laws.specs.Accepted.{BringsDescription}
 
 -- the roles, the number, the last Description received, and what is still to be described
 pub record IsAsBefore (before after : Neighbor) : Type 0 where
@@ -21,24 +19,14 @@ pub record IsAsBefore (before after : Neighbor) : Type 0 where
   pub received : after.received ≡ before.received
   pub summary : after.summary ≡ before.summary
 
--- the event's packet is a Description, which came in at this interface from this router
-pub record BringsDescription (event : Occurrence) (number : InterfaceNumber)
-    (router : RouterNumber) : Type 0 where
-  pub bytes : List ℕ
-  pub packet : Packet
-  pub is : event ≡ Occurrence.Packet number bytes
-  pub text : PacketText bytes packet
-  pub from : packet.router ≡ router
-  pub d : Description
-  pub says : packet.body ≡ body.Description d
-
 -- what becomes of the exchange with this neighbor, which is at the interface before the event
 pub data BecameOfExchange (event : Occurrence) (number : InterfaceNumber) (n : Neighbor)
     (new : Router) : Type 0 where
   Stands : (m : Neighbor) → neighbor_at number new.area.links ≡ Some m
       → conversation_with m ≡ conversation_with n → IsAsBefore n m
       → BecameOfExchange event number n new
-  Moved : BringsDescription event number n.router → BecameOfExchange event number n new
+  Moved : (d : Description) → BringsDescription event number n.router d
+      → BecameOfExchange event number n new
   -- the conversation is over, or isn't in Exchange yet
   Over : (Converses number (conversation_with n) new → ⊥) → BecameOfExchange event number n new
 

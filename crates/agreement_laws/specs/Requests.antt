@@ -2,7 +2,7 @@
 -- an instance that is as new is held. And what becomes of a request in an event (sections 10.9, 13
 -- and 13.3): it leaves the request list only if one that is as new is held, if a Description is
 -- accepted that has a header of its key, or with the conversation.
-use Rattle.std.specs.Prelude.{◌≡◌, ℕ, true, List, Some}
+use Rattle.std.specs.Prelude.{◌≡◌, true, List, Some}
 use Rattle.std.specs.FinMap as finite
 use Rattle.std.specs.List.{Contains}
 use Rattle.words.specs.Numbers.{InterfaceNumber, Moment, RouterNumber}
@@ -10,10 +10,7 @@ use Rattle.words.specs.declared.key.Key.{Key}
 use Rattle.lsdb.specs.Headers.{Header, key_of}
 use Rattle.lsdb.specs.Instances.{ListEntry, instance_of, listed_now}
 use Rattle.lsdb.specs.declared.order.Instance.{Instance}
-use Rattle.packet.specs.declared.model.PacketBody.TheVariants as body
 use Rattle.packet.specs.declared.model.Description.{Description}
-use Rattle.packet.specs.declared.model.Packet.{Packet}
-use Rattle.packet.specs.Text.{PacketText}
 use Rattle.adjacency.specs.Adjacencies.{two_way_received}
 use Rattle.adjacency.specs.Neighbors.{Neighbor}
 use Rattle.received.specs.Links.{neighbor_at}
@@ -24,7 +21,7 @@ use Rattle.event_rules.specs.Routers.{Occurrence, Router}
 use Rattle.flood_laws.specs.InOrder.{IsInOrder}
 use Rattle.agreement_laws.specs.CopiesClimb.{BecameOf}
 use Rattle.agreement_laws.specs.Exchanged.{Conversation, Converses, conversation_with}
-use Rattle.agreement_laws.specs.Accepted.{AcceptsDescription, IsLastOfItsKey}
+use Rattle.agreement_laws.specs.Accepted.{AcceptsDescription, BringsDescription, IsLastOfItsKey}
 use Rattle.agreement_laws.specs.Accepted.{accepts_description}
 
 -- after the event at the moment, in which the old router became the new one
@@ -44,13 +41,8 @@ pub data IsRequestedOrHeld (old : Router) (moment : Moment) (event : Occurrence)
 -- the router accepts a Description that has a header of the key, from this router
 pub record AcceptsKey (old : Router) (moment : Moment) (event : Occurrence)
     (number : InterfaceNumber) (router : RouterNumber) (key : Key) : Type 0 where
-  pub bytes : List ℕ
-  pub packet : Packet
-  pub is : event ≡ Occurrence.Packet number bytes
-  pub text : PacketText bytes packet
-  pub from : packet.router ≡ router
   pub d : Description
-  pub says : packet.body ≡ body.Description d
+  pub brings : BringsDescription event number router d
   -- the neighbor as it is once copies have come to MaxAge
   pub neighbor : Neighbor
   pub its : neighbor.router ≡ router
