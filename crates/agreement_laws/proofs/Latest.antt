@@ -23,7 +23,7 @@ use Rattle.flood_laws.proofs.Lists.{later_is}
 use Rattle.flood_laws.proofs.Taken.{named_first}
 use Rattle.flood_laws.proofs.Leaving.{itself}
 use Rattle.agreement_laws.specs.Accepted.{IsLastOfItsKey}
-use Rattle.agreement_laws.specs.Stays.{BringsNone, IsForeignAndAbsent}
+use Rattle.agreement_laws.specs.CopiesClimb.{BringsNone, IsForeignAndAbsent}
 use Rattle.agreement_laws.specs.Held.{WasThere}
 
 -- ---- the last of a key
@@ -133,21 +133,39 @@ module _ (old : Router) (moment : ℕ) (start after : EventState) (key : Key) wh
       by_lsas : ((lsa : Lsa) × Contains (lsas_brought own.0.body) lsa × (lsa_key lsa ≡ key))
           ⊎ ((lsa : Lsa) → Contains (lsas_brought own.0.body) lsa → lsa_key lsa ≡ key → ⊥)
           → Brings (Occurrence.Packet number bytes)
-      by_lsas (inl r) = inl (WasThere.Brought number bytes own.0 refl own.1 r.0 r.1 r.2)
+      by_lsas (inl r) =
+          inl (WasThere.Brought r.0 (record {
+            number = number;
+            bytes = bytes;
+            packet = own.0;
+            is = refl;
+            text = own.1;
+            among = r.1;
+          }) r.2)
       by_lsas (inr none) =
-          inr (λ place its packet is text lsa c same.
-          let it : own.0 ≡ packet =
-          one_packet bytes own.0 packet own.1
-          (subst (λ (b : List ℕ). PacketText b packet) (sym (same_bytes number place bytes its is))
-          text) in
+          inr (λ lsa b same.
+          let it : own.0 ≡ b.packet =
+          one_packet bytes own.0 b.packet own.1
+          (subst (λ (its : List ℕ). PacketText its b.packet)
+          (sym (same_bytes number b.number bytes b.bytes b.is)) b.text) in
           none lsa
-          (subst (λ (p : Packet). Contains (lsas_brought p.body) lsa) (sym it) c) same)
-  by_event Occurrence.Tick own = inr (λ place its packet is. absurd cc)
+          (subst (λ (p : Packet). Contains (lsas_brought p.body) lsa) (sym it) b.among) same)
+  by_event Occurrence.Tick own =
+      inr (λ lsa b same.
+      let no : Occurrence.Tick ≡ Occurrence.Packet b.number b.bytes = b.is in absurd cc)
   by_event (Occurrence.Redistribute tagged tag priced price) own =
-      inr (λ place its packet is. absurd cc)
-  by_event (Occurrence.Withdraw prefix) own = inr (λ place its packet is. absurd cc)
-  by_event (Occurrence.Install answers) own = inr (λ place its packet is. absurd cc)
-  by_event (Occurrence.LinkDown number) own = inr (λ place its packet is. absurd cc)
+      inr (λ lsa b same.
+      let no : Occurrence.Redistribute tagged tag priced price
+      ≡ Occurrence.Packet b.number b.bytes = b.is in absurd cc)
+  by_event (Occurrence.Withdraw prefix) own =
+      inr (λ lsa b same.
+      let no : Occurrence.Withdraw prefix ≡ Occurrence.Packet b.number b.bytes = b.is in absurd cc)
+  by_event (Occurrence.Install answers) own =
+      inr (λ lsa b same.
+      let no : Occurrence.Install answers ≡ Occurrence.Packet b.number b.bytes = b.is in absurd cc)
+  by_event (Occurrence.LinkDown number) own =
+      inr (λ lsa b same.
+      let no : Occurrence.LinkDown number ≡ Occurrence.Packet b.number b.bytes = b.is in absurd cc)
 
   -- one was there, or nothing that could meet a request
   pub there_or_not : (event : Occurrence) → OwnPart moment event start after

@@ -38,20 +38,19 @@ use Rattle.event_rules.proofs.Walk.{OfEvent, outcome}
 use Rattle.flood_laws.specs.InOrder.{IsInOrder}
 use Rattle.flood_laws.specs.NewInstances.{lsas_brought}
 use Rattle.flood_laws.proofs.Acknowledged.{in_order, order_begun, order_brings, order_kept}
-use Rattle.flood_laws.proofs.EventWalk.{IsHeard, IsKeptToo, event_kept_too}
+use Rattle.flood_laws.proofs.EventWalk.{IsHeard, IsKeptToo, came, event_kept_too}
 use Rattle.flood_laws.proofs.Leaving.{stepped_kept}
 use Rattle.flood_laws.proofs.Limits.{new_key, tied_key, wanted_type}
 use Rattle.flood_laws.proofs.Retransmitted.{IsItsOwn, own_at, read}
 use Rattle.flood_laws.proofs.Retransmitted as retransmitted
 use Rattle.agreement_laws.specs.Exchanged.{Conversation, conversation_with}
 use Rattle.agreement_laws.specs.Ranks.{RanksFollowTheComparison, is_at_least}
-use Rattle.agreement_laws.specs.CopiesClimb.{HasHad}
+use Rattle.agreement_laws.specs.CopiesClimb.{BringsNone, HasHad, IsForeignAndAbsent}
 use Rattle.agreement_laws.specs.Accepted.{AcceptsDescription, BringsDescription, IsLastOfItsKey}
 use Rattle.agreement_laws.specs.Accepted.{accepts_description}
 use Rattle.agreement_laws.specs.Requests.{AcceptsKey, BecameOfRequest, IsRequestedOrHeld}
 use Rattle.agreement_laws.specs.Requests.{RequestsAreMet, WhatIsAcceptedIsRequested}
-use Rattle.agreement_laws.specs.Stays.{BringsNone, IsForeignAndAbsent, IsRequested, RequestsStay}
-use Rattle.agreement_laws.specs.Stays.{StaysRequested}
+use Rattle.agreement_laws.specs.Stays.{IsRequested, RequestsStay, StaysRequested}
 use Rattle.agreement_laws.proofs.Having.{Whole, joined, whole, whole_at, whole_begun, whole_kept}
 use Rattle.agreement_laws.proofs.Absent.{IsNone, Lacks, none_kept, none_put}
 use Rattle.agreement_laws.proofs.Databases.{IsKept, ages, each, flushed, installed_copy, kept_too}
@@ -342,8 +341,7 @@ module _ (ranks : RanksFollowTheComparison) (old : Router) (moment : ℕ) (event
       where
         by_key : (b : Bool) → same_key key (lsa_key lsa) ≡ b → same_key key (lsa_key lsa) ≡ false
         by_key true same =
-            absurd (brings place heard.bytes packet heard.is heard.text lsa among
-            (sym (tied_key key (lsa_key lsa) same)))
+            absurd (brings lsa (came heard lsa among) (sym (tied_key key (lsa_key lsa) same)))
         by_key false other = other
 
     each_too : IsKeptToo (in_order old.id) Both Left start moment event

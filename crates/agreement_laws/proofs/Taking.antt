@@ -24,7 +24,7 @@ use Rattle.event_rules.specs.LsaInstances.{LsaInstance, instance_of_header, inst
 use Rattle.event_rules.specs.Routers.{Router}
 use Rattle.flood_laws.specs.InOrder.{IsInOrder}
 use Rattle.flood_laws.proofs.Always.{full_request_nothing}
-use Rattle.agreement_laws.specs.CopiesClimb.{BecameOf, CopiesClimb}
+use Rattle.agreement_laws.specs.CopiesClimb.{BecameOf, BringsNone, CopiesClimb, IsForeignAndAbsent}
 use Rattle.agreement_laws.specs.Exchanged.{Conversation, Converses, conversation_with}
 use Rattle.agreement_laws.specs.NeighborHistories.{Ends, HasBegun, IsHistory}
 use Rattle.agreement_laws.specs.NeighborHistories.{Pair, Party, Side, TakesEvent, event_of}
@@ -34,7 +34,7 @@ use Rattle.agreement_laws.specs.Ranks.{RanksFollowTheComparison}
 use Rattle.agreement_laws.specs.Accepted.{AcceptsDescription, BringsDescription}
 use Rattle.agreement_laws.specs.Requests.{AcceptsKey, BecameOfRequest, IsRequestedOrHeld}
 use Rattle.agreement_laws.specs.Requests.{RequestsAreMet, WhatIsAcceptedIsRequested}
-use Rattle.agreement_laws.specs.Stays.{BringsNone, IsForeignAndAbsent, IsRequested, RequestsStay}
+use Rattle.agreement_laws.specs.Stays.{IsRequested, RequestsStay}
 use Rattle.agreement_laws.specs.Stays.{StaysRequested}
 use Rattle.agreement_laws.specs.Answers.{IsAccepted, sends_of}
 use Rattle.agreement_laws.specs.Held.{AreAsNew, HasAccepted, WasLost, WasThere}

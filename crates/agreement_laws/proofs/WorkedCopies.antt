@@ -3,28 +3,26 @@ use Rattle.std.proofs.Common.{◌≡◌, ◌⊎◌, ℕ, true, None, Some, inl, 
 use Rattle.std.specs.FinMap as finite
 use Rattle.std.proofs.lemmas.Bool.{eqb-true}
 use Rattle.words.specs.declared.key.Key.{Key}
-use Rattle.lsdb.specs.Headers.{Lsa, lsa_key}
+use Rattle.lsdb.specs.Headers.{Lsa}
 use Rattle.lsdb.specs.Order.{is_max_age}
 use Rattle.lsdb.specs.declared.order.Instance.{Instance}
 use Rattle.event_rules.specs.Routers.{Occurrence, Router}
 use Rattle.flood_laws.specs.NewInstances.{BringsLsa}
-use Rattle.agreement_laws.specs.CopiesClimb.{BecameOf, HasHad}
+use Rattle.agreement_laws.specs.CopiesClimb.{BecameOf, BringsNone, HasHad}
 use Rattle.agreement_laws.specs.Ranks.{is_at_least}
 use Rattle.agreement_laws.specs.WorkedCopies.{Holds, HoldsAtMaxAge, WorkedCopies}
 
 module _ (old : Router) (moment : ℕ) (event : Occurrence) (instance : Instance) (key : Key)
     (new : Router) (others : key.advertising_router ≡ old.id → ⊥) where
   -- nothing of the key was there
-  nothing : finite.get old.area.database key ≡ None
-      → ((lsa : Lsa) → BringsLsa event lsa → lsa_key lsa ≡ key → ⊥) → (last : Instance)
+  nothing : finite.get old.area.database key ≡ None → BringsNone event key → (last : Instance)
       → HasHad old event key last → ⊥
   nothing none brings last (HasHad.Before c at is) = let no : None ≡ Some c = sym none ∙ at in
       absurd cc
   nothing none brings last (HasHad.Brought lsa brought its_key is) = brings lsa brought its_key
   nothing none brings last (HasHad.Own own) = others own
 
-  absent : finite.get old.area.database key ≡ None
-      → ((lsa : Lsa) → BringsLsa event lsa → lsa_key lsa ≡ key → ⊥)
+  absent : finite.get old.area.database key ≡ None → BringsNone event key
       → BecameOf old moment event instance key new → Holds new key
   absent none brings (BecameOf.IsHeld c at as_new) = record { copy = c; there = at }
   absent none brings (BecameOf.IsGone last had as_new aged gone off) =
@@ -66,8 +64,8 @@ no_packet lsa brought = let no : Occurrence.Tick ≡ Occurrence.Packet brought.n
 
 pub worked : WorkedCopies
 worked = record {
-  absent = λ old moment event instance key new none others brings became. absent old moment event
-      instance key new others none brings became;
+  absent = λ old moment event instance key new foreign brings became. absent old moment event
+      instance key new foreign.others foreign.absent brings became;
   tick = λ old moment instance key new others became. on_tick old moment Occurrence.Tick instance
       key new others no_packet became;
 }

@@ -17,6 +17,19 @@ use Rattle.flood_laws.specs.InOrder.{IsInOrder}
 use Rattle.flood_laws.specs.NewInstances.{BringsLsa}
 use Rattle.agreement_laws.specs.Ranks.{is_at_least}
 
+-- ---- keys of which nothing can leave
+
+-- no copy is held, and the router originates none
+pub record IsForeignAndAbsent (r : Router) (key : Key) : Type 0 where
+  pub absent : finite.get r.area.database key ≡ None
+  pub others : key.advertising_router ≡ r.id → ⊥
+
+-- the event's Link State Update has no LSA of the key
+abbrev pub BringsNone : Occurrence → Key → Type 0
+BringsNone event key = (lsa : Lsa) → BringsLsa event lsa → lsa_key lsa ≡ key → ⊥
+
+-- ---- what becomes of a copy
+
 -- the LSA is of the instance, whatever their ages
 pub record IsOfInstance (lsa : Lsa) (instance : Instance) : Type 0 where
   pub sequence : lsa.header.sequence ≡ instance.sequence

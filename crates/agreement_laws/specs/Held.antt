@@ -1,23 +1,20 @@
 -- What a Full neighbor described is held, or came and was lost (RFC 2328, sections 10.3, 10.6 and
 -- 10.9), in every history of two neighbors: what a router accepts it requests, and goes on until an
 -- instance that is as new has come.
-use Rattle.std.specs.Prelude.{◌≡◌, ◌⊎◌, ℕ, true, List, [], ◌∷◌, Some}
+use Rattle.std.specs.Prelude.{◌≡◌, ◌⊎◌, true, List, [], ◌∷◌, Some}
 use Rattle.std.specs.FinMap as finite
 use Rattle.std.specs.List.{Contains}
-use Rattle.words.specs.Numbers.{InterfaceNumber}
 use Rattle.words.specs.declared.key.Key.{Key}
 use Rattle.lsdb.specs.Copies.{DatabaseCopy}
 use Rattle.lsdb.specs.Headers.{Header, Lsa, key_of, lsa_key}
 use Rattle.packet.specs.declared.model.Description.{Description}
-use Rattle.packet.specs.declared.model.Packet.{Packet}
-use Rattle.packet.specs.Text.{PacketText}
 use Rattle.adjacency.specs.declared.state.NeighborState.TheVariants.{Full}
 use Rattle.adjacency.specs.Neighbors.{Neighbor}
 use Rattle.received.specs.Links.{neighbor_at}
 use Rattle.event_rules.specs.Events.{Step}
 use Rattle.event_rules.specs.LsaInstances.{LsaInstance, instance_of_header}
 use Rattle.event_rules.specs.Routers.{Occurrence, Router}
-use Rattle.flood_laws.specs.NewInstances.{lsas_brought}
+use Rattle.flood_laws.specs.NewInstances.{BringsLsa}
 use Rattle.agreement_laws.specs.Exchanged.{Conversation, Converses, conversation_with}
 use Rattle.agreement_laws.specs.NeighborHistories.{Ends, IsHistory, Pair, Side, Turn, event_of}
 use Rattle.agreement_laws.specs.NeighborHistories.{interface_of, party}
@@ -49,10 +46,7 @@ AreAsNew ends side with_it name now earlier h =
 pub data WasThere (old : Router) (event : Occurrence) (key : Key) : Type 0 where
   Before : (copy : DatabaseCopy) → finite.get old.area.database key ≡ Some copy
       → WasThere old event key
-  Brought : (number : InterfaceNumber) (bytes : List ℕ) (packet : Packet)
-      → event ≡ Occurrence.Packet number bytes → PacketText bytes packet
-      → (lsa : Lsa) → Contains (lsas_brought packet.body) lsa → lsa_key lsa ≡ key
-      → WasThere old event key
+  Brought : (lsa : Lsa) → BringsLsa event lsa → lsa_key lsa ≡ key → WasThere old event key
   -- the router may have originated it
   Own : key.advertising_router ≡ old.id → WasThere old event key
 

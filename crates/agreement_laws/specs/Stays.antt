@@ -1,16 +1,13 @@
 -- What is requested stays so until an LSA of its key comes (RFC 2328, sections 10.6, 10.9, 13 and
 -- 13.3): if no copy is held and the key isn't the router's own, what is accepted is requested, and
 -- a request leaves its list in no event that brings no LSA of the key.
-use Rattle.std.specs.Prelude.{◌≡◌, ℕ, List, None, Some}
+use Rattle.std.specs.Prelude.{◌≡◌, List, Some}
 use Rattle.std.specs.FinMap as finite
-use Rattle.std.specs.List.{Contains}
 use Rattle.words.specs.Numbers.{InterfaceNumber, Moment}
 use Rattle.words.specs.declared.key.Key.{Key}
-use Rattle.lsdb.specs.Headers.{Header, Lsa, key_of, lsa_key}
+use Rattle.lsdb.specs.Headers.{Header, key_of}
 use Rattle.lsdb.specs.Instances.{ListEntry}
 use Rattle.packet.specs.declared.model.Description.{Description}
-use Rattle.packet.specs.declared.model.Packet.{Packet}
-use Rattle.packet.specs.Text.{PacketText}
 use Rattle.adjacency.specs.Adjacencies.{two_way_received}
 use Rattle.adjacency.specs.Neighbors.{Neighbor}
 use Rattle.received.specs.Links.{neighbor_at}
@@ -18,22 +15,10 @@ use Rattle.event_rules.specs.declared.model.Out.{Out}
 use Rattle.event_rules.specs.Events.{Happens}
 use Rattle.event_rules.specs.Routers.{Occurrence, Router}
 use Rattle.flood_laws.specs.InOrder.{IsInOrder}
-use Rattle.flood_laws.specs.NewInstances.{lsas_brought}
+use Rattle.agreement_laws.specs.CopiesClimb.{BringsNone, IsForeignAndAbsent}
 use Rattle.agreement_laws.specs.Exchanged.{Conversation, Converses, conversation_with}
 use Rattle.agreement_laws.specs.Accepted.{AcceptsDescription, IsLastOfItsKey}
 use Rattle.agreement_laws.specs.Requests.{AcceptsKey}
-
--- no copy is held, and the router originates none
-pub record IsForeignAndAbsent (r : Router) (key : Key) : Type 0 where
-  pub absent : finite.get r.area.database key ≡ None
-  pub others : key.advertising_router ≡ r.id → ⊥
-
--- the event's packet brings no LSA of the key
-abbrev pub BringsNone : Occurrence → Key → Type 0
-BringsNone event key =
-    (number : InterfaceNumber) (bytes : List ℕ) (packet : Packet)
-    → event ≡ Occurrence.Packet number bytes → PacketText bytes packet
-    → (lsa : Lsa) → Contains (lsas_brought packet.body) lsa → lsa_key lsa ≡ key → ⊥
 
 -- the entry stands on the request list of the neighbor at the interface, in this conversation
 pub record IsRequested (number : InterfaceNumber) (with_it : Conversation) (key : Key)
