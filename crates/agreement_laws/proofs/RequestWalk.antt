@@ -48,9 +48,10 @@ use Rattle.agreement_laws.specs.Ranks.{RanksFollowTheComparison, is_at_least}
 use Rattle.agreement_laws.specs.CopiesClimb.{BringsNone, HasHad, IsForeignAndAbsent}
 use Rattle.agreement_laws.specs.Accepted.{AcceptsDescription, BringsDescription, IsLastOfItsKey}
 use Rattle.agreement_laws.specs.Accepted.{accepts_description}
-use Rattle.agreement_laws.specs.Requests.{AcceptsKey, BecameOfRequest, IsRequestedOrHeld}
-use Rattle.agreement_laws.specs.Requests.{RequestsAreMet, WhatIsAcceptedIsRequested}
-use Rattle.agreement_laws.specs.Stays.{IsRequested, RequestsStay, StaysRequested}
+use Rattle.agreement_laws.specs.Requests.{AcceptsKey, BecameOfRequest, IsRequested}
+use Rattle.agreement_laws.specs.Requests.{IsRequestedOrHeld, RequestsAreMet}
+use Rattle.agreement_laws.specs.Requests.{WhatIsAcceptedIsRequested}
+use Rattle.agreement_laws.specs.Stays.{RequestsStay, StaysRequested}
 use Rattle.agreement_laws.proofs.Having.{Whole, joined, whole, whole_at, whole_begun, whole_kept}
 use Rattle.agreement_laws.proofs.Absent.{IsNone, Lacks, none_kept, none_put}
 use Rattle.agreement_laws.proofs.Databases.{IsKept, ages, each, flushed, installed_copy, kept_too}
@@ -293,7 +294,12 @@ module _ (ranks : RanksFollowTheComparison) (old : Router) (moment : ℕ) (event
   in_conversation new (Some m) at (inl over) =
       BecameOfRequest.Over (is_over number with_it new m at over.1)
   in_conversation new (Some m) at (inr it) =
-      BecameOfRequest.Stays (IsRequestedOrHeld.Requested m at it.0 it.1)
+      BecameOfRequest.Stays (IsRequestedOrHeld.Requested (record {
+        neighbor = m;
+        there = at;
+        is = it.0;
+        asked = it.1;
+      }))
 
   said : (new : Router) → Ends (outcome (record {
     router = new;
@@ -564,7 +570,12 @@ module _ (ranks : RanksFollowTheComparison) (old : Router) (moment : ℕ) (event
           → IsRequestedOrHeld old moment event number conversation (key_of h) entered told new
       by_neighbor None at k = absurd k
       by_neighbor (Some m) at (inl over) = absurd over.0
-      by_neighbor (Some m) at (inr it) = IsRequestedOrHeld.Requested m at it.0 it.1
+      by_neighbor (Some m) at (inr it) = IsRequestedOrHeld.Requested (record {
+        neighbor = m;
+        there = at;
+        is = it.0;
+        asked = it.1;
+      })
 
   abbrev StillSo : Outcome → Type 0
   StillSo o = Still ranks old event moment (key_of h) told entered as_new conversation number

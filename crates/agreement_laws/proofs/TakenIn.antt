@@ -77,8 +77,9 @@ module _ (number : ℕ) (with_it : Conversation) where
             → WasTakenIn key told goes.1 steps new)
             → BecameOfRequest r s.moment s.event number m key entry goes.1
             → WasTakenIn key told r (s ∷ steps) new
-        by_state more (BecameOfRequest.Stays (IsRequestedOrHeld.Requested x is same asks)) =
-            WasTakenIn.Later r goes.1 new s steps goes.2 (more x is asks goes.3 none.1)
+        by_state more (BecameOfRequest.Stays (IsRequestedOrHeld.Requested stands)) =
+            WasTakenIn.Later r goes.1 new s steps goes.2
+            (more stands.neighbor stands.there stands.asked goes.3 none.1)
         by_state more (BecameOfRequest.Stays (IsRequestedOrHeld.Held became)) =
             WasTakenIn.Now r goes.1 new s steps goes.2
             (became_less ranks r s.moment s.event (listed_now s.moment entry) told key goes.1
@@ -123,14 +124,14 @@ full_took_in ranks c earlier old middle new run step rest happens number n d a h
           at = step.moment;
         }) (instance_of h) middle
         → WasTakenIn (key_of h) (instance_of h) old (step ∷ rest) new
-    by_state (IsRequestedOrHeld.Requested x is same asks) =
+    by_state (IsRequestedOrHeld.Requested stands) =
         WasTakenIn.Later old middle new step rest happens
         (followed number with_it ranks (key_of h) (record {
           header = h;
           at = step.moment;
         }) new m there nothing rest middle
-        (routers_stay_in_order.event old step.moment step.event step.outs middle happens order) x is
-        asks goes none)
+        (routers_stay_in_order.event old step.moment step.event step.outs middle happens order)
+        stands.neighbor stands.there stands.asked goes none)
     by_state (IsRequestedOrHeld.Held became) =
         WasTakenIn.Now old middle new step rest happens became
         (as_run number with_it rest middle new goes)

@@ -32,10 +32,10 @@ use Rattle.agreement_laws.specs.NeighborHistories.{interface_of, other_side, par
 use Rattle.agreement_laws.specs.NeighborsAgree.{HoldsAsNew, IsWithout, is_as_new}
 use Rattle.agreement_laws.specs.Ranks.{RanksFollowTheComparison}
 use Rattle.agreement_laws.specs.Accepted.{AcceptsDescription, BringsDescription}
-use Rattle.agreement_laws.specs.Requests.{AcceptsKey, BecameOfRequest, IsRequestedOrHeld}
-use Rattle.agreement_laws.specs.Requests.{RequestsAreMet, WhatIsAcceptedIsRequested}
-use Rattle.agreement_laws.specs.Stays.{IsRequested, RequestsStay}
-use Rattle.agreement_laws.specs.Stays.{StaysRequested}
+use Rattle.agreement_laws.specs.Requests.{AcceptsKey, BecameOfRequest, IsRequested}
+use Rattle.agreement_laws.specs.Requests.{IsRequestedOrHeld, RequestsAreMet}
+use Rattle.agreement_laws.specs.Requests.{WhatIsAcceptedIsRequested}
+use Rattle.agreement_laws.specs.Stays.{RequestsStay, StaysRequested}
 use Rattle.agreement_laws.specs.Answers.{IsAccepted, sends_of}
 use Rattle.agreement_laws.specs.Held.{AreAsNew, HasAccepted, WasLost, WasThere}
 use Rattle.agreement_laws.specs.Held.{WhatWasAcceptedIsHeld}
@@ -188,8 +188,8 @@ module _ (laws : Laws) (ends : Ends) (side : Side) (name : LsaInstance) where
           → IsRequestedOrHeld p t.moment t.event number
           (conversation_with (two_way_received t.moment x).neighbor) (key_of l.header) entered
           (instance_of l.header) q → Result
-      by_outcome there (IsRequestedOrHeld.Requested y there_now same asks) =
-          requested y there_now asks
+      by_outcome there (IsRequestedOrHeld.Requested stands) =
+          requested stands.neighbor stands.there stands.asked
       by_outcome there (IsRequestedOrHeld.Held b) =
           became l.header its_new there
           (subst (λ (k : Key). BecameOf p t.moment t.event (instance_of l.header) k q) l.of_key b)
@@ -241,8 +241,8 @@ module _ (laws : Laws) (ends : Ends) (side : Side) (name : LsaInstance) where
           where
             by_rest : IsRequestedOrHeld p t.moment t.event number (conversation_with n) key entry
                 (listed_now t.moment entry) q → Result
-            by_rest (IsRequestedOrHeld.Requested y at_now same_now still) =
-                asked y at_now entry still new
+            by_rest (IsRequestedOrHeld.Requested stands) =
+                asked stands.neighbor stands.there entry stands.asked new
             by_rest (IsRequestedOrHeld.Held (BecameOf.IsHeld c at_now more)) =
                 held_as c at_now (instance_of_header entry.header)
                 (at_any_age (copy_now t.moment c) (listed_now t.moment entry) more) new

@@ -24,13 +24,19 @@ use Rattle.agreement_laws.specs.Exchanged.{Conversation, Converses, conversation
 use Rattle.agreement_laws.specs.Accepted.{AcceptsDescription, BringsDescription, IsLastOfItsKey}
 use Rattle.agreement_laws.specs.Accepted.{accepts_description}
 
+-- the entry stands on the request list of the neighbor at the interface, in this conversation
+pub record IsRequested (number : InterfaceNumber) (with_it : Conversation) (key : Key)
+    (entry : ListEntry) (r : Router) : Type 0 where
+  pub neighbor : Neighbor
+  pub there : neighbor_at number r.area.links ≡ Some neighbor
+  pub is : conversation_with neighbor ≡ with_it
+  pub asked : finite.get neighbor.requests key ≡ Some entry
+
 -- after the event at the moment, in which the old router became the new one
 pub data IsRequestedOrHeld (old : Router) (moment : Moment) (event : Occurrence)
     (number : InterfaceNumber) (with_it : Conversation) (key : Key) (entry : ListEntry)
     (instance : Instance) (new : Router) : Type 0 where
-  -- the entry stands on the neighbor's request list, in this conversation
-  Requested : (n : Neighbor) → neighbor_at number new.area.links ≡ Some n
-      → conversation_with n ≡ with_it → finite.get n.requests key ≡ Some entry
+  Requested : IsRequested number with_it key entry new
       → IsRequestedOrHeld old moment event number with_it key entry instance new
   -- one as new as the instance is held; or it was, and left in this event, at MaxAge
   Held : BecameOf old moment event instance key new

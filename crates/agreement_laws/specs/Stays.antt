@@ -16,17 +16,9 @@ use Rattle.event_rules.specs.Events.{Happens}
 use Rattle.event_rules.specs.Routers.{Occurrence, Router}
 use Rattle.flood_laws.specs.InOrder.{IsInOrder}
 use Rattle.agreement_laws.specs.CopiesClimb.{BringsNone, IsForeignAndAbsent}
-use Rattle.agreement_laws.specs.Exchanged.{Conversation, Converses, conversation_with}
+use Rattle.agreement_laws.specs.Exchanged.{Converses, conversation_with}
 use Rattle.agreement_laws.specs.Accepted.{AcceptsDescription, IsLastOfItsKey}
-use Rattle.agreement_laws.specs.Requests.{AcceptsKey}
-
--- the entry stands on the request list of the neighbor at the interface, in this conversation
-pub record IsRequested (number : InterfaceNumber) (with_it : Conversation) (key : Key)
-    (entry : ListEntry) (r : Router) : Type 0 where
-  pub neighbor : Neighbor
-  pub there : neighbor_at number r.area.links ≡ Some neighbor
-  pub is : conversation_with neighbor ≡ with_it
-  pub asked : finite.get neighbor.requests key ≡ Some entry
+use Rattle.agreement_laws.specs.Requests.{AcceptsKey, IsRequested}
 
 -- what becomes of such a request
 pub data StaysRequested (old : Router) (moment : Moment) (event : Occurrence)
