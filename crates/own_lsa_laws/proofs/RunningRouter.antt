@@ -11,7 +11,6 @@ use Rattle.flood.specs.declared.event.Event.{Event}
 use Rattle.flood.specs.declared.event.Event.TheVariants as event
 use Rattle.worker.specs.Replay.{IsAfterEvents}
 use Rattle.worker.specs.Turns.{Sends}
-use Rattle.worker.specs.Work.TheVariants.{Tick}
 use Rattle.own_lsa_laws.specs.RunningRouter.{IsTicked, NobodySpeaksForTheRunningRouter}
 
 from_start : RoutersRefuseClocksThatGoBack → (c : Config) (steps : List Step)
