@@ -24,6 +24,10 @@ parts = record {
     (λ t. (is.each r).1 ((are.each r).0 t.0, t.1)),
   );
   empty = λ said root table is. without table (λ r t. of_empty (r, 0) ((is.each r).0 t).1);
+  whole = λ said root answers routes table are is all.
+      same_routes table routes is.ascending are.ascending
+      (λ r t. (are.each r).1 ((is.each r).0 t).0)
+      (λ r t. let k = (are.each r).0 t in (is.each r).1 (k, all r k));
 }
 
 pub not_stale : AnswersToAllAreNotStale

@@ -2,7 +2,7 @@
 use Rattle.std.specs.Prelude.{◌≡◌, ℕ, ◌↔◌, List, []}
 use Rattle.std.specs.List.{Contains}
 use Rattle.words.specs.declared.route.Route.{Route}
-use Rattle.routes.specs.Candidates.{AreCandidates}
+use Rattle.routes.specs.Candidates.{AreCandidates, IsCandidate}
 use Rattle.routes.specs.Paths.{Way}
 use Rattle.routes.specs.Tables.{Answers, IsAnswered, IsLetIn, IsStale, IsTable}
 use Rattle.routes.specs.declared.root.Root.{Root}
@@ -32,14 +32,21 @@ TablesAreDetermined =
     (said : Said) (root : Root) (answers : Answers) (left right : List Route)
     → IsTable said root answers left → IsTable said root answers right → left ≡ right
 
+-- each candidate was asked about, and let in
+abbrev pub LetsAllIn : Said → Root → Answers → Type 0
+LetsAllIn said root answers = (r : Route) → IsCandidate said root r → IsLetIn answers r
+
 -- the table has a route if and only if it is among the candidates and is let in, so it has none
--- before the first answers
+-- before the first answers, and all if all are let in
 pub record TablesArePartsOfCandidates : Type 0 where
   pub part : (said : Said) (root : Root) (answers : Answers) (routes table : List Route)
       → AreCandidates said root routes → IsTable said root answers table
       → (r : Route) → Contains table r ↔ (Contains routes r × IsLetIn answers r)
   pub empty : (said : Said) (root : Root) (table : List Route) → IsTable said root [] table
       → table ≡ []
+  pub whole : (said : Said) (root : Root) (answers : Answers) (routes table : List Route)
+      → AreCandidates said root routes → IsTable said root answers table
+      → LetsAllIn said root answers → table ≡ routes
 
 -- right after answers to all candidates the table isn't stale
 abbrev pub AnswersToAllAreNotStale : Type 0

@@ -14,12 +14,11 @@ use Rattle.area_routes.specs.Offers.{IsTableOf, root_by}
 use Rattle.event_rules.specs.Routers.{Router}
 use Rattle.candidates.specs.Borders.{IsLongest}
 use Rattle.received.specs.Links.{neighbor_at}
-use Rattle.routes.specs.Candidates.{IsCandidate}
 use Rattle.routes.specs.Links.{Says}
 use Rattle.routes.specs.Offers.{IsPrefix}
 use Rattle.routes.specs.Said.{Said, said_at}
-use Rattle.routes.specs.Tables.{IsLetIn}
 use Rattle.routes.specs.declared.root.Root.{Root}
+use Rattle.route_laws.specs.Laws.{LetsAllIn}
 use Rattle.route_laws.specs.Premises.{HaveCosts, HaveOwnAddresses, IsCurrent}
 
 -- ---- routers and links
@@ -62,9 +61,8 @@ pub record IsCurrentForwarder (forwarder : Forwarder) : Type 0 where
   pub is_table : (let router = forwarder.router in
       IsTableOf router.id router.area router.moment router.answers forwarder.table)
   -- which let in each candidate
-  pub let_in : (route : Route)
-      → IsCandidate (says_of forwarder.router) (root_of forwarder.router) route
-      → IsLetIn forwarder.router.answers route
+  pub let_in : (let router = forwarder.router in
+      LetsAllIn (says_of router) (root_of router) router.answers)
 
 -- the assumptions about each router by itself
 pub record IsUpToDate (forwarder : Forwarder) : Type 0 where

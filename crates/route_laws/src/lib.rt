@@ -34,7 +34,8 @@ pub fn tables_are_determined()
     ensures { TablesAreDetermined }
 {}
 
-/// The table consists of the candidates that the answers let in, and is empty before any answers.
+/// The table consists of the candidates that the answers let in: it is empty before any answers,
+/// and has all candidates if all are let in.
 pub fn tables_are_parts_of_candidates()
     ensures { TablesArePartsOfCandidates }
 {}
