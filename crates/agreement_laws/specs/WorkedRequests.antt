@@ -1,5 +1,5 @@
--- Worked cases of what is requested, and of which Descriptions are accepted (RFC 2328, sections 10.6
--- and 10.8).
+-- Worked cases of what is requested, and of which Descriptions are accepted (RFC 2328, sections
+-- 10.6 and 10.8).
 use Rattle.std.specs.Prelude.{◌≡◌, ◌⊎◌, true, false, nat_lt, [], ◌∷◌, Some}
 use Rattle.std.specs.FinMap as finite
 use Rattle.words.specs.Numbers.{Moment, RouterNumber}

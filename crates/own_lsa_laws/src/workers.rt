@@ -23,11 +23,11 @@ pub fn lives_are_deeds_in_order<L: Site, B: Taker<L>, K: Transport, S: Seconds, 
 {}
 
 /// No other router speaks for the running one for longer than MinLSInterval, five seconds, whatever
-/// it receives (RFC 2328, section 13.4): a book takes no event that is earlier than the last one, so
-/// what holds of every run in which the clock doesn't go back holds of all that a book ever took.
-/// Each copy in the router's own name that is below MaxAge has the wanted body, or waits for a Tick
-/// to be replaced. After each Tick that a turn gives only MinLSInterval prevents that, and no copy
-/// that was stored five seconds before the Tick has another body.
+/// it receives (RFC 2328, section 13.4): a book takes no event that is earlier than the last one,
+/// so what holds of every run in which the clock doesn't go back holds of all that a book ever
+/// took. Each copy in the router's own name that is below MaxAge has the wanted body, or waits for
+/// a Tick to be replaced. After each Tick that a turn gives only MinLSInterval prevents that, and
+/// no copy that was stored five seconds before the Tick has another body.
 pub fn nobody_speaks_for_the_running_router()
     ensures { NobodySpeaksForTheRunningRouter }
 {
