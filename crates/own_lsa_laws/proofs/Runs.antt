@@ -29,9 +29,9 @@ use Rattle.event_rules.specs.Routers.{Occurrence, Router, unannounced_router}
 use Rattle.event_rules.specs.Ticks.{after_tick}
 use Rattle.flood_laws.proofs.Retransmitted.{retransmissions_are_of_the_database}
 use Rattle.router_runs.specs.Clocks.{ClockRunsOn}
-use Rattle.own_lsa_laws.specs.OwnCopies.{EndsWithTick, IsHeldBack, IsOwnCopy}
+use Rattle.own_lsa_laws.specs.OwnCopies.{EndsWithTick, IsHeldBack, IsSelfOriginated}
 use Rattle.own_lsa_laws.specs.OwnCopies.{IsToBeReplaced, NobodySpeaksForThisRouter}
-use Rattle.own_lsa_laws.specs.OwnCopies.{SaysWhatIsWanted}
+use Rattle.own_lsa_laws.specs.OwnCopies.{HasWantedBody}
 use Rattle.own_lsa_laws.proofs.Agreeing.{same_of_text, tick_agrees}
 use Rattle.own_lsa_laws.proofs.Ended.{Rests, among, ended_kept, is_among, packet_kept}
 use Rattle.own_lsa_laws.proofs.Ended.{redistribute_kept, run_down, text_of, tick_faces, tick_kept}
@@ -335,10 +335,10 @@ runs c steps r clock run = run_kept steps (initial c) r
 
 -- it has the wanted body, or may wait, or only MinLSInterval prevents the replacement
 module _ (may_wait : Key → Type 0) (r : Router) (key : Key) (copy : DatabaseCopy)
-    (so : Rests may_wait r.moment (at_rest r)) (own : IsOwnCopy r key copy)
+    (so : Rests may_wait r.moment (at_rest r)) (own : IsSelfOriginated r key copy)
     (keyed : lsa_key copy.lsa ≡ key) where
   abbrev Told : Type 0
-  Told = SaysWhatIsWanted r key copy
+  Told = HasWantedBody r key copy
       ⊎ ((may_wait key × IsToBeReplaced r key) ⊎ IsHeldBack r key copy)
 
   fits : FitsAt r.moment (told (text_of (at_rest r)) may_wait) r key copy
@@ -346,7 +346,7 @@ module _ (may_wait : Key → Type 0) (r : Router) (key : Key) (copy : DatabaseCo
       own.there so.copies
 
   says_router_lsa : same_key key (router_key r.id) ≡ true → body_text copy.lsa.body
-      ≡ text_of (at_rest r) → SaysWhatIsWanted r key copy
+      ≡ text_of (at_rest r) → HasWantedBody r key copy
   says_router_lsa same is = record {
     says = router_body r.area.links;
     wanted = wanted_router_lsa r key same;
@@ -386,15 +386,15 @@ module _ (may_wait : Key → Type 0) (r : Router) (key : Key) (copy : DatabaseCo
   is_told = by_case (fits.1 (ap (λ (k : Key). k.advertising_router) (sym keyed) ∙ own.own))
 
 always : (c : Config) (steps : List Step) (r : Router) → ClockRunsOn c.start steps
-    → Run (initial c) steps r → (key : Key) (copy : DatabaseCopy) → IsOwnCopy r key copy
-    → SaysWhatIsWanted r key copy ⊎ IsToBeReplaced r key
+    → Run (initial c) steps r → (key : Key) (copy : DatabaseCopy) → IsSelfOriginated r key copy
+    → HasWantedBody r key copy ⊎ IsToBeReplaced r key
 always c steps r clock run key copy own =
     by_case (is_told anything r key copy (runs c steps r clock run) own
     ((retransmissions_are_of_the_database.run c steps r run).keys key copy own.there))
   where
-    by_case : SaysWhatIsWanted r key copy
+    by_case : HasWantedBody r key copy
         ⊎ ((anything key × IsToBeReplaced r key) ⊎ IsHeldBack r key copy)
-        → SaysWhatIsWanted r key copy ⊎ IsToBeReplaced r key
+        → HasWantedBody r key copy ⊎ IsToBeReplaced r key
     by_case (inl says) = inl says
     by_case (inr (inl waits)) = inr waits.1
     by_case (inr (inr held)) = inr held.replaced
@@ -417,22 +417,22 @@ tick_keyed c moment r ends key copy there =
     key copy there
 
 after_ticks : (c : Config) (moment : ℕ) (r : Router) → EndsWithTick c moment r
-    → (key : Key) (copy : DatabaseCopy) → IsOwnCopy r key copy → SaysWhatIsWanted r key copy
+    → (key : Key) (copy : DatabaseCopy) → IsSelfOriginated r key copy → HasWantedBody r key copy
     ⊎ IsHeldBack r key copy
 after_ticks c moment r ends key copy own =
     by_case (is_told (λ q. false ≡ true) r key copy (tick_stands c moment r ends) own
     (tick_keyed c moment r ends key copy own.there))
   where
-    by_case : SaysWhatIsWanted r key copy
+    by_case : HasWantedBody r key copy
         ⊎ (((false ≡ true) × IsToBeReplaced r key) ⊎ IsHeldBack r key copy)
-        → SaysWhatIsWanted r key copy ⊎ IsHeldBack r key copy
+        → HasWantedBody r key copy ⊎ IsHeldBack r key copy
     by_case (inl says) = inl says
     by_case (inr (inl waits)) = absurd (true≢false (sym waits.0))
     by_case (inr (inr held)) = inr held
 
 in_five : (c : Config) (moment : ℕ) (r : Router) → EndsWithTick c moment r
-    → (key : Key) (copy : DatabaseCopy) → IsOwnCopy r key copy → copy.stored + 5 ≤ moment
-    → SaysWhatIsWanted r key copy
+    → (key : Key) (copy : DatabaseCopy) → IsSelfOriginated r key copy → copy.stored + 5 ≤ moment
+    → HasWantedBody r key copy
 in_five c moment r ends key copy own past = by_case (after_ticks c moment r ends key copy own)
   where
     at : r.moment ≡ moment
@@ -442,7 +442,7 @@ in_five c moment r ends key copy own past = by_case (after_ticks c moment r ends
         → now < originated + 5 → stored + 5 ≤ moment → ⊥
     too_late stored originated now moment at before recent past = omega arith
 
-    by_case : SaysWhatIsWanted r key copy ⊎ IsHeldBack r key copy → SaysWhatIsWanted r key copy
+    by_case : HasWantedBody r key copy ⊎ IsHeldBack r key copy → HasWantedBody r key copy
     by_case (inl says) = says
     by_case (inr held) = absurd (too_late copy.stored held.originated r.moment moment at held.before
         held.recent past)

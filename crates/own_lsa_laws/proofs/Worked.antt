@@ -16,7 +16,8 @@ use Rattle.event_rules.specs.Originations.{announced_body, flush, flush_copy, ro
 use Rattle.event_rules.specs.Originations.{router_key, wanted_body}
 use Rattle.event_rules.specs.Routers.{Router}
 use Rattle.flood_laws.proofs.Limits.{tied_key, body_or}
-use Rattle.own_lsa_laws.specs.OwnCopies.{IsHeldBack, IsOwnCopy, IsToBeReplaced, SaysWhatIsWanted}
+use Rattle.own_lsa_laws.specs.OwnCopies.{IsHeldBack, IsSelfOriginated, IsToBeReplaced}
+use Rattle.own_lsa_laws.specs.OwnCopies.{HasWantedBody}
 use Rattle.own_lsa_laws.specs.OwnCopies.{SpeaksForItself, SpeaksForItselfAfterTick}
 use Rattle.own_lsa_laws.specs.Worked.{WorkedOwnCopies, holding, other_links, unwanted, unwanted_key}
 use Rattle.own_lsa_laws.specs.Worked.{waiting_at}
@@ -71,7 +72,7 @@ left_alone speaks = by_case (speaks unwanted_key (copied 20 unwanted) (record {
   young = refl;
 }))
   where
-    by_case : SaysWhatIsWanted (holding unwanted_key unwanted) unwanted_key (copied 20 unwanted)
+    by_case : HasWantedBody (holding unwanted_key unwanted) unwanted_key (copied 20 unwanted)
         ⊎ IsToBeReplaced (holding unwanted_key unwanted) unwanted_key → ⊥
     by_case (inl says) = none_some _ says.says wants_none says.wanted
     by_case (inr waits) = none_some _ waits.says wants_none waits.wanted
@@ -132,7 +133,7 @@ abbrev links_key : Key
 links_key = router_key 7
 
 says_otherwise : (r : Router) → wanted_body r links_key ≡ Some (router_body [])
-    → SaysWhatIsWanted r links_key (copied 20 other_links) → ⊥
+    → HasWantedBody r links_key (copied 20 other_links) → ⊥
 says_otherwise r wanted says =
     let e : router_body [] ≡ says.says = ap (body_or (router_body [])) (sym wanted ∙ says.wanted) in
     let same : same_body other_links.body (router_body []) ≡ true =
@@ -140,7 +141,7 @@ says_otherwise r wanted says =
     true≢false (sym same)
 
 there_at : (moment : ℕ) → is_aged_out moment (copied 20 other_links) ≡ false
-    → IsOwnCopy (waiting_at moment) links_key (copied 20 other_links)
+    → IsSelfOriginated (waiting_at moment) links_key (copied 20 other_links)
 there_at moment young = record {
   there = only links_key (copied 20 other_links);
   own = refl;
@@ -154,7 +155,7 @@ not_waiting speaks = by_case (speaks links_key (copied 20 other_links) (record {
   young = refl;
 }))
   where
-    by_case : SaysWhatIsWanted (holding links_key other_links) links_key (copied 20 other_links)
+    by_case : HasWantedBody (holding links_key other_links) links_key (copied 20 other_links)
         ⊎ IsToBeReplaced (holding links_key other_links) links_key → ⊥
     by_case (inl says) = says_otherwise (holding links_key other_links) refl says
     by_case (inr waits) = true≢false (sym waits.waits ∙ set.contains-empty key_cmp links_key)
@@ -168,12 +169,12 @@ to_be_replaced moment = record {
 
 waiting : SpeaksForItself (waiting_at 20)
 waiting key copy own =
-    is_only (λ k c. SaysWhatIsWanted (waiting_at 20) k c ⊎ IsToBeReplaced (waiting_at 20) k)
+    is_only (λ k c. HasWantedBody (waiting_at 20) k c ⊎ IsToBeReplaced (waiting_at 20) k)
     links_key (copied 20 other_links) (inr (to_be_replaced 20)) key copy own.there
 
 in_time : SpeaksForItselfAfterTick (waiting_at 24)
 in_time key copy own =
-    is_only (λ k c. SaysWhatIsWanted (waiting_at 24) k c ⊎ IsHeldBack (waiting_at 24) k c) links_key
+    is_only (λ k c. HasWantedBody (waiting_at 24) k c ⊎ IsHeldBack (waiting_at 24) k c) links_key
     (copied 20 other_links)
     (inr (record {
       replaced = to_be_replaced 24;
@@ -190,7 +191,7 @@ too_late speaks = by_case (speaks links_key (copied 20 other_links) (there_at 25
     past : (at : ℕ) → 20 ≡ at → 25 < at + 5 → ⊥
     past at is recent = omega arith
 
-    by_case : SaysWhatIsWanted (waiting_at 25) links_key (copied 20 other_links)
+    by_case : HasWantedBody (waiting_at 25) links_key (copied 20 other_links)
         ⊎ IsHeldBack (waiting_at 25) links_key (copied 20 other_links) → ⊥
     by_case (inl says) = says_otherwise (waiting_at 25) refl says
     by_case (inr held) = past held.originated

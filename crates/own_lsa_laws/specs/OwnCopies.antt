@@ -19,14 +19,14 @@ use Rattle.router_runs.specs.Clocks.{ClockRunsOn}
 
 -- ---- a copy in this router's name
 
--- its Advertising Router is this router, and it is below MaxAge
-pub record IsOwnCopy (r : Router) (key : Key) (copy : DatabaseCopy) : Type 0 where
+-- the LSA is self-originated: its Advertising Router is this router; and it is below MaxAge
+pub record IsSelfOriginated (r : Router) (key : Key) (copy : DatabaseCopy) : Type 0 where
   pub there : finite.get r.area.database key ≡ Some copy
   pub own : copy.lsa.header.advertising_router ≡ r.id
   pub young : is_aged_out r.moment copy ≡ false
 
 -- the router wants an LSA of this key, and the copy has the wanted body
-pub record SaysWhatIsWanted (r : Router) (key : Key) (copy : DatabaseCopy) : Type 0 where
+pub record HasWantedBody (r : Router) (key : Key) (copy : DatabaseCopy) : Type 0 where
   pub says : LsaBody
   pub wanted : wanted_body r key ≡ Some says
   pub same : same_body copy.lsa.body says ≡ true
@@ -50,13 +50,13 @@ pub record IsHeldBack (r : Router) (key : Key) (copy : DatabaseCopy) : Type 0 wh
 
 -- each such copy has the wanted body, or waits to be replaced; what isn't wanted is at MaxAge
 abbrev pub SpeaksForItself : Router → Type 0
-SpeaksForItself r = (key : Key) (copy : DatabaseCopy) → IsOwnCopy r key copy
-    → SaysWhatIsWanted r key copy ⊎ IsToBeReplaced r key
+SpeaksForItself r = (key : Key) (copy : DatabaseCopy) → IsSelfOriginated r key copy
+    → HasWantedBody r key copy ⊎ IsToBeReplaced r key
 
 -- after a Tick: only MinLSInterval prevents a replacement
 abbrev pub SpeaksForItselfAfterTick : Router → Type 0
-SpeaksForItselfAfterTick r = (key : Key) (copy : DatabaseCopy) → IsOwnCopy r key copy
-    → SaysWhatIsWanted r key copy ⊎ IsHeldBack r key copy
+SpeaksForItselfAfterTick r = (key : Key) (copy : DatabaseCopy) → IsSelfOriginated r key copy
+    → HasWantedBody r key copy ⊎ IsHeldBack r key copy
 
 -- ---- the law
 
@@ -78,5 +78,5 @@ pub record NobodySpeaksForThisRouter : Type 0 where
       → SpeaksForItselfAfterTick r
   -- so the first Tick at least five seconds after a copy was stored has replaced or flushed it
   pub in_five_seconds : (c : Config) (moment : Moment) (r : Router) → EndsWithTick c moment r
-      → (key : Key) (copy : DatabaseCopy) → IsOwnCopy r key copy
-      → copy.stored + min_ls_interval ≤ moment → SaysWhatIsWanted r key copy
+      → (key : Key) (copy : DatabaseCopy) → IsSelfOriginated r key copy
+      → copy.stored + min_ls_interval ≤ moment → HasWantedBody r key copy

@@ -9,7 +9,7 @@ use Rattle.event_rules.specs.declared.model.Config.{Config}
 use Rattle.event_rules.specs.declared.model.Out.{Out}
 use Rattle.event_rules.specs.Events.{Happens, initial}
 use Rattle.event_rules.specs.Routers.{Occurrence, Router}
-use Rattle.own_lsa_laws.specs.OwnCopies.{IsOwnCopy, SaysWhatIsWanted, SpeaksForItself}
+use Rattle.own_lsa_laws.specs.OwnCopies.{HasWantedBody, IsSelfOriginated, SpeaksForItself}
 use Rattle.own_lsa_laws.specs.OwnCopies.{SpeaksForItselfAfterTick}
 use Rattle.hooks.specs.declared.operation.LoaderOperation.{LoaderOperation}
 use Rattle.worker.specs.Replay.{IsAfterEvents}
@@ -26,8 +26,8 @@ pub record IsTicked (c : Config) (moment : Moment) (outs : List Out) : Type 0 wh
   pub leads : IsAfterEvents (initial c) taken old
   pub happens : Happens old moment Occurrence.Tick outs new
   pub speaks : SpeaksForItselfAfterTick new
-  pub in_five_seconds : (key : Key) (copy : DatabaseCopy) → IsOwnCopy new key copy
-      → copy.stored + min_ls_interval ≤ moment → SaysWhatIsWanted new key copy
+  pub in_five_seconds : (key : Key) (copy : DatabaseCopy) → IsSelfOriginated new key copy
+      → copy.stored + min_ls_interval ≤ moment → HasWantedBody new key copy
 
 pub record NobodySpeaksForTheRunningRouter : Type 0 where
   -- at each router to which the events lead that a book took, which began with the configured one
