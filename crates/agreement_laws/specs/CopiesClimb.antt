@@ -1,7 +1,7 @@
 -- What happens to a copy in an event (RFC 2328, sections 12.1.6, 13 and 14): it is replaced by one
 -- that is at least as new, or it is removed from the database at MaxAge, when it is on no
 -- retransmission list. So a router has what it has said about a key until it loses its copy.
-use Rattle.std.specs.Prelude.{◌≡◌, true, false, List, None, Some}
+use Rattle.std.specs.Prelude.{◌≡◌, true, false, None, Some}
 use Rattle.std.specs.FinMap as finite
 use Rattle.words.specs.Numbers.{Moment}
 use Rattle.words.specs.declared.key.Key.{Key}
@@ -10,11 +10,9 @@ use Rattle.lsdb.specs.Headers.{Lsa, lsa_key}
 use Rattle.lsdb.specs.Order.{is_max_age}
 use Rattle.lsdb.specs.declared.order.Instance.{Instance}
 use Rattle.received.specs.Links.{any_has_retransmission}
-use Rattle.event_rules.specs.declared.model.Out.{Out}
-use Rattle.event_rules.specs.Events.{Happens}
 use Rattle.event_rules.specs.Routers.{Occurrence, Router}
-use Rattle.flood_laws.specs.InOrder.{IsInOrder}
 use Rattle.flood_laws.specs.NewInstances.{BringsLsa}
+use Rattle.agreement_laws.specs.EachEvent.{OfEachEvent}
 use Rattle.agreement_laws.specs.Ranks.{is_at_least}
 
 -- ---- keys of which nothing can leave
@@ -61,10 +59,8 @@ pub data BecameOf (old : Router) (moment : Moment) (event : Occurrence) (instanc
       → any_has_retransmission key new.area.links ≡ false
       → BecameOf old moment event instance key new
 
--- for routers of any run: this is so for each copy in each event, compared at the event's moment
+-- each copy, compared at the event's moment
 abbrev pub CopiesClimb : Type 0
-CopiesClimb =
-    (old : Router) (moment : Moment) (event : Occurrence) (outs : List Out) (new : Router)
-    → Happens old moment event outs new → IsInOrder old
-    → (key : Key) (copy : DatabaseCopy) → finite.get old.area.database key ≡ Some copy
-    → BecameOf old moment event (copy_now moment copy) key new
+CopiesClimb = OfEachEvent (λ old moment event new. (key : Key) (copy : DatabaseCopy)
+    → finite.get old.area.database key ≡ Some copy
+    → BecameOf old moment event (copy_now moment copy) key new)

@@ -1,5 +1,6 @@
 pub mod Ranks
 pub mod WorkedRanks
+pub mod EachEvent
 pub mod Exchanged
 pub mod WorkedExchanges
 pub mod HeldWasExchanged

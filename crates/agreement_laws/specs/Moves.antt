@@ -1,14 +1,12 @@
 -- What moves an exchange of Descriptions (RFC 2328, sections 10.6 and 10.8): the neighbor's
 -- Descriptions, and nothing else while the conversation goes on.
-use Rattle.std.specs.Prelude.{◌≡◌, List, Some}
-use Rattle.words.specs.Numbers.{InterfaceNumber, Moment}
+use Rattle.std.specs.Prelude.{◌≡◌, Some}
+use Rattle.words.specs.Numbers.{InterfaceNumber}
 use Rattle.packet.specs.declared.model.Description.{Description}
 use Rattle.adjacency.specs.Neighbors.{Neighbor}
 use Rattle.received.specs.Links.{neighbor_at}
-use Rattle.event_rules.specs.declared.model.Out.{Out}
-use Rattle.event_rules.specs.Events.{Happens}
 use Rattle.event_rules.specs.Routers.{Occurrence, Router}
-use Rattle.flood_laws.specs.InOrder.{IsInOrder}
+use Rattle.agreement_laws.specs.EachEvent.{OfEachEvent}
 use Rattle.agreement_laws.specs.Exchanged.{Converses, conversation_with}
 use Rattle.agreement_laws.specs.Accepted.{BringsDescription}
 
@@ -30,10 +28,7 @@ pub data BecameOfExchange (event : Occurrence) (number : InterfaceNumber) (n : N
   -- the conversation is over, or isn't in Exchange yet
   Over : (Converses number (conversation_with n) new → ⊥) → BecameOfExchange event number n new
 
--- of routers in order, as they are in every run: so it is of each event
 abbrev pub OnlyDescriptionsMoveAnExchange : Type 0
-OnlyDescriptionsMoveAnExchange =
-    (old : Router) (moment : Moment) (event : Occurrence) (outs : List Out) (new : Router)
-    → Happens old moment event outs new → IsInOrder old
-    → (number : InterfaceNumber) (n : Neighbor) → neighbor_at number old.area.links ≡ Some n
-    → BecameOfExchange event number n new
+OnlyDescriptionsMoveAnExchange = OfEachEvent (λ old moment event new. (number : InterfaceNumber)
+    (n : Neighbor) → neighbor_at number old.area.links ≡ Some n
+    → BecameOfExchange event number n new)

@@ -1,17 +1,15 @@
 -- How an accepted Description moves the DD sequence numbers (RFC 2328, sections 10.6 and 10.8): its
 -- number is the expected one; the slave takes it over, the master goes on to the next one, or is
 -- done.
-use Rattle.std.specs.Prelude.{◌≡◌, ◌⊎◌, ◌+◌, ◌%◌, ◌^◌, true, false, List, Some}
-use Rattle.words.specs.Numbers.{InterfaceNumber, Moment}
+use Rattle.std.specs.Prelude.{◌≡◌, ◌⊎◌, ◌+◌, ◌%◌, ◌^◌, true, false, Some}
+use Rattle.words.specs.Numbers.{InterfaceNumber}
 use Rattle.packet.specs.declared.model.Description.{Description}
 use Rattle.adjacency.specs.declared.state.NeighborState.TheVariants.{Exchange}
 use Rattle.adjacency.specs.Descriptions.{as_received, expected_sequence}
 use Rattle.adjacency.specs.Neighbors.{Neighbor}
 use Rattle.received.specs.Links.{neighbor_at}
-use Rattle.event_rules.specs.declared.model.Out.{Out}
-use Rattle.event_rules.specs.Events.{Happens}
-use Rattle.event_rules.specs.Routers.{Occurrence, Router}
-use Rattle.flood_laws.specs.InOrder.{IsInOrder}
+use Rattle.event_rules.specs.Routers.{Router}
+use Rattle.agreement_laws.specs.EachEvent.{OfEachEvent}
 use Rattle.agreement_laws.specs.Exchanged.{conversation_with}
 use Rattle.agreement_laws.specs.Accepted.{AcceptsDescription}
 
@@ -32,12 +30,8 @@ pub record HasMoved (number : InterfaceNumber) (n : Neighbor) (d : Description) 
   pub same : conversation_with neighbor ≡ conversation_with n
   pub moved : NumbersMove n d neighbor
 
--- of routers in order, as they are in every run: so it is of each Description that is accepted in
--- Exchange
+-- each Description that is accepted in Exchange
 abbrev pub AcceptedDescriptionsMoveNumbers : Type 0
-AcceptedDescriptionsMoveNumbers =
-    (old : Router) (moment : Moment) (event : Occurrence) (outs : List Out) (new : Router)
-    → Happens old moment event outs new → IsInOrder old
-    → (number : InterfaceNumber) (n : Neighbor) (d : Description)
-    → AcceptsDescription old moment event number n d → n.state ≡ Exchange
-    → HasMoved number n d new
+AcceptedDescriptionsMoveNumbers = OfEachEvent (λ old moment event new. (number : InterfaceNumber)
+    (n : Neighbor) (d : Description) → AcceptsDescription old moment event number n d
+    → n.state ≡ Exchange → HasMoved number n d new)

@@ -2,7 +2,7 @@
 -- an instance that is as new is held. And what becomes of a request in an event (sections 10.9, 13
 -- and 13.3): it leaves the request list only if one that is as new is held, if a Description is
 -- accepted that has a header of its key, or with the conversation.
-use Rattle.std.specs.Prelude.{◌≡◌, true, List, Some}
+use Rattle.std.specs.Prelude.{◌≡◌, true, Some}
 use Rattle.std.specs.FinMap as finite
 use Rattle.std.specs.List.{Contains}
 use Rattle.words.specs.Numbers.{InterfaceNumber, Moment, RouterNumber}
@@ -14,11 +14,9 @@ use Rattle.packet.specs.declared.model.Description.{Description}
 use Rattle.adjacency.specs.Adjacencies.{two_way_received}
 use Rattle.adjacency.specs.Neighbors.{Neighbor}
 use Rattle.received.specs.Links.{neighbor_at}
-use Rattle.event_rules.specs.declared.model.Out.{Out}
 use Rattle.event_rules.specs.Endings.{start_event}
-use Rattle.event_rules.specs.Events.{Happens}
 use Rattle.event_rules.specs.Routers.{Occurrence, Router}
-use Rattle.flood_laws.specs.InOrder.{IsInOrder}
+use Rattle.agreement_laws.specs.EachEvent.{OfEachEvent}
 use Rattle.agreement_laws.specs.CopiesClimb.{BecameOf}
 use Rattle.agreement_laws.specs.Exchanged.{Conversation, Converses, conversation_with}
 use Rattle.agreement_laws.specs.Accepted.{AcceptsDescription, BringsDescription, IsLastOfItsKey}
@@ -75,23 +73,18 @@ pub data BecameOfRequest (old : Router) (moment : Moment) (event : Occurrence)
   Over : (Converses number (conversation_with n) new → ⊥)
       → BecameOfRequest old moment event number n key entry new
 
--- of routers in order, as they are in every run: so it is of each request in each event
+-- each request
 abbrev pub RequestsAreMet : Type 0
-RequestsAreMet =
-    (old : Router) (moment : Moment) (event : Occurrence) (outs : List Out) (new : Router)
-    → Happens old moment event outs new → IsInOrder old
-    → (number : InterfaceNumber) (n : Neighbor) → neighbor_at number old.area.links ≡ Some n
+RequestsAreMet = OfEachEvent (λ old moment event new. (number : InterfaceNumber) (n : Neighbor)
+    → neighbor_at number old.area.links ≡ Some n
     → (key : Key) (entry : ListEntry) → finite.get n.requests key ≡ Some entry
-    → BecameOfRequest old moment event number n key entry new
+    → BecameOfRequest old moment event number n key entry new)
 
--- of routers in order, as they are in every run: so it is of each Description that is accepted
+-- each Description that is accepted
 abbrev pub WhatIsAcceptedIsRequested : Type 0
-WhatIsAcceptedIsRequested =
-    (old : Router) (moment : Moment) (event : Occurrence) (outs : List Out) (new : Router)
-    → Happens old moment event outs new → IsInOrder old
-    → (number : InterfaceNumber) (n : Neighbor) (d : Description)
-    → AcceptsDescription old moment event number n d
+WhatIsAcceptedIsRequested = OfEachEvent (λ old moment event new. (number : InterfaceNumber)
+    (n : Neighbor) (d : Description) → AcceptsDescription old moment event number n d
     → (h : Header) → IsLastOfItsKey d.headers h
     → IsRequestedOrHeld old moment event number
     (conversation_with (two_way_received moment n).neighbor)
-    (key_of h) (record { header = h; at = moment }) (instance_of h) new
+    (key_of h) (record { header = h; at = moment }) (instance_of h) new)

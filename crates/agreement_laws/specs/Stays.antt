@@ -1,7 +1,7 @@
 -- What is requested stays so until an LSA of its key comes (RFC 2328, sections 10.6, 10.9, 13 and
 -- 13.3): if no copy is held and the key isn't the router's own, what is accepted is requested, and
 -- a request leaves its list in no event that brings no LSA of the key.
-use Rattle.std.specs.Prelude.{◌≡◌, List, Some}
+use Rattle.std.specs.Prelude.{◌≡◌, Some}
 use Rattle.std.specs.FinMap as finite
 use Rattle.words.specs.Numbers.{InterfaceNumber, Moment}
 use Rattle.words.specs.declared.key.Key.{Key}
@@ -11,10 +11,8 @@ use Rattle.packet.specs.declared.model.Description.{Description}
 use Rattle.adjacency.specs.Adjacencies.{two_way_received}
 use Rattle.adjacency.specs.Neighbors.{Neighbor}
 use Rattle.received.specs.Links.{neighbor_at}
-use Rattle.event_rules.specs.declared.model.Out.{Out}
-use Rattle.event_rules.specs.Events.{Happens}
 use Rattle.event_rules.specs.Routers.{Occurrence, Router}
-use Rattle.flood_laws.specs.InOrder.{IsInOrder}
+use Rattle.agreement_laws.specs.EachEvent.{OfEachEvent}
 use Rattle.agreement_laws.specs.CopiesClimb.{BringsNone, IsForeignAndAbsent}
 use Rattle.agreement_laws.specs.Exchanged.{Converses, conversation_with}
 use Rattle.agreement_laws.specs.Accepted.{AcceptsDescription, IsLastOfItsKey}
@@ -33,19 +31,16 @@ pub data StaysRequested (old : Router) (moment : Moment) (event : Occurrence)
   Over : (Converses number (conversation_with n) new → ⊥)
       → StaysRequested old moment event number n key entry new
 
--- of routers in order, as they are in every run: so it is of each event
 pub record RequestsStay : Type 0 where
-  pub stays : (old : Router) (moment : Moment) (event : Occurrence) (outs : List Out)
-      (new : Router) → Happens old moment event outs new → IsInOrder old
-      → (number : InterfaceNumber) (n : Neighbor) → neighbor_at number old.area.links ≡ Some n
+  -- each request
+  pub stays : OfEachEvent (λ old moment event new. (number : InterfaceNumber) (n : Neighbor)
+      → neighbor_at number old.area.links ≡ Some n
       → (key : Key) (entry : ListEntry) → finite.get n.requests key ≡ Some entry
       → IsForeignAndAbsent old key → BringsNone event key
-      → StaysRequested old moment event number n key entry new
-  -- what is accepted
-  pub accepted : (old : Router) (moment : Moment) (event : Occurrence) (outs : List Out)
-      (new : Router) → Happens old moment event outs new → IsInOrder old
-      → (number : InterfaceNumber) (n : Neighbor) (d : Description)
-      → AcceptsDescription old moment event number n d
+      → StaysRequested old moment event number n key entry new)
+  -- each Description that is accepted
+  pub accepted : OfEachEvent (λ old moment event new. (number : InterfaceNumber) (n : Neighbor)
+      (d : Description) → AcceptsDescription old moment event number n d
       → (h : Header) → IsLastOfItsKey d.headers h → IsForeignAndAbsent old (key_of h)
       → IsRequested number (conversation_with (two_way_received moment n).neighbor) (key_of h)
-      (record { header = h; at = moment }) new
+      (record { header = h; at = moment }) new)
