@@ -122,7 +122,8 @@ refused_last old new labels made among =
 
 -- ---- growth
 
-pub grows : (old new : SeatView) (labels : List Label) → SeatMakes old labels new → Grows old labels new
+pub grows : (old new : SeatView) (labels : List Label) → SeatMakes old labels new
+    → Grows old labels new
 grows old new labels made = record {
   table = ap (λ (s : SeatView). s.table) made.grown;
   number = ap (λ (s : SeatView). s.number) made.grown;

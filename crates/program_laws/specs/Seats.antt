@@ -33,4 +33,5 @@ pub record Grows (old : SeatView) (labels : List Label) (new : SeatView) : Type 
   pub list : new.accesses ≡ old.accesses ++ acts labels
 
 abbrev pub SeatsGrow : Type 0
-SeatsGrow = (old new : SeatView) (labels : List Label) → SeatMakes old labels new → Grows old labels new
+SeatsGrow = (old new : SeatView) (labels : List Label) → SeatMakes old labels new
+    → Grows old labels new

@@ -120,7 +120,8 @@ module _ (said : Said) (plain : AreBoundariesPlain said) (root : Root) where
     originator = advertised.originator;
     of_another = advertised.counts.of_another;
     toward = Told x (plain.direct x.id x.originator x.lsa x.its)
-        (λ lsa its. plain.elsewhere x.originator advertised.originator advertised.lsa advertised.its lsa its) border
+        (λ lsa its. plain.elsewhere x.originator advertised.originator advertised.lsa advertised.its
+        lsa its) border
         advertised refl refl;
     way = border;
     reached = advertised.counts.reaches.reached;

@@ -147,4 +147,5 @@ module _ (topology : Topology) (converged : HasConverged topology)
       → ReachesBoundaryRouter (says_of a.router) (root_of b.router) router way
   is_inside place root a b p q router way (Inside r) = r
   is_inside place root a b p q router way (Outside never x) =
-      absurd (no_border place root a b p q x.advertised.originator x.border x.advertised.counts.reaches)
+      absurd (no_border place root a b p q x.advertised.originator x.border
+      x.advertised.counts.reaches)

@@ -298,7 +298,8 @@ module _ (said : Said) (root next : Root) (own : NamesItsInterfaces said next) (
       let s = shorter said root next own (ARouter advertised.originator) border
       advertised.counts.reaches.reached i t end in
       way_on said root next own (ARouter advertised.originator) border.distance s (λ w.
-      let here : IsAdvertised said next x.originator (w.0.distance + advertised.lsa.metric) w.0 = record {
+      let here : IsAdvertised said next x.originator (w.0.distance + advertised.lsa.metric) w.0 =
+      record {
         originator = advertised.originator;
         lsa = advertised.lsa;
         its = advertised.its;
@@ -318,9 +319,11 @@ module _ (said : Said) (root next : Root) (own : NamesItsInterfaces said next) (
       let near : Way = b.0 in
       let far : Way = x.way in
       let less : near.distance < far.distance =
-      omega (arith, b.2, w.2, advertised.is, ap (λ (y : Way). y.distance) (x.is_way.direct direct)) in
+      omega (arith, b.2, w.2, advertised.is, ap (λ (y : Way). y.distance) (x.is_way.direct direct))
+      in
       let P : Offer → Type 0 = λ y. Again said next y in
-      let itself = next_says (ARouter advertised.originator) border advertised.counts.reaches.reached t in
+      let itself = next_says (ARouter advertised.originator) border
+      advertised.counts.reaches.reached t in
       none (subst P (sym x.is) (record {
         offer = external_offer x.lsa.kind x.prefix x.lsa x.originator near;
         offered = External (record {

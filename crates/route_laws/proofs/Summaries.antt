@@ -406,7 +406,8 @@ told_beyond = record {
 }
 
 -- the other way costs 101
-no_nearer : (cost : ℕ) (other : Way) → IsAdvertised said_b summaries_root beyond cost other → 17 ≤ cost
+no_nearer : (cost : ℕ) (other : Way) → IsAdvertised said_b summaries_root beyond cost other
+    → 17 ≤ cost
 no_nearer cost other t =
     elim (told_is 1 3 refl cost other t) [
       | inl by ↦ let c : cost ≡ 17 = by.0 in omega (arith, c)

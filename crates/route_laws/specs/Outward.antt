@@ -40,10 +40,10 @@ pub data IsToward (said : Said) (root : Root) (offer : Offer) (router hops : ℕ
   -- an area border router, which advertises such an AS boundary router in another area; this area
   -- has no router-LSA of that
   Told : (external : OffersExternal said root offer) → external.lsa.forwarding ≡ 0
-      → ((lsa : RouterLsa) → IsRouterLsa said external.originator lsa → ⊥)
-      → (border : Way)
-      → (advertised : IsAdvertised said root external.originator external.is_way.boundary.distance border)
-      → advertised.originator ≡ router → hops ≡ border.hops → IsToward said root offer router hops
+      → ((lsa : RouterLsa) → IsRouterLsa said external.originator lsa → ⊥) → (border : Way)
+      → (advertised : IsAdvertised said root external.originator
+      external.is_way.boundary.distance border) → advertised.originator ≡ router
+      → hops ≡ border.hops → IsToward said root offer router hops
 
 -- a router forwards packets to the next router by a route: by a next hop that the route has from
 -- one of the best offers for the prefix, which leads to this originator

@@ -9,7 +9,8 @@ use Rattle.hooks.specs.Answered.{IsAnswered}
 use Rattle.hooks.specs.Questions.{count_input}
 use Rattle.flood.specs.declared.book.error.BookError.TheVariants as book_error
 use Rattle.flood.specs.declared.event.Event.{Event}
-use Rattle.turns.specs.Turns.{AsksFor, CountsFor, IsCounted, IsEventOfWork, IsInstalling, RefusesQuestions}
+use Rattle.turns.specs.Turns.{AsksFor, CountsFor, IsCounted, IsEventOfWork, IsInstalling}
+use Rattle.turns.specs.Turns.{RefusesQuestions}
 use Rattle.turns.specs.Turns.{Lack, Offers, Refuses, Took}
 use Rattle.turns.specs.declared.turned.TurnError.{TurnError}
 use Rattle.turns.specs.declared.turned.TurnError.TheVariants as turn_error
@@ -56,8 +57,8 @@ memory_not_back : turn_error.Book (book_error.Core core_error.Memory)
 memory_not_back same = cc
 
 pub unasked : (refuses : Refuses) (w : Work) (moment : Moment) (e : TurnError)
-    → RefusesQuestions refuses w moment e → e ≡ turn_error.Book (book_error.Core core_error.ClockBack)
-    → ⊥
+    → RefusesQuestions refuses w moment e
+    → e ≡ turn_error.Book (book_error.Core core_error.ClockBack) → ⊥
 unasked refuses (work.Datagram number bytes) moment e short clock =
     memory_not_back (sym short.0 ∙ clock)
 unasked refuses work.Tick moment e never clock = never

@@ -68,7 +68,8 @@ candidates_of_some candidates origin taken now (Err x) leads h = h
 
 -- an answer that is a refusal, without what it would have given
 error_alone : (V : Type 0) (b : BookView) (moment : Moment) (e : Event) (why : BookError)
-    → RefusesAnewByRules {X = V} b moment e (Err why) → RefusesAnewByRules {X = Unit {0}} b moment e (Err why)
+    → RefusesAnewByRules {X = V} b moment e (Err why)
+    → RefusesAnewByRules {X = Unit {0}} b moment e (Err why)
 error_alone V b moment e refusing.Journal h = h
 error_alone V b moment e (refusing.Core x) h = h
 
@@ -81,9 +82,10 @@ refused_now {V = V} moment at e b (Err why) is h =
     (error_alone V b at e why h)
 
 pub refused_by_some : {V : Type 0} (origin : Router) (events : ℕ) (moment at : Moment) (e : Event)
-    (b : BookView) (r : Result V BookError) → events ≤ b.taken → IsAfterEvents origin b.taken b.current
-    → at ≡ taken_at e moment b.current.moment → RefusesAnewByRules b at e r
-    → IfErr r (λ error. IsRefusedBySome origin events moment e error)
+    (b : BookView) (r : Result V BookError) → events ≤ b.taken
+    → IsAfterEvents origin b.taken b.current → at ≡ taken_at e moment b.current.moment
+    → RefusesAnewByRules b at e r → IfErr r
+    (λ error. IsRefusedBySome origin events moment e error)
 refused_by_some origin events moment at e b (Ok x) least leads is h = tt
 refused_by_some {V = V} origin events moment at e b (Err why) least leads is h =
     (b, least, leads, refused_now {V = V} moment at e b (Err why) is h)

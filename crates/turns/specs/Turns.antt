@@ -113,7 +113,8 @@ IsAtTheEndOfTheClock {B = B} own moment_of moment =
 abbrev pub Sends : (origin : Router) → (events : ℕ) → Moment → Event → List Out
     → (stale : Option Bool) → Type 0
 Sends origin events moment e outs stale =
-    (taken : ℕ) × (old : Router) × (new : Router) × (events ≤ taken) × IsAfterEvents origin taken old
+    (taken : ℕ) × (old : Router) × (new : Router) × (events ≤ taken)
+    × IsAfterEvents origin taken old
     × (old.moment ≤ taken_at e moment old.moment)
     × Happens old (taken_at e moment old.moment) (occurrence_of e) outs new
     × IfSome stale (λ is. IsTrue is ↔ IsStaleNow new)
@@ -284,7 +285,8 @@ IsRedistribute offers known now external moment e =
 
 -- the event is that of the work, with answers to its questions, by a port that knew the first of
 -- these operations when it began to ask, and knows the others then
-abbrev pub IsEventOfWork : Offers → (known now : List LoaderOperation) → Work → Moment → Event → Type 0
+abbrev pub IsEventOfWork : Offers → (known now : List LoaderOperation) → Work → Moment → Event
+    → Type 0
 IsEventOfWork offers known now (work.Datagram number bytes) moment e = e ≡ event.Packet number bytes
 IsEventOfWork offers known now work.Tick moment e = e ≡ event.Tick
 IsEventOfWork offers known now (work.Add external) moment e =
