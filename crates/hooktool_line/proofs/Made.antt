@@ -1,5 +1,5 @@
 -- Which requests a command makes of its words.
-use Rattle.std.proofs.Common.{◌≡◌, ◌∙◌, ap, ap₂, sym, subst, arith, ℕ, List, Option, Some}
+use Rattle.std.proofs.Common.{◌≡◌, ◌≢◌, ◌∙◌, ap, ap₂, sym, subst, arith, ℕ, List, Option, Some}
 use Rattle.std.proofs.Common.{None, Ok, Err, codes, slice_index, inl, inr, refl}
 use Rattle.std.specs.Borrow.{Bor}
 use Rattle.std.specs.Prelude.{Box, IfOk, IfErr, Result, option_map, ◌⊎◌}
@@ -17,7 +17,7 @@ use Rattle.isa.specs.Hooks.{hook_name}
 use Rattle.isa.specs.declared.hook.Hook.{Hook}
 use Rattle.hooktool_line.specs.Questions.{HasQuestion}
 use Rattle.hooktool_line.specs.Requests.{HasFuel, HasHook, HasWord, IsMade, IsWrong, IsWrongWord}
-use Rattle.hooktool_line.specs.Requests.{MadeBy, Makes, MakesNone, command_of}
+use Rattle.hooktool_line.specs.Requests.{MadeBy, Makes, MakesNone, MakesPlain, command_of}
 use Rattle.hooktool_line.specs.Words.{ReadsOrLacks}
 use Rattle.hooktool_line.specs.declared.requests.FuelAsked.{FuelAsked}
 use Rattle.hooktool_line.specs.declared.requests.Question.{Question}
@@ -25,6 +25,8 @@ use Rattle.hooktool_line.specs.declared.values.NotRead.{NotRead}
 use Rattle.hooktool_line.specs.declared.values.NotRead.TheVariants as not_read
 use Rattle.hooktool_line.specs.declared.requests.HooktoolRequest.{HooktoolRequest}
 use Rattle.hooktool_line.specs.declared.requests.HooktoolRequest.TheVariants as requests
+use Rattle.hooktool_line.specs.declared.requests.PlainRequest.{PlainRequest}
+use Rattle.hooktool_line.specs.declared.requests.PlainRequest.TheVariants as plain
 
 pub some≢none : {X : Type 0} (x : X) → Some x ≡ None → ⊥
 some≢none x e = cc
@@ -76,36 +78,41 @@ pub no_annotate : (rows : List Row)
     → ((hook : Hook) (code object : Text) (fuel : FuelAsked)
     → HasWord rows (codes "HOOK") (hook_name hook) → HasWord rows (codes "CODE") code
     → HasWord rows (codes "OBJECT") object → HasFuel rows fuel → ⊥)
-    → MadeBy (codes "annotate") rows None
-no_annotate rows none (requests.Annotate hook code object fuel) named has =
+    → (request : PlainRequest) → MakesPlain (codes "annotate") rows request → ⊥
+no_annotate rows none (plain.Annotate hook code object fuel) (named, has) =
     none hook code.now object.now fuel has.0 has.1 has.2 has.3
-no_annotate rows none (requests.Build file folder hook fuel) named has =
-    absurd (annotate≢build named)
-no_annotate rows none (requests.Explain object) named has = absurd (annotate≢explain named)
-no_annotate rows none (requests.Try object question) named has = absurd (annotate≢try named)
-no_annotate rows none (requests.Test file) named has = absurd (annotate≢test named)
+no_annotate rows none (plain.Build file folder hook fuel) (named, has) =
+    annotate≢build named
+no_annotate rows none (plain.Explain object) (named, has) = annotate≢explain named
+no_annotate rows none (plain.Test file) (named, has) = annotate≢test named
 
 pub no_build : (rows : List Row) →
     ((file folder : Text) (hook : Option Hook) (fuel : FuelAsked) → HasWord rows (codes "FILE") file
     → HasWord rows (codes "FOLDER") folder → HasHook rows hook → HasFuel rows fuel → ⊥)
-    → MadeBy (codes "build") rows None
-no_build rows none (requests.Annotate hook code object fuel) named has =
-    absurd (annotate≢build (sym named))
-no_build rows none (requests.Build file folder hook fuel) named has =
+    → (request : PlainRequest) → MakesPlain (codes "build") rows request → ⊥
+no_build rows none (plain.Annotate hook code object fuel) (named, has) =
+    annotate≢build (sym named)
+no_build rows none (plain.Build file folder hook fuel) (named, has) =
     none file.now folder.now hook fuel has.0 has.1 has.2 has.3
-no_build rows none (requests.Explain object) named has = absurd (build≢explain named)
-no_build rows none (requests.Try object question) named has = absurd (build≢try named)
-no_build rows none (requests.Test file) named has = absurd (build≢test named)
+no_build rows none (plain.Explain object) (named, has) = build≢explain named
+no_build rows none (plain.Test file) (named, has) = build≢test named
 
 pub no_explain : (rows : List Row) → ((object : Text) → HasWord rows (codes "OBJECT") object → ⊥)
-    → MadeBy (codes "explain") rows None
-no_explain rows none (requests.Annotate hook code object fuel) named has =
-    absurd (annotate≢explain (sym named))
-no_explain rows none (requests.Build file folder hook fuel) named has =
-    absurd (build≢explain (sym named))
-no_explain rows none (requests.Explain object) named has = none object.now has
-no_explain rows none (requests.Try object question) named has = absurd (explain≢try named)
-no_explain rows none (requests.Test file) named has = absurd (explain≢test named)
+    → (request : PlainRequest) → MakesPlain (codes "explain") rows request → ⊥
+no_explain rows none (plain.Annotate hook code object fuel) (named, has) =
+    annotate≢explain (sym named)
+no_explain rows none (plain.Build file folder hook fuel) (named, has) =
+    build≢explain (sym named)
+no_explain rows none (plain.Explain object) (named, has) = none object.now has
+no_explain rows none (plain.Test file) (named, has) = explain≢test named
+
+pub no_test : (rows : List Row) → ((file : Text) → HasWord rows (codes "FILE") file → ⊥)
+    → (request : PlainRequest) → MakesPlain (codes "test") rows request → ⊥
+no_test rows none (plain.Annotate hook code object fuel) (named, has) =
+    annotate≢test (sym named)
+no_test rows none (plain.Build file folder hook fuel) (named, has) = build≢test (sym named)
+no_test rows none (plain.Explain object) (named, has) = explain≢test (sym named)
+no_test rows none (plain.Test file) (named, has) = none file.now has
 
 pub no_try : (rows : List Row) → ((object : Text) (question : Question)
     → HasWord rows (codes "OBJECT") object → HasQuestion rows question → ⊥)
@@ -117,14 +124,17 @@ no_try rows none (requests.Explain object) named has = absurd (explain≢try (sy
 no_try rows none (requests.Try object question) named has = none object.now question has.0 has.1
 no_try rows none (requests.Test file) named has = absurd (try≢test named)
 
-pub no_test : (rows : List Row) → ((file : Text) → HasWord rows (codes "FILE") file → ⊥)
-    → MadeBy (codes "test") rows None
-no_test rows none (requests.Annotate hook code object fuel) named has =
-    absurd (annotate≢test (sym named))
-no_test rows none (requests.Build file folder hook fuel) named has = absurd (build≢test (sym named))
-no_test rows none (requests.Explain object) named has = absurd (explain≢test (sym named))
-no_test rows none (requests.Try object question) named has = absurd (try≢test (sym named))
-no_test rows none (requests.Test file) named has = none file.now has
+-- a command that takes no question makes no request if it makes none without a question
+pub no_plain : (name : Text) (rows : List Row) → name ≢ codes "try"
+    → ((request : PlainRequest) → MakesPlain name rows request → ⊥) → MadeBy name rows None
+no_plain name rows other none (requests.Annotate hook code object fuel) named has =
+    none (plain.Annotate hook code object fuel) (named, has)
+no_plain name rows other none (requests.Build file folder hook fuel) named has =
+    none (plain.Build file folder hook fuel) (named, has)
+no_plain name rows other none (requests.Explain object) named has =
+    none (plain.Explain object) (named, has)
+no_plain name rows other none (requests.Try object question) named has = other (sym named)
+no_plain name rows other none (requests.Test file) named has = none (plain.Test file) (named, has)
 
 -- without a question there is no request
 pub no_question : (rows : List Row) (lack : NotRead) → ReadsOrLacks (HasQuestion rows) (Err lack)

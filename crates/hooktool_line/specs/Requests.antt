@@ -15,6 +15,8 @@ use Rattle.hooktool_line.specs.Words.{IsTold, OrElse}
 use Rattle.hooktool_line.specs.declared.requests.FuelAsked.{FuelAsked}
 use Rattle.hooktool_line.specs.declared.requests.HooktoolRequest.{HooktoolRequest}
 use Rattle.hooktool_line.specs.declared.requests.HooktoolRequest.TheVariants as requests
+use Rattle.hooktool_line.specs.declared.requests.PlainRequest.{PlainRequest}
+use Rattle.hooktool_line.specs.declared.requests.PlainRequest.TheVariants as plain
 use Rattle.hooktool_line.specs.declared.values.NotRead.{NotRead}
 use Rattle.hooktool_line.specs.declared.values.NotRead.TheVariants as not_read
 
@@ -60,6 +62,18 @@ HasWordsOf rows (requests.Explain object) = HasWord rows (codes "OBJECT") object
 HasWordsOf rows (requests.Try object question) =
     HasWord rows (codes "OBJECT") object.now × HasQuestion rows question
 HasWordsOf rows (requests.Test file) = HasWord rows (codes "FILE") file.now
+
+-- the request that is one without a question
+abbrev pub request_for : PlainRequest → HooktoolRequest
+request_for (plain.Annotate hook code object fuel) = requests.Annotate hook code object fuel
+request_for (plain.Build file folder hook fuel) = requests.Build file folder hook fuel
+request_for (plain.Explain object) = requests.Explain object
+request_for (plain.Test file) = requests.Test file
+
+-- The command of this name makes this request of its words.
+abbrev pub MakesPlain : Text → List Row → PlainRequest → Type 0
+MakesPlain name rows request = (command_of (request_for request) ≡ name)
+    × HasWordsOf rows (request_for request)
 
 -- what the command of this name makes of its words, if it makes a request of them
 abbrev pub MadeBy : Text → List Row → Option HooktoolRequest → Type 0

@@ -9,7 +9,7 @@ ghost use Rattle.clap.specs.declared.error.kind.ErrorKind.TheVariants as kinds;
 ghost use Rattle.hooktool_line.specs.Lists.{HasLists};
 ghost use Rattle.hooktool_line.specs.Questions.{HasAsked, HasQuestion, asked_of, hops_from};
 ghost use Rattle.hooktool_line.specs.Requests.{HasFuel, HasHook, IsHook, IsMade, IsWrong};
-ghost use Rattle.hooktool_line.specs.Requests.{IsWrongWord, MadeBy, Makes};
+ghost use Rattle.hooktool_line.specs.Requests.{IsWrongWord, MadeBy, Makes, MakesPlain, request_for};
 ghost use Rattle.hooktool_line.specs.Words.{Reads, ReadsOrLacks, ReadsOrTells};
 
 use crate::arguments::error;
@@ -89,6 +89,29 @@ pub enum HooktoolRequest<'a> {
         question: Question<'a>,
     },
     /// Ask the questions of a file, and compare the answers with those that it expects.
+    Test {
+        file: &'a str,
+    },
+}
+
+/// A request without a question. It is smaller than one that may have a question.
+#[derive(Clone, Copy)]
+enum PlainRequest<'a> {
+    Annotate {
+        hook: Hook,
+        code: &'a str,
+        object: &'a str,
+        fuel: FuelAsked,
+    },
+    Build {
+        file: &'a str,
+        folder: &'a str,
+        hook: Option<Hook>,
+        fuel: FuelAsked,
+    },
+    Explain {
+        object: &'a str,
+    },
     Test {
         file: &'a str,
     },
@@ -214,26 +237,26 @@ fn fuel_of(matches: &ArgMatches<'_>) -> Result<FuelAsked, &'static str>
 // What is told of a word that isn't there; the command line takes no words without it.
 const MISSING: &str = "a word is missing";
 
-fn annotate_request<'a>(matches: &ArgMatches<'a>) -> Result<HooktoolRequest<'a>, NotRead>
-    ensures { IsMade (codes "annotate") (rows_of (found_of matches.now)) result }
+fn annotate_request<'a>(matches: &ArgMatches<'a>) -> Result<PlainRequest<'a>, &'static str>
+    ensures { ReadsOrTells (MakesPlain (codes "annotate") (rows_of (found_of matches.now))) result }
 {
     let fuel = match fuel_of(matches) {
         Ok(fuel) => fuel,
-        Err(why) => return Err(NotRead::Meaningless(why)),
+        Err(why) => return Err(why),
     };
     let Some(hook) = word_of(matches, "HOOK") else {
-        return Err(NotRead::Meaningless(MISSING));
+        return Err(MISSING);
     };
     let Some(hook) = Hook::from_name(hook) else {
-        return Err(NotRead::Meaningless("HOOK is none of count, tag, price and veto"));
+        return Err("HOOK is none of count, tag, price and veto");
     };
     let Some(code) = word_of(matches, "CODE") else {
-        return Err(NotRead::Meaningless(MISSING));
+        return Err(MISSING);
     };
     let Some(object) = word_of(matches, "OBJECT") else {
-        return Err(NotRead::Meaningless(MISSING));
+        return Err(MISSING);
     };
-    Ok(HooktoolRequest::Annotate {
+    Ok(PlainRequest::Annotate {
         hook,
         code,
         object,
@@ -254,23 +277,23 @@ fn hook_of(matches: &ArgMatches<'_>) -> Option<Option<Hook>>
     }
 }
 
-fn build_request<'a>(matches: &ArgMatches<'a>) -> Result<HooktoolRequest<'a>, NotRead>
-    ensures { IsMade (codes "build") (rows_of (found_of matches.now)) result }
+fn build_request<'a>(matches: &ArgMatches<'a>) -> Result<PlainRequest<'a>, &'static str>
+    ensures { ReadsOrTells (MakesPlain (codes "build") (rows_of (found_of matches.now))) result }
 {
     let fuel = match fuel_of(matches) {
         Ok(fuel) => fuel,
-        Err(why) => return Err(NotRead::Meaningless(why)),
+        Err(why) => return Err(why),
     };
     let Some(file) = word_of(matches, "FILE") else {
-        return Err(NotRead::Meaningless(MISSING));
+        return Err(MISSING);
     };
     let Some(folder) = word_of(matches, "FOLDER") else {
-        return Err(NotRead::Meaningless(MISSING));
+        return Err(MISSING);
     };
     let Some(hook) = hook_of(matches) else {
-        return Err(NotRead::Meaningless("--hook is none of count, tag, price and veto"));
+        return Err("--hook is none of count, tag, price and veto");
     };
-    Ok(HooktoolRequest::Build {
+    Ok(PlainRequest::Build {
         file,
         folder,
         hook,
@@ -278,12 +301,37 @@ fn build_request<'a>(matches: &ArgMatches<'a>) -> Result<HooktoolRequest<'a>, No
     })
 }
 
-fn explain_request<'a>(matches: &ArgMatches<'a>) -> Result<HooktoolRequest<'a>, NotRead>
-    ensures { IsMade (codes "explain") (rows_of (found_of matches.now)) result }
+fn explain_request<'a>(matches: &ArgMatches<'a>) -> Result<PlainRequest<'a>, &'static str>
+    ensures { ReadsOrTells (MakesPlain (codes "explain") (rows_of (found_of matches.now))) result }
 {
     match word_of(matches, "OBJECT") {
-        Some(object) => Ok(HooktoolRequest::Explain { object }),
-        None => Err(NotRead::Meaningless(MISSING)),
+        Some(object) => Ok(PlainRequest::Explain { object }),
+        None => Err(MISSING),
+    }
+}
+
+fn test_request<'a>(matches: &ArgMatches<'a>) -> Result<PlainRequest<'a>, &'static str>
+    ensures { ReadsOrTells (MakesPlain (codes "test") (rows_of (found_of matches.now))) result }
+{
+    match word_of(matches, "FILE") {
+        Some(file) => Ok(PlainRequest::Test { file }),
+        None => Err(MISSING),
+    }
+}
+
+// What a command makes of its words, if it takes no question. No other command makes anything.
+fn plain_request<'a>(
+    name: &str,
+    matches: &ArgMatches<'a>,
+) -> Result<PlainRequest<'a>, &'static str>
+    ensures { ReadsOrTells (MakesPlain name.now (rows_of (found_of matches.now))) result }
+{
+    match name {
+        "annotate" => annotate_request(matches),
+        "build" => build_request(matches),
+        "explain" => explain_request(matches),
+        "test" => test_request(matches),
+        _ => Err(MISSING),
     }
 }
 
@@ -299,12 +347,35 @@ fn try_request<'a>(alloc: Global, matches: &ArgMatches<'a>) -> Result<HooktoolRe
     }
 }
 
-fn test_request<'a>(matches: &ArgMatches<'a>) -> Result<HooktoolRequest<'a>, NotRead>
-    ensures { IsMade (codes "test") (rows_of (found_of matches.now)) result }
+// The same request.
+fn request_for<'a>(plain: PlainRequest<'a>) -> HooktoolRequest<'a>
+    ensures { result ≡ request_for plain.entry }
 {
-    match word_of(matches, "FILE") {
-        Some(file) => Ok(HooktoolRequest::Test { file }),
-        None => Err(NotRead::Meaningless(MISSING)),
+    match plain {
+        PlainRequest::Annotate {
+            hook,
+            code,
+            object,
+            fuel,
+        } => HooktoolRequest::Annotate {
+            hook,
+            code,
+            object,
+            fuel,
+        },
+        PlainRequest::Build {
+            file,
+            folder,
+            hook,
+            fuel,
+        } => HooktoolRequest::Build {
+            file,
+            folder,
+            hook,
+            fuel,
+        },
+        PlainRequest::Explain { object } => HooktoolRequest::Explain { object },
+        PlainRequest::Test { file } => HooktoolRequest::Test { file },
     }
 }
 
@@ -317,12 +388,11 @@ fn made_by<'a>(
     ensures { IsMade name.now (rows_of (found_of matches.now)) result }
 {
     match name {
-        "annotate" => annotate_request(matches),
-        "build" => build_request(matches),
-        "explain" => explain_request(matches),
         "try" => try_request(alloc, matches),
-        "test" => test_request(matches),
-        _ => Err(NotRead::Meaningless(MISSING)),
+        _ => match plain_request(name, matches) {
+            Ok(plain) => Ok(request_for(plain)),
+            Err(why) => Err(NotRead::Meaningless(why)),
+        },
     }
 }
 
