@@ -10,10 +10,10 @@ use Rattle.clap.specs.Walk.{Text}
 use Rattle.hooktool_line.specs.CommandLine.{ask}
 use Rattle.hooktool_line.specs.Questions.{HasQuestion}
 use Rattle.hooktool_line.specs.declared.requests.Question.{Question}
-use Rattle.hooktool_line.specs.declared.steps.Expected.{Expected}
-use Rattle.hooktool_line.specs.declared.steps.Expected.TheVariants as expected
 use Rattle.hooktool_line.specs.declared.steps.ExpectedAnswer.{ExpectedAnswer}
 use Rattle.hooktool_line.specs.declared.steps.ExpectedAnswer.TheVariants as answers
+use Rattle.hooktool_line.specs.declared.steps.PlainStep.{PlainStep}
+use Rattle.hooktool_line.specs.declared.steps.PlainStep.TheVariants as plain
 use Rattle.hooktool_line.specs.declared.steps.TestLine.{TestLine}
 use Rattle.hooktool_line.specs.declared.steps.WrongLine.{WrongLine}
 use Rattle.hooktool_line.specs.declared.steps.Step.{Step}
@@ -36,14 +36,6 @@ SaysAnswer words answers.Withheld = words ≡ codes "withheld" ∷ []
 SaysAnswer words (answers.Tag n) = (words ≡ codes "tag" ∷ decimal n ∷ []) × (n ≤ 4294967295)
 SaysAnswer words answers.Installed = words ≡ codes "installed" ∷ []
 SaysAnswer words answers.NotInstalled = words ≡ codes "not" ∷ codes "installed" ∷ []
-
--- The words say this of an answer, a counter or a cell.
-abbrev pub SaysExpected : List Text → Expected → Type 0
-SaysExpected words (expected.Answer answer) = SaysAnswer words answer
-SaysExpected words (expected.Counter index number) =
-    (words ≡ codes "counter" ∷ decimal index ∷ decimal number ∷ []) × (index ≤ 255)
-SaysExpected words (expected.Cell index number) =
-    (words ≡ codes "cell" ∷ decimal index ∷ decimal number ∷ []) × (index ≤ 63)
 
 -- the first word is this one
 abbrev pub BeginsWith : Text → List Text → Type 0
@@ -68,6 +60,17 @@ Says words (steps.Counter index number) =
     (words ≡ codes "counter" ∷ decimal index ∷ decimal number ∷ []) × (index ≤ 255)
 Says words (steps.Cell index number) =
     (words ≡ codes "cell" ∷ decimal index ∷ decimal number ∷ []) × (index ≤ 63)
+
+-- the step that is one without a question
+abbrev pub step_for : PlainStep → Step
+step_for (plain.Program path) = steps.Program path
+step_for (plain.Packets path interface) = steps.Packets path interface
+step_for (plain.Answers answer) = steps.Answers answer
+step_for (plain.Counter index number) = steps.Counter index number
+step_for (plain.Cell index number) = steps.Cell index number
+
+abbrev pub SaysPlain : List Text → PlainStep → Type 0
+SaysPlain words step = Says words (step_for step)
 
 -- a word that begins a comment, by #
 abbrev pub is_mark : Text → Bool

@@ -9,8 +9,8 @@ ghost use Rattle.clap.specs.Walk.{Text, rows_of};
 ghost use Rattle.hooktool_line.specs.CommandLine.{ask};
 ghost use Rattle.hooktool_line.specs.Questions.{HasQuestion};
 ghost use Rattle.hooktool_line.specs.Steps.{AddsLine, AreLines, BeginsWith, Says};
-ghost use Rattle.hooktool_line.specs.Steps.{IsWrong, SaysExpected, is_blank, is_mark};
-ghost use Rattle.hooktool_line.specs.Steps.{views, words_of};
+ghost use Rattle.hooktool_line.specs.Steps.{IsWrong, SaysAnswer, SaysPlain, is_blank, is_mark};
+ghost use Rattle.hooktool_line.specs.Steps.{step_for, views, words_of};
 
 use crate::arguments::{ASK, command_of};
 use crate::requests::{Question, question_of};
@@ -72,36 +72,34 @@ const KNOWN: &str = "a line is empty, a comment behind #, program OBJECT, ask OP
     CAPTURE interface I (up to 63), or what is expected: metric N (below 16777215), withheld, tag \
     N, installed, not installed, answer N, counter K N (K up to 255), cell J N (J up to 63)";
 
-/// What a line says that is expected. It is smaller than a step, which may hold a question.
+/// What a line says that isn't `ask`. It is smaller than a step, which may hold a question.
 #[derive(Clone, Copy)]
-enum Expected {
-    Answer(ExpectedAnswer),
+enum PlainStep<'a> {
+    Program(&'a str),
+    Packets { path: &'a str, interface: u16 },
+    Answers(ExpectedAnswer),
     Counter { index: u8, number: u64 },
     Cell { index: u8, number: u64 },
 }
 
 /// What a name and a number say that is answered.
-fn answer_of(name: &str, number: &str) -> Option<Expected>
-    ensures { IfSome result (SaysExpected (name.now ∷ number.now ∷ [])) }
+fn answer_of(name: &str, number: &str) -> Option<ExpectedAnswer>
+    ensures { IfSome result (SaysAnswer (name.now ∷ number.now ∷ [])) }
 {
     let Some(number) = read_within(number, 0, u64::MAX) else {
         return None;
     };
     match name {
-        "metric" if number <= 16_777_214 => {
-            Some(Expected::Answer(ExpectedAnswer::Metric(number as u32)))
-        }
-        "tag" if number <= 4_294_967_295 => {
-            Some(Expected::Answer(ExpectedAnswer::Tag(number as u32)))
-        }
-        "answer" => Some(Expected::Answer(ExpectedAnswer::Number(number))),
+        "metric" if number <= 16_777_214 => Some(ExpectedAnswer::Metric(number as u32)),
+        "tag" if number <= 4_294_967_295 => Some(ExpectedAnswer::Tag(number as u32)),
+        "answer" => Some(ExpectedAnswer::Number(number)),
         _ => None,
     }
 }
 
 /// What a name and two numbers say.
-fn of_three(name: &str, index: &str, number: &str) -> Option<Expected>
-    ensures { IfSome result (SaysExpected (name.now ∷ index.now ∷ number.now ∷ [])) }
+fn of_three<'a>(name: &str, index: &str, number: &str) -> Option<PlainStep<'a>>
+    ensures { IfSome result (SaysPlain (name.now ∷ index.now ∷ number.now ∷ [])) }
 {
     let Some(index) = read_within(index, 0, 255) else {
         return None;
@@ -110,11 +108,11 @@ fn of_three(name: &str, index: &str, number: &str) -> Option<Expected>
         return None;
     };
     match name {
-        "counter" => Some(Expected::Counter {
+        "counter" => Some(PlainStep::Counter {
             index: index as u8,
             number,
         }),
-        "cell" if index <= 63 => Some(Expected::Cell {
+        "cell" if index <= 63 => Some(PlainStep::Cell {
             index: index as u8,
             number,
         }),
@@ -122,26 +120,13 @@ fn of_three(name: &str, index: &str, number: &str) -> Option<Expected>
     }
 }
 
-/// The step of a line that says this.
-fn step_for<'a>(expected: Option<Expected>) -> Option<Step<'a>>
-    ensures { (words : List Text) → IfSome expected (SaysExpected words)
-        → IfSome result (Says words) }
-{
-    match expected {
-        Some(Expected::Answer(answer)) => Some(Step::Answers(answer)),
-        Some(Expected::Counter { index, number }) => Some(Step::Counter { index, number }),
-        Some(Expected::Cell { index, number }) => Some(Step::Cell { index, number }),
-        None => None,
-    }
-}
-
 /// What a path and a number say of packets.
-fn packets_of<'a>(path: &'a str, number: &'a str) -> Option<Step<'a>>
-    ensures { IfSome result (Says (codes "packets" ∷ path.entry.now ∷ codes "interface"
-        ∷ number.entry.now ∷ [])) }
+fn packets_of<'a>(path: &'a str, number: &str) -> Option<PlainStep<'a>>
+    ensures { IfSome result (SaysPlain (codes "packets" ∷ path.entry.now ∷ codes "interface"
+        ∷ number.now ∷ [])) }
 {
     match read_within(number, 0, 63) {
-        Some(number) => Some(Step::Packets {
+        Some(number) => Some(PlainStep::Packets {
             path,
             interface: number as u16,
         }),
@@ -150,18 +135,34 @@ fn packets_of<'a>(path: &'a str, number: &'a str) -> Option<Step<'a>>
 }
 
 /// What the words of a line say that isn't `ask`.
-fn told_by<'a>(words: &[&'a str]) -> Option<Step<'a>>
-    ensures { IfSome result (Says (views words.entry.now)) }
+fn told_by<'a>(words: &[&'a str]) -> Option<PlainStep<'a>>
+    ensures { IfSome result (SaysPlain (views words.entry.now)) }
 {
     match *words {
-        ["withheld"] => Some(Step::Answers(ExpectedAnswer::Withheld)),
-        ["installed"] => Some(Step::Answers(ExpectedAnswer::Installed)),
-        ["program", path] => Some(Step::Program(path)),
-        ["not", "installed"] => Some(Step::Answers(ExpectedAnswer::NotInstalled)),
-        [name, number] => step_for(answer_of(name, number)),
-        [name, index, number] => step_for(of_three(name, index, number)),
+        ["withheld"] => Some(PlainStep::Answers(ExpectedAnswer::Withheld)),
+        ["installed"] => Some(PlainStep::Answers(ExpectedAnswer::Installed)),
+        ["program", path] => Some(PlainStep::Program(path)),
+        ["not", "installed"] => Some(PlainStep::Answers(ExpectedAnswer::NotInstalled)),
+        [name, number] => match answer_of(name, number) {
+            Some(answer) => Some(PlainStep::Answers(answer)),
+            None => None,
+        },
+        [name, index, number] => of_three(name, index, number),
         ["packets", path, "interface", number] => packets_of(path, number),
         _ => None,
+    }
+}
+
+/// The same step.
+fn step_for<'a>(plain: PlainStep<'a>) -> Step<'a>
+    ensures { result ≡ step_for plain.entry }
+{
+    match plain {
+        PlainStep::Program(path) => Step::Program(path),
+        PlainStep::Packets { path, interface } => Step::Packets { path, interface },
+        PlainStep::Answers(answer) => Step::Answers(answer),
+        PlainStep::Counter { index, number } => Step::Counter { index, number },
+        PlainStep::Cell { index, number } => Step::Cell { index, number },
     }
 }
 
@@ -201,7 +202,7 @@ fn step_of<'a>(alloc: Global, words: &'a [&'a str]) -> Result<Step<'a>, LineErro
         };
     }
     match told_by(words) {
-        Some(step) => Ok(step),
+        Some(plain) => Ok(step_for(plain)),
         None => Err(LineError::Words(KNOWN)),
     }
 }

@@ -3,7 +3,7 @@ use Rattle.std.specs.Prelude.{IfSome}
 use Rattle.clap.specs.Walk.{Text}
 use Rattle.hooktool_line.proofs.StepWords.{four_words, one_word, three_words, two_words}
 use Rattle.hooktool_line.proofs.steps.told_by.Goals as goal
-use Rattle.hooktool_line.specs.Steps.{Says, SaysExpected, views}
+use Rattle.hooktool_line.specs.Steps.{SaysAnswer, SaysPlain}
 
 pub returns-in-withheld : goal.returns-in-withheld
 returns-in-withheld c =
@@ -21,22 +21,21 @@ pub returns-in-not : goal.returns-in-not
 returns-in-not c =
     two_words _ _ _ _ c.in-not.len_at_least c.in-not.len_below c.in-not.is-not c.in-not.is-installed
 
-pub returns-in-len2 : goal.returns-in-len2
-returns-in-len2 c =
+pub returns-in-Some : goal.returns-in-Some
+returns-in-Some c =
     let ge : 2 ≤ length c.args.words.now = grind arith in
     let lt : length c.args.words.now < 3 = grind arith in
-    c.step_for.ensures (views c.args.words.now)
-    (subst (λ (ws : List Text). IfSome c.answer_of.result (SaysExpected ws))
-    (sym (two_words _ _ _ _ ge lt refl refl)) c.answer_of.ensures)
+    subst (λ (ws : List Text). SaysAnswer ws c.in-Some.answer)
+    (sym (two_words _ _ _ _ ge lt refl refl)) c.in-Some.ensures
 
 pub returns-in-len3 : goal.returns-in-len3
-returns-in-len3 c = c.step_for-in-len3.ensures (views c.args.words.now)
-    (subst (λ (ws : List Text). IfSome c.of_three.result (SaysExpected ws))
-    (three_words _ _ c.in-len3.len_at_least c.in-len3.len_below) c.of_three.ensures)
+returns-in-len3 c =
+    subst (λ (ws : List Text). IfSome c.of_three.result (SaysPlain ws))
+    (three_words _ _ c.in-len3.len_at_least c.in-len3.len_below) c.of_three.ensures
 
 pub returns-in-packets : goal.returns-in-packets
 returns-in-packets c =
-    subst (λ (ws : List Text). IfSome c.packets_of.result (Says ws))
+    subst (λ (ws : List Text). IfSome c.packets_of.result (SaysPlain ws))
     (four_words _ _ _ _ c.in-packets.len_at_least c.in-packets.len_below c.in-packets.is-packets
     c.in-packets.is-interface) c.packets_of.ensures
 
