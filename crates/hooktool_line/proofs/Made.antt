@@ -139,7 +139,7 @@ no_plain name rows other none (requests.Test file) named has = none (plain.Test 
 -- without a question there is no request
 pub no_question : (rows : List Row) (lack : NotRead) → ReadsOrLacks (HasQuestion rows) (Err lack)
     → IsMade (codes "try") rows (Err lack)
-no_question rows (not_read.Meaningless why) none =
+no_question rows (not_read.Meaningless wrong) none =
     no_try rows (λ object question a has. none question has)
 no_question rows not_read.OutOfMemory none = tt
 

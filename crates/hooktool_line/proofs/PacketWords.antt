@@ -14,6 +14,7 @@ use Rattle.hooktool_line.specs.declared.requests.PacketSource.{PacketSource}
 use Rattle.hooktool_line.specs.declared.requests.PacketSource.TheVariants as packets
 use Rattle.hooktool_line.specs.declared.values.NotRead.{NotRead}
 use Rattle.hooktool_line.specs.declared.values.NotRead.TheVariants as not_read
+use Rattle.hooktool_line.specs.declared.wrong_words.WrongWord.{WrongWord}
 use denote.Ref.{Bor}
 
 abbrev pub Strips : List ℕ → Option (Bor (List ℕ)) → Type 0
@@ -35,14 +36,14 @@ pub no_packet : (w : List ℕ) (e : FromHexError) → ((rest : List ℕ) → w �
 no_packet w e plain bad (packets.Bytes bytes) has = err≢ok bytes.items e (sym bad ∙ has.1)
 no_packet w e plain bad (packets.File path) has = plain path.now has
 
-memory≢meaningless : (why : Bor (List ℕ)) → not_read.Meaningless why ≡ not_read.OutOfMemory → ⊥
-memory≢meaningless why e = cc
+memory≢meaningless : (wrong : WrongWord) → not_read.Meaningless wrong ≡ not_read.OutOfMemory → ⊥
+memory≢meaningless wrong e = cc
 
 pub lacks : (w : List ℕ) (e : FromHexError) (lack : NotRead) → ((rest : List ℕ) → w ≢ 64 ∷ rest)
     → (e ≡ OutOfMemory) ⊎ (decode_of w ≡ Err e)
     → (e ≡ OutOfMemory → lack ≡ not_read.OutOfMemory) → ReadsOrLacks (IsPacket w) (Err lack)
-lacks w e (not_read.Meaningless why) plain bad other = elim bad [
-  | inl memory ↦ absurd (memory≢meaningless why (other memory))
+lacks w e (not_read.Meaningless wrong) plain bad other = elim bad [
+  | inl memory ↦ absurd (memory≢meaningless wrong (other memory))
   | inr refused ↦ no_packet w e plain refused
 ]
 lacks w e not_read.OutOfMemory plain bad other = tt
@@ -52,6 +53,6 @@ pub lacks_given : (word : Option (Bor Text)) (one : Bor Text) (lack : NotRead) �
     → ReadsOrLacks (IsPacket one.now) (Err lack)
     → ReadsOrLacks (λ packet. OrElse (now_of word) (IsNoPacket packet) (λ w. IsPacket w packet))
     (Err lack)
-lacks_given word one (not_read.Meaningless why) is none = λ packet has.
+lacks_given word one (not_read.Meaningless wrong) is none = λ packet has.
     none packet (given_back _ word one (IsNoPacket packet) (λ w. IsPacket w packet) refl is has)
 lacks_given word one not_read.OutOfMemory is none = tt

@@ -18,7 +18,7 @@ HasPacket word packet = OrElse word (IsNoPacket packet) (λ w. IsPacket w packet
 pub no_packet : (found : List Row) (word : Option Text) (lack : NotRead)
     → word ≡ first_of (codes "packet") found → ReadsOrLacks (HasPacket word) (Err lack)
     → ReadsOrLacks (HasQuestion found) (Err lack)
-no_packet found word (not_read.Meaningless why) same none = λ question q.
+no_packet found word (not_read.Meaningless wrong) same none = λ question q.
     none question.packet (subst (λ (w : Option Text). HasPacket w question.packet) (sym same)
     q.packet)
 no_packet found word not_read.OutOfMemory same none = tt
@@ -26,7 +26,7 @@ no_packet found word not_read.OutOfMemory same none = tt
 -- without lists there is none
 pub no_lists : (found : List Row) (lack : NotRead) → ReadsOrLacks (HasLists found) (Err lack)
     → ReadsOrLacks (HasQuestion found) (Err lack)
-no_lists found (not_read.Meaningless why) none = λ question q.
+no_lists found (not_read.Meaningless wrong) none = λ question q.
     none (record { rows = question.rows; counters = question.counters; cells = question.cells })
     (record { table = q.table; counters = q.counters; cells = q.cells })
 no_lists found not_read.OutOfMemory none = tt
@@ -36,7 +36,7 @@ pub no_rows : (found : List Row) (words : Option (List Text)) (lack : NotRead)
     → words ≡ all_of (codes "row") found
     → ReadsOrLacks {A = Vec TableRow} (λ rows. HasRows words rows.items) (Err lack)
     → ReadsOrLacks (HasLists found) (Err lack)
-no_rows found words (not_read.Meaningless why) all none = λ lists has.
+no_rows found words (not_read.Meaningless wrong) all none = λ lists has.
     none lists.rows (subst (λ (w : Option (List Text)). HasRows w lists.rows.items) (sym all)
     has.table)
 no_rows found words not_read.OutOfMemory all none = tt
@@ -45,7 +45,7 @@ pub no_counters : (found : List Row) (words : Option (List Text)) (lack : NotRea
     → words ≡ all_of (codes "counter") found
     → ReadsOrLacks {A = Vec Setting} (λ them. HasSettings words 256 16777215 them.items) (Err lack)
     → ReadsOrLacks (HasLists found) (Err lack)
-no_counters found words (not_read.Meaningless why) all none = λ lists has.
+no_counters found words (not_read.Meaningless wrong) all none = λ lists has.
     none lists.counters (subst (λ (w : Option (List Text)). HasSettings w 256 16777215
     lists.counters.items) (sym all) has.counters)
 no_counters found words not_read.OutOfMemory all none = tt
@@ -54,7 +54,7 @@ pub no_cells : (found : List Row) (words : Option (List Text)) (lack : NotRead)
     → words ≡ all_of (codes "cell") found
     → ReadsOrLacks {A = Vec Setting} (λ them. HasSettings words 64 18446744073709551615 them.items)
     (Err lack) → ReadsOrLacks (HasLists found) (Err lack)
-no_cells found words (not_read.Meaningless why) all none = λ lists has.
+no_cells found words (not_read.Meaningless wrong) all none = λ lists has.
     none lists.cells (subst (λ (w : Option (List Text)). HasSettings w 64 18446744073709551615
     lists.cells.items) (sym all) has.cells)
 no_cells found words not_read.OutOfMemory all none = tt

@@ -84,7 +84,7 @@ MadeBy name rows None = (request : HooktoolRequest) → command_of request ≡ n
 -- The same; or nothing is made, for want of memory.
 abbrev pub IsMade : Text → List Row → Result HooktoolRequest NotRead → Type 0
 IsMade name rows (Ok request) = MadeBy name rows (Some request)
-IsMade name rows (Err (not_read.Meaningless why)) = MadeBy name rows None
+IsMade name rows (Err (not_read.Meaningless wrong)) = MadeBy name rows None
 IsMade name rows (Err not_read.OutOfMemory) = Unit {0}
 
 -- A word of this command is wrong, so that it makes no request; or memory was refused.

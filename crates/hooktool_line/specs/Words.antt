@@ -2,7 +2,6 @@
 use Rattle.std.specs.Prelude.{◌≡◌, ◌≢◌, ◌<◌, ◌≤◌, ◌^◌, ℕ, List, [], ◌∷◌, ◌++◌, Option, Some, None}
 use Rattle.std.specs.Prelude.{Result, Ok, Err}
 use Rattle.std.specs.Prelude.{codes, decimal}
-use Rattle.std.specs.Borrow.{Bor}
 use Rattle.clap.specs.Walk.{Text}
 use Rattle.hex.specs.Hex.{decode_of}
 use Rattle.words.specs.Prefixes.{IsNetwork, Network}
@@ -17,6 +16,7 @@ use Rattle.hooktool_line.specs.declared.values.NotRead.{NotRead}
 use Rattle.hooktool_line.specs.declared.values.NotRead.TheVariants as not_read
 use Rattle.hooktool_line.specs.declared.requests.PacketSource.TheVariants as packets
 use Rattle.hooktool_line.specs.declared.settings.Setting.{Setting}
+use Rattle.hooktool_line.specs.declared.wrong_words.WrongWord.{WrongWord}
 
 -- What is read has this meaning; if nothing is read, nothing has it.
 abbrev pub Reads : {A : Type 0} → (A → Type 0) → Option A → Type 0
@@ -24,14 +24,14 @@ Reads {A} Means (Some x) = Means x
 Reads {A} Means None = (x : A) → Means x → ⊥
 
 -- The same, and it is told why nothing is read.
-abbrev pub ReadsOrTells : {A : Type 0} → (A → Type 0) → Result A (Bor Text) → Type 0
+abbrev pub ReadsOrTells : {A : Type 0} → (A → Type 0) → Result A WrongWord → Type 0
 ReadsOrTells {A} Means (Ok x) = Means x
-ReadsOrTells {A} Means (Err why) = (x : A) → Means x → ⊥
+ReadsOrTells {A} Means (Err wrong) = (x : A) → Means x → ⊥
 
 -- The same; or nothing is read, for want of memory.
 abbrev pub ReadsOrLacks : {A : Type 0} → (A → Type 0) → Result A NotRead → Type 0
 ReadsOrLacks {A} Means (Ok x) = Means x
-ReadsOrLacks {A} Means (Err (not_read.Meaningless why)) = (x : A) → Means x → ⊥
+ReadsOrLacks {A} Means (Err (not_read.Meaningless wrong)) = (x : A) → Means x → ⊥
 ReadsOrLacks {A} Means (Err not_read.OutOfMemory) = Unit {0}
 
 -- what a word means, or what is so if there is none

@@ -14,6 +14,7 @@ mod rows;
 mod settings;
 mod steps;
 mod values;
+mod wrong_words;
 
 pub use arrivals::packet_question;
 pub use asked::{Asked, context_of};

@@ -7,6 +7,7 @@ ghost use Rattle.hooktool_line.specs.Questions.{HasNumbers};
 ghost use Rattle.hooktool_line.specs.Words.{ReadsOrTells};
 
 use crate::values::number_of;
+use crate::wrong_words::WrongWord;
 use clap::ArgMatches;
 
 /// The numbers of a question: moments below 2^62, interfaces below 64, and the number of next hops,
@@ -26,36 +27,34 @@ const MOST: u64 = 4_294_967_295;
 
 const LATEST: u64 = 4_611_686_018_427_387_903;
 
-const WRONG_HOPS: &str = "--next-hops is no number from 1 to 64, or with --interface above 64";
-
 /// The numbers that the options give, or which one has no meaning.
-pub(crate) fn numbers_of(matches: &ArgMatches<'_>) -> Result<Numbers, &'static str>
+pub(crate) fn numbers_of(matches: &ArgMatches<'_>) -> Result<Numbers, WrongWord>
     ensures read { ReadsOrTells (HasNumbers (rows_of (found_of matches.now))) result }
     ensures room { IfOk result (λ numbers. numbers.interface + numbers.next_hops ≤ 64) }
 {
     let Some(metric) = number_of(matches, "metric", 0, 0, MOST) else {
-        return Err("--metric is no number up to 4294967295");
+        return Err(WrongWord::Metric);
     };
     let Some(tag) = number_of(matches, "tag", 0, 0, MOST) else {
-        return Err("--tag is no number up to 4294967295");
+        return Err(WrongWord::Tag);
     };
     let Some(cost) = number_of(matches, "cost", 0, 0, MOST) else {
-        return Err("--cost is no number up to 4294967295");
+        return Err(WrongWord::Cost);
     };
     let Some(distance) = number_of(matches, "distance", 0, 0, MOST) else {
-        return Err("--distance is no number up to 4294967295");
+        return Err(WrongWord::Distance);
     };
     let Some(moment) = number_of(matches, "moment", 0, 0, LATEST) else {
-        return Err("--moment is no number below 2^62");
+        return Err(WrongWord::Moment);
     };
     let Some(interface) = number_of(matches, "interface", 0, 0, 63) else {
-        return Err("--interface is no number up to 63");
+        return Err(WrongWord::Interface);
     };
     let Some(next_hops) = number_of(matches, "next-hops", 1, 1, 64) else {
-        return Err(WRONG_HOPS);
+        return Err(WrongWord::NextHops);
     };
     if interface + next_hops > 64 {
-        return Err(WRONG_HOPS);
+        return Err(WrongWord::NextHops);
     }
     Ok(Numbers {
         metric: metric as u32,

@@ -5,7 +5,8 @@ ghost use Rattle.hex.specs.declared.error.FromHexError.TheVariants.{OutOfMemory}
 ghost use Rattle.hooktool_line.specs.Words.{IsNoPacket, IsPacket, OrElse, ReadsOrLacks};
 
 use crate::requests::PacketSource;
-use crate::values::{NotRead, WRONG_PART};
+use crate::values::NotRead;
+use crate::wrong_words::WrongWord;
 use hex::FromHexError;
 use std::alloc::Global;
 
@@ -15,7 +16,7 @@ fn without_packet(error: FromHexError) -> NotRead
 {
     match error {
         FromHexError::OutOfMemory => NotRead::OutOfMemory,
-        _ => NotRead::Meaningless(WRONG_PART),
+        _ => NotRead::Meaningless(WrongWord::Part),
     }
 }
 

@@ -6,6 +6,7 @@ ghost use Rattle.hooktool_line.specs.Questions.{HasPlaces};
 ghost use Rattle.hooktool_line.specs.Words.{ReadsOrTells};
 
 use crate::values::{kind_in, prefix_in, type_in};
+use crate::wrong_words::WrongWord;
 use clap::ArgMatches;
 use words::{ExternalType, Prefix, RouteKind};
 
@@ -18,17 +19,17 @@ pub(crate) struct Places {
 }
 
 /// What the options give of them, or which one has no meaning.
-pub(crate) fn places_of(matches: &ArgMatches<'_>) -> Result<Places, &'static str>
+pub(crate) fn places_of(matches: &ArgMatches<'_>) -> Result<Places, WrongWord>
     ensures { ReadsOrTells (HasPlaces (rows_of (found_of matches.now))) result }
 {
     let Some(prefix) = prefix_in(matches) else {
-        return Err("--prefix is no network A.B.C.D/L whose other bits are 0");
+        return Err(WrongWord::Prefix);
     };
     let Some(external) = type_in(matches) else {
-        return Err("--type is neither 1 nor 2");
+        return Err(WrongWord::Type);
     };
     let Some(kind) = kind_in(matches) else {
-        return Err("--kind is none of intra, inter, ext1 and ext2");
+        return Err(WrongWord::Kind);
     };
     Ok(Places {
         prefix,

@@ -20,6 +20,7 @@ use crate::places::{Places, places_of};
 use crate::rows::rows_in;
 use crate::settings::{Setting, settings_in};
 use crate::values::{NotRead, number_of, told_number, word_of};
+use crate::wrong_words::{WrongWord, text_of};
 use clap::error::ErrorKind;
 use clap::{ArgMatches, Error};
 use isa::Hook;
@@ -150,20 +151,20 @@ fn asked_of(places: Places, numbers: Numbers) -> Asked
 
 /// What the options ask but for the packet and the rows, and how many times. Or which of
 /// their words has no meaning.
-fn asked_in(matches: &ArgMatches<'_>) -> Result<(Asked, u32), &'static str>
+fn asked_in(matches: &ArgMatches<'_>) -> Result<(Asked, u32), WrongWord>
     ensures { ReadsOrTells (λ p. HasAsked (rows_of (found_of matches.now)) p.0 p.1) result }
 {
     let places = match places_of(matches) {
         Ok(places) => places,
-        Err(why) => return Err(why),
+        Err(wrong) => return Err(wrong),
     };
     let numbers = match numbers_of(matches) {
         Ok(numbers) => numbers,
-        Err(why) => return Err(why),
+        Err(wrong) => return Err(wrong),
     };
     match number_of(matches, "times", 1, 1, 1000) {
         Some(times) => Ok((asked_of(places, numbers), times as u32)),
-        None => Err("--times is no number from 1 to 1000"),
+        None => Err(WrongWord::Times),
     }
 }
 
@@ -196,7 +197,7 @@ pub(crate) fn question_of<'a>(
 {
     let (asked, times) = match asked_in(matches) {
         Ok(both) => both,
-        Err(why) => return Err(NotRead::Meaningless(why)),
+        Err(wrong) => return Err(NotRead::Meaningless(wrong)),
     };
     match packet_in(alloc, word_of(matches, "packet")) {
         Ok(packet) => match lists_in(alloc, matches) {
@@ -222,39 +223,36 @@ pub(crate) fn question_of<'a>(
 }
 
 /// What the options say of fuel, or which one is no such number.
-fn fuel_of(matches: &ArgMatches<'_>) -> Result<FuelAsked, &'static str>
+fn fuel_of(matches: &ArgMatches<'_>) -> Result<FuelAsked, WrongWord>
     ensures { ReadsOrTells (HasFuel (rows_of (found_of matches.now))) result }
 {
     let Some(turns) = told_number(matches, "fuel", 1, 999_999) else {
-        return Err("--fuel is no number from 1 to 999999");
+        return Err(WrongWord::Fuel);
     };
     match told_number(matches, "fuel-answer", 0, 0x7fff_ffff) {
         Some(answer) => Ok(FuelAsked { turns, answer }),
-        None => Err("--fuel-answer is no number from 0 to 2147483647"),
+        None => Err(WrongWord::FuelAnswer),
     }
 }
 
-// What is told of a word that isn't there; the command line takes no words without it.
-const MISSING: &str = "a word is missing";
-
-fn annotate_request<'a>(matches: &ArgMatches<'a>) -> Result<PlainRequest<'a>, &'static str>
+fn annotate_request<'a>(matches: &ArgMatches<'a>) -> Result<PlainRequest<'a>, WrongWord>
     ensures { ReadsOrTells (MakesPlain (codes "annotate") (rows_of (found_of matches.now))) result }
 {
     let fuel = match fuel_of(matches) {
         Ok(fuel) => fuel,
-        Err(why) => return Err(why),
+        Err(wrong) => return Err(wrong),
     };
     let Some(hook) = word_of(matches, "HOOK") else {
-        return Err(MISSING);
+        return Err(WrongWord::Missing);
     };
     let Some(hook) = Hook::from_name(hook) else {
-        return Err("HOOK is none of count, tag, price and veto");
+        return Err(WrongWord::Hook);
     };
     let Some(code) = word_of(matches, "CODE") else {
-        return Err(MISSING);
+        return Err(WrongWord::Missing);
     };
     let Some(object) = word_of(matches, "OBJECT") else {
-        return Err(MISSING);
+        return Err(WrongWord::Missing);
     };
     Ok(PlainRequest::Annotate {
         hook,
@@ -277,21 +275,21 @@ fn hook_of(matches: &ArgMatches<'_>) -> Option<Option<Hook>>
     }
 }
 
-fn build_request<'a>(matches: &ArgMatches<'a>) -> Result<PlainRequest<'a>, &'static str>
+fn build_request<'a>(matches: &ArgMatches<'a>) -> Result<PlainRequest<'a>, WrongWord>
     ensures { ReadsOrTells (MakesPlain (codes "build") (rows_of (found_of matches.now))) result }
 {
     let fuel = match fuel_of(matches) {
         Ok(fuel) => fuel,
-        Err(why) => return Err(why),
+        Err(wrong) => return Err(wrong),
     };
     let Some(file) = word_of(matches, "FILE") else {
-        return Err(MISSING);
+        return Err(WrongWord::Missing);
     };
     let Some(folder) = word_of(matches, "FOLDER") else {
-        return Err(MISSING);
+        return Err(WrongWord::Missing);
     };
     let Some(hook) = hook_of(matches) else {
-        return Err("--hook is none of count, tag, price and veto");
+        return Err(WrongWord::SectionHook);
     };
     Ok(PlainRequest::Build {
         file,
@@ -301,21 +299,21 @@ fn build_request<'a>(matches: &ArgMatches<'a>) -> Result<PlainRequest<'a>, &'sta
     })
 }
 
-fn explain_request<'a>(matches: &ArgMatches<'a>) -> Result<PlainRequest<'a>, &'static str>
+fn explain_request<'a>(matches: &ArgMatches<'a>) -> Result<PlainRequest<'a>, WrongWord>
     ensures { ReadsOrTells (MakesPlain (codes "explain") (rows_of (found_of matches.now))) result }
 {
     match word_of(matches, "OBJECT") {
         Some(object) => Ok(PlainRequest::Explain { object }),
-        None => Err(MISSING),
+        None => Err(WrongWord::Missing),
     }
 }
 
-fn test_request<'a>(matches: &ArgMatches<'a>) -> Result<PlainRequest<'a>, &'static str>
+fn test_request<'a>(matches: &ArgMatches<'a>) -> Result<PlainRequest<'a>, WrongWord>
     ensures { ReadsOrTells (MakesPlain (codes "test") (rows_of (found_of matches.now))) result }
 {
     match word_of(matches, "FILE") {
         Some(file) => Ok(PlainRequest::Test { file }),
-        None => Err(MISSING),
+        None => Err(WrongWord::Missing),
     }
 }
 
@@ -323,7 +321,7 @@ fn test_request<'a>(matches: &ArgMatches<'a>) -> Result<PlainRequest<'a>, &'stat
 fn plain_request<'a>(
     name: &str,
     matches: &ArgMatches<'a>,
-) -> Result<PlainRequest<'a>, &'static str>
+) -> Result<PlainRequest<'a>, WrongWord>
     ensures { ReadsOrTells (MakesPlain name.now (rows_of (found_of matches.now))) result }
 {
     match name {
@@ -331,7 +329,7 @@ fn plain_request<'a>(
         "build" => build_request(matches),
         "explain" => explain_request(matches),
         "test" => test_request(matches),
-        _ => Err(MISSING),
+        _ => Err(WrongWord::Missing),
     }
 }
 
@@ -339,7 +337,7 @@ fn try_request<'a>(alloc: Global, matches: &ArgMatches<'a>) -> Result<HooktoolRe
     ensures { IsMade (codes "try") (rows_of (found_of matches.now)) result }
 {
     let Some(object) = word_of(matches, "OBJECT") else {
-        return Err(NotRead::Meaningless(MISSING));
+        return Err(NotRead::Meaningless(WrongWord::Missing));
     };
     match question_of(alloc, matches) {
         Ok(question) => Ok(HooktoolRequest::Try { object, question }),
@@ -391,7 +389,7 @@ fn made_by<'a>(
         "try" => try_request(alloc, matches),
         _ => match plain_request(name, matches) {
             Ok(plain) => Ok(request_for(plain)),
-            Err(why) => Err(NotRead::Meaningless(why)),
+            Err(wrong) => Err(NotRead::Meaningless(wrong)),
         },
     }
 }
@@ -408,7 +406,9 @@ fn request_by<'a>(
 {
     match made_by(alloc, name, matches) {
         Ok(request) => Ok(request),
-        Err(NotRead::Meaningless(why)) => Err(error(alloc, ErrorKind::InvalidValue, why)),
+        Err(NotRead::Meaningless(wrong)) => {
+            Err(error(alloc, ErrorKind::InvalidValue, text_of(wrong)))
+        }
         Err(NotRead::OutOfMemory) => Err(Error::from(AllocError)),
     }
 }

@@ -5,7 +5,8 @@ ghost use Rattle.words.specs.declared.route.TableRow.{TableRow};
 ghost use Rattle.hooktool_line.specs.Questions.{HasRows};
 ghost use Rattle.hooktool_line.specs.Words.{AreRows, IsRow, Reads, ReadsOrLacks};
 
-use crate::values::{NotRead, WRONG_PART};
+use crate::values::NotRead;
+use crate::wrong_words::WrongWord;
 use address_texts::{read_prefix, read_within};
 use std::alloc::Global;
 use words::TableRow;
@@ -36,7 +37,7 @@ fn read_rows(alloc: Global, words: &[&str]) -> Result<Vec<TableRow>, NotRead>
     let mut rows = Vec::new(alloc);
     for word in words {
         let Some(row) = row_of(word) else {
-            return Err(NotRead::Meaningless(WRONG_PART));
+            return Err(NotRead::Meaningless(WrongWord::Part));
         };
         match rows.push(row) {
             Ok(()) => (),

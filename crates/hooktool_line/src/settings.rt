@@ -4,7 +4,8 @@ ghost use Rattle.std.specs.Prelude.{◌≡◌, ◌≤◌, ◌^◌, ◌<◌, map,
 ghost use Rattle.hooktool_line.specs.Questions.{HasSettings};
 ghost use Rattle.hooktool_line.specs.Words.{AreSettings, IsSetting, Reads, ReadsOrLacks};
 
-use crate::values::{NotRead, WRONG_PART};
+use crate::values::NotRead;
+use crate::wrong_words::WrongWord;
 use address_texts::read_within;
 use std::alloc::Global;
 
@@ -50,7 +51,7 @@ fn read_settings(
     let mut settings = Vec::new(alloc);
     for word in words {
         let Some(setting) = setting_of(word, places, most) else {
-            return Err(NotRead::Meaningless(WRONG_PART));
+            return Err(NotRead::Meaningless(WrongWord::Part));
         };
         match settings.push(setting) {
             Ok(()) => (),

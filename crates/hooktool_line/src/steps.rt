@@ -15,6 +15,7 @@ ghost use Rattle.hooktool_line.specs.Steps.{step_for, views, words_of};
 use crate::arguments::{ASK, command_of};
 use crate::requests::{Question, question_of};
 use crate::values::NotRead;
+use crate::wrong_words::{WrongWord, text_of};
 use address_texts::read_within;
 use clap::{ArgMatches, Error};
 use std::alloc::{AllocError, Global};
@@ -67,10 +68,6 @@ pub enum LineError {
     Words(&'static str),
     Memory,
 }
-
-const KNOWN: &str = "a line is empty, a comment behind #, program OBJECT, ask OPTIONS, packets \
-    CAPTURE interface I (up to 63), or what is expected: metric N (below 16777215), withheld, tag \
-    N, installed, not installed, answer N, counter K N (K up to 255), cell J N (J up to 63)";
 
 /// What a line says that isn't `ask`. It is smaller than a step, which may hold a question.
 #[derive(Clone, Copy)]
@@ -172,7 +169,7 @@ fn question_in<'a>(alloc: Global, matches: &ArgMatches<'a>) -> Result<Question<'
 {
     match question_of(alloc, matches) {
         Ok(question) => Ok(question),
-        Err(NotRead::Meaningless(why)) => Err(LineError::Words(why)),
+        Err(NotRead::Meaningless(wrong)) => Err(LineError::Words(text_of(wrong))),
         Err(NotRead::OutOfMemory) => Err(LineError::Memory),
     }
 }
@@ -203,7 +200,7 @@ fn step_of<'a>(alloc: Global, words: &'a [&'a str]) -> Result<Step<'a>, LineErro
     }
     match told_by(words) {
         Some(plain) => Ok(step_for(plain)),
-        None => Err(LineError::Words(KNOWN)),
+        None => Err(LineError::Words(text_of(WrongWord::Line))),
     }
 }
 

@@ -11,23 +11,17 @@ ghost use Rattle.hooktool_line.specs.Requests.{HasTold};
 ghost use Rattle.hooktool_line.specs.Words.{IsPrefix, IsTold, OrElse, Reads, everything};
 ghost use Rattle.hooktool_line.specs.Words.{kind_word, type_word};
 
+use crate::wrong_words::WrongWord;
 use address_texts::{read_prefix, read_within};
 use clap::ArgMatches;
 use words::{Address, ExternalType, Prefix, RouteKind};
 
-/// Why nothing is read of words: they have no meaning, which is told by this text, or memory was
-/// refused.
+/// Why nothing is read of words: this one has no meaning, or memory was refused.
 #[derive(Clone, Copy)]
 pub(crate) enum NotRead {
-    Meaningless(&'static str),
+    Meaningless(WrongWord),
     OutOfMemory,
 }
-
-/// What is told of a packet, a row or a setting that has no meaning.
-pub(crate) const WRONG_PART: &str =
-    "--packet is neither hex digits, two a byte, nor @FILE, or --row isn't A.B.C.D/L=COST, \
-        --counter isn't K=N with K up to 255 and N up to 16777215, or --cell isn't J=N with J up \
-        to 63";
 
 /// The word under a name.
 pub(crate) fn word_of<'a>(matches: &ArgMatches<'a>, name: &str) -> Option<&'a str>
