@@ -11,15 +11,11 @@ use Rattle.clap.specs.declared.error.Error.{Error}
 use Rattle.clap.specs.declared.error.kind.ErrorKind.TheVariants as kinds
 use Rattle.clap.specs.declared.parser.matches.ArgMatches.{ArgMatches}
 use Rattle.hooktool_line.specs.CommandLine.{line}
-use Rattle.hooktool_line.specs.Requests.{Asks, IsRefusal, IsWrongWord, Makes}
+use Rattle.hooktool_line.specs.Requests.{Asks, IsRefusal, IsTaken, IsWrongWord, Makes}
 use Rattle.hooktool_line.specs.declared.requests.HooktoolRequest.{HooktoolRequest}
 
 abbrev pub Answers : List Text → Result HooktoolRequest Error → Type 0
 Answers words result = MatchResult result (Asks words) (IsRefusal words)
-
--- The command line takes the words, and finds this in them.
-abbrev pub IsTaken : List Text → ArgMatches → Type 0
-IsTaken words matches = (fault_of line words ≡ []) × HasMatchesOf line words matches
 
 -- ---- of a command that is the line
 

@@ -15,7 +15,7 @@ use Rattle.clap.specs.Walk.{Row, Text, first_of, rows_of}
 use Rattle.clap.specs.declared.parser.matches.ArgMatches.{ArgMatches}
 use Rattle.hooktool_line.specs.CommandLine.{ask}
 use Rattle.hooktool_line.specs.Questions.{HasNumber, HasQuestion}
-use Rattle.hooktool_line.specs.Steps.{AddsLine, AreLines, IsLine, IsWrong, is_blank}
+use Rattle.hooktool_line.specs.Steps.{AddsLine, AreLines, HasOptions, IsLine, IsWrong, is_blank}
 use Rattle.hooktool_line.specs.Steps.{views, words_of}
 use Rattle.hooktool_line.specs.Words.{IsNumber, OrElse}
 use Rattle.hooktool_line.specs.declared.requests.Question.{Question}
@@ -27,17 +27,20 @@ use Rattle.hooktool_line.specs.declared.steps.TestLine.{TestLine}
 pub free : (a : App) → a ≡ ask → is_simple_and_free a ≡ true
 free a own = subst (λ (x : App). is_simple_and_free x ≡ true) (sym own) refl
 
-pub asked : {E : Type 0} (a : App) (words : List Text) (m : ArgMatches) (r : Result Question E)
-    → a ≡ ask → fault_of a words ≡ [] → HasMatchesOf a words m
-    → IfOk r (HasQuestion (rows_of (found_of m)))
-    → IfOk r (λ question. (fault_of ask words ≡ []) × HasQuestion (matches_of ask words) question)
-asked {E} a words m (Ok question) own none has is =
-    let own_has : HasMatchesOf ask words m =
-    subst (λ (x : App). HasMatchesOf x words m) own has in (
-      subst (λ (x : App). fault_of x words ≡ []) own none,
-      subst (λ (rows : List Row). HasQuestion rows question) (own_has refl).0 is,
-    )
-asked {E} a words m (Err e) own none has is = tt
+pub taken : (a : App) (words : List Text) (m : ArgMatches) → a ≡ ask
+    → fault_of a words ≡ [] → HasMatchesOf a words m → HasOptions words m
+taken a words m own none has = (
+  subst (λ (x : App). fault_of x words ≡ []) own none,
+  subst (λ (x : App). HasMatchesOf x words m) own has,
+)
+
+pub asked : (words : List Text) (m : ArgMatches) (question : Question) → HasOptions words m
+    → HasQuestion (rows_of (found_of m)) question
+    → (fault_of ask words ≡ []) × HasQuestion (matches_of ask words) question
+asked words m question taken is = (
+  taken.0,
+  subst (λ (rows : List Row). HasQuestion rows question) (taken.1 refl).0 is,
+)
 
 -- ---- lines of one word to four
 

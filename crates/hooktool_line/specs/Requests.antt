@@ -2,11 +2,12 @@
 use Rattle.std.specs.Prelude.{◌≡◌, ◌⊎◌, ℕ, List, [], Option, Some, None, Result, Ok, Err, codes}
 use Rattle.clap.specs.Faults.{fault_of}
 use Rattle.clap.specs.Kinds.{IsAmong}
-use Rattle.clap.specs.Simple.{subcommand_of}
+use Rattle.clap.specs.Simple.{HasMatchesOf, subcommand_of}
 use Rattle.clap.specs.Values.{kind_of}
 use Rattle.clap.specs.Walk.{Row, Text, first_of}
 use Rattle.clap.specs.declared.error.Error.{Error}
 use Rattle.clap.specs.declared.error.kind.ErrorKind.TheVariants as kinds
+use Rattle.clap.specs.declared.parser.matches.ArgMatches.{ArgMatches}
 use Rattle.isa.specs.Hooks.{hook_name}
 use Rattle.isa.specs.declared.hook.Hook.{Hook}
 use Rattle.hooktool_line.specs.CommandLine.{line}
@@ -99,6 +100,10 @@ Makes named request = (rows : List Row) × (named ≡ Some (command_of request, 
 
 abbrev pub MakesNone : Option (Text × List Row) → Type 0
 MakesNone named = (request : HooktoolRequest) → Makes named request → ⊥
+
+-- The command line takes the words, and finds this in them.
+abbrev pub IsTaken : List Text → ArgMatches → Type 0
+IsTaken words matches = (fault_of line words ≡ []) × HasMatchesOf line words matches
 
 -- The command line takes the words, and the command that they name makes the request of the words
 -- under its names.

@@ -5,8 +5,9 @@ use Rattle.std.specs.Prelude.{Some, map, slice_get}
 use Rattle.std.specs.Borrow.{Bor}
 use Rattle.std.specs.Global.{Vec}
 use Rattle.clap.specs.Faults.{fault_of}
-use Rattle.clap.specs.Simple.{matches_of}
+use Rattle.clap.specs.Simple.{HasMatchesOf, matches_of}
 use Rattle.clap.specs.Walk.{Text}
+use Rattle.clap.specs.declared.parser.matches.ArgMatches.{ArgMatches}
 use Rattle.hooktool_line.specs.CommandLine.{ask}
 use Rattle.hooktool_line.specs.Questions.{HasQuestion}
 use Rattle.hooktool_line.specs.declared.requests.Question.{Question}
@@ -36,6 +37,10 @@ SaysAnswer words answers.Withheld = words ≡ codes "withheld" ∷ []
 SaysAnswer words (answers.Tag n) = (words ≡ codes "tag" ∷ decimal n ∷ []) × (n ≤ 4294967295)
 SaysAnswer words answers.Installed = words ≡ codes "installed" ∷ []
 SaysAnswer words answers.NotInstalled = words ≡ codes "not" ∷ codes "installed" ∷ []
+
+-- The line ask takes the words, and finds this in them.
+abbrev pub HasOptions : List Text → ArgMatches → Type 0
+HasOptions words matches = (fault_of ask words ≡ []) × HasMatchesOf ask words matches
 
 -- the first word is this one
 abbrev pub BeginsWith : Text → List Text → Type 0

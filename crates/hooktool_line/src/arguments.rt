@@ -1,9 +1,9 @@
 //! The commands, the words that each may have, and their help.
 
 ghost use Rattle.std.specs.Prelude.{◌≡◌, ◌⊎◌, IfOk};
-ghost use Rattle.clap.specs.Simple.{app_of, with_subcommand};
+ghost use Rattle.clap.specs.Simple.{app_of, new_app, with_subcommand};
 ghost use Rattle.clap.specs.Values.{kind_of};
-ghost use Rattle.hooktool_line.specs.Building.{IsArgument, IsLeaf, shape_for, with_forms};
+ghost use Rattle.hooktool_line.specs.Building.{IsArgument, IsLeaf, IsLocal, shape_for, with_forms};
 ghost use Rattle.hooktool_line.specs.Building.{without_commands};
 ghost use Rattle.hooktool_line.specs.CommandLine as line;
 
@@ -524,12 +524,20 @@ fn argument<'a>(alloc: Global, word: &Word) -> Arg<'a>
     }
 }
 
+// A command of this name with its help, so far without words.
+fn titled<'a>(alloc: Global, name: &'a str, topic: Topic) -> Command<'a>
+    ensures app { app_of result ≡ new_app name.entry.now }
+    ensures local { IsLocal result }
+{
+    let (about, more) = help_on(topic);
+    Command::new(alloc, name).about(about).after_help(more)
+}
+
 /// The command of this form.
 pub(crate) fn command_of<'a>(alloc: Global, form: &Form) -> Result<Command<'a>, AllocError>
     ensures { IfOk result (IsLeaf form.now) }
 {
-    let (about, more) = help_on(form.help);
-    let mut command = Command::new(alloc, form.name).about(about).after_help(more);
+    let mut command = titled(alloc, form.name, form.help);
     for word in form.words {
         match command.arg(argument(alloc, word)) {
             Ok(more) => command = more,
@@ -543,10 +551,7 @@ pub(crate) fn command_of<'a>(alloc: Global, form: &Form) -> Result<Command<'a>, 
 fn without_commands<'a>(alloc: Global) -> Command<'a>
     ensures { app_of result ≡ without_commands }
 {
-    let (about, more) = help_on(Topic::Commands);
-    Command::new(alloc, "hooktool")
-        .about(about)
-        .after_help(more)
+    titled(alloc, "hooktool", Topic::Commands)
         .subcommand_required(true)
         .arg_required_else_help(true)
 }

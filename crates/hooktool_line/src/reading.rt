@@ -2,15 +2,13 @@
 
 ghost use Rattle.std.specs.Prelude.{◌≡◌, ◌⊎◌, map, MatchResult};
 ghost use Rattle.std.specs.IoError.{error_kind};
-ghost use Rattle.clap.specs.Simple.{app_of};
 ghost use Rattle.clap.specs.Values.{kind_of};
-ghost use Rattle.hooktool_line.specs.CommandLine as command_line;
-ghost use Rattle.hooktool_line.specs.Requests.{Asks, IsRefusal};
+ghost use Rattle.hooktool_line.specs.Requests.{Asks, IsRefusal, IsTaken};
 
 use crate::arguments;
 use crate::requests::{self, HooktoolRequest};
 use clap::error::ErrorKind;
-use clap::{Command, Error};
+use clap::{ArgMatches, Error};
 use std::alloc::{AllocError, Global};
 use std::io::{self, ErrorKind as IoKind};
 
@@ -27,19 +25,14 @@ pub fn unread(alloc: Global, error: &io::Error) -> Error
     }
 }
 
-// The same, by the command line.
-fn parse_by<'a>(
-    alloc: Global,
-    line: Command<'a>,
-    words: &'a [&'a str],
-) -> Result<HooktoolRequest<'a>, Error>
-    requires { app_of line ≡ command_line.line }
-    ensures { MatchResult result (Asks (map (λ w. w.now) words.entry.now))
+// What the command line finds in the words.
+fn taken<'a>(alloc: Global, words: &'a [&'a str]) -> Result<ArgMatches<'a>, Error>
+    ensures { MatchResult result (IsTaken (map (λ w. w.now) words.entry.now))
         (IsRefusal (map (λ w. w.now) words.entry.now)) }
 {
-    match line.try_get_matches_from(words) {
-        Ok(matches) => requests::request_of(alloc, &matches),
-        Err(error) => Err(error),
+    match arguments::whole(alloc) {
+        Ok(line) => line.try_get_matches_from(words),
+        Err(error) => Err(Error::from(error)),
     }
 }
 
@@ -52,8 +45,8 @@ pub fn parse<'a>(alloc: Global, words: &'a [&'a str]) -> Result<HooktoolRequest<
     ensures { MatchResult result (Asks (map (λ w. w.now) words.entry.now))
         (IsRefusal (map (λ w. w.now) words.entry.now)) }
 {
-    match arguments::whole(alloc) {
-        Ok(line) => parse_by(alloc, line, words),
-        Err(error) => Err(Error::from(error)),
+    match taken(alloc, words) {
+        Ok(matches) => requests::request_of(alloc, &matches),
+        Err(error) => Err(error),
     }
 }

@@ -3,12 +3,10 @@
 ghost use Rattle.std.specs.Prelude.{◌≡◌, List, [], ◌∷◌, codes, false, IfErr, IfOk, IfSome, IsTrue};
 ghost use Rattle.std.specs.Prelude.{OnOk};
 ghost use Rattle.clap.specs.Faults.{fault_of};
-ghost use Rattle.clap.specs.Matches.{found_of};
 ghost use Rattle.clap.specs.Simple.{matches_of};
-ghost use Rattle.clap.specs.Walk.{Text, rows_of};
 ghost use Rattle.hooktool_line.specs.CommandLine.{ask};
 ghost use Rattle.hooktool_line.specs.Questions.{HasQuestion};
-ghost use Rattle.hooktool_line.specs.Steps.{AddsLine, AreLines, BeginsWith, Says};
+ghost use Rattle.hooktool_line.specs.Steps.{AddsLine, AreLines, BeginsWith, HasOptions, Says};
 ghost use Rattle.hooktool_line.specs.Steps.{IsWrong, SaysAnswer, SaysPlain, is_blank, is_mark};
 ghost use Rattle.hooktool_line.specs.Steps.{step_for, views, words_of};
 
@@ -163,14 +161,16 @@ fn step_for<'a>(plain: PlainStep<'a>) -> Step<'a>
     }
 }
 
-/// The question that the options ask.
-fn question_in<'a>(alloc: Global, matches: &ArgMatches<'a>) -> Result<Question<'a>, LineError>
-    ensures { IfOk result (HasQuestion (rows_of (found_of matches.now))) }
+/// What the line `ask` finds in its words, which are options.
+fn options_in<'a>(alloc: Global, words: &'a [&'a str]) -> Result<ArgMatches<'a>, LineError>
+    ensures { IfOk result (HasOptions (views words.entry.now)) }
 {
-    match question_of(alloc, matches) {
-        Ok(question) => Ok(question),
-        Err(NotRead::Meaningless(wrong)) => Err(LineError::Words(text_of(wrong))),
-        Err(NotRead::OutOfMemory) => Err(LineError::Memory),
+    match command_of(alloc, &ASK) {
+        Ok(command) => match command.try_get_matches_from(words) {
+            Ok(matches) => Ok(matches),
+            Err(error) => Err(LineError::Options(error)),
+        },
+        Err(_) => Err(LineError::Memory),
     }
 }
 
@@ -179,12 +179,13 @@ fn asked_by<'a>(alloc: Global, words: &'a [&'a str]) -> Result<Question<'a>, Lin
     ensures { IfOk result (λ question. (fault_of ask (views words.entry.now) ≡ [])
         × HasQuestion (matches_of ask (views words.entry.now)) question) }
 {
-    match command_of(alloc, &ASK) {
-        Ok(command) => match command.try_get_matches_from(words) {
-            Ok(matches) => question_in(alloc, &matches),
-            Err(error) => Err(LineError::Options(error)),
+    match options_in(alloc, words) {
+        Ok(matches) => match question_of(alloc, &matches) {
+            Ok(question) => Ok(question),
+            Err(NotRead::Meaningless(wrong)) => Err(LineError::Words(text_of(wrong))),
+            Err(NotRead::OutOfMemory) => Err(LineError::Memory),
         },
-        Err(_) => Err(LineError::Memory),
+        Err(error) => Err(error),
     }
 }
 

@@ -1,19 +1,12 @@
-use Rattle.std.proofs.Common.{◌∙◌, ap, arith, Bool}
-use Rattle.clap.specs.Simple.{app_of_fields}
-use Rattle.clap.specs.declared.builder.command.Command.{Command}
-use Rattle.clap.specs.declared.builder.command.Command.TheOpen.{Command-F}
+use Rattle.std.proofs.Common.{arith}
 use Rattle.hooktool_line.proofs.Building.{leaf, one_more}
 use Rattle.hooktool_line.proofs.arguments.command_of.Goals as goal
 
 pub loop-word-init : goal.loop-word-init
-loop-word-init c =
-    let globals : Command-F Command → Bool = λ f. f.has_globals in
-    record {
-      app = ap app_of_fields c.after_help-command.ensures ∙ ap app_of_fields c.about.ensures
-          ∙ c.new.ensures.app;
-      local = ap globals c.after_help-command.ensures ∙ ap globals c.about.ensures
-          ∙ c.new.ensures.local;
-    }
+loop-word-init c = record {
+  app = c.titled-command.ensures.app;
+  local = c.titled-command.ensures.local;
+}
 
 pub loop-word-preserved : goal.loop-word-preserved
 loop-word-preserved c =

@@ -12,4 +12,4 @@ returns c =
       top = record a.top { subcommand_required = true; arg_required_else_help = true };
       subs = a.subs;
     })
-    (ap app_of_fields c.after_help.ensures ∙ ap app_of_fields c.about.ensures ∙ c.new.ensures.app)
+    c.titled.ensures.app
