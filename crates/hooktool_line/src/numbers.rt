@@ -1,6 +1,5 @@
 //! The numbers of a question.
 
-ghost use Rattle.std.specs.Prelude.{◌+◌, ◌≤◌, IfOk};
 ghost use Rattle.clap.specs.Matches.{found_of};
 ghost use Rattle.clap.specs.Walk.{rows_of};
 ghost use Rattle.hooktool_line.specs.Questions.{HasNumbers};
@@ -29,8 +28,7 @@ const LATEST: u64 = 4_611_686_018_427_387_903;
 
 /// The numbers that the options give, or which one has no meaning.
 pub(crate) fn numbers_of(matches: &ArgMatches<'_>) -> Result<Numbers, WrongWord>
-    ensures read { ReadsOrTells (HasNumbers (rows_of (found_of matches.now))) result }
-    ensures room { IfOk result (λ numbers. numbers.interface + numbers.next_hops ≤ 64) }
+    ensures { ReadsOrTells (HasNumbers (rows_of (found_of matches.now))) result }
 {
     let Some(metric) = number_of(matches, "metric", 0, 0, MOST) else {
         return Err(WrongWord::Metric);
