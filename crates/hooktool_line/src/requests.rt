@@ -318,10 +318,7 @@ fn test_request<'a>(matches: &ArgMatches<'a>) -> Result<PlainRequest<'a>, WrongW
 }
 
 // What a command makes of its words, if it takes no question. No other command makes anything.
-fn plain_request<'a>(
-    name: &str,
-    matches: &ArgMatches<'a>,
-) -> Result<PlainRequest<'a>, WrongWord>
+fn plain_request<'a>(name: &str, matches: &ArgMatches<'a>) -> Result<PlainRequest<'a>, WrongWord>
     ensures { ReadsOrTells (MakesPlain name.now (rows_of (found_of matches.now))) result }
 {
     match name {
