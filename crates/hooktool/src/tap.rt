@@ -16,50 +16,37 @@ fn push_words(out: &mut Text, words: &[&str]) {
     }
 }
 
-/// How a run ended.
-fn push_last(out: &mut Text, last: Last) {
-    match last {
-        Last::Nothing => out.push("no answer: nothing was asked"),
-        Last::Answered { hook, answer } => match hook {
-            Hook::Count => out.numbered("answer ", answer, ""),
-            _ => push_answer(out, hook, answer),
-        },
-        Last::Stuck { trap, slot } => out.fill(
-            "no answer: trap {} at slot {}",
-            &[u128::from(trap), u128::from(slot)],
-        ),
-    }
-}
-
 /// What was found, as it is told if a point isn't ok.
 fn push_found(out: &mut Text, found: Found) {
     match found {
-        Found::Run(last) => push_last(out, last),
+        Found::Run(Last::Nothing) => out.push("no answer: nothing was asked"),
+        Found::Run(Last::Answered { hook, answer }) => match hook {
+            Hook::Count => out.numbered("answer ", answer, ""),
+            _ => push_answer(out, hook, answer),
+        },
+        Found::Run(Last::Stuck { trap, slot }) => out.fill(
+            "no answer: trap {} at slot {}",
+            &[u128::from(trap), u128::from(slot)],
+        ),
         Found::Number(number) => out.number(u128::from(number)),
         Found::Packets(count) => out.numbered("", count, " packets"),
     }
 }
 
-/// A line of this beginning about the point, which is the one of this number.
-fn push_line(out: &mut Text, beginning: &str, count: usize, point: &Point<'_>) {
+/// The lines of a point, which is the one of this number.
+fn push_point(out: &mut Text, count: usize, point: &Point<'_>) {
+    let is_ok = point.verdict.is_ok;
+    let beginning = if is_ok { "ok " } else { "not ok " };
     out.numbered(beginning, count as u64, " - line ");
     out.numbered("", point.number, ": ");
     push_words(out, point.words);
-    out.push("\n")
-}
-
-/// The lines of a point, which is the one of this number.
-fn push_point(out: &mut Text, count: usize, point: &Point<'_>) {
-    if point.verdict.is_ok {
-        push_line(out, "ok ", count, point)
-    } else {
-        push_line(out, "not ok ", count, point);
-        out.push("# expected: ");
+    if !is_ok {
+        out.push("\n# expected: ");
         push_words(out, point.words);
         out.push("\n# found: ");
         push_found(out, point.verdict.found);
-        out.push("\n")
     }
+    out.push("\n")
 }
 
 /// The whole text of the points, in their order.
