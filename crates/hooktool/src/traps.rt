@@ -23,12 +23,6 @@ fn sentence_of(number: u8) -> &'static str {
     }
 }
 
-/// The trap's number, what it is, and the slot at which it is.
-fn push_name(out: &mut Text, trap: Trap, slot: u64) {
-    let number = trap.number();
-    out.fill(sentence_of(number), &[u128::from(number), u128::from(slot)])
-}
-
 /// A line for the register, unless it is empty.
 fn push_register(out: &mut Text, register: u64, content: Content) {
     let (sentence, first, second) = match content {
@@ -49,7 +43,11 @@ fn push_register(out: &mut Text, register: u64, content: Content) {
 /// The trap's number, what it is, the slot and the instruction at which it is, and the registers
 /// there, but for those that are empty.
 pub(crate) fn push_trap(out: &mut Text, trap: Trap, ending: &RunEnding, code: &Code, lines: &str) {
-    push_name(out, trap, ending.slot);
+    let number = trap.number();
+    out.fill(
+        sentence_of(number),
+        &[u128::from(number), u128::from(ending.slot)],
+    );
     out.push(line_at(lines, code, ending.slot).unwrap_or("no instruction begins there"));
     out.push("\n");
     for (register, content) in ending.registers.iter().enumerate() {
