@@ -8,7 +8,7 @@ use crate::building::push_about;
 use crate::fault::HooktoolFault;
 use crate::names::shown;
 use crate::report::{CommandReport, refusal};
-use elf::{LinkedRelocation, LinkedSymbol, ObjectFile, SymbolKind};
+use elf::{LinkedRelocation, LinkedSymbol, ObjectFile, Relocation, SymbolKind};
 use explanations::Text;
 use std::alloc::{AllocError, Global};
 
@@ -31,16 +31,6 @@ fn has_place(function: &LinkedSymbol, offset: u64) -> bool
 {
     let symbol = function.symbol;
     symbol.value <= offset && offset - symbol.value < symbol.size
-}
-
-/// The function that has the place of a section, if one has.
-fn function_at(functions: &[LinkedSymbol], offset: u64) -> Option<LinkedSymbol> {
-    for function in functions {
-        if has_place(function, offset) {
-            return Some(*function);
-        }
-    }
-    None
 }
 
 /// Whether a linker would change the function.
@@ -78,21 +68,16 @@ fn name_of<'a>(file: &ObjectFile<'a>, table: usize, index: usize) -> &'a [u8] {
     }
 }
 
-/// The number in the last four bytes of the instruction at a place: of a wide load the lower half
-/// of its number, of a call its distance.
-fn number_at(contents: &[u8], offset: u64) -> Option<u32> {
-    let start = offset as usize;
-    let end = start.checked_add(8)?;
-    match contents.get(start..end)? {
-        [_, _, _, _, a, b, c, d] => Some(u32::from_le_bytes([*a, *b, *c, *d])),
-        _ => None,
-    }
-}
-
-/// The place in the section that the code names by its number: of data the number itself, of a
-/// function what a call's distance comes to from the section's first slot.
-fn named_place(kind: u32, number: u32) -> u64 {
-    if kind == CALL {
+/// The place in the section that the code names by the number in the last four bytes of an
+/// instruction: of data that number, the lower half of a wide load's; of a function what a call's
+/// distance comes to from the section's first slot.
+fn named_place(relocation: Relocation, contents: &[u8]) -> u64 {
+    let start = relocation.offset as usize;
+    let number = match contents.get(start..start.saturating_add(8)) {
+        Some([_, _, _, _, a, b, c, d]) => u32::from_le_bytes([*a, *b, *c, *d]),
+        _ => 0,
+    };
+    if relocation.kind == CALL {
         8 * u64::from(number.wrapping_add(1))
     } else {
         u64::from(number)
@@ -125,8 +110,7 @@ fn target_name<'a>(
         let section = symbol.section as usize;
         let is_section = matches!(symbol.kind, SymbolKind::Section);
         if is_section && section < file.section_count() {
-            let number = number_at(contents, it.offset).unwrap_or(0);
-            let place = named_place(it.kind, number);
+            let place = named_place(it, contents);
             return match name_at(file, relocation.table, symbol.section, place) {
                 Some(name) => name,
                 None => file.section_name(section),
@@ -145,18 +129,16 @@ fn push_place(
     functions: &[LinkedSymbol],
     offset: u64,
 ) {
-    match function_at(functions, offset) {
-        Some(function) => {
+    for function in functions {
+        if has_place(function, offset) {
             push_about(out, section, name_of(file, function.table, function.index));
             let slot = offset.saturating_sub(function.symbol.value) / 8;
-            out.numbered(", slot ", slot, ": ")
-        }
-        None => {
-            out.push("section ");
-            out.push(shown(section));
-            out.numbered(", offset ", offset, ": ")
+            return out.numbered(", slot ", slot, ": ");
         }
     }
+    out.push("section ");
+    out.push(shown(section));
+    out.numbered(", offset ", offset, ": ")
 }
 
 /// The name of the section that has what the relocation names, or none.
@@ -186,20 +168,8 @@ fn data_advice(section: &[u8]) -> &'static str {
     }
 }
 
-/// Adds what the place does, and what an author can do.
-fn push_use(text: &mut Text, kind: u32, target: &str, section: &[u8]) {
-    if kind == CALL {
-        text.push("it calls ");
-        text.push(target);
-        text.push(": a program has no functions to call, make each one static inline\n");
-    } else {
-        text.push("it uses ");
-        text.push(target);
-        text.push(data_advice(section));
-    }
-}
-
-/// Adds the line of a place of the section that a linker would change.
+/// Adds the line of a place of the section that a linker would change: what it does, and what an
+/// author can do.
 fn push_relocation(
     out: &mut Text,
     file: &ObjectFile<'_>,
@@ -210,7 +180,14 @@ fn push_relocation(
     let it = relocation.relocation;
     push_place(out, file, section.name, functions, it.offset);
     let target = shown(target_name(file, section.contents, relocation));
-    push_use(out, it.kind, target, target_section(file, relocation))
+    let is_call = it.kind == CALL;
+    out.push(if is_call { "it calls " } else { "it uses " });
+    out.push(target);
+    out.push(if is_call {
+        ": a program has no functions to call, make each one static inline\n"
+    } else {
+        data_advice(target_section(file, relocation))
+    })
 }
 
 /// What is told of the places of a section that a linker would change: what code uses and calls
