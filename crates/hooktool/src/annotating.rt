@@ -53,16 +53,6 @@ fn most_fuel(slots: usize) -> u64 {
     most_rank(slots.saturating_add(COUNTING)).saturating_sub(1)
 }
 
-/// How great a rank may be at the entry of a program of this number of slots.
-fn push_budget(out: &mut Text, slots: usize) {
-    let most = most_rank(slots);
-    out.fill(
-        "  a run may take (B + 1) * L instructions, {} at most, for a rank B at the entry and L \
-            slots:\n  L is {} here, so B is at most {}\n",
-        &[u128::from(BUDGET), slots as u128, u128::from(most)],
-    )
-}
-
 /// Which `--fuel` is too much for code of this number of slots.
 fn push_fuel(out: &mut Text, slots: usize) {
     let counted = slots.saturating_add(COUNTING);
@@ -107,7 +97,9 @@ fn push_endless(out: &mut Text, endless: &EndlessLoop, slots: usize, telling: Te
             0,
         ),
         Trouble::TooHigh { register, from } => (
-            "the loop at slot {} has no rank: r{} falls from up to {}, which takes too long\n",
+            "the loop at slot {} has no rank: r{} falls from up to {}, which takes too long\n  a \
+                run may take (B + 1) * L instructions, {} at most, for a rank B at the entry and \
+                L slots:\n  L is {} here, so B is at most {}\n",
             register,
             from,
         ),
@@ -124,11 +116,11 @@ fn push_endless(out: &mut Text, endless: &EndlessLoop, slots: usize, telling: Te
             endless.why.slot as u128,
             u128::from(register),
             u128::from(from),
+            u128::from(BUDGET),
+            slots as u128,
+            u128::from(most_rank(slots)),
         ],
     );
-    if let Trouble::TooHigh { .. } = endless.why.trouble {
-        push_budget(out, slots)
-    }
     match telling.slots {
         Some(given) if is_fuel(endless, telling.turns) => push_fuel(out, given),
         Some(given) => push_remedies(out, endless, given),
