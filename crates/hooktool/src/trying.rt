@@ -28,23 +28,18 @@ struct Program {
     lines: String,
 }
 
-/// The object's program, of this code.
-fn program_with(alloc: Global, object: &Object, code: Code) -> Option<Program> {
-    match instruction_lines(alloc, object) {
-        Ok(lines) => Some(Program {
-            hook: object.hook(),
-            bound: bound_of(object),
-            code,
-            lines,
-        }),
-        Err(_) => None,
-    }
-}
-
 /// The program of the object.
 fn program_in(alloc: Global, object: &Object) -> Option<Program> {
     match decode(alloc, object.code()) {
-        Ok(code) => program_with(alloc, object, code),
+        Ok(code) => match instruction_lines(alloc, object) {
+            Ok(lines) => Some(Program {
+                hook: object.hook(),
+                bound: bound_of(object),
+                code,
+                lines,
+            }),
+            Err(_) => None,
+        },
         Err(_) => None,
     }
 }
@@ -64,27 +59,23 @@ fn bound_of(object: &Object) -> u64 {
     passes.saturating_mul(object.slots() as u64).min(BUDGET)
 }
 
-/// How a run ended: its answer and how many instructions it took, or its trap.
-fn push_ending(out: &mut Text, program: &Program, ending: &RunEnding) {
-    match ending.outcome {
-        Ok(run) => {
-            push_answer(out, program.hook, run.answer);
-            out.fill(
-                ", used {} of {}\n",
-                &[u128::from(run.used), u128::from(program.bound)],
-            )
-        }
-        Err(trap) => push_trap(out, trap, ending, &program.code, program.lines.as_str()),
-    }
-}
-
-/// The same of each run, with its number if there are several.
+/// How each run ended: its answer and how many instructions it took, or its trap; with its number
+/// if there are several.
 fn push_endings(out: &mut Text, program: &Program, endings: &[RunEnding]) {
     for (index, ending) in endings.iter().enumerate() {
         if endings.len() > 1 {
             out.numbered("run ", index as u64 + 1, ": ");
         }
-        push_ending(out, program, ending)
+        match ending.outcome {
+            Ok(run) => {
+                push_answer(out, program.hook, run.answer);
+                out.fill(
+                    ", used {} of {}\n",
+                    &[u128::from(run.used), u128::from(program.bound)],
+                )
+            }
+            Err(trap) => push_trap(out, trap, ending, &program.code, program.lines.as_str()),
+        }
     }
 }
 
