@@ -38,7 +38,7 @@ fn print<O: Stream>(report: &CommandReport, output: &mut O) -> u8
 fn tell<O: Stream>(fault: HooktoolFault<'_>, output: &mut O) -> u8
     ensures { IsTold fault.entry (O.state output.new) result }
 {
-    match output.print_line(fault) {
+    match output.print(format_args!("{fault}\n")) {
         Ok(()) => fault.status(),
         Err(_) => OUTSIDE,
     }

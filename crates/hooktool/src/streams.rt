@@ -22,11 +22,6 @@ pub trait Stream {
             (Appends (state self.old).contents (state self.new).contents)) }
         ensures fine { OnOk result ((state self.new).has_failed ≡ (state self.old).has_failed) }
         ensures fault { OnErr result ((state self.new).has_failed ≡ true) };
-
-    /// Writes the text and a line feed.
-    fn print_line<D: Display + Drop>(&mut self, text: D) -> Result<(), StreamFault>
-        ensures fine { OnOk result ((state self.new).has_failed ≡ (state self.old).has_failed) }
-        ensures fault { OnErr result ((state self.new).has_failed ≡ true) };
 }
 
 /// A writer, as a stream.
@@ -53,16 +48,6 @@ impl<W: Write> Stream for Written<W> {
 
     fn print<D: Display + Drop>(&mut self, text: D) -> Result<(), StreamFault> {
         match self.writer.write_fmt(text) {
-            Ok(()) => Ok(()),
-            Err(_) => {
-                self.has_failed = true;
-                Err(StreamFault {})
-            }
-        }
-    }
-
-    fn print_line<D: Display + Drop>(&mut self, text: D) -> Result<(), StreamFault> {
-        match self.writer.writeln(text) {
             Ok(()) => Ok(()),
             Err(_) => {
                 self.has_failed = true;
