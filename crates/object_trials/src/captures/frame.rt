@@ -1,5 +1,6 @@
 //! Frames of a link, and the OSPF packets in them.
-ghost use Rattle.std.specs.Prelude.{◌≡◌, ◌↔◌, ◌≤◌, length, IsTrue, MatchOption};
+ghost use Rattle.std.specs.Prelude.{◌≡◌, ◌↔◌, ◌+◌, ◌≤◌, length, IsTrue, MatchOption};
+ghost use Rattle.object_trials.specs.CaptureNumbers.{half};
 ghost use Rattle.object_trials.specs.Frames.{CarriesIp, HasNumber, HasOspf, Holds, IsOspf};
 ghost use Rattle.object_trials.specs.Frames.{IsPacketOf, header_length, header_of};
 ghost use Rattle.object_trials.specs.declared.captures.frame.LinkType.{LinkType};
@@ -55,15 +56,23 @@ fn header_length(link: LinkType) -> usize
     }
 }
 
+/// Whether two bytes of the frame's header, which has this size, name IP.
+fn names_ip(frame: &[u8], size: usize, at: usize) -> bool
+    requires { at + 2 ≤ size }
+    ensures { IsTrue result ↔ ((size ≤ length frame.now) × (half Order.Big frame.now at ≡ 0x0800)) }
+{
+    frame.len() >= size && half(Order::Big, frame, at) == 0x0800
+}
+
 /// Whether the frame carries an IP packet.
 fn carries_ip(link: LinkType, frame: &[u8]) -> bool
     ensures { IsTrue result ↔ CarriesIp link frame.now }
 {
     match link {
         LinkType::Raw => true,
-        LinkType::Ethernet => frame.len() >= 14 && half(Order::Big, frame, 12) == 0x0800,
-        LinkType::LinuxCooked => frame.len() >= 16 && half(Order::Big, frame, 14) == 0x0800,
-        LinkType::LinuxCooked2 => frame.len() >= 20 && half(Order::Big, frame, 0) == 0x0800,
+        LinkType::Ethernet => names_ip(frame, 14, 12),
+        LinkType::LinuxCooked => names_ip(frame, 16, 14),
+        LinkType::LinuxCooked2 => names_ip(frame, 20, 0),
     }
 }
 
