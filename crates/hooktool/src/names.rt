@@ -1,7 +1,7 @@
 //! Names out of a file, as they are shown and as a file's own name.
 
 ghost use Rattle.std.specs.Prelude.{◌≡◌, IfSome, true};
-ghost use Rattle.hooktool.specs.Builds.{is_file_name, may_stand};
+ghost use Rattle.hooktool.specs.Builds.{is_file_name};
 
 /// The name, if each of its characters can be printed and none is a space.
 pub(crate) fn shown(name: &[u8]) -> &str {
@@ -17,17 +17,11 @@ pub(crate) fn shown(name: &[u8]) -> &str {
     }
 }
 
-/// Whether it is a letter, a digit, `_` or `.`: no sign that leads into another folder.
-fn may_stand(byte: u8) -> bool
-    ensures { result ≡ may_stand byte }
-{
-    byte.is_ascii_alphanumeric() || byte == b'_' || byte == b'.'
-}
-
+/// Whether it is made of letters, digits, `_` and `.`: no sign that leads into another folder.
 fn is_file_name(name: &[u8]) -> bool
     ensures { result ≡ is_file_name name.now }
 {
-    name.iter().all(|byte| may_stand(*byte))
+    name.iter().all(|byte| byte.is_ascii_alphanumeric() || *byte == b'_' || *byte == b'.')
 }
 
 /// The name, if it is made of letters, digits, `_` and `.`.
