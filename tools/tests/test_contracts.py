@@ -52,7 +52,7 @@ class TestContracts(unittest.TestCase):
             with self.subTest(words):
                 text = ran(*words).stdout
                 self.assertIn("pub fn step(&mut self", text)
-                self.assertIn("ensures refused { Answers", text)
+                self.assertIn("ensures refused { RefusesByRules", text)
                 self.assertNotIn("pub fn refuses", text)
 
     def test_a_law_and_a_member_of_a_trait(self) -> None:
