@@ -1,5 +1,11 @@
-"""Tests of tools/fresh-gate: what a check used is counted once, two runs are compared, wrong words are refused."""
+"""Tests of tools/fresh-gate: what a check used is counted once, two runs are compared, a run that is
+stopped leaves nothing, wrong words are refused."""
+import os
+import pathlib
+import signal
 import subprocess
+import tempfile
+import time
 import unittest
 import unittest.mock
 
@@ -41,6 +47,45 @@ class Compares(unittest.TestCase):
     def test_there_are_none_if_a_run_proved_too_little(self) -> None:
         one, other = self.LAST.format("3.0", "no ratio: isa not proved in this run"), self.LAST.format("244.3", "16.7 times the 873 s of isa")
         self.assertIsNone(tool("fresh-gate").ratios_of(one, other))
+
+
+class KitAnew(unittest.TestCase):
+    def test_the_copy_has_the_kits_files_and_nothing_that_was_kept(self) -> None:
+        with tempfile.TemporaryDirectory() as name:
+            room = pathlib.Path(name)
+            rt = room / "there/rattle/bin/rt"
+            rt.parent.mkdir(parents=True)
+            rt.write_text("a command")
+            (room / "there/rattle-kept").mkdir()
+            (room / "here").mkdir()
+            fresh_gate = tool("fresh-gate")
+            with unittest.mock.patch.object(fresh_gate.shutil, "which", return_value=str(rt)):
+                copy = fresh_gate.kit_anew(room / "here")
+            self.assertEqual((copy / "rt").read_text(), "a command")
+            self.assertEqual([it.name for it in copy.parent.parent.iterdir()], ["rattle"])
+
+
+class IsStopped(unittest.TestCase):
+    def test_a_run_that_is_stopped_before_its_gate_leaves_nothing(self) -> None:
+        with tempfile.TemporaryDirectory() as name:
+            room = pathlib.Path(name)
+            rt = room / "kit/bin/rt"
+            rt.parent.mkdir(parents=True)
+            rt.write_text("#!/bin/sh\n")
+            rt.chmod(0o755)
+            # (the copy of the kit takes as long as the test needs it to)
+            cp = room / "cp"
+            cp.write_text("#!/bin/sh\ntouch '" + name + "/copies'\nexec sleep 60\n")
+            cp.chmod(0o755)
+            (room / "tmp").mkdir()
+            env = {**os.environ, "PATH": f"{room}:{rt.parent}:{os.environ['PATH']}", "TMPDIR": str(room / "tmp")}
+            ran = subprocess.Popen([tool("fresh-gate").__file__, "--anew"], env=env, stdout=subprocess.DEVNULL)
+            until = time.monotonic() + 120
+            while not (room / "copies").exists() and time.monotonic() < until:
+                time.sleep(0.05)
+            ran.terminate()
+            self.assertEqual(ran.wait(60), 128 + signal.SIGTERM)
+            self.assertEqual(list((room / "tmp").iterdir()), [])
 
 
 class Usage(unittest.TestCase):
