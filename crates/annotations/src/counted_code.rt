@@ -232,7 +232,6 @@ fn push_counted(
 /// back more often than `turns` times in all. Each slot of the code stands one slot later in it.
 ///
 /// # Errors
-///
 /// If the code names each of r6 to r9; if `turns` isn't below 1,000,000, which no program may take,
 /// or `answer` is 2^31 or more; if the code would be longer than 4096 slots, or a jump go farther
 /// than its distance can say; and if memory is refused.

@@ -85,7 +85,6 @@ fn annotate_object(
 /// found.
 ///
 /// # Errors
-///
 /// If the file is no code, or begins as an object's and is none, or is an object for another hook;
 /// if the verifier refuses the code with the best statements that were found; if turns can't be
 /// counted; and if memory is refused.

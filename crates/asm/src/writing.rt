@@ -256,8 +256,9 @@ fn told(fault: DecodeFault) -> ListError
 /// A text that spells the object: distances in place of labels, registers ascending, each longest
 /// range of stack bytes in one line.
 ///
-/// Errors with `Code` if the object's code doesn't decode, and with `Memory` if it does and an
-/// allocation is refused.
+/// # Errors
+/// `Code` if the object's code doesn't decode, and with `Memory` if it does and an allocation is
+/// refused.
 pub fn listing(alloc: Global, object: &Object) -> Result<String, ListError>
     ensures spells { IfOk result (λ text. TextSpells (string_bytes text) object.now) }
     ensures lines { IfOk result (λ text. IsListing (string_bytes text) object.now) }

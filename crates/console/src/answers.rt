@@ -83,7 +83,8 @@ fn push_routes(text: &mut String, routes: &[Route]) -> Result<(), AllocError>
 
 /// The lines of a routing table, `A.B.C.D/L KIND COST via H,H` for each route, and `end`.
 ///
-/// Errors with `AllocError` if an allocation is refused.
+/// # Errors
+/// `AllocError` if an allocation is refused.
 pub fn table_text(alloc: Global, routes: &[Route]) -> Result<String, AllocError>
     ensures { IfOk result (λ text. string_bytes text ≡ table_text routes.now) }
 {
@@ -138,7 +139,8 @@ fn push_neighbors(
 /// The lines of the neighbors at interfaces 1, 2, .., `neighbor I A.B.C.D STATE` for each that
 /// isn't Down (`None`), and `end`.
 ///
-/// Errors with `AllocError` if an allocation is refused.
+/// # Errors
+/// `AllocError` if an allocation is refused.
 pub fn neighbors_text(
     alloc: Global,
     neighbors: &[Option<(RouterId, NeighborState)>],
@@ -175,7 +177,8 @@ fn push_counters(text: &mut String, sums: &[u64]) -> Result<(), AllocError>
 
 /// The line `counter K V` of each counter above 0, from index 0 on.
 ///
-/// Errors with `AllocError` if an allocation is refused.
+/// # Errors
+/// `AllocError` if an allocation is refused.
 pub fn totals_text(alloc: Global, sums: &[u64]) -> Result<String, AllocError>
     ensures { IfOk result (λ text. string_bytes text ≡ counter_lines 0 sums.now) }
 {
@@ -186,7 +189,8 @@ pub fn totals_text(alloc: Global, sums: &[u64]) -> Result<String, AllocError>
 
 /// The same lines, and `end`.
 ///
-/// Errors with `AllocError` if an allocation is refused.
+/// # Errors
+/// `AllocError` if an allocation is refused.
 pub fn counters_text(alloc: Global, sums: &[u64]) -> Result<String, AllocError>
     ensures { IfOk result (λ text. string_bytes text ≡ counters_text sums.now) }
 {

@@ -156,7 +156,8 @@ fn command_of<'a>(words: &[&'a str]) -> Option<Command<'a>>
 /// bits are 0, a metric from 0 to 16,777,214 (LSInfinity is 16,777,215: RFC 2328, appendix B), 1 or
 /// 2 for the type of the metric (section 2.3), and a tag of 32 bits.
 ///
-/// Errors with `AllocError` if an allocation is refused.
+/// # Errors
+/// `AllocError` if an allocation is refused.
 pub fn read_command<'a>(alloc: Global, line: &'a str) -> Result<Option<Command<'a>>, AllocError>
     ensures { IfOk result (λ found. MatchOption found
         ((command : Command) → LineAsks line.now command → ⊥) (LineAsks line.now)) }

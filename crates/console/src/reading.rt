@@ -7,7 +7,8 @@ use std::alloc::{AllocError, Global};
 
 /// The words of a line, separated by single spaces.
 ///
-/// Errors with `AllocError` if an allocation is refused.
+/// # Errors
+/// `AllocError` if an allocation is refused.
 pub fn words_of<'a>(alloc: Global, line: &'a str) -> Result<Vec<&'a str>, AllocError>
     ensures { IfOk result (λ words. views words.items ≡ words_in line.now) }
 {

@@ -233,7 +233,6 @@ fn run_all<
 /// over one of the console's own, as [`run_router`] does.
 ///
 /// # Errors
-///
 /// `Hooks` if the programs have no places, also for more than 63 sockets; `Configuration` with line
 /// 1 if the router isn't within the profile; `Output` if the output can't be written, `Memory` if
 /// memory was refused or a thread couldn't be started.
@@ -318,7 +317,6 @@ fn run_over<
 /// `worker N stopped`.
 ///
 /// # Errors
-///
 /// `Configuration` if the text says none, `Bind` if a port can't be had, `Socket` if the sockets
 /// can't be waited at, `Hooks` if the programs have no places, tried in this order; `Output` if the
 /// output can't be written, `Memory` if memory was refused or a thread couldn't be started.

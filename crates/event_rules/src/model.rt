@@ -26,7 +26,8 @@ pub struct Config {
 impl Config {
     /// A copy of the configuration.
     ///
-    /// Errors with `AllocError` if an allocation is refused.
+    /// # Errors
+    /// `AllocError` if an allocation is refused.
     pub fn copy(&self) -> Result<Config, AllocError>
         ensures { IfOk result (λ copy. copy ≡ self.now) }
     {

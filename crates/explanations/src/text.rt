@@ -61,7 +61,10 @@ impl Text {
         self.push("\n");
     }
 
-    /// The text; errors with `AllocError` if an allocation was refused for a part of it.
+    /// The whole text.
+    ///
+    /// # Errors
+    /// `AllocError` if an allocation was refused for a part of it.
     pub fn finish(self) -> Result<String, AllocError> {
         let Text { words, is_cut } = self;
         if is_cut { Err(AllocError) } else { Ok(words) }

@@ -36,7 +36,8 @@ pub fn check_address(price: &PriceAnswer)
 impl Event {
     /// A copy of the event.
     ///
-    /// Errors with `AllocError` if an allocation is refused.
+    /// # Errors
+    /// `AllocError` if an allocation is refused.
     pub fn copy(&self) -> Result<Event, AllocError>
         ensures { IfOk result (λ copy. copy ≡ self.now) }
     {

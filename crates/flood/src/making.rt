@@ -10,7 +10,8 @@ use words::Second;
 
 /// Does the event's own part.
 ///
-/// Errors with `AllocError` if an allocation is refused.
+/// # Errors
+/// `AllocError` if an allocation is refused.
 pub fn make_part(
     router: &mut Router,
     alloc: Global,

@@ -111,13 +111,14 @@ impl Core {
 
     /// Processes one event at a moment, and returns the packets to be sent, in order.
     ///
-    /// Errors, in this order, with `ClockBack` if the moment is before that of the last event or
-    /// isn't below 2^62, `NoInterface` if the interface of a packet or of a link that went down
-    /// doesn't exist, `BadPacket` if the bytes encode no packet, `Clash` if the two answers of a
-    /// `Redistribute` are for different destinations or the Link State ID is that of another
-    /// announced prefix, `Full` if the database would hold more than 16,384 LSAs, or more than
-    /// 4,096 self-originated AS-external-LSAs. Errors with `Memory` if an allocation is refused,
-    /// but not if the moment or the interface is refused. An error leaves the router unchanged.
+    /// # Errors
+    /// In this order: `ClockBack` if the moment is before that of the last event or isn't below
+    /// 2^62; `NoInterface` if the interface of a packet or of a link that went down doesn't exist;
+    /// `BadPacket` if the bytes encode no packet; `Clash` if the two answers of a `Redistribute`
+    /// are for different destinations or the Link State ID is that of another announced prefix;
+    /// `Full` if the database would hold more than 16,384 LSAs, or more than 4,096 self-originated
+    /// AS-external-LSAs. `Memory` if an allocation is refused, but not if the moment or the
+    /// interface is refused. An error leaves the router unchanged.
     pub fn step(&mut self, moment: Second, event: &Event) -> Result<Vec<Out>, CoreError>
         ensures ok { IfOk result (λ outs. Happens self.old moment (occurrence_of event.now)
             outs.items self.new) }
@@ -159,7 +160,8 @@ impl Core {
 
     /// A copy of the router, with a walk of its own.
     ///
-    /// Errors with `AllocError` if an allocation is refused.
+    /// # Errors
+    /// `AllocError` if an allocation is refused.
     pub fn copy(&self) -> Result<Core, AllocError>
         ensures { IfOk result (λ copy. copy ≡ self.now) }
     {

@@ -14,7 +14,8 @@ use words::RouterId;
 
 /// The packets of all interfaces, in the order of their numbers.
 ///
-/// Errors with `AllocError` if an allocation is refused.
+/// # Errors
+/// `AllocError` if an allocation is refused.
 pub fn outs(alloc: Global, own: RouterId, drafts: Vec<Draft>) -> Result<Vec<Out>, AllocError>
     // They are the drafts of an event's contents, each of which fits into a packet.
     requires drafts { (links : List LinkOfArea) × (sends : List Send)

@@ -35,7 +35,8 @@ fn originate_first_router_lsa(
 
 /// A router without neighbors that has originated its router-LSA (RFC 2328, section 12.4.1).
 ///
-/// Errors with `AllocError` if an allocation is refused.
+/// # Errors
+/// `AllocError` if an allocation is refused.
 pub fn begin(alloc: Global, config: &Config) -> Result<Router, AllocError>
     requires { in_profile config.now ≡ true }
     ensures { IfOk result (λ router. router.present ≡ initial config.now) }

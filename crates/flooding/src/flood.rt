@@ -115,7 +115,8 @@ impl Area {
     /// delays its acknowledgment, and installs it (RFC 2328, section 13, step 5). Processing a
     /// self-originated LSA further is up to the caller.
     ///
-    /// Errors with `AllocError` if an allocation is refused.
+    /// # Errors
+    /// `AllocError` if an allocation is refused.
     pub fn install(
         &mut self,
         alloc: Global,
@@ -142,7 +143,8 @@ impl Area {
     /// Installs an LSA that this router originated (RFC 2328, section 12.4), and floods it to every
     /// neighbor.
     ///
-    /// Errors with `AllocError` if an allocation is refused.
+    /// # Errors
+    /// `AllocError` if an allocation is refused.
     pub fn originate(&mut self, alloc: Global, moment: Second, lsa: Lsa) -> Result<(), AllocError>
         ensures { AreaDoes (originate_outcome moment lsa) self.old self.new result }
     {
@@ -156,7 +158,8 @@ impl Area {
     /// Sets the copy of this key to MaxAge, and floods it to every neighbor (RFC 2328, section
     /// 14.1). Without a copy nothing changes.
     ///
-    /// Errors with `AllocError` if an allocation is refused.
+    /// # Errors
+    /// `AllocError` if an allocation is refused.
     pub fn age_prematurely(
         &mut self,
         alloc: Global,
@@ -172,7 +175,8 @@ impl Area {
     /// Floods a copy of this key that has reached MaxAge since the moment `before` to every
     /// neighbor (RFC 2328, section 14). Without such a copy nothing changes.
     ///
-    /// Errors with `AllocError` if an allocation is refused.
+    /// # Errors
+    /// `AllocError` if an allocation is refused.
     pub fn flood_new_max_age(
         &mut self,
         alloc: Global,

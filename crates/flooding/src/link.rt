@@ -103,7 +103,8 @@ impl Link {
     /// Floods the copy to the neighbor, from which it came or not. Returns whether it is sent in a
     /// Link State Update, its age incremented by InfTransDelay (RFC 2328, section 13.3).
     ///
-    /// Errors with `AllocError` if an allocation is refused.
+    /// # Errors
+    /// `AllocError` if an allocation is refused.
     pub fn flood(
         &mut self,
         alloc: Global,
@@ -129,7 +130,8 @@ impl Link {
     /// Sends the copy in a Link State Update, its age incremented by InfTransDelay, without putting
     /// it on the neighbor's retransmission list.
     ///
-    /// Errors with `AllocError` if an allocation is refused.
+    /// # Errors
+    /// `AllocError` if an allocation is refused.
     pub fn draft_copy(
         &mut self,
         alloc: Global,
@@ -146,7 +148,8 @@ impl Link {
     /// BadLSReq (RFC 2328, section 10.3, and section 13, step 6): from Exchange on, the neighbor
     /// goes back to ExStart, and the first Database Description of a new attempt is sent.
     ///
-    /// Errors with `AllocError` if an allocation is refused.
+    /// # Errors
+    /// `AllocError` if an allocation is refused.
     pub fn bad_request(&mut self, alloc: Global, moment: Second) -> Result<(), AllocError>
         ensures { LinkDoes (neighbor_step (mismatch_step moment))
             (neighbor_sends (mismatch_step moment))
@@ -161,7 +164,8 @@ impl Link {
 
     /// Removes the header's key from the neighbor's retransmission list.
     ///
-    /// Errors with `AllocError` if an allocation is refused.
+    /// # Errors
+    /// `AllocError` if an allocation is refused.
     pub fn remove_retransmission(&mut self, header: &Header) -> Result<(), AllocError>
         ensures { LinkDoes
             (neighbor_step (λ n. no_sends (remove_retransmission (key_of header.now) n)))
@@ -177,7 +181,8 @@ impl Link {
     /// Adds a delayed acknowledgment of the instance, which replaces an earlier one of its key (RFC
     /// 2328, section 13.5).
     ///
-    /// Errors with `AllocError` if an allocation is refused.
+    /// # Errors
+    /// `AllocError` if an allocation is refused.
     pub fn delay_acknowledgment(&mut self, header: Header) -> Result<(), AllocError>
         ensures { LinkDoes (delay_acknowledgment header) (λ link. []) self.old self.new result }
     {

@@ -55,7 +55,8 @@ impl NeighborSlot {
 
     /// A copy of the slot, committed.
     ///
-    /// Errors with `AllocError` if an allocation is refused.
+    /// # Errors
+    /// `AllocError` if an allocation is refused.
     pub fn copy(&self, alloc: Global) -> Result<Self, AllocError>
         ensures present { IfOk result (λ made. made.present ≡ self.now.present) }
         ensures committed { IfOk result (λ made. made.committed ≡ self.now.present) }
@@ -86,7 +87,8 @@ impl NeighborSlot {
 
     /// A neighbor in Init receives a Hello, which lists this router or doesn't.
     ///
-    /// Errors with `AllocError` if an allocation is refused; the caller then rolls back.
+    /// # Errors
+    /// `AllocError` if an allocation is refused; the caller then rolls back.
     pub fn begin(
         &mut self,
         alloc: Global,
@@ -115,7 +117,8 @@ impl NeighborSlot {
 
     /// Transition to ExStart with a new attempt (RFC 2328, section 10.3).
     ///
-    /// Errors with `AllocError` if an allocation is refused; the caller then rolls back.
+    /// # Errors
+    /// `AllocError` if an allocation is refused; the caller then rolls back.
     pub fn attempt(
         &mut self,
         alloc: Global,

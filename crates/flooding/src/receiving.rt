@@ -64,7 +64,8 @@ impl Area {
     /// list is removed from there. An LSA that is on the request list but not newer is BadLSReq. If
     /// the copy is newer, it is sent to the sender, unless it is being flushed or was just sent.
     ///
-    /// Errors with `AllocError` if an allocation is refused.
+    /// # Errors
+    /// `AllocError` if an allocation is refused.
     pub fn after_case(
         &mut self,
         alloc: Global,

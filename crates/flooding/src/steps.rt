@@ -135,7 +135,8 @@ impl Area {
     /// Each link takes the step, and each copy that it sends in a Link State Update is marked as
     /// sent at this moment.
     ///
-    /// Errors with `AllocError` if an allocation is refused.
+    /// # Errors
+    /// `AllocError` if an allocation is refused.
     pub fn step_links<S: LinkStep>(
         &mut self,
         alloc: Global,
@@ -154,7 +155,8 @@ impl Area {
     /// The link with this number takes the step, and each copy that it sends in a Link State Update
     /// is marked as sent at this moment.
     ///
-    /// Errors with `AllocError` if an allocation is refused.
+    /// # Errors
+    /// `AllocError` if an allocation is refused.
     pub fn step_link<S: LinkStep>(
         &mut self,
         alloc: Global,
@@ -177,7 +179,8 @@ impl Area {
     /// Removes the copy of this key from the database, if there is one, unless the key is on some
     /// neighbor's retransmission list.
     ///
-    /// Errors with `AllocError` if an allocation is refused.
+    /// # Errors
+    /// `AllocError` if an allocation is refused.
     pub fn remove_if_unlisted(&mut self, key: &Key) -> Result<(), AllocError>
         ensures { AreaDoes
             (λ a. start

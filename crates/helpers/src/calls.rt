@@ -105,7 +105,6 @@ fn call_table_cost(first: Content, second: Content, input: &Input) -> Result<u64
 /// Calls the helper with this number, with what r1 and r2 hold, and returns its answer.
 ///
 /// # Errors
-///
 /// In this order: `Helper` if the hook has no helper with the number; `Empty` if an argument is
 /// empty; `Kind` if an argument is a pointer; `Argument` if a counter is above 255 or an amount is
 /// 2^24 or more. The seat is then unchanged.

@@ -96,7 +96,8 @@ impl Asker {
     /// is accepted. They are the same whatever the rows, and use no seat. `None` if the hook has a
     /// program, or if the published programs can't be read.
     ///
-    /// Errors with `AllocError` if an allocation is refused.
+    /// # Errors
+    /// `AllocError` if an allocation is refused.
     pub fn all_let_in(
         &mut self,
         alloc: Global,

@@ -15,7 +15,6 @@ use std::sync::Wait;
 /// slots at each of the four hooks, in each of two copies.
 ///
 /// # Errors
-///
 /// `Count` if `askers` is 0 or above 64, which is checked first; `Memory` if an allocation is
 /// refused; `Places` if there was no place for an asker.
 pub fn programs<R: Wait + Drop>(

@@ -56,7 +56,10 @@ impl Memory {
         self.note(list.extend_from_slice(elements).is_err())
     }
 
-    /// The result; errors with `AllocError` if any allocation was refused.
+    /// What was made, if no allocation was refused for it or before it.
+    ///
+    /// # Errors
+    /// `AllocError` if one was refused.
     pub fn enough<T: Drop>(&self, made: T) -> Result<T, AllocError> {
         if self.is_refused.get() {
             Err(AllocError)

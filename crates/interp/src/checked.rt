@@ -19,7 +19,6 @@ use word_machine::Run;
 /// exactly the run's accesses, even if the run ends in a trap. The call never blocks or allocates.
 ///
 /// # Errors
-///
 /// `Trap::Stuck` if the machine is stuck after fewer than `limit` steps; `Trap::Limit` if `limit`
 /// instructions passed without EXIT.
 pub fn run_checked(

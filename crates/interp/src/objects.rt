@@ -19,7 +19,6 @@ use word_machine::Run;
 /// has made exactly the steps of that run.
 ///
 /// # Errors
-///
 /// If the bytes are not an object file, if its code doesn't decode, or, in either variant, if an
 /// allocation is refused. The seat is then unchanged.
 pub fn run_object(
@@ -48,7 +47,6 @@ pub fn run_object(
 /// limit allows.
 ///
 /// # Errors
-///
 /// Those of `run_object`. The seat is then unchanged.
 pub fn run_object_to_halt(
     alloc: Global,

@@ -65,7 +65,8 @@ impl CodeBuilder {
 
     /// Adds an instruction, in one slot or two. After an error the builder is unchanged.
     ///
-    /// Errors with `TooLong` if and only if there would be more than 4096 slots.
+    /// # Errors
+    /// `TooLong` if and only if there would be more than 4096 slots.
     pub fn push(&mut self, instruction: Instruction) -> Result<(), BuildError>
         ensures ok { OnOk result (self.new ≡ self.old ++ slots_of instruction) }
         ensures too_long { (result ≡ Err BuildError.TooLong)

@@ -348,8 +348,10 @@ fn push_instruction(bytes: &mut Vec<u8>, instruction: &Instruction) -> Result<()
     Ok(())
 }
 
-/// The bytes that spell the code (RFC 9669, section 3). Errors with `AllocError` if an allocation
-/// is refused.
+/// The bytes that spell the code (RFC 9669, section 3).
+///
+/// # Errors
+/// `AllocError` if an allocation is refused.
 pub fn encode(alloc: Global, code: &Code) -> Result<Vec<u8>, AllocError>
     ensures { IfOk result (λ bytes. Spells bytes.items code.now) }
 {

@@ -45,7 +45,6 @@ impl Shared {
     /// `count - 1`.
     ///
     /// # Errors
-    ///
     /// `Seats` if `count` is 0 or above 64, which is checked first; `Memory` if an allocation is
     /// refused.
     pub fn new(alloc: Global, count: usize) -> Result<(Shared, Vec<Seat>), MapsError>

@@ -275,7 +275,8 @@ impl Neighbor {
 
     /// Removes the header's key from the retransmission list.
     ///
-    /// Errors with `AllocError` if an allocation is refused; the caller then rolls back.
+    /// # Errors
+    /// `AllocError` if an allocation is refused; the caller then rolls back.
     pub fn remove_retransmission(&mut self, header: &Header) -> Result<(), AllocError>
         ensures { NeighborDoes (remove_retransmission (key_of header.now)) self.old self.new
             result }
@@ -346,7 +347,8 @@ impl Neighbor {
     /// Floods the copy to the neighbor, from which it came or not (RFC 2328, section 13.3). Returns
     /// whether it is sent in a Link State Update, its age incremented by InfTransDelay.
     ///
-    /// Errors with `AllocError` if an allocation is refused; the caller then rolls back.
+    /// # Errors
+    /// `AllocError` if an allocation is refused; the caller then rolls back.
     pub fn flood(
         &mut self,
         alloc: Global,
@@ -384,7 +386,8 @@ impl Neighbor {
     /// A Link State Acknowledgment of these instances (RFC 2328, section 13.7): each that is the
     /// same instance as the entry of its key removes that from the retransmission list.
     ///
-    /// Errors with `AllocError` if an allocation is refused; the caller then rolls back.
+    /// # Errors
+    /// `AllocError` if an allocation is refused; the caller then rolls back.
     pub fn receive_acknowledgment(
         &mut self,
         moment: Second,

@@ -146,7 +146,10 @@ fn put_front(out: &mut Vec<u8>, object: &Object) -> Result<(), AllocError>
     out.extend_from_slice(object.code())
 }
 
-/// The bytes of an object file. Errors with `AllocError` if an allocation is refused.
+/// The bytes of an object file.
+///
+/// # Errors
+/// `AllocError` if an allocation is refused.
 pub fn write(alloc: Global, object: &Object) -> Result<Vec<u8>, AllocError>
     ensures { IfOk result (λ bytes. Spells bytes.items object.now) }
 {

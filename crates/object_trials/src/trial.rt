@@ -23,7 +23,6 @@ pub struct ObjectTrial {
 /// each time for as many instructions as its object allows.
 ///
 /// # Errors
-///
 /// `Program` if the bytes are no object file or its code doesn't decode; want of memory is told by
 /// it or by `Memory`.
 pub fn try_object(

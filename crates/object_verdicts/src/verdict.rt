@@ -14,7 +14,6 @@ use verifier::{Accepted, verify};
 /// at the object's hook, from its entry rank, with its statements.
 ///
 /// # Errors
-///
 /// If the bytes are not an object file, its code doesn't decode, or the verifier refuses it, with
 /// the slot and the rule; and, in each variant, if an allocation is refused.
 pub fn verify_object(alloc: Global, bytes: &[u8]) -> Result<Accepted, VerifyError>

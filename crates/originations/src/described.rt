@@ -23,7 +23,8 @@ use words::{E_BIT, LinkStateId, RouterId, Sequence, SequenceNumber};
 /// The Router IDs of the neighbors that are Full, interface n at index n - 1, `None` if there is
 /// none. Together with the configuration they determine the router-LSA.
 ///
-/// Errors with `AllocError` if an allocation is refused.
+/// # Errors
+/// `AllocError` if an allocation is refused.
 pub fn full_routers(alloc: Global, links: &[Link]) -> Result<Vec<Option<RouterId>>, AllocError>
     ensures { IfOk result (λ full. full.items ≡ full_routers (map present links.now)) }
 {
@@ -160,7 +161,8 @@ fn texts_differ(
 /// when exactly the neighbors `before` were Full, interface n at index n - 1. If the same neighbors
 /// are Full now, no bodies are compared.
 ///
-/// Errors with `AllocError` if an allocation is refused.
+/// # Errors
+/// `AllocError` if an allocation is refused.
 pub fn links_differ(
     alloc: Global,
     links: &[Link],
@@ -192,7 +194,8 @@ fn lsa_says(alloc: Global, links: &[Link], lsa: &Lsa) -> Result<bool, AllocError
 
 /// Whether there is a copy, and its body is that of the router-LSA for these links.
 ///
-/// Errors with `AllocError` if an allocation is refused.
+/// # Errors
+/// `AllocError` if an allocation is refused.
 pub fn tells(
     alloc: Global,
     links: &[Link],

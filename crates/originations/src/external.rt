@@ -28,7 +28,8 @@ fn external_body(alloc: Global, external: &External) -> LsaBody
 /// copy (RFC 2328, section 12.4.4); `None` if the copy has MaxSequenceNumber: it is to be flushed
 /// first.
 ///
-/// Errors with `AllocError` if an allocation is refused.
+/// # Errors
+/// `AllocError` if an allocation is refused.
 pub fn external_instance(
     alloc: Global,
     own: RouterId,

@@ -14,7 +14,8 @@ use words::{E_BIT, Key};
 /// The next instance of this key after the database copy, with this body: its age is 0, and its LS
 /// type, length and checksum are computed from the body. `None` if the copy has MaxSequenceNumber.
 ///
-/// Errors with `AllocError` if an allocation is refused.
+/// # Errors
+/// `AllocError` if an allocation is refused.
 pub fn next_instance(
     alloc: Global,
     database: &Lsdb,

@@ -71,7 +71,8 @@ fn unless_flushed(copy: Option<DatabaseCopy<'_>>) -> Origination
 /// is flushed first (RFC 2328, sections 12.4.1 and 12.1.6). `last` is the moment of the last
 /// origination, if it is known.
 ///
-/// Errors with `AllocError` if an allocation is refused.
+/// # Errors
+/// `AllocError` if an allocation is refused.
 pub fn originate_router(
     alloc: Global,
     may_now: bool,
@@ -98,7 +99,8 @@ pub fn originate_router(
 /// What happens to the AS-external-LSA for this destination, as in `originate_router` (RFC 2328,
 /// section 12.4.4).
 ///
-/// Errors with `AllocError` if an allocation is refused.
+/// # Errors
+/// `AllocError` if an allocation is refused.
 pub fn originate_external(
     alloc: Global,
     may_now: bool,

@@ -65,7 +65,8 @@ fn stub(alloc: Global, interface: &Interface) -> RouterLink
 /// Appends the point-to-point link to the neighbor, if that is Full, and the stub link to the
 /// subnet.
 ///
-/// Errors with `AllocError` if an allocation is refused.
+/// # Errors
+/// `AllocError` if an allocation is refused.
 pub fn put_described(
     alloc: Global,
     links: &mut Vec<RouterLink>,
@@ -118,7 +119,8 @@ fn router_body(alloc: Global, links: &[Link]) -> Result<LsaBody, AllocError>
 /// its subnet (RFC 2328, section 12.4.1). `None` if the copy has MaxSequenceNumber: it is to be
 /// flushed first.
 ///
-/// Errors with `AllocError` if an allocation is refused.
+/// # Errors
+/// `AllocError` if an allocation is refused.
 pub fn router_instance(
     alloc: Global,
     own: RouterId,

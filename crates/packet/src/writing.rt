@@ -199,7 +199,8 @@ fn draft(alloc: Global, packet: &Packet) -> Result<Vec<u8>, AllocError>
 
 /// The canonical encoding of the packet, with zeros in the open fields (RFC 2328, appendix A.3).
 ///
-/// Errors with `AllocError` if an allocation is refused.
+/// # Errors
+/// `AllocError` if an allocation is refused.
 #[tactic(auto, unfolding(crate::specs::Text::canonical))]
 pub fn write(alloc: Global, packet: &Packet) -> Result<Vec<u8>, AllocError>
     // A packet has at most 8,192 bytes.

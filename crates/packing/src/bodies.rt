@@ -71,7 +71,8 @@ fn put_acknowledgments(
 /// The bodies of the packets to be sent: Hellos, Database Descriptions, Link State Requests,
 /// Updates and Acknowledgments.
 ///
-/// Errors with `AllocError` if an allocation is refused.
+/// # Errors
+/// `AllocError` if an allocation is refused.
 pub fn bodies(alloc: Global, draft: Draft) -> Result<Vec<PacketBody>, AllocError>
     // Each LSA fits into a Link State Update.
     requires { AllShort draft.updates }

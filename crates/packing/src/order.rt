@@ -7,7 +7,8 @@ use std::alloc::AllocError;
 
 /// Sorts the items by their keys; those with one key stay in their order.
 ///
-/// Errors with `AllocError` if an allocation is refused.
+/// # Errors
+/// `AllocError` if an allocation is refused.
 pub fn sort_by_keys<X: HasKey + Drop>(items: &mut Vec<X>) -> Result<(), AllocError>
     ensures { OnOk result (items.new.items ≡ in_key_order X.order_key items.old.items) }
 {

@@ -96,7 +96,8 @@ impl<X: HasSize + Drop> Filling<X> {
 
 /// The items in order, as many in each packet as fit after its first `start` bytes.
 ///
-/// Errors with `AllocError` if an allocation is refused.
+/// # Errors
+/// `AllocError` if an allocation is refused.
 pub fn packed<X: HasSize + Drop>(
     alloc: Global,
     start: usize,

@@ -44,8 +44,8 @@ fn put_out(
 /// with one key as they arose; each Update and each Acknowledgment has as many as fit into 8,192
 /// bytes.
 ///
-/// Errors with `AllocError` if an allocation is refused; some of the packets may have been appended
-/// then.
+/// # Errors
+/// `AllocError` if an allocation is refused; some of the packets may have been appended then.
 pub fn put_outs(
     alloc: Global,
     outs: &mut Vec<Out>,

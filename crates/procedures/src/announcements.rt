@@ -103,7 +103,8 @@ fn announce_as(
 /// bits of the tag count; a metric of LSInfinity, 0xffffff, or more withholds the destination and
 /// flushes its LSA, if there is one. If exactly the same is announced already, nothing changes.
 ///
-/// Errors with `AllocError` if an allocation is refused.
+/// # Errors
+/// `AllocError` if an allocation is refused.
 pub fn redistribute(
     router: &mut Router,
     alloc: Global,
@@ -126,7 +127,8 @@ pub fn redistribute(
 /// The destination with this prefix is no longer announced, and its LSA is flushed (RFC 2328,
 /// section 14.1). Without such a destination nothing changes.
 ///
-/// Errors with `AllocError` if an allocation is refused.
+/// # Errors
+/// `AllocError` if an allocation is refused.
 pub fn withdraw(
     router: &mut Router,
     alloc: Global,

@@ -22,7 +22,8 @@ fn put_due(router: &Router, moment: Second, key: Key, due: &mut Vec<Key>) -> Res
 /// removed from the database, or has an age of LSRefreshTime, 1800 seconds, or more (RFC 2328,
 /// section 12.4).
 ///
-/// Errors with `AllocError` if an allocation is refused.
+/// # Errors
+/// `AllocError` if an allocation is refused.
 pub fn due_keys(router: &Router, alloc: Global, moment: Second) -> Result<Vec<Key>, AllocError>
     ensures { IfOk result (λ keys. keys.items ≡ due_keys moment router.now.present) }
 {
@@ -36,7 +37,8 @@ pub fn due_keys(router: &Router, alloc: Global, moment: Second) -> Result<Vec<Ke
 
 /// Originates the LSAs of these keys in turn, as in `originate_or_put_off`.
 ///
-/// Errors with `AllocError` if an allocation is refused.
+/// # Errors
+/// `AllocError` if an allocation is refused.
 pub fn originate_due(
     router: &mut Router,
     alloc: Global,

@@ -86,7 +86,8 @@ fn loading_done_then_put_off(router: &mut Router, alloc: Global) -> Result<(), A
 /// database, unless some neighbor is in Exchange or Loading; the moment is noted. `before` are the
 /// neighbors that were Full when the event began.
 ///
-/// Errors with `AllocError` if an allocation is refused.
+/// # Errors
+/// `AllocError` if an allocation is refused.
 pub fn end_event(
     router: &mut Router,
     alloc: Global,

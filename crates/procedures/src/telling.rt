@@ -12,7 +12,8 @@ use words::{RouterId, Second, router_key};
 /// The Router IDs of the neighbors that are Full, interface n at index n - 1, `None` if there is
 /// none. Together with the configuration they determine the router-LSA.
 ///
-/// Errors with `AllocError` if an allocation is refused.
+/// # Errors
+/// `AllocError` if an allocation is refused.
 pub fn full_routers(router: &Router, alloc: Global) -> Result<Vec<Option<RouterId>>, AllocError>
     ensures { IfOk result (λ full. full.items ≡ full_routers router.now.present.area.links) }
 {
@@ -45,7 +46,8 @@ fn is_current(router: &Router, alloc: Global, moment: Second) -> Result<bool, Al
 /// Whether the body of the router-LSA differs from what it was when exactly the neighbors `before`
 /// were Full.
 ///
-/// Errors with `AllocError` if an allocation is refused.
+/// # Errors
+/// `AllocError` if an allocation is refused.
 pub fn has_changed(
     router: &Router,
     alloc: Global,
@@ -64,7 +66,8 @@ pub fn has_changed(
 /// Whether the body of the router-LSA differs from what it was when exactly the neighbors `before`
 /// were Full, and no instance of this moment has it yet.
 ///
-/// Errors with `AllocError` if an allocation is refused.
+/// # Errors
+/// `AllocError` if an allocation is refused.
 pub fn is_untold(
     router: &Router,
     alloc: Global,

@@ -34,7 +34,8 @@ fn originate_what_is_due(
 /// are originated; what was sent RxmtInterval ago is retransmitted; delayed acknowledgments and due
 /// Hellos are sent.
 ///
-/// Errors with `AllocError` if an allocation is refused.
+/// # Errors
+/// `AllocError` if an allocation is refused.
 pub fn tick(router: &mut Router, alloc: Global, moment: Second) -> Result<(), AllocError>
     ensures { RouterDoes (after_tick moment) router.old router.new result }
 {

@@ -24,7 +24,10 @@ fn remove_each(area: &mut Area, keys: &[Key]) -> Result<(), AllocError>
 /// neighbor is in Exchange or Loading (RFC 2328, section 14).
 ///
 /// It visits all copies only if one may have reached MaxAge since the database last scanned them,
-/// as in `Lsdb::aged_keys`. Errors with `AllocError` if an allocation is refused.
+/// as in `Lsdb::aged_keys`.
+///
+/// # Errors
+/// `AllocError` if an allocation is refused.
 pub fn remove_aged(area: &mut Area, alloc: Global, moment: Second) -> Result<(), AllocError>
     ensures { AreaDoes (λ a. remove_aged moment (start a)) area.old area.new result }
 {
@@ -56,8 +59,10 @@ fn flood_each_new_max_age(
 /// section 14), in the order of their keys.
 ///
 /// If the moment is the same, it visits no copy, and otherwise all only if one may have reached
-/// MaxAge since the database last scanned them, as in `Lsdb::aged_keys`. Errors with `AllocError`
-/// if an allocation is refused.
+/// MaxAge since the database last scanned them, as in `Lsdb::aged_keys`.
+///
+/// # Errors
+/// `AllocError` if an allocation is refused.
 pub fn with_ages(
     area: &mut Area,
     alloc: Global,

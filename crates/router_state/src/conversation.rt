@@ -21,7 +21,8 @@ impl Router {
     /// It is discarded if the interface and it differ in HelloInterval, RouterDeadInterval or the
     /// E-bit, or if the interface has another neighbor.
     ///
-    /// Errors with `AllocError` if an allocation is refused.
+    /// # Errors
+    /// `AllocError` if an allocation is refused.
     pub fn receive_hello(
         &mut self,
         alloc: Global,
@@ -47,7 +48,8 @@ impl Router {
     /// A Database Description from the neighbor at the interface with this number (RFC 2328,
     /// section 10.6).
     ///
-    /// Errors with `AllocError` if an allocation is refused.
+    /// # Errors
+    /// `AllocError` if an allocation is refused.
     pub fn receive_description(
         &mut self,
         alloc: Global,
@@ -73,7 +75,8 @@ impl Router {
     /// which is in Exchange or later (RFC 2328, section 10.7): the copies are sent and marked as
     /// sent; if one is missing, none is sent (BadLSReq).
     ///
-    /// Errors with `AllocError` if an allocation is refused.
+    /// # Errors
+    /// `AllocError` if an allocation is refused.
     pub fn receive_request(
         &mut self,
         alloc: Global,
@@ -95,7 +98,8 @@ impl Router {
     /// A Link State Acknowledgment of these instances from the neighbor at the interface with this
     /// number (RFC 2328, section 13.7).
     ///
-    /// Errors with `AllocError` if an allocation is refused.
+    /// # Errors
+    /// `AllocError` if an allocation is refused.
     pub fn receive_acknowledgment(
         &mut self,
         alloc: Global,

@@ -26,7 +26,8 @@ fn copy_moment(moment: &Revertible<Second>) -> Revertible<Second>
 impl Router {
     /// A copy of the router, committed, with nothing drafted.
     ///
-    /// Errors with `AllocError` if an allocation is refused.
+    /// # Errors
+    /// `AllocError` if an allocation is refused.
     pub fn copy(&self, alloc: Global) -> Result<Self, AllocError>
         ensures { IfOk result (λ made. made ≡ record {
           present = self.now.present;

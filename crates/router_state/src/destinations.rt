@@ -45,7 +45,8 @@ fn remove_each(keys: &[Key], moments: &mut KeyedMap<Second>) -> Result<(), Alloc
 impl Router {
     /// Announces the destination from now on, under the key of its AS-external-LSA.
     ///
-    /// Errors with `AllocError` if an allocation is refused.
+    /// # Errors
+    /// `AllocError` if an allocation is refused.
     pub fn announce(&mut self, external: External) -> Result<(), AllocError>
         // A metric has 24 bits.
         requires metric { external.metric < 2 ^ 24 }
@@ -59,7 +60,8 @@ impl Router {
 
     /// The destination of this key is no longer announced, and its LSA no longer waits.
     ///
-    /// Errors with `AllocError` if an allocation is refused.
+    /// # Errors
+    /// `AllocError` if an allocation is refused.
     pub fn unannounce(&mut self, key: &Key) -> Result<(), AllocError>
         ensures { RouterDoes (on_router (unannounce key.now)) self.old self.new result }
     {
@@ -69,7 +71,8 @@ impl Router {
 
     /// The self-originated LSA of this key waits for a Tick.
     ///
-    /// Errors with `AllocError` if an allocation is refused.
+    /// # Errors
+    /// `AllocError` if an allocation is refused.
     pub fn put_off(&mut self, key: &Key) -> Result<(), AllocError>
         ensures { RouterDoes (on_router (put_off key.now)) self.old self.new result }
     {
@@ -78,7 +81,8 @@ impl Router {
 
     /// Forgets the originations since which MinLSInterval has passed.
     ///
-    /// Errors with `AllocError` if an allocation is refused.
+    /// # Errors
+    /// `AllocError` if an allocation is refused.
     pub fn forget_originations(&mut self, alloc: Global, moment: Second) -> Result<(), AllocError>
         ensures { RouterDoes (on_router (forget_originations moment)) self.old self.new result }
     {

@@ -33,7 +33,8 @@ fn carry_out(
 /// A new instance of the LSA of this key at once or at a Tick, if it is wanted; at once only if
 /// `may_now`.
 ///
-/// Errors with `AllocError` if an allocation is refused.
+/// # Errors
+/// `AllocError` if an allocation is refused.
 pub fn originate(
     router: &mut Router,
     alloc: Global,
@@ -54,7 +55,8 @@ pub fn originate(
 /// MinLSInterval allows it, else at a Tick; after MaxSequenceNumber the copy is flushed first (RFC
 /// 2328, sections 12.1.6 and 12.4).
 ///
-/// Errors with `AllocError` if an allocation is refused.
+/// # Errors
+/// `AllocError` if an allocation is refused.
 pub fn originate_or_put_off(
     router: &mut Router,
     alloc: Global,
@@ -71,7 +73,8 @@ pub fn originate_or_put_off(
 /// section 13.4): a wanted one is originated again with the next sequence number; any other is
 /// flushed. An LSA of another router changes nothing.
 ///
-/// Errors with `AllocError` if an allocation is refused.
+/// # Errors
+/// `AllocError` if an allocation is refused.
 pub fn receive_self_originated(
     router: &mut Router,
     alloc: Global,

@@ -39,7 +39,8 @@ impl Router {
     /// Installs an LSA of this key that this router originated, and floods it to every neighbor. It
     /// no longer waits, and MinLSInterval starts.
     ///
-    /// Errors with `AllocError` if an allocation is refused.
+    /// # Errors
+    /// `AllocError` if an allocation is refused.
     pub fn originate(
         &mut self,
         alloc: Global,
@@ -57,7 +58,8 @@ impl Router {
     /// Premature aging (RFC 2328, section 14.1): a copy of this key that is younger than MaxAge is
     /// set to MaxAge and flooded to every neighbor. Without such a copy nothing changes.
     ///
-    /// Errors with `AllocError` if an allocation is refused.
+    /// # Errors
+    /// `AllocError` if an allocation is refused.
     pub fn flush(&mut self, alloc: Global, moment: Second, key: &Key) -> Result<(), AllocError>
         ensures { RouterDoes (flush moment key.now) self.old self.new result }
     {

@@ -124,7 +124,8 @@ fn is_processed(packet: &Packet, router: &Router, number: usize) -> bool
 /// sender isn't the interface's neighbor. Link State Requests, Updates and Acknowledgments are
 /// discarded before Exchange.
 ///
-/// Errors with `AllocError` if an allocation is refused.
+/// # Errors
+/// `AllocError` if an allocation is refused.
 pub fn receive_packet(
     router: &mut Router,
     alloc: Global,

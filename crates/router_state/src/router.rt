@@ -224,7 +224,8 @@ impl Router {
 
     /// Takes what was drafted away, in the order of the interfaces, so that nothing is left.
     ///
-    /// Errors with `AllocError` if an allocation is refused.
+    /// # Errors
+    /// `AllocError` if an allocation is refused.
     pub fn take_drafts(&mut self, alloc: Global) -> Result<Vec<Draft>, AllocError>
         ensures drafts { IfOk result (λ drafts. drafts.items ≡ self.old.drafted) }
         ensures rest { OnOk result (self.new ≡ record self.old {

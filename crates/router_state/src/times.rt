@@ -36,7 +36,8 @@ impl Router {
     /// Floods each copy that has reached MaxAge since the moment of the last event to every
     /// neighbor (RFC 2328, section 14).
     ///
-    /// Errors with `AllocError` if an allocation is refused.
+    /// # Errors
+    /// `AllocError` if an allocation is refused.
     pub fn age(&mut self, alloc: Global, moment: Second) -> Result<(), AllocError>
         ensures { RouterDoes (on_area (with_ages self.old.present.moment moment))
             self.old self.new result }
@@ -49,7 +50,8 @@ impl Router {
     /// 10.8, 10.9 and 13.6), then each link's delayed acknowledgments (section 13.5), then a Hello
     /// at each interface at which none was sent for HelloInterval (section 9.5).
     ///
-    /// Errors with `AllocError` if an allocation is refused.
+    /// # Errors
+    /// `AllocError` if an allocation is refused.
     pub fn send_what_is_due(&mut self, alloc: Global, moment: Second) -> Result<(), AllocError>
         ensures { RouterDoes (send_what_is_due moment) self.old self.new result }
     {
@@ -66,7 +68,8 @@ impl Router {
     /// retransmission list are removed from the database, unless some neighbor is in Exchange or
     /// Loading (section 14), and the moment is noted.
     ///
-    /// Errors with `AllocError` if an allocation is refused.
+    /// # Errors
+    /// `AllocError` if an allocation is refused.
     pub fn request_and_remove_aged(
         &mut self,
         alloc: Global,

@@ -99,7 +99,8 @@ impl Router {
 /// skipped: they aren't acknowledged, so the neighbor goes on sending them, and a request for such
 /// an LSA stays.
 ///
-/// Errors with `AllocError` if an allocation is refused.
+/// # Errors
+/// `AllocError` if an allocation is refused.
 pub fn receive_lsas(
     router: &mut Router,
     alloc: Global,

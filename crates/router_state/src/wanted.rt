@@ -35,7 +35,8 @@ pub fn is_wanted(router: &Router, key: &Key) -> bool
 
 /// What happens to the self-originated LSA of this key; `None` if it isn't wanted.
 ///
-/// Errors with `AllocError` if an allocation is refused.
+/// # Errors
+/// `AllocError` if an allocation is refused.
 pub fn wanted_origination(
     router: &Router,
     alloc: Global,

@@ -29,7 +29,6 @@ fn is_regular<R: Files>(rt: &R, path: &str) -> bool {
 /// The bytes of the regular file at `path`.
 ///
 /// # Errors
-///
 /// `Unreadable` if it can't be opened or read, isn't a regular file (but a directory, a pipe or a
 /// device), or has more than 16,777,216 bytes; `Memory` if an allocation is refused.
 pub fn read<R: Files + AllocGlobal>(rt: &R, path: &str) -> Result<Vec<u8>, ReadFault>

@@ -54,7 +54,6 @@ fn is_special<R: Files>(rt: &R, path: &str) -> bool {
 /// device or a pipe is written to directly.
 ///
 /// # Errors
-///
 /// `Unwritable` if that fails, `Memory` if an allocation is refused.
 pub fn write<R: Files + AllocGlobal>(rt: &R, path: &str, bytes: &[u8]) -> Result<(), WriteFault> {
     if is_special(rt, path) {

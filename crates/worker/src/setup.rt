@@ -32,7 +32,6 @@ impl Setup {
     /// yet.
     ///
     /// # Errors
-    ///
     /// `Count` if `ports` is 0 or above 64, which is tried first; `Memory` if an allocation is
     /// refused; `Places` if there was no place for an asker.
     pub fn new<R: Wait + Drop>(

@@ -24,7 +24,8 @@ fn copy_links(alloc: Global, links: &[Link]) -> Result<Vec<Link>, AllocError>
 impl Area {
     /// A copy of the links and the database, committed, with nothing drafted.
     ///
-    /// Errors with `AllocError` if an allocation is refused.
+    /// # Errors
+    /// `AllocError` if an allocation is refused.
     pub fn copy(&self, alloc: Global) -> Result<Self, AllocError>
         ensures { IfOk result (λ made. made ≡ record self.now {
           committed = self.now.present;

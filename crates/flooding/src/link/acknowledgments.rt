@@ -39,7 +39,8 @@ impl Link {
     /// Drafts the delayed acknowledgments, in the order of their keys, and clears them (RFC 2328,
     /// section 13.5).
     ///
-    /// Errors with `AllocError` if an allocation is refused.
+    /// # Errors
+    /// `AllocError` if an allocation is refused.
     pub fn draft_delayed_acknowledgments(&mut self, alloc: Global) -> Result<(), AllocError>
         ensures { LinkDoes (λ link. record link { acknowledgments = finite.empty })
             (λ link. map Acknowledges (finite.values link.acknowledgments))
@@ -53,7 +54,8 @@ impl Link {
 
     /// Drafts a direct acknowledgment of the instance (RFC 2328, section 13.5).
     ///
-    /// Errors with `AllocError` if an allocation is refused.
+    /// # Errors
+    /// `AllocError` if an allocation is refused.
     pub fn draft_direct_acknowledgment(&mut self, header: Header) -> Result<(), AllocError>
         ensures { LinkDoes (λ link. link) (λ link. Acknowledges header ∷ []) self.old self.new
             result }

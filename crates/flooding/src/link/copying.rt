@@ -9,7 +9,8 @@ use std::alloc::{AllocError, Global};
 impl Link {
     /// A copy of the link, committed, with nothing drafted.
     ///
-    /// Errors with `AllocError` if an allocation is refused.
+    /// # Errors
+    /// `AllocError` if an allocation is refused.
     pub fn copy(&self, alloc: Global) -> Result<Self, AllocError>
         ensures present { IfOk result (λ made. made.present ≡ self.now.present) }
         ensures committed { IfOk result (λ made. made.committed ≡ self.now.present) }

@@ -18,7 +18,8 @@ impl Link {
 
     /// Drafts a Hello at this moment.
     ///
-    /// Errors with `AllocError` if an allocation is refused.
+    /// # Errors
+    /// `AllocError` if an allocation is refused.
     pub fn draft_hello(&mut self, moment: Second, hello: Hello) -> Result<(), AllocError>
         ensures { LinkDoes (λ link. record link { last_hello_sent = Some moment })
             (λ link. SendsHello hello ∷ [])

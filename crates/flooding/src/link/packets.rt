@@ -36,7 +36,8 @@ impl Link {
     /// sent. If it doesn't, each later state goes back to Init (1-WayReceived), and the lists are
     /// cleared in constant time.
     ///
-    /// Errors with `AllocError` if an allocation is refused.
+    /// # Errors
+    /// `AllocError` if an allocation is refused.
     pub fn receive_hello(
         &mut self,
         alloc: Global,

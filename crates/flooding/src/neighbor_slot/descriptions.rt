@@ -98,7 +98,8 @@ impl NeighborSlot {
     /// empty. One out of sequence, or with a header of an unknown LS type, takes the neighbor back
     /// to ExStart (SeqNumberMismatch). It scans the database only when the negotiation is done.
     ///
-    /// Errors with `AllocError` if an allocation is refused; the caller then rolls back.
+    /// # Errors
+    /// `AllocError` if an allocation is refused; the caller then rolls back.
     pub fn receive_description(
         &mut self,
         alloc: Global,

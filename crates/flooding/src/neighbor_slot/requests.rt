@@ -74,7 +74,8 @@ impl NeighborSlot {
     /// by InfTransDelay (`delay`) seconds, without being put on the retransmission list. If the
     /// database lacks one, none is sent, and the neighbor goes back to ExStart (BadLSReq).
     ///
-    /// Errors with `AllocError` if an allocation is refused; the caller then rolls back.
+    /// # Errors
+    /// `AllocError` if an allocation is refused; the caller then rolls back.
     pub fn receive_request(
         &mut self,
         alloc: Global,

@@ -22,7 +22,8 @@ fn copy_described(kept: &Option<Description>) -> Result<Option<Description>, All
 impl Neighbor {
     /// A copy of the neighbor, committed.
     ///
-    /// Errors with `AllocError` if an allocation is refused.
+    /// # Errors
+    /// `AllocError` if an allocation is refused.
     pub fn copy(&self, alloc: Global) -> Result<Self, AllocError>
         ensures present { IfOk result (λ made. made.present ≡ self.now.present) }
         ensures committed { IfOk result (λ made. made.committed ≡ self.now.present) }

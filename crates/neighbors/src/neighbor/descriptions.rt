@@ -158,7 +158,8 @@ fn done_state(nothing: bool) -> NeighborState
 impl Neighbor {
     /// Sends the last Database Description again, if it is kept (RFC 2328, section 10.8).
     ///
-    /// Errors with `AllocError` if an allocation is refused; the caller then rolls back.
+    /// # Errors
+    /// `AllocError` if an allocation is refused; the caller then rolls back.
     pub fn repeat(&mut self, moment: Second, draft: &mut Draft) -> Result<(), AllocError>
         ensures { NeighborSends (repeat moment) self.old self.new draft.old draft.new result }
     {
@@ -363,7 +364,8 @@ impl Neighbor {
     /// The step for the verdict on a received Database Description, unless the adjacency starts
     /// over.
     ///
-    /// Errors with `AllocError` if an allocation is refused; the caller then rolls back.
+    /// # Errors
+    /// `AllocError` if an allocation is refused; the caller then rolls back.
     pub fn proceed(
         &mut self,
         alloc: Global,

@@ -124,7 +124,8 @@ impl Neighbor {
     /// NegotiationDone: the Database summary list gets the copies of the database, except those at
     /// MaxAge, which go on the retransmission list.
     ///
-    /// Errors with `AllocError` if an allocation is refused; the caller then rolls back.
+    /// # Errors
+    /// `AllocError` if an allocation is refused; the caller then rolls back.
     pub fn negotiate(
         &mut self,
         alloc: Global,

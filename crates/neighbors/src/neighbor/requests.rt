@@ -68,7 +68,8 @@ impl Neighbor {
     /// In Exchange or Loading, if nothing is outstanding, sends a Link State Request for the first
     /// keys of the request list (RFC 2328, section 10.9).
     ///
-    /// Errors with `AllocError` if an allocation is refused; the caller then rolls back.
+    /// # Errors
+    /// `AllocError` if an allocation is refused; the caller then rolls back.
     pub fn request(
         &mut self,
         alloc: Global,

@@ -324,7 +324,8 @@ impl Neighbor {
     /// first LSAs of the retransmission list in key order, as many as fit into one Link State
     /// Update (RFC 2328, sections 10.8, 10.9 and 13.6).
     ///
-    /// Errors with `AllocError` if an allocation is refused; the caller then rolls back.
+    /// # Errors
+    /// `AllocError` if an allocation is refused; the caller then rolls back.
     pub fn send_again(
         &mut self,
         alloc: Global,

@@ -55,7 +55,6 @@ fn is_lost(error: &io::Error) -> bool
 /// that is lost, as OSPF expects some to be.
 ///
 /// # Errors
-///
 /// `SocketFault` if the error says that the socket is of no use.
 pub fn sent(outcome: io::Result<usize>) -> Result<bool, SocketFault>
     ensures went { IfOk outcome (λ _. result ≡ Ok true) }
@@ -73,7 +72,6 @@ pub fn sent(outcome: io::Result<usize>) -> Result<bool, SocketFault>
 /// refused for a reason of a packet or of its way.
 ///
 /// # Errors
-///
 /// `SocketFault` if the error says that the socket is of no use.
 pub fn came(outcome: io::Result<usize>) -> Result<Option<usize>, SocketFault>
     ensures length { IfOk outcome (λ length. result ≡ Ok (Some length)) }

@@ -117,7 +117,6 @@ impl<'a, S> Sockets<'a, S> {
 /// receives at its own interface's, at which it waits; no call of it has failed.
 ///
 /// # Errors
-///
 /// `Wait` if a socket can't be waited at, or there are more than 65,535; `Memory` if memory was
 /// refused.
 #[tactic(auto, using(crate::proofs::Silent::unwaited))]
@@ -148,7 +147,6 @@ pub fn listening_with<'x, S, E: Drop, P: ListensAt<S, E>>(
 /// The links of the workers, which wait by the system.
 ///
 /// # Errors
-///
 /// As [`listening_with`].
 pub fn listening<'x, R: Net>(
     rt: &R,

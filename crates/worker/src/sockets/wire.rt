@@ -84,7 +84,6 @@ fn bound<S: Drop, B: BindsSockets<S>>(
 /// What interface n sends goes to the peer of the nth.
 ///
 /// # Errors
-///
 /// `Bind` with the first port that can't be had; `Memory` if an allocation was refused.
 #[tactic(auto, using(crate::proofs::Refused::refused_at, crate::proofs::Binding::all_bound))]
 pub fn bind_each_with<S: Drop, B: BindsSockets<S>>(
@@ -106,7 +105,6 @@ pub fn bind_each_with<S: Drop, B: BindsSockets<S>>(
 /// Binds the system's sockets so.
 ///
 /// # Errors
-///
 /// As [`bind_each_with`].
 pub fn bind_each<R: Net>(
     rt: &R,
