@@ -13,6 +13,11 @@ use transfer::rule::Rule;
 
 /// Checks that what is known at an edge is within the statement at its target, and that the rank
 /// decreases as required.
+///
+/// # Errors
+/// The first of: `NotWithin` if more is stated of a register or a stack byte than is known here;
+/// `Rank` if the rank at the target isn't known to be at most that at the start of the segment, or
+/// below it if the jump goes `back`.
 pub fn enter<'a, D: Domain>(
     target: &SegmentStart<'a, D>,
     back: bool,

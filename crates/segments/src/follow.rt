@@ -44,6 +44,9 @@ pub struct Operands {
 }
 
 /// Checks that a jump may enter the statement at its target.
+///
+/// # Errors
+/// As [`enter`].
 pub fn jump_to<'a, D: Domain>(
     targets: &[Option<SegmentStart<'a, D>>],
     segment: &SegmentStart<'a, D>,
@@ -65,8 +68,11 @@ pub fn jump_to<'a, D: Domain>(
     enter(target, to <= slot, segment, state)
 }
 
-/// What is known at the next slot. If that has a statement, the edge to it is checked, and nothing
-/// is known beyond the statement.
+/// Passes the state on to the next slot. If that has a statement, the edge to it is checked, and
+/// the state isn't live any more: beyond the statement only what that states is known.
+///
+/// # Errors
+/// As [`enter`], if the next slot has a statement.
 pub fn pass_on<'a, D: Domain>(
     targets: &[Option<SegmentStart<'a, D>>],
     segment: &SegmentStart<'a, D>,
@@ -130,7 +136,7 @@ fn take<'a, D: Domain>(
     Ok(there)
 }
 
-/// What is known at the next slot after a conditional jump, if its test can fail.
+/// Passes the state on to the next slot after a conditional jump, if its test can fail.
 fn stay<'a, D: Domain>(
     targets: &[Option<SegmentStart<'a, D>>],
     segment: &SegmentStart<'a, D>,
@@ -162,7 +168,7 @@ fn stay<'a, D: Domain>(
     Ok(after)
 }
 
-/// What is known at the next slot after a conditional jump.
+/// Checks both edges of a conditional jump, and returns what is known at the next slot.
 fn branch<'a, D: Domain>(
     code: &Code,
     hook: Hook,
@@ -240,7 +246,7 @@ fn end<D: Domain>(state: AbstractState<D>) -> Result<Known<D>, Rule>
     })
 }
 
-/// What is known after an instruction that always falls through.
+/// Passes the state on over an instruction that always falls through.
 fn go_on<'a, D: Domain>(
     code: &Code,
     hook: Hook,
@@ -270,7 +276,13 @@ fn go_on<'a, D: Domain>(
     Ok(after)
 }
 
-/// What is known at the next slot after an instruction, if control may reach it.
+/// Follows one instruction: checks each edge from it to a statement, and returns what is known at
+/// the next slot, live if control may reach that within the segment.
+///
+/// # Errors
+/// The first rule that the instruction, or an edge from it, may break: as [`straight`] for one that
+/// falls through, as [`tested`](transfer::branch::tested) for a conditional jump, as [`answers`]
+/// for EXIT; then as [`enter`], of the edge that is taken first.
 pub fn follow<'a, D: Domain>(
     code: &Code,
     hook: Hook,

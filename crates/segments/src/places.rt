@@ -122,6 +122,11 @@ fn is_unreached<'a, D: Domain>(
 }
 
 /// Checks the slots that may come after the instruction: rules 1 to 4.
+///
+/// # Errors
+/// The first of: `Target` if it jumps to where no instruction begins, `FallsOff` if the code ends
+/// after it although it may fall through, `Unreached` if nothing leads to it, `Unstated` if it
+/// jumps to a slot without a statement.
 pub fn check_places<'a, D: Domain>(
     code: &Code,
     targets: &[Option<SegmentStart<'a, D>>],

@@ -46,7 +46,10 @@ fn unstated<'a, D: Domain>(
     Ok(targets)
 }
 
-/// The statements by their slots. Errors with `AllocError` if an allocation is refused.
+/// The statements by their slots.
+///
+/// # Errors
+/// `AllocError` if an allocation is refused.
 pub fn targets_of<'a, D: Domain>(
     alloc: Global,
     size: usize,

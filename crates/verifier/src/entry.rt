@@ -39,6 +39,9 @@ pub fn entry_statement(rank: u32) -> Statement
 }
 
 /// The start of a run as the start of a segment: r1 points to the context.
+///
+/// # Errors
+/// `AllocError` if an allocation is refused.
 pub fn entry_of<'a, D: Domain>(
     alloc: Global,
     statement: &'a Statement,
@@ -57,6 +60,9 @@ pub fn entry_of<'a, D: Domain>(
 }
 
 /// A state in which nothing is known, whose memory the pass reuses at each slot.
+///
+/// # Errors
+/// `AllocError` if an allocation is refused.
 pub fn unknown<D: Domain>(alloc: Global) -> Result<AbstractState<D>, AllocError>
     ensures ten { IfOk result (λ state. length state.kinds.items ≡ 10) }
 {
@@ -77,7 +83,11 @@ pub fn unknown<D: Domain>(alloc: Global) -> Result<AbstractState<D>, AllocError>
     })
 }
 
-/// What is known at the start of a run. If slot 0 has a statement, the edge to it is checked.
+/// The state at the start of a run, in the memory of `room`. If slot 0 has a statement, the edge to
+/// it is checked.
+///
+/// # Errors
+/// As [`enter`], at slot 0.
 pub fn enter_start<'a, D: Domain>(
     targets: &[Option<SegmentStart<'a, D>>],
     entry: &SegmentStart<'a, D>,

@@ -201,6 +201,9 @@ fn splits<'a, D: Domain>(
 
 /// Passes once over the instructions. The result, which reuses `regions`, has at each slot the
 /// region that a load or store there accesses.
+///
+/// # Errors
+/// The first slot that breaks a rule, with the rule of those broken there that is checked first.
 pub fn pass_all<'a, D: Domain>(
     code: &Code,
     hook: Hook,
