@@ -12,17 +12,17 @@ use std::sync::atomic::AtomicBool;
 use transports::{Seconds, Transport};
 use worker::{Book, DatagramSocket, Flag, Hub, LinkEnd, Open, Port, Site, Sockets, Waits, run};
 
-/// What the workers of all interfaces have.
+/// What all workers share.
 #[derive(Drop)]
 pub struct Workers<'a, R> {
     pub rt: &'a R,
     pub alloc: Global,
-    /// Set once they are to end.
+    /// Set when they are to end.
     pub quit: AtomicBool,
 }
 
-/// A worker has lived, and its link has ended so. Only [`work`] makes one, so whoever has it had a
-/// worker live as that says.
+/// Evidence that a worker ran to its end, with how its link ended. Only [`work`] makes one, so
+/// whoever has it has run a worker.
 #[derive(Drop)]
 pub struct Worked {
     end: LinkEnd,
@@ -37,11 +37,11 @@ impl Worked {
     }
 }
 
-/// What a worker does with its port and the link that receives at the port's interface, on a thread
-/// of its own, until it finds the flag set that tells it to end, or its link fails. It brings the
-/// port back, and how its link ended; a warning tells that it failed.
+/// Runs a worker on a thread of its own, with its port and the link that receives at the port's
+/// interface, until it finds the flag `quit` set or its link fails. Returns the port, and how the
+/// link ended; a warning is logged if it failed.
 ///
-/// It is proved for any sockets, any clock and any flag, which say themselves what they gave.
+/// It is generic over sockets, clock and flag, so that tests run it with their own.
 pub fn work<
     'x,
     L: Site,

@@ -16,20 +16,25 @@ pub struct Unreadable {}
 
 /// Input, byte by byte.
 ///
-/// Which input gives a byte, or none at its end (`gives`), and which can't be read (`fails`) is
-/// left open: code that is proved for any input knows it from the call alone.
+/// `gives` (a byte, or the end) and `fails` are relations that each implementation defines. Code
+/// that is generic over the input can establish them only by the call, so a contract that has them
+/// shows what was read.
 pub trait ReadsBytes {
     ghost gives: { Self → Option ℕ → Self → Type 0 };
 
     ghost fails: { Self → Self → Type 0 };
 
-    /// The next byte, or None at the end.
+    /// The next byte, or `None` at the end.
+    ///
+    /// # Errors
+    /// `Unreadable` if the input can't be read.
     fn next_byte(&mut self) -> Result<Option<u8>, Unreadable>
         ensures given { IfOk result (λ byte. gives self.old byte self.new) }
         ensures failed { OnErr result (fails self.old self.new) };
 }
 
-/// Of a reader whose bytes are known that is the first that is left, or none is.
+/// Of a reader whose bytes contracts know, `gives` says that the byte is the first of those that
+/// are left, or that none is.
 impl<I: BufRead> ReadsBytes for I {
     ghost gives = { λ before byte after. IsNext (I.remaining before) byte (I.remaining after) };
 
@@ -111,7 +116,8 @@ fn whole(alloc: Global, bytes: Vec<u8>, is_lost: bool) -> Given
     }
 }
 
-// The same if the input ends after them: then there is no line if there are none.
+// The line that stands before the end of the input. Without bytes there is none: an input that ends
+// with a line feed has no empty line after it.
 fn last(alloc: Global, bytes: Vec<u8>, is_lost: bool) -> Given
     ensures { IsLast bytes.items is_lost result }
 {

@@ -8,9 +8,9 @@ use crate::totals::Printed;
 use std::snapshot::Snapshot;
 use worker::{Core, LinkEnd};
 
-/// How a router ran: as which it began (of which nothing is kept when it runs), that each worker
-/// lived and how its link ended, how that of the console ended, and the conversation; and that the
-/// exact counters were printed then.
+/// How a router ran: the router that it began with (a snapshot for contracts, of which nothing is
+/// kept at run time), how each worker's link ended and how the console's did, how the conversation
+/// ended, and that the counters' sums were printed.
 #[derive(Drop)]
 pub struct Ran {
     pub(crate) origin: Snapshot<Core>,
@@ -20,7 +20,7 @@ pub struct Ran {
     pub(crate) printed: Printed,
 }
 
-// Whether the link of one of these failed.
+// Whether the link of some worker failed.
 fn is_any_failed(workers: &[Worked]) -> bool
     ensures { result ≡ any_failed workers.now }
 {
@@ -28,8 +28,8 @@ fn is_any_failed(workers: &[Worked]) -> bool
 }
 
 impl Ran {
-    /// The status of the program: 3 if the link of a worker or of the console failed, or the input
-    /// couldn't be read, else 0.
+    /// The exit status of the program: 3 if the link of a worker or of the console failed, or the
+    /// input couldn't be read; else 0.
     pub fn status(&self) -> u8
         ensures { result ≡ status_of_ran self.now }
     {

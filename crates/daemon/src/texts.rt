@@ -11,21 +11,25 @@ pub struct Unwritable {}
 
 /// Output, text by text.
 ///
-/// Which output takes a text (`takes`), and which can't be written (`fails`), is left open: code
-/// that is proved for any output knows it from the call alone.
+/// `takes` (a text) and `fails` are relations that each implementation defines. Code that is
+/// generic over the output can establish them only by the call, so a contract that has them shows
+/// what was written.
 pub trait WritesTexts {
     ghost takes: { Self → List ℕ → Self → Type 0 };
 
     ghost fails: { Self → Self → Type 0 };
 
-    /// Writes the text, and keeps nothing of it back.
+    /// Writes the text, and flushes it.
+    ///
+    /// # Errors
+    /// `Unwritable` if it can't be written: some of it may have been.
     fn write_text<D: Display + Drop>(&mut self, text: D) -> Result<(), Unwritable>
         ensures taken { OnOk result (IfSome (D.output text)
             (λ text. takes self.old text self.new)) }
         ensures failed { OnErr result (fails self.old self.new) };
 }
 
-/// A writer whose bytes are known has those of the text after its earlier ones.
+/// Of a writer whose bytes contracts know, `takes` says that the bytes of the text are appended.
 impl<W: Write> WritesTexts for W {
     ghost takes = { λ before text after. Appends (W.contents before) (W.contents after) text };
 

@@ -11,12 +11,15 @@ use std::io::Write;
 #[derive(Clone, Copy)]
 pub struct StreamFault {}
 
-/// A stream that texts are written to. It knows whether a write failed: a function that is proved
-/// for any stream can say so only of one whose call failed.
+/// A stream that texts are written to. It remembers whether a write failed. Code that is generic
+/// over the stream can establish that one failed only by a call that did.
 pub trait Stream {
     ghost state: { Self → StreamState };
 
     /// Writes the text.
+    ///
+    /// # Errors
+    /// `StreamFault` if the write failed.
     fn print<D: Display + Drop>(&mut self, text: D) -> Result<(), StreamFault>
         ensures printed { OnOk result (IfSome (D.output text)
             (Appends (state self.old).contents (state self.new).contents)) }

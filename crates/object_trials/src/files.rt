@@ -9,24 +9,31 @@ use whole_files::{ReadFault, WriteFault, read, write};
 
 /// Reads and writes whole files.
 ///
-/// What stands at a path, what was written there, and which path can't be read or written, is left
-/// open: a function that is proved for any of these can say so only of a path that a call of its
-/// own tried.
+/// `known` has relations that each implementation defines: what a file holds, what was written, and
+/// which path can't be read or written. Code that is generic over it can establish them only by a
+/// call, with that path.
 pub trait WholeFiles {
     ghost known: { KnownFiles };
 
-    /// The bytes of the file at the path.
+    /// All bytes of the file at the path.
+    ///
+    /// # Errors
+    /// `Unreadable` if it can't be opened or read, isn't a regular file, or has more than
+    /// 16,777,216 bytes; `Memory` if an allocation is refused.
     fn read_whole(&self, path: &str) -> Result<Vec<u8>, ReadFault>
         ensures bytes { IfOk result (λ bytes. known.holds path.now bytes.items) }
         ensures fault { result ≡ Err ReadFault.Unreadable → known.unreadable path.now };
 
-    /// Makes these bytes the contents of the file at the path.
+    /// Makes these bytes the contents of the file at the path, as [`whole_files::write`] does.
+    ///
+    /// # Errors
+    /// `Unwritable` if that fails, `Memory` if an allocation is refused.
     fn write_whole(&self, path: &str, bytes: &[u8]) -> Result<(), WriteFault>
         ensures done { OnOk result (known.written path.now bytes.now) }
         ensures fault { result ≡ Err WriteFault.Unwritable → known.unwritable path.now };
 }
 
-/// The files of the system, of which nothing is known.
+/// The files of the system. No contract says what they hold.
 impl<R: Files + AllocGlobal> WholeFiles for R {
     ghost known = { record {
       holds = λ path bytes. Unit {0};

@@ -10,22 +10,27 @@ use std::rt::Files;
 use verifier::{Accepted, Rule};
 use whole_files::{ReadFault, read};
 
-/// Gives the bytes of files.
+/// Reads whole files.
 ///
-/// Which bytes stand at a path (`holds`) and which path's file can't be read (`unreadable`) is left
-/// open: code that is proved for any of these knows it from a call alone, of a path that it tried.
+/// `holds` (a path and the bytes of its file) and `unreadable` (a path) are relations that each
+/// implementation defines: code that is generic over it can establish them only by the call, with
+/// that path.
 pub trait ReadsFiles {
     ghost holds: { Holds };
 
     ghost unreadable: { Unreadable };
 
-    /// The bytes of the file at the path.
+    /// All bytes of the file at the path.
+    ///
+    /// # Errors
+    /// `Unreadable` if it can't be opened or read, isn't a regular file, or has more than
+    /// 16,777,216 bytes; `Memory` if an allocation is refused.
     fn bytes(&self, path: &str) -> Result<Vec<u8>, ReadFault>
         ensures bytes { IfOk result (λ bytes. holds path.now bytes.items) }
         ensures unreadable { result ≡ Err ReadFault.Unreadable → unreadable path.now };
 }
 
-/// The files of the system, of which nothing is known.
+/// The files of the system. No contract says what they hold.
 #[derive(Drop)]
 pub struct SystemFiles<'a, R> {
     pub rt: &'a R,

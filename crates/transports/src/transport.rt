@@ -9,12 +9,13 @@ use words::{Second, Sequence};
 #[derive(Clone, Copy, PartialEq, Eq)]
 pub struct SocketFault {}
 
-/// The sockets over which a worker receives and sends. It counts its faults: each call that failed,
-/// and no other.
+/// The sockets over which a worker receives and sends. `faults` counts the calls that failed, and
+/// nothing else.
 ///
-/// What it says about bytes that it was given to send, and about those that it received, is left
-/// open here: a function that sends or receives, and is proved for any, can only know it from
-/// the call itself, with that interface and those bytes.
+/// `gives` (bytes sent at an interface) and `hears` (a datagram received, or none) are relations
+/// that each implementation defines. Code that is generic over the transport can establish them
+/// only by the call itself, with that interface and those bytes, so a contract that has them shows
+/// what was sent and received.
 pub trait Transport {
     ghost faults: { Self → ℕ };
 
@@ -24,7 +25,11 @@ pub trait Transport {
 
     /// Receives a datagram. `None` if none came within a second, if the system refused the receive
     /// for a passing reason, or if an allocation for it was refused, in which case it is lost. One
-    /// that is longer than the buffer is cut to 8,193 bytes, one more than a packet may have.
+    /// that is longer than the buffer is cut to 8,193 bytes, one more than a packet may have, so
+    /// that it is seen to be too long.
+    ///
+    /// # Errors
+    /// `SocketFault` if the socket failed for a cause that doesn't pass: it is of no use any more.
     fn receive(
         &mut self,
         alloc: Global,
@@ -35,9 +40,12 @@ pub trait Transport {
         ensures fine { OnOk result (faults self.new ≡ faults self.old) }
         ensures fault { OnErr result (faults self.old < faults self.new) };
 
-    /// Sends the bytes at the interface with this number, and returns whether they were sent. If
-    /// not, they are lost: sending would have blocked, or was refused because of the packet or its
-    /// route.
+    /// Sends the bytes at the interface with this number, from 1 on, and returns whether they were
+    /// sent. If not, they are lost: sending would have blocked, or was refused because of the
+    /// packet or its route.
+    ///
+    /// # Errors
+    /// `SocketFault` if the socket failed for a cause that doesn't pass: it is of no use any more.
     fn send(&mut self, interface: u16, bytes: &[u8]) -> Result<bool, SocketFault>
         ensures given { OnOk result (gives self.old interface bytes.now self.new) }
         ensures fine { OnOk result (faults self.new ≡ faults self.old) }
@@ -52,11 +60,13 @@ pub fn datagram(alloc: Global, bytes: &[u8]) -> Option<Sequence<u8>>
     Some(Sequence::from_vec(copy))
 }
 
-/// A clock of whole seconds. What it says about the second that it showed is left open here: only
-/// the caller can know it.
+/// A clock of whole seconds. `shows` is a relation that each implementation defines: code that is
+/// generic over the clock can establish it only by reading the clock.
 pub trait Seconds {
     ghost shows: { Self → ℕ → Self → Type 0 };
 
+    /// The present moment. The clock of `routerd` shows the whole seconds since the Unix epoch,
+    /// 1970-01-01 00:00:00 UTC, and never goes back; that of a test may begin anywhere.
     fn second(&mut self) -> Second
         ensures { shows self.old result self.new };
 }

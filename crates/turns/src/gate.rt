@@ -12,12 +12,13 @@ impl Gate for Open {
 /// What each turn passes once, after the programs were asked and before the lock is taken. Tests
 /// stop or watch a turn there; `routerd` has [`Open`] alone.
 ///
-/// What is so of a gate before and after a port passed is left open here: a turn, which is proved
-/// for any gate, can say it only of one that was passed, and that a gate is as it was only of one
-/// that wasn't.
+/// `passes` (the gate before, the port, the gate after) is a relation that each implementation
+/// defines. A turn is generic over the gate: it can establish `passes` only by passing it, so its
+/// contract shows whether it did.
 pub trait Gate {
     ghost passes: { Self → ℕ → Self → Type 0 } = { λ before port after. Unit {0} };
 
+    /// Lets the port with this number pass, perhaps after a wait.
     fn pass(&mut self, port: u16)
         ensures { passes self.old port self.new };
 }

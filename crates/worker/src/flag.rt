@@ -5,8 +5,9 @@ use std::sync::atomic::{AtomicBool, Ordering};
 
 /// A flag that a worker looks at once a round, and ends if it is set.
 ///
-/// What is so of a flag before and after it was found set, or unset (`reads`), is left open: a
-/// worker, which is proved for any flag, knows it only of one that it looked at, and only once.
+/// `reads` (the flag before, what was found, the flag after) is a relation that each implementation
+/// defines. A worker is generic over the flag: it can establish `reads` only by looking, so its
+/// contract shows that it looked, and at what.
 pub trait Flag {
     ghost reads: { Self → Bool → Self → Type 0 };
 
@@ -15,7 +16,7 @@ pub trait Flag {
         ensures { reads self.old result self.new };
 }
 
-/// A word that whoever tells the workers to end sets.
+/// The flag of `routerd`: a shared atomic word. Whoever ends the workers sets it.
 #[derive(Drop)]
 pub struct Signal<'a> {
     pub word: &'a AtomicBool,

@@ -7,12 +7,13 @@ use words::Second;
 
 /// Reads a clock of seconds.
 ///
-/// What was read (`reads`) is left open: code that is proved for any reader knows it from the call
-/// alone.
+/// `reads` is a relation that each implementation defines: code that is generic over the reader can
+/// establish it only by reading.
 pub trait ReadsSeconds {
     ghost reads: { Option ℕ → Type 0 };
 
-    /// The whole seconds since 1970, if the clock can be read.
+    /// The whole seconds since the Unix epoch, 1970-01-01 00:00:00 UTC; `None` if the clock can't
+    /// be read or is set before that.
     fn whole_seconds(&self) -> Option<u64>
         ensures { reads result };
 }

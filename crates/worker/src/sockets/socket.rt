@@ -10,9 +10,9 @@ use std::net::{IpAddr, Ipv4Addr, SocketAddr};
 
 /// A socket of datagrams whose calls don't wait.
 ///
-/// Which bytes it took for a port of 127.0.0.1 (`takes`), which datagram it gave (`hands`) and why
-/// it refused a receive (`refuses`) is left open: code that is proved for any socket knows it from
-/// the calls alone.
+/// `takes` (bytes for a port of 127.0.0.1), `hands` (a datagram) and `refuses` (why a receive
+/// failed) are relations that each implementation defines. Code that is generic over the socket can
+/// establish them only by the calls, so a contract that has them shows that the calls were made.
 pub trait DatagramSocket {
     ghost takes: { Self → (port : ℕ) → List ℕ → Type 0 };
 
@@ -20,12 +20,18 @@ pub trait DatagramSocket {
 
     ghost refuses: { Self → Error → Type 0 };
 
-    /// Sends the bytes to this port of 127.0.0.1.
+    /// Sends the bytes to this port of 127.0.0.1 as one datagram, and returns how many there were.
+    ///
+    /// # Errors
+    /// What the system says, such as `WouldBlock` if there is no room for it now.
     fn send(&self, bytes: &[u8], port: u16) -> io::Result<usize>
         ensures { takes self.now port bytes.now };
 
     /// Puts a datagram that is there at the buffer's front. Returns its length. One that is longer
     /// than the buffer is cut.
+    ///
+    /// # Errors
+    /// What the system says, such as `WouldBlock` if none is there now.
     fn receive(&self, buffer: &mut [u8; 8193]) -> io::Result<usize>
         ensures length { IfOk result (λ n. n ≤ 8193) }
         ensures handed { IfOk result (λ n. hands self.now (take n buffer.new)) }

@@ -20,19 +20,19 @@ use std::net::Net;
 use transports::{SocketFault, Transport, datagram};
 use words::Sequence;
 
-/// A worker's link: it sends at each interface, and receives at its own, if it has one. Once it has
-/// failed it gives and takes nothing more.
+/// A worker's link: it sends at each interface, and receives at its own, if it has one. After its
+/// first fault it sends and receives nothing more: each send answers `false`, each receive `None`.
 #[derive(Drop)]
 pub struct Sockets<'a, S = UdpSocket, E = Ear> {
     wires: &'a [Wire<S>],
     /// The number of its own interface, and 0 for the console's link, which only sends.
     own: u16,
     ear: Option<E>,
-    /// How many calls failed: 0, or 1, after which none is made.
+    /// How many calls failed, 0 or 1: after the first failure none is made.
     faults: u8,
 }
 
-/// How a link ended. Only a link that is let go makes one.
+/// How a link ended. Only closing a link makes one.
 #[derive(Drop)]
 pub struct LinkEnd {
     faults: u8,
@@ -49,8 +49,11 @@ impl LinkEnd {
 
 impl<'a, S, E> Sockets<'a, S, E> {
     /// The link of the worker at the interface of this number, which waits at that interface's
-    /// socket. `Wait` if the socket can't be waited at, or there is none of this number; `Memory`
-    /// if memory was refused.
+    /// socket.
+    ///
+    /// # Errors
+    /// `Wait` if the socket can't be waited at, or there is none of this number; `Memory` if memory
+    /// was refused.
     #[tactic(auto, using(crate::proofs::Silent::listening_at, crate::proofs::Silent::unwaited_at, crate::proofs::Silent::no_socket))]
     pub fn of_interface_with<P: ListensAt<S, E>>(
         poller: &P,

@@ -12,27 +12,36 @@ use std::time::Duration;
 
 /// Waits until a datagram may be there.
 ///
-/// How long it has waited (`waited`) is left open: code that is proved for any waiter knows it from
-/// the call alone.
+/// `waited` is a relation that each implementation defines: code that is generic over the waiter
+/// can establish it only by waiting.
 pub trait Waits {
     ghost waited: { Self → (seconds : ℕ) → Self → Type 0 };
 
     /// Waits until a datagram may be there, but no longer than `seconds`. A signal may end it
-    /// earlier.
+    /// earlier, which is no error.
+    ///
+    /// # Errors
+    /// What the system says if it can't wait.
     fn wait(&mut self, seconds: u64) -> io::Result<()>
         ensures { OnOk result (waited self.old seconds self.new) };
 }
 
 /// Makes waiters, each for one socket.
 ///
-/// At which socket a waiter listens (`listens`), and which can't be waited at (`fails`), is left
-/// open: code that is proved for any of these knows it from the call alone.
+/// `listens` (a waiter and its socket) and `fails` (a socket that can't be waited at) are relations
+/// that each implementation defines: code that is generic over it can establish them only by the
+/// call.
 pub trait ListensAt<S, E> {
     ghost listens: { E → S → Type 0 };
 
     ghost fails: { S → Type 0 };
 
-    /// What waits at this socket.
+    /// A waiter for this socket. It may miss a datagram that was there before, so the socket is
+    /// read first.
+    ///
+    /// # Errors
+    /// `OutOfMemory` if an allocation is refused, else what the system says if the socket can't be
+    /// waited at.
     fn listen(&self, alloc: Global, socket: &S) -> io::Result<E>
         ensures listening { IfOk result (λ ear. listens ear socket.now) }
         ensures failed { OnErr result (fails socket.now) };

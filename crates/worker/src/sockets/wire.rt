@@ -36,8 +36,8 @@ impl<S> Wire<S> {
 
 /// Binds sockets to ports of 127.0.0.1.
 ///
-/// Which socket was bound (`bound`) and which port couldn't be had (`refused`) is left open: code
-/// that is proved for any of these knows it from the call alone.
+/// `bound` (a socket and its port) and `refused` (a port that can't be had) are relations that each
+/// implementation defines: code that is generic over it can establish them only by the call.
 pub trait BindsSockets<S> {
     ghost bound: { S → (port : ℕ) → Type 0 };
 
@@ -49,7 +49,7 @@ pub trait BindsSockets<S> {
         ensures refused { IfNone result (refused port) };
 }
 
-/// Binds sockets of the system, of which nothing is known.
+/// Binds sockets of the system. No contract says what the system does.
 #[derive(Drop)]
 pub struct SystemSockets<'a, R> {
     pub rt: &'a R,
@@ -80,8 +80,8 @@ fn bound<S: Drop, B: BindsSockets<S>>(
     }
 }
 
-/// Binds the socket of each interface, in order, with what this binds: at the interface's own port.
-/// What interface n sends goes to the peer of the nth.
+/// Binds a socket for each interface, in order, at the interface's own port, by this binder. What
+/// is sent at interface n goes to the port of its peer.
 ///
 /// # Errors
 /// `Bind` with the first port that can't be had; `Memory` if an allocation was refused.
@@ -102,7 +102,7 @@ pub fn bind_each_with<S: Drop, B: BindsSockets<S>>(
     Ok(wires)
 }
 
-/// Binds the system's sockets so.
+/// Binds a socket of the system for each interface, as [`bind_each_with`] does.
 ///
 /// # Errors
 /// As [`bind_each_with`].
