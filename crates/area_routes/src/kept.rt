@@ -46,10 +46,12 @@ pub struct Offered {
 /// are valid while all LSAs say the same, apart from AS-external-LSAs that offer nothing (section
 /// 16.4). If only a few other AS-external-LSAs change, only the candidates for the destinations
 /// that these advertise are recalculated (section 16.6); and if none of these is a new route, as
-/// when an AS-external-LSA is removed, all candidates have answers if they had before. An event
-/// makes no walk: if it leaves no valid one, one is made when candidates are requested. The graph
-/// of the area is also kept while it can follow what the LSAs say; such a walk is then only a
-/// search for shortest paths (section 16.1).
+/// when an AS-external-LSA is removed, all candidates have answers if they had before.
+/// [`update`](AreaRoutes::update), which is a part of each event, makes no walk. If it leaves no
+/// valid one, the next call that needs one makes it; [`is_stale`](AreaRoutes::is_stale) keeps it
+/// too. Since `turns` asks that after each event, the shortest paths are calculated at once after a
+/// change of the topology, without a delay. The graph of the area is also kept while it can follow
+/// what the LSAs say; such a walk is then only a search for shortest paths (section 16.1).
 ///
 /// Links, database and answers aren't part of it. They are passed to each call, whose contract says
 /// which moment they are of.

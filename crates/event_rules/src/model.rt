@@ -40,10 +40,12 @@ impl Config {
     }
 }
 
-/// The bytes of a packet to be sent at the interface with this number.
+/// A packet to be sent.
 #[derive(Drop)]
 pub struct Out {
+    /// The number of the interface that it is sent at, from 1 to 63.
     pub interface: u16,
+    /// The bytes of an OSPF packet, at most 8,192, without an IP header.
     pub bytes: Sequence<u8>,
 }
 

@@ -117,6 +117,7 @@ impl<L: Origin> Book<L> {
     /// A book that starts with this router and has taken nothing, and the share that has every part
     /// of the ledger.
     ///
+    /// # Errors
     /// `AllocError` if an allocation is refused: the start is a copy.
     pub fn new(alloc: Global, blank: Blank, core: Core) -> Result<(Book<L>, Share<L>), AllocError>
         requires name { blank.name ≡ L.name }
@@ -150,10 +151,11 @@ impl<L: Origin> Book<L> {
     /// Takes an event at a moment: what it makes of the router, and what is to be sent. The event
     /// stands last in the journal then, and counts once in the book and once in the share.
     ///
-    /// Refused, in this order: `Journal` if the journal holds 65,536 events or 2^63 were taken in
-    /// all; what the router refuses, in its own order; `Core(Memory)` only if neither the journal
-    /// nor the clock nor the interface is refused, and an allocation was. A refusal leaves the book
-    /// and the share as they were.
+    /// # Errors
+    /// In this order: `Journal` if the journal holds 65,536 events or 2^63 were taken in all; what
+    /// the router refuses, in its own order; `Core(Memory)` only if neither the journal nor the
+    /// clock nor the interface is refused, and an allocation was. A refusal leaves the book and the
+    /// share as they were.
     pub fn apply(
         &mut self,
         mine: &mut Share<L>,
@@ -246,7 +248,10 @@ impl<L: Origin> Book<L> {
     /// journal. The number of the events that were taken stays.
     ///
     /// It wants no memory, and frees what the router at the start and the journal hold: the router
-    /// as it is now is copied when the next event comes. So no `AllocError` comes.
+    /// as it is now is copied when the next event comes.
+    ///
+    /// # Errors
+    /// None.
     pub fn mark(&mut self) -> Result<(), AllocError>
         ensures ok { IsOk result }
         ensures book { self.new ≡ marked_book self.old }
@@ -255,7 +260,7 @@ impl<L: Origin> Book<L> {
         Ok(())
     }
 
-    // Marks the book.
+    // Does what `mark` promises, for `apply_anew` too, which has no error to pass on.
     fn start_anew(&mut self)
         ensures { self.new ≡ marked_book self.old }
     {
@@ -378,6 +383,7 @@ impl<L: Origin> Book<L> {
     /// Whether some candidate of the router as it is now stands in none of the answers of its last
     /// installation, as [`Core::stale`] does. What clauses see of the book stays.
     ///
+    /// # Errors
     /// `AllocError` if an allocation is refused.
     pub fn is_stale(&mut self) -> Result<bool, AllocError>
         ensures stale { IfOk result (λ b. IsTrue b ↔ IsStaleNow self.old.current) }
@@ -423,8 +429,9 @@ impl<L: Origin> Book<L> {
         self.taken
     }
 
-    /// Lets the book go: how many events it took in all. A crate that lets one go by itself has the
-    /// letting-go of each of a router's parts to prove once more.
+    /// Drops the book, and returns how many events it took in all. It is called in place of a plain
+    /// drop: a crate that drops a book itself would have to prove the drop of each part of a router
+    /// again.
     pub fn close(self) -> u64
         ensures { result ≡ self.taken }
     {

@@ -48,8 +48,9 @@ fn keep(
     Ok(())
 }
 
-/// What an event sends, once its end is done, unless the router exceeds a limit then. Updates what
-/// is kept for routes. `own` is the router's Router ID, `before` the moment of the last event.
+/// The last part of each event: packs the drafts into the packets to be sent, and updates the
+/// routes that are kept, unless the router exceeds a limit. `own` is the router's Router ID,
+/// `before` the moment of the last event.
 ///
 /// # Errors
 /// `Full` if the router exceeds a limit, `Memory` if an allocation is refused. The routes are

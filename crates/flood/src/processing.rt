@@ -57,6 +57,9 @@ pub fn refuses(router: &Router, moment: Second, event: &Event) -> Option<CoreErr
 /// Processes one event: unless it is refused before, copies that have reached MaxAge are flooded,
 /// then the event's own part is done, then the end that all events share; last, what is kept for
 /// routes is updated. After a refusal the caller rolls the router back; the routes are unchanged.
+///
+/// # Errors
+/// As [`Core::step`](crate::Core::step), in the same order.
 #[tactic(auto, using(crate::proofs::Early::may_run_out))]
 pub fn process_event(
     router: &mut Router,
@@ -81,8 +84,9 @@ pub fn process_event(
     ensures limit { OnOk result (exceeds router.new.present ≡ false) }
     ensures committed { router.new.committed ≡ router.old.committed }
     ensures kept { OnOk result (AreKeptNow router.new.present routes.new) }
-    // No walk is made, and the one that is kept stays valid unless an LSA of type 1 or 2 was added
-    // or removed, has reached MaxAge or says something else, or the interfaces' addresses differ.
+    // Shortest paths aren't calculated here, and the walk that is kept stays valid unless an LSA of
+    // type 1 or 2 was added or removed, has reached MaxAge or says something else, or the
+    // interfaces' addresses differ.
     ensures walks { OnOk result (WalkStaysUnlessChanged router.old.present router.new.present
         routes.old routes.new) }
     ensures err { OnErr result (routes.new ≡ routes.old) }

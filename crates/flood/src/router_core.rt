@@ -229,8 +229,8 @@ impl Core {
     }
 
     /// The candidates for the routing table at the moment of the last event (RFC 2328, section 16).
-    /// Events don't make walks: if the walk that is kept is no longer valid, and
-    /// [`stale`](Core::stale) hasn't made another one since, one is made for this call alone.
+    /// An event calculates no shortest paths itself: if the walk that is kept is no longer valid,
+    /// and [`stale`](Core::stale) hasn't made another one since, one is made for this call alone.
     ///
     /// # Errors
     /// `AllocError` if an allocation is refused.
@@ -283,7 +283,9 @@ impl Core {
     /// Whether some candidate is in none of the answers of the last `Install`, so that programs
     /// have to be asked again. If there was none at an earlier call or when the answers came, and
     /// no event since then has changed what an LSA says, no candidate is visited. If there is no
-    /// valid walk, one is made and kept.
+    /// valid walk, one is made and kept. `turns` asks this after each event, so a change of the
+    /// topology has the shortest paths calculated at once, without a delay that would join several
+    /// changes.
     ///
     /// # Errors
     /// `AllocError` if an allocation is refused.
@@ -303,9 +305,10 @@ impl Core {
     }
 
     /// The number of walks, calculations of all shortest paths, that were made and kept since the
-    /// start or the copy; it saturates. Events make none. [`stale`](Core::stale) makes at most one,
-    /// and only if since the last one an LSA of type 1 or 2 was added or removed, has reached
-    /// MaxAge or says something else, or the addresses of the interfaces differ.
+    /// start or the copy; it saturates. [`step`](Core::step) makes none. [`stale`](Core::stale)
+    /// makes at most one, and only if since the last one an LSA of type 1 or 2 was added or
+    /// removed, has reached MaxAge or says something else, or the addresses of the interfaces
+    /// differ.
     pub fn walks(&self) -> u64 {
         self.routes.walks()
     }

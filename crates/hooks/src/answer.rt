@@ -57,7 +57,7 @@ impl TagAnswer {
         self.moment
     }
 
-    /// The answered word.
+    /// The answered word, of which the low 32 bits are the tag.
     pub fn word(&self) -> u64
         ensures value { result ≡ self.now.word }
         ensures answers { ∥ IsTag self.now ∥₁ }
@@ -125,7 +125,8 @@ impl PriceAnswer {
         self.moment
     }
 
-    /// The answered word.
+    /// The answered word: the metric, if it is below LSInfinity, 0xffffff (RFC 2328, appendix B).
+    /// With any other the destination isn't announced.
     pub fn word(&self) -> u64
         ensures value { result ≡ self.now.word }
         ensures answers { ∥ IsPrice self.now ∥₁ }
@@ -181,7 +182,7 @@ impl VetoAnswer {
         self.moment
     }
 
-    /// The answered word.
+    /// The answered word: 0 lets the route into the table, any other keeps it out.
     pub fn word(&self) -> u64
         ensures value { result ≡ self.now.word }
         ensures answers { ∥ IsVeto self.now ∥₁ }

@@ -118,8 +118,11 @@ impl<R: Wait + Drop> Loader<R> {
         Ok(list)
     }
 
-    /// Publishes the program at its hook, without an allocation. `AllocError` isn't about memory
-    /// here: the history has no number left for the operation, and nothing is changed.
+    /// Publishes the program at its hook, without an allocation.
+    ///
+    /// # Errors
+    /// `AllocError` if the history has no number left for the operation, which isn't about memory;
+    /// nothing is changed.
     pub fn attach(&mut self, accepted: Accepted) -> Result<(), AllocError>
         ensures operations { MatchResult result (λ _. operations_of self.new
             ≡ operations_of self.old ++ Attach accepted ∷ []) (λ _. operations_of self.new
@@ -129,8 +132,10 @@ impl<R: Wait + Drop> Loader<R> {
         self.publish(LoaderOperation::Attach(accepted))
     }
 
-    /// Publishes that the hook has no program, without an allocation. `AllocError` isn't about
-    /// memory here: the history has no number left for the operation, and nothing is changed.
+    /// Publishes that the hook has no program, without an allocation.
+    ///
+    /// # Errors
+    /// As [`attach`](Loader::attach).
     pub fn detach(&mut self, hook: Hook) -> Result<(), AllocError>
         ensures operations { MatchResult result (λ _. operations_of self.new
             ≡ operations_of self.old ++ Detach hook ∷ []) (λ _. operations_of self.new

@@ -29,6 +29,9 @@ impl Model for ProgramSlot {
 
 impl ProgramSlot {
     /// A slot without a program, with capacity for every one.
+    ///
+    /// # Errors
+    /// `AllocError` if an allocation is refused.
     pub fn empty(alloc: Global) -> Result<ProgramSlot, AllocError>
         ensures { IfOk result (λ s. s ≡ None) }
     {

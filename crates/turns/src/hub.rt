@@ -166,7 +166,12 @@ impl<L: Site, B: Taker<L>> Hub<L, B> {
         Ok(taken)
     }
 
-    /// The candidates now and the rows of the table now, of one moment under the lock.
+    /// The candidates for the routing table now, and the table's rows now, both of one moment under
+    /// the lock. Candidates that aren't kept are calculated under the lock. It may wait for the
+    /// lock.
+    ///
+    /// # Errors
+    /// `AllocError` if an allocation is refused.
     pub fn offered<R: Wait>(&self, rt: &R) -> Result<Offered, AllocError>
         ensures offered { IfOk result (λ o. B.offers o.candidates.items o.rows.items) }
         ensures short { OnErr result (IsLacking B.refuses Lack.Memory) }
@@ -186,8 +191,8 @@ impl<L: Site, B: Taker<L>> Hub<L, B> {
         book.candidates()
     }
 
-    /// The neighbor at the interface of this number and its state, or None if it is Down or there
-    /// is no such interface.
+    /// The neighbor at the interface of this number, from 1 on, and its state; `None` if it is Down
+    /// or there is no such interface.
     pub fn neighbor<R: Wait>(&self, rt: &R, interface: u16) -> Option<(RouterId, NeighborState)>
         ensures { (book : B) × B.own book × (result ≡ B.neighbor_at book interface) }
     {
@@ -196,8 +201,12 @@ impl<L: Site, B: Taker<L>> Hub<L, B> {
         book.neighbor(interface)
     }
 
-    /// The neighbors at the interfaces from 1 to this number, of one moment under the lock: at each
-    /// as [`neighbor`](Hub::neighbor) gives it.
+    /// The neighbors at the interfaces from 1 to `interfaces`, interface n at index n - 1, of one
+    /// moment under the lock: each as [`neighbor`](Hub::neighbor) gives it, so `None` beyond the
+    /// last interface. A router has at most 63. It may wait for the lock.
+    ///
+    /// # Errors
+    /// `AllocError` if an allocation is refused.
     pub fn neighbors<R: Wait>(
         &self,
         rt: &R,

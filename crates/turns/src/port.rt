@@ -39,7 +39,7 @@ impl<L: Site> Port<L> {
         }
     }
 
-    /// The port's number.
+    /// The port's number: 0 for the console's, else that of its interface, from 1 to 63.
     pub fn number(&self) -> u16
         ensures { result ≡ self.now.number }
     {

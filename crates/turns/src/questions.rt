@@ -26,7 +26,11 @@ use maps::{Seat, Shared};
 use std::sync::Wait;
 use words::{External, Route, Second, Sequence, TableRow};
 
-/// The event of the work, with the answers that it needs.
+/// The event that this work gives to the book, with the answers of the programs that it needs.
+///
+/// # Errors
+/// `Away` if `tag`, `price` or `veto` got no reading of the published programs; `Memory` if an
+/// allocation is refused.
 pub fn asked<L: Site, B: Taker<L>, R: Wait>(
     rt: &R,
     hub: &Hub<L, B>,
@@ -85,8 +89,8 @@ fn redistribution<L: Site, B: Taker<L>, R: Wait>(
     }
 }
 
-// The same, if a program may stand at `tag` or `price`: both are asked beside the rows of the
-// table.
+// Asks both hooks about the destination beside the rows of the table, which a program at `tag` or
+// `price` may look up.
 fn beside_table<L: Site, B: Taker<L>, R: Wait>(
     rt: &R,
     hub: &Hub<L, B>,
@@ -184,6 +188,9 @@ fn price<L: Site, B: Taker<L>>(
 
 /// An installation: of each candidate now, whether it is kept out of the table. If `veto` has no
 /// program, one reading of the programs answers for all of them, and the table isn't made.
+///
+/// # Errors
+/// `Away` if `veto` got no reading of the published programs; `Memory` if an allocation is refused.
 pub fn installation<L: Site, B: Taker<L>, R: Wait>(
     rt: &R,
     hub: &Hub<L, B>,
@@ -208,8 +215,8 @@ pub fn installation<L: Site, B: Taker<L>, R: Wait>(
     }
 }
 
-// The same, if a program may stand at `veto`: it is asked of each candidate beside the rows of the
-// table.
+// The installation if `veto` may have a program: it is asked about each candidate beside the rows
+// of the table, which it may look up.
 fn vetoed<L: Site, B: Taker<L>, R: Wait>(
     rt: &R,
     hub: &Hub<L, B>,

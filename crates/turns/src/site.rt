@@ -48,7 +48,8 @@ pub struct WorkerSeat<L: Site> {
 }
 
 impl<L: Site> WorkerSeat<L> {
-    /// A place with these.
+    /// Pairs a seat with an asker, for one port. Both have to be the site's: the seat of its table,
+    /// the asker of its programs.
     pub fn new(seat: Seat, asker: Asker) -> WorkerSeat<L>
         requires seated { IsOf L.words seat }
         requires asks { asks_of asker ≡ L.history }

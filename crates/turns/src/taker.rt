@@ -62,11 +62,10 @@ pub struct Taken {
 /// neighbors. The programs, memory and the count of changes are asked here as well, although a
 /// [`Book`] only hands these on.
 ///
-/// What a call says (`took`, `refuses`, `offers` and the others) means nothing here: each type that
-/// implements this gives it a meaning. A turn is proved for all such types at once, so only by the
-/// call itself can it know what the call says. Hence the prover refuses a turn that gives another
-/// event, or none, or gives it at another moment or to another book; and one that says that a
-/// reading or memory was wanting though it never asked for one.
+/// `took`, `refuses`, `offers` and the others are relations that each implementation defines. A
+/// turn is generic over the implementation, so it can establish them only by the call itself. Hence
+/// the prover refuses a turn that gives another event, or none, or gives it at another moment or to
+/// another book; and one that reports a reading or memory as lacking though it never asked for one.
 pub trait Taker<L: Origin> {
     ghost took: { Took };
 
@@ -82,10 +81,13 @@ pub trait Taker<L: Origin> {
 
     ghost moment_of: { Self → Moment };
 
-    /// Takes an event, which counts once in the share. A refusal leaves the share as it was.
+    /// Takes an event, which counts once in the share.
     ///
     /// An installation comes after programs were asked, which takes its time: it isn't refused if
     /// another event came at a later moment meanwhile.
+    ///
+    /// # Errors
+    /// Why the event is refused, as [`Book::apply_anew`] says. The share is unchanged.
     fn take(
         &mut self,
         mine: &mut Share<L>,
@@ -104,13 +106,19 @@ pub trait Taker<L: Origin> {
             → result ≡ Err (BookError.Core CoreError.ClockBack)
             → own self.old × (clock_end ≤ max moment (moment_of self.old)) };
 
-    /// The candidates now, and the rows of the table now.
+    /// The candidates for the routing table now, and the table's rows now.
+    ///
+    /// # Errors
+    /// `AllocError` if an allocation is refused.
     fn offered(&self) -> Result<Offered, AllocError>
         ensures offered { IfOk result (λ o. offers o.candidates.items o.rows.items) }
         ensures short { OnErr result (IsLacking refuses Lack.Memory) };
 
-    /// The candidates now, for a caller that needs no rows: that takes less time than
-    /// [`offered`](Taker::offered).
+    /// The candidates for the routing table now, for a caller that needs no rows: that takes less
+    /// time than [`offered`](Taker::offered).
+    ///
+    /// # Errors
+    /// `AllocError` if an allocation is refused.
     fn candidates(&self) -> Result<Vec<Route>, AllocError>
         ensures offered { IfOk result (λ c. (rows : List TableRow) × offers c.items rows) }
         ensures short { OnErr result (IsLacking refuses Lack.Memory) };
@@ -126,7 +134,8 @@ pub trait Taker<L: Origin> {
         ensures at { result ≡ neighbor_at self.now interface }
         ensures own { own self.now };
 
-    /// What [`Asker::count`] answers.
+    /// Runs the program at `count` on a packet, by [`Asker::count`]. `None` if the published
+    /// programs can't be read.
     fn count(
         asker: &mut Asker,
         interface: u16,
@@ -146,7 +155,8 @@ pub trait Taker<L: Origin> {
             seat.old seat.new (count_input interface moment packet.now) a.word) }
         ensures table { IsOf shared.now seat.new };
 
-    /// What [`Asker::tag`] answers.
+    /// Asks the program at `tag` for a destination's tag, by [`Asker::tag`]. `None` if the
+    /// published programs can't be read.
     fn tag(
         asker: &mut Asker,
         external: &External,
@@ -167,7 +177,8 @@ pub trait Taker<L: Origin> {
             seat.old seat.new (tag_input external.now moment rows.now) a.word) }
         ensures table { IsOf shared.now seat.new };
 
-    /// What [`Asker::price`] answers.
+    /// Asks the program at `price` for a destination's metric, by [`Asker::price`]. `None` if the
+    /// published programs can't be read.
     fn price(
         asker: &mut Asker,
         external: &External,
@@ -188,7 +199,8 @@ pub trait Taker<L: Origin> {
             seat.old seat.new (price_input external.now moment rows.now) a.word) }
         ensures table { IsOf shared.now seat.new };
 
-    /// What [`Asker::veto`] answers.
+    /// Asks the program at `veto` whether to keep a route out of the table, by [`Asker::veto`].
+    /// `None` if the published programs can't be read.
     fn veto(
         asker: &mut Asker,
         route: &Route,
@@ -208,7 +220,11 @@ pub trait Taker<L: Origin> {
             seat.old seat.new (veto_input route.now moment rows.now) a.word) }
         ensures table { IsOf shared.now seat.new };
 
-    /// What [`Asker::all_let_in`] answers.
+    /// The answers on these routes if `veto` has no program: each is let in, by
+    /// [`Asker::all_let_in`]. `None` if it has one, or the published programs can't be read.
+    ///
+    /// # Errors
+    /// `AllocError` if an allocation is refused.
     fn all_let_in(
         asker: &mut Asker,
         alloc: Global,
@@ -224,12 +240,19 @@ pub trait Taker<L: Origin> {
             (known_to asker.old) (known_to asker.new) (veto_input route moment rows) 0)) }
         ensures short { OnErr result (IsLacking refuses Lack.Memory) };
 
-    /// A copy of a datagram.
+    /// Clones a datagram for its event. It stands here, as `room` does, so that a refusal for
+    /// memory counts as one of this implementation.
+    ///
+    /// # Errors
+    /// `AllocError` if an allocation is refused.
     fn copied(bytes: &Sequence<u8>) -> Result<Sequence<u8>, AllocError>
         ensures copied { IfOk result (λ copy. copy ≡ bytes.now) }
         ensures short { OnErr result (IsLacking refuses Lack.Memory) };
 
-    /// A list with room for this number of answers.
+    /// An empty list with capacity for this number of answers.
+    ///
+    /// # Errors
+    /// `AllocError` if an allocation is refused.
     fn room(alloc: Global, answers: usize) -> Result<Vec<VetoAnswer>, AllocError>
         ensures none { IfOk result (λ list. list.items ≡ []) }
         ensures room { IfOk result (λ list. answers ≤ vec_capacity list) }
@@ -259,7 +282,7 @@ fn taken_at(event: &Event, moment: Second, last: Second) -> Second
     }
 }
 
-// What is known, if memory wasn't refused.
+// What is known, unless memory was refused.
 fn known(told: Result<bool, AllocError>) -> Option<bool>
     ensures { MatchResult told (λ is. result ≡ Some is) (λ _. result ≡ None) }
 {

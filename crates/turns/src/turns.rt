@@ -38,16 +38,19 @@ use words::Second;
 /// is later than the turn's: it may have passed while the programs were asked. All else happens at
 /// the turn's moment.
 ///
-/// Refused: `Away` if `tag`, `price` or `veto` got no reading; else as the book refuses the event
-/// ([`Book::apply_anew`](flood::Book::apply_anew)). `Memory` may come earlier, while the programs
-/// are asked. A refused turn adds no event to the book. What the programs did to the shared words
-/// stays, and so does a mark ([`Book::mark`](flood::Book::mark)).
+/// What the programs did to the shared words stays even if the turn is refused, and so does a mark
+/// ([`Book::mark`](flood::Book::mark)).
 ///
 /// The refresh is refused too if the programs were changed since the turn began
 /// ([`Hub::programs_changed`]). A refusal of it leaves the turn's outs as they are, and the next
 /// turn tries again; so it does if memory was lacking to find out whether the router is stale.
 ///
 /// A turn that is refused before its event is given hasn't passed the gate.
+///
+/// # Errors
+/// `Away` if `tag`, `price` or `veto` got no reading; else as the book refuses the event
+/// ([`Book::apply_anew`](flood::Book::apply_anew)). `Memory` may come earlier, while the programs
+/// are asked. A refused turn adds no event to the book.
 pub fn turn<L: Site, B: Taker<L>, G: Gate, R: Wait>(
     rt: &R,
     hub: &Hub<L, B>,

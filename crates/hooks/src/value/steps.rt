@@ -19,6 +19,11 @@ use std::alloc::{AllocError, Global};
 use word_machine::run;
 
 impl Programs {
+    /// Programs of which no hook has one, with capacity for any: to publish one later needs no
+    /// allocation.
+    ///
+    /// # Errors
+    /// `AllocError` if an allocation is refused.
     pub fn empty(alloc: Global, front: Front) -> Result<Programs, AllocError>
         ensures { IfOk result (λ p. p ≡ vacant front) }
     {
