@@ -79,7 +79,8 @@ pub trait Domain: Copy {
         ensures holds { (n : ℕ) → contains self n → (result.0 ≤ n) × (n ≤ result.1) }
         ensures gives { range_gives self result };
 
-    /// The exponent of a power of two that divides each number.
+    /// The exponent of a power of two that divides each number, from 0 to 64: 0 says nothing, and
+    /// 64 that 0 is the only number of 64 bits. It needn't be the greatest such exponent.
     fn multiple(self) -> u32
         ensures holds { (n : ℕ) → contains self n → n % 2 ^ result ≡ 0 }
         ensures gives { multiple_gives self result };

@@ -50,8 +50,8 @@ fn try_statements(
     }
 }
 
-/// The same without the statements that are given, and without the known bits that the verifier
-/// does without.
+/// Finds statements as `try_statements` does, but none of those that are given stays, and then
+/// drops the known bits that the verifier does without.
 fn try_anew(task: &Task<'_>, code: &Code, unranked: &mut Unranked) -> Result<Annotated, Shortfall>
     requires { IsProgram task.now.bytes.now }
     ensures { IsOutcome task.now.hook task.now.bytes.now result }
@@ -62,9 +62,13 @@ fn try_anew(task: &Task<'_>, code: &Code, unranked: &mut Unranked) -> Result<Ann
     }
 }
 
-/// The same, first with the statements that are given as they are, and then without. They stay as
-/// they are if the verifier accepts them so; else they lend their slots, their numbers and their
-/// ranks' registers.
+/// Finds statements and ranks for the code at the hook. The statements that are given stay as they
+/// are if the verifier accepts the program so; else all are found anew, and those given only lend
+/// their slots, their numbers and their ranks' registers.
+///
+/// # Errors
+/// `Memory` if an allocation is refused; `Statements` if the statements that were found can't stand
+/// in an object; `Refused` if the verifier refuses the program with the best of them.
 pub fn annotate(
     task: &Task<'_>,
     code: &Code,

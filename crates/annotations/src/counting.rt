@@ -1,4 +1,4 @@
-//! The same for code with loops that have no rank: their turns are counted.
+//! Finds statements for code with loops that have no rank: code that counts their turns is added.
 ghost use Rattle.std.specs.Prelude.{◌≡◌, ◌⊎◌, []};
 ghost use Rattle.isa.specs.Spelling.{Spells};
 ghost use Rattle.annotations.specs.Annotated.{IsRejected, fuel_of, no_fuel};
@@ -158,6 +158,9 @@ fn annotate_loops(
 /// Finds statements and ranks as `annotate` does. If a loop has no rank, its turns are counted: the
 /// object has other code, which gives the task's answer instead of more than `turns` turns in all.
 /// Loops that have a rank stay as they are.
+///
+/// # Errors
+/// As [`annotate`](crate::attempt::annotate), and `Uncounted` if the turns can't be counted.
 pub fn annotate_counted(
     task: &Task<'_>,
     code: &Code,
@@ -207,8 +210,8 @@ fn try_bounded(
     }
 }
 
-/// The same for the loops that lack a rank, and again for those that lack one then. None are
-/// counted of code that leads to where it has no instruction.
+/// Counts the loops that lack a rank, as `try_bounded` does, and again with those that lack one
+/// then. None are counted of code that leads to where it has no instruction.
 fn count_bounded(
     task: &Task<'_>,
     code: &Code,
@@ -268,6 +271,10 @@ fn count_endless(
 /// Finds statements and ranks as `annotate` does. If a loop has no rank, and it is found how many
 /// turns the loops take at most, those are counted. If the verifier refuses that too, the answer is
 /// what it says of the given code.
+///
+/// # Errors
+/// As [`annotate`](crate::attempt::annotate). If the loops can't be counted for want of a register,
+/// `Refused` says so.
 pub fn annotate_bounded(
     task: &Task<'_>,
     code: &Code,

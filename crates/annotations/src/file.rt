@@ -49,7 +49,7 @@ fn annotate_code(task: &Task<'_>, turns: Option<u32>) -> Result<AnnotatedObject,
     }
 }
 
-/// The same for a file that has to be an object.
+/// Finds statements for the code of a file that has to be an object for the hook.
 fn annotate_object(
     alloc: Global,
     hook: Hook,

@@ -22,7 +22,8 @@ fn leads_inside(code: &Code, slot: usize, instruction: &Instruction) -> bool
     }
 }
 
-/// The same of the instruction that begins at the slot, if one does.
+/// Whether the instruction that begins at the slot leads only to instructions; true if none begins
+/// there.
 fn leads_inside_at(code: &Code, slot: usize) -> bool
     requires { slot < 4096 }
     ensures { result ≡ true → (i : Instruction) → BeginsAt i code.now slot

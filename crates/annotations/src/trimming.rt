@@ -88,8 +88,12 @@ fn trim_within(
     }
 }
 
-/// The same without the known bits that the verifier does without: of all statements, and if they
-/// are few, also of one after the other.
+/// Drops the known bits that the verifier does without from the object's statements: from all at
+/// once, and if they are few, also from one after the other.
+///
+/// # Errors
+/// `Memory` if an allocation is refused, `Statements` if fewer known bits can't stand in an object.
+/// A refusal of the verifier is no error: what it refuses is kept as it was.
 pub fn trim(task: &Task<'_>, mut annotated: Annotated) -> Result<Annotated, Shortfall>
     requires program { IsProgram task.now.bytes.now }
     requires annotated { IsAnnotated task.now.hook task.now.bytes.now annotated.object

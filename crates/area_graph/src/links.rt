@@ -30,6 +30,9 @@ pub struct AreaTopology<'a> {
 
 /// The links of the graph from a node, to the indices of their nodes. Of a router's links to one
 /// network only a cheapest one is included, but of the root's one for each interface.
+///
+/// # Errors
+/// `AllocError` if an allocation is refused.
 pub fn links_from(
     alloc: Global,
     advertised: &Advertised<'_>,

@@ -34,7 +34,7 @@ pub fn first_at(entries: &[AdvertisedLink], entry: &AdvertisedLink) -> usize
     entries.partition_point(|other| compare(other, entry).is_lt())
 }
 
-/// The same, tried at this index first, which is usually right.
+/// The index that `first_at` gives. It is tried at `place` first, which is usually right.
 pub fn first_at_near(entries: &[AdvertisedLink], place: usize, entry: &AdvertisedLink) -> usize
     requires { IsSorted entry_cmp entries.now }
     ensures within { result ≤ length entries.now }

@@ -76,7 +76,7 @@ pub fn index_of(nodes: &[Node], node: &Node) -> usize
     low
 }
 
-/// The same, tried at this index first, which is usually right.
+/// The index that `index_of` gives. It is tried at `place` first, where the node usually stands.
 pub fn index_near(nodes: &[Node], place: usize, node: &Node) -> usize
     requires { Ascend nodes.now }
     ensures within { result ≤ length nodes.now }

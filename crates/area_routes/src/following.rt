@@ -67,7 +67,8 @@ fn follow_from(
     }
 }
 
-// The same if candidates were kept; `None` if not.
+// Follows the changed AS-external-LSAs with the candidates that were kept; `None` if none were, or
+// as in `follow_from`.
 fn follow_some(
     alloc: Global,
     area: &Area,
@@ -99,7 +100,10 @@ fn follow_some(
     }
 }
 
-/// The same if the results from the LSAs of types 1 to 4 (`inner`) are known too; `None` if not.
+/// The candidates after an event that changed AS-external-LSAs alone: those that were kept, with
+/// the routes to the destinations of the changed LSAs calculated anew (RFC 2328, section 16.6).
+/// `None` if the candidates or the results from the LSAs of types 1 to 4 (`inner`) weren't kept, if
+/// too much changed, or if an allocation is refused.
 pub fn followed(
     alloc: Global,
     area: &Area,

@@ -377,7 +377,8 @@ impl AreaRoutes {
         self.graph = graph_after(alloc, router, area, before, moment, kept);
     }
 
-    // The same except for what AS-external-LSAs advertise, and the graph.
+    // Updates all but the graph and what AS-external-LSAs advertise, which have functions of their
+    // own.
     fn update_routes(
         &mut self,
         alloc: Global,
@@ -469,7 +470,8 @@ impl AreaRoutes {
         self.answered = false;
     }
 
-    // The same if only AS-external-LSAs change.
+    // Updates the candidates if only AS-external-LSAs change: follows them, or forgets the
+    // candidates.
     fn update_externals(&mut self, alloc: Global, area: &Area, before: Second, moment: Second)
         requires order { before ≤ moment }
         requires same { SayTheSame (Some 4) (said_at before area.now.committed.database)

@@ -25,7 +25,11 @@ fn addresses_of(alloc: Global, links: &[Link]) -> Result<Vec<Address>, AllocErro
     Ok(addresses)
 }
 
-/// The root of the router's walks.
+/// The root of the shortest-path calculation (RFC 2328, section 16.1): this router, with the
+/// addresses of its interfaces, interface n at index n - 1.
+///
+/// # Errors
+/// `AllocError` if an allocation is refused.
 pub fn root_of(alloc: Global, router: RouterId, area: &Area) -> Result<Root, AllocError>
     ensures { IfOk result (λ root. root ≡ root_by router area.now.present.links) }
 {

@@ -296,8 +296,9 @@ fn at_line(line: usize, kind: AsmFault) -> AsmError
 
 /// The object that a text of assembly spells.
 ///
-/// Errors name the first bad line, counted from 1. A text with no bad line and no instruction is
-/// `Syntax` at line 1. If an allocation is refused, the error is `Memory` at line 0.
+/// # Errors
+/// The first bad line, counted from 1. A text with no bad line and no instruction is `Syntax` at
+/// line 1. If an allocation is refused, the error is `Memory` at line 0.
 pub fn assemble(alloc: Global, text: &str) -> Result<Object, AsmError>
     ensures spells { MatchResult result (TextSpells text.now)
         (λ error. IsWantOfMemory error ⊎ Refuses text.now error.line error.kind) }

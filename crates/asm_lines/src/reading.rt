@@ -633,7 +633,10 @@ fn read_line<'a>(
 /// the label that the line defines or uses, empty if there is none.
 ///
 /// Lines are separated by line feeds, so the last one is what follows the last line feed, usually
-/// an empty line. After an error the caller discards both vectors.
+/// an empty line.
+///
+/// # Errors
+/// `AllocError` if an allocation is refused; the caller then discards both vectors.
 pub fn read_lines<'a>(
     alloc: Global,
     text: &'a str,

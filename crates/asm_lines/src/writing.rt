@@ -619,7 +619,10 @@ fn write_words(text: &mut String, line: AssemblyLine, name: &str) -> Result<(), 
 /// uses; it is empty if there is none.
 ///
 /// `read_lines` finds in the new text what it found in the old one, if that has whole lines, and
-/// then this line. After an error the caller discards the text.
+/// then this line.
+///
+/// # Errors
+/// `AllocError` if an allocation is refused; the caller then discards the text.
 pub fn write_line(text: &mut String, line: AssemblyLine, name: &str) -> Result<(), AllocError>
     requires { IsNamed line name.now }
     ensures written { OnOk result (string_bytes text.new ≡ string_bytes text.old

@@ -60,6 +60,9 @@ impl MeasuredTimes {
 }
 
 /// When a measurement starts.
+///
+/// # Errors
+/// `System` if the clock can't be read.
 pub fn start<R: Clock>(rt: &R) -> Result<Instant, NoFigure> {
     match Instant::now(rt) {
         Ok(start) => Ok(start),
@@ -67,8 +70,11 @@ pub fn start<R: Clock>(rt: &R) -> Result<Instant, NoFigure> {
     }
 }
 
-/// How long a measurement took, in nanoseconds. If what is measured failed, that is an error, since
-/// it would be too fast.
+/// How long a measurement took, in nanoseconds.
+///
+/// # Errors
+/// `System` if the clock can't be read; `Round` if what is measured failed, since its time would be
+/// too short.
 pub fn nanoseconds<R: Clock>(rt: &R, start: Instant, succeeded: bool) -> Result<u64, NoFigure> {
     match start.elapsed(rt) {
         Ok(passed) if succeeded => Ok(u64::try_from(passed.as_nanos()).unwrap_or(u64::MAX)),

@@ -8,6 +8,9 @@ use std::alloc::AllocError;
 use words::{Address, Key, Prefix};
 
 /// Adds an offer, if there is one.
+///
+/// # Errors
+/// `AllocError` if an allocation is refused.
 pub fn push_offer(offers: &mut Vec<Offer>, offer: Option<Offer>) -> Result<(), AllocError>
     ensures { OnOk result (Adds offers.old.items offers.new.items (λ o. offer ≡ Some o)) }
 {

@@ -98,6 +98,9 @@ pub fn find(nodes: &[Node], slots: &Slots, node: &Node) -> Option<usize>
 }
 
 /// The root at distance 0, by no interface, and nothing else.
+///
+/// # Errors
+/// `AllocError` if an allocation is refused.
 pub fn root_alone(alloc: Global, root: &Root) -> Result<Reached, AllocError>
     ensures { IfOk result (λ reached. reached ≡ alone root.now) }
 {

@@ -39,7 +39,7 @@ pub fn walk(alloc: Global, db: &Lsdb, root: &Root, moment: Second) -> Result<Rea
     }
 }
 
-// The same by the whole graph.
+// The ways to all nodes, by building the whole graph and searching it.
 fn walk_on(alloc: Global, db: &Lsdb, root: &Root, moment: Second) -> Result<Reached, AllocError>
     requires interfaces { length root.now.addresses ≤ 63 }
     requires size { finite.len db.now.present ≤ 16384 }

@@ -44,7 +44,8 @@ fn outcome_of(alloc: Global, limit: u64, code: &Code) -> Option<(u64, u64)> {
     Some(shown(run_checked(code, Hook::Veto, limit, &input, &words, &mut seat)))
 }
 
-// The same for the code in these bytes. Retries once: a test run may refuse one allocation.
+// The outcome of a run of the code that these bytes spell. Retries once: a test run may refuse one
+// allocation.
 fn outcome(alloc: Global, limit: u64, bytes: &[u8]) -> Option<(u64, u64)> {
     match decode(alloc, bytes) {
         Ok(code) => outcome_of(alloc, limit, &code),

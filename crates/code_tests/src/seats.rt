@@ -7,6 +7,9 @@ use maps::{MapsError, Seat, Shared};
 use std::alloc::Global;
 
 /// A new table. Retries once: a test run may refuse one allocation.
+///
+/// # Errors
+/// As [`Shared::new`](maps::Shared::new).
 pub fn table(alloc: Global, count: usize) -> Result<(Shared, Vec<Seat>), MapsError>
     ensures seats { IfOk result (λ r. r.0.seats ≡ count) }
     ensures fresh { IfOk result (λ r. r.1.items ≡ map (fresh r.0.table) (range_with_len 0 count)) }

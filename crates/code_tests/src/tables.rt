@@ -88,7 +88,7 @@ fn seen_and_summed<R: Threads>(
     Ok(([one, two], sums))
 }
 
-// The same for a new table.
+// What two threads read and sum on a new table of two seats.
 fn two_threads<R: Threads>(rt: &R, alloc: Global) -> Option<([u64; 2], [u64; 256])> {
     let Ok((words, mut seats)) = table(alloc, 2) else {
         return None;

@@ -29,9 +29,11 @@ pub fn unread(alloc: Global, error: &io::Error) -> Error
 
 /// Parses the words of a command line, of which the first is the program's name.
 ///
-/// `Ok` is exactly the request of the words. `Err` has the text for the user: a mistake in the
-/// words, which then make no request, or the help that they request. Its kind is `OutOfMemory` if
-/// an allocation was refused.
+/// `Ok` is exactly the request of the words.
+///
+/// # Errors
+/// The text for the user: a mistake in the words, which then make no request, or the help that they
+/// request. Its kind is `OutOfMemory` if an allocation was refused.
 pub fn parse<'a>(alloc: Global, words: &'a [&'a str]) -> Result<CommandRequest<'a>, Error>
     ensures { (line : App) × IsCommandLine line
         × MatchResult result (Asks line (map (λ w. w.now) words.entry.now))

@@ -7,8 +7,11 @@ use std::alloc::Global;
 use std::rt::Files;
 use whole_files::{ReadFault, WriteFault};
 
-/// The bytes of the file at `path`. `CommandError::Read` if it can't be opened or read, is no
-/// regular file, or is too long.
+/// The bytes of the file at `path`.
+///
+/// # Errors
+/// `Read` if it can't be opened or read, is no regular file, or is longer than 16 MiB; `Memory` if
+/// an allocation is refused.
 pub fn read<'a, R: Files + AllocGlobal>(rt: &R, path: &'a str) -> Result<Vec<u8>, CommandError<'a>>
     ensures within { IfOk result (λ bytes. vec_len bytes ≤ 16777216) }
     ensures fault { IfErr result (λ fault. (fault ≡ CommandError.Read path.entry)
@@ -21,8 +24,10 @@ pub fn read<'a, R: Files + AllocGlobal>(rt: &R, path: &'a str) -> Result<Vec<u8>
     }
 }
 
-/// The text of the file at `path`. `CommandError::Read` if it can't be opened or read, is no
-/// regular file, is too long, or isn't UTF-8.
+/// The text of the file at `path`.
+///
+/// # Errors
+/// As [`read`], and `Read` if it isn't UTF-8.
 pub fn read_text<'a, R: Files + AllocGlobal>(
     rt: &R,
     path: &'a str,
@@ -37,7 +42,9 @@ pub fn read_text<'a, R: Files + AllocGlobal>(
 }
 
 /// Makes the file at `path` one of these bytes, as [`whole_files::write`] does.
-/// `CommandError::Write` if that can't be done.
+///
+/// # Errors
+/// `Write` if that fails, `Memory` if an allocation is refused.
 pub fn write<'a, R: Files + AllocGlobal>(
     rt: &R,
     path: &'a str,

@@ -187,7 +187,7 @@ pub fn totals_text(alloc: Global, sums: &[u64]) -> Result<String, AllocError>
     Ok(text)
 }
 
-/// The same lines, and `end`.
+/// The lines of `totals_text`, and `end`: what `counters` prints.
 ///
 /// # Errors
 /// `AllocError` if an allocation is refused.

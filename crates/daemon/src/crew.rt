@@ -24,13 +24,15 @@ use worker::{
     Book, Closed, Core, Hub, Port, Setup, Signal, Site, Sockets, SystemSeconds, close_hub, open_hub,
 };
 
-/// Lets each worker run on a thread with a port of its own, and the operator on this thread at port
-/// 0, until the operator is done. Every thread is joined before it answers, whatever it answers.
-/// There is a link for each port but the operator's: port n's receives at interface n. The book
-/// took just as many events as all shares count; the shared words come back with all their seats,
-/// as [`Shared::close`](maps::Shared::close) asks for them. Beside that stands how each link ended,
-/// and the conversation: it is mute only if the output couldn't be written.
+/// Runs each worker on a thread with a port of its own, and the operator on this thread at port 0,
+/// until the operator is done. Every thread is joined before this returns, whatever it returns.
+/// There is a link for each port but the operator's: port n's receives at interface n.
 ///
+/// Returns the closed book, which took just as many events as all shares count; the shared words
+/// with all their seats, as [`Shared::close`](maps::Shared::close) requires them; how each link
+/// ended; and the conversation, which is mute only if the output couldn't be written.
+///
+/// # Errors
 /// `AllocError` if an allocation is refused, or if a thread couldn't be started.
 pub fn side_by_side<
     L: Site + Send + Sync,

@@ -48,6 +48,9 @@ fn print_sums<O: WritesTexts>(
 
 /// Closes the words that the programs share, of which all seats are back, and prints for each
 /// counter the sum of all that was added to it.
+///
+/// # Errors
+/// `Output` if the output can't be written, `Memory` if an allocation is refused.
 pub fn print_totals<O: WritesTexts>(
     alloc: Global,
     shared: Shared,

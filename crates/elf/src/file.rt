@@ -38,7 +38,11 @@ impl<'a> Model for ObjectFile<'a> {
     ghost invariant = { λ file. IsObjectFile file.bytes.now };
 }
 
-/// The object that these bytes are. It takes no memory beside them.
+/// Reads an ELF object file in place: it borrows the bytes, and allocates nothing.
+///
+/// # Errors
+/// The first fault of the bytes: of the header, then of where the contents lie, of the section
+/// names, and of each section in turn.
 pub fn read(bytes: &[u8]) -> Result<ObjectFile<'_>, ElfFault>
     ensures found { IfOk result (λ file. (file ≡ bytes.now) × IsObjectFile bytes.now) }
     // What is such an object is read.
@@ -132,6 +136,9 @@ impl<'a> ObjectFile<'a> {
     }
 
     /// The functions that are in the section, in the order of the file.
+    ///
+    /// # Errors
+    /// `AllocError` if an allocation is refused.
     pub fn functions(&self, alloc: Global, section: usize) -> Result<Vec<LinkedSymbol>, AllocError>
         ensures { IfOk result (λ functions. functions.items ≡ functions_of self.now section) }
     {
@@ -150,6 +157,9 @@ impl<'a> ObjectFile<'a> {
     }
 
     /// The places of the section that a linker would change, in the order of the file: all of them.
+    ///
+    /// # Errors
+    /// `AllocError` if an allocation is refused.
     pub fn relocations(
         &self,
         alloc: Global,

@@ -123,7 +123,7 @@ fn push_program(page: &mut Page<'_>, program: &Program<'_>) {
     }
 }
 
-/// The same for an object's program, with this statement at the entry.
+/// What the verifier knows at each slot of an object's program, with this statement at the entry.
 fn push_entered(
     page: &mut Page<'_>,
     memory: &Memory,
@@ -228,6 +228,10 @@ fn explain_object(alloc: Global, bytes: &[u8], object: &Object) -> Result<Explan
 
 /// What the verifier knows at each slot of the object's program, up to the one that it refuses, and
 /// its verdict.
+///
+/// # Errors
+/// `Object` if the bytes are no object file, `Code` if its code doesn't decode, `Memory` if an
+/// allocation is refused. That the verifier refuses the program is no error.
 pub fn explain(alloc: Global, bytes: &[u8]) -> Result<Explanation, ExplainError>
     ensures accepts { IfOk result (λ explanation. IfOk explanation.verdict (Accepts bytes.now)) }
     ensures refuses { IfOk result (λ explanation. IfErr explanation.verdict (Refuses bytes.now)) }

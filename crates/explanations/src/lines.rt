@@ -28,6 +28,9 @@ fn lines_of(alloc: Global, object: &Object) -> Option<String> {
 }
 
 /// The object's instructions in assembly, one per line.
+///
+/// # Errors
+/// `Memory` if an allocation is refused.
 pub fn instruction_lines(alloc: Global, object: &Object) -> Result<String, ExplainError> {
     match bare_object(alloc, object) {
         Some(bare) => lines_of(alloc, &bare).ok_or(ExplainError::Memory),

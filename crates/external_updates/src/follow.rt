@@ -64,7 +64,8 @@ fn renew_by(
     Ok(stood)
 }
 
-// The same if the keys have to be found; `None` if they may be too many.
+// Recalculates the route to one destination, as `renew_by` does, with the keys of the
+// AS-external-LSAs that may advertise it. `None` if they may be too many.
 fn renew(
     alloc: Global,
     db: &Lsdb,
@@ -93,7 +94,8 @@ fn renew(
     }
 }
 
-// The same for each of these destinations.
+// Recalculates the routes to these destinations, one after the other. Returns whether none of them
+// is new; `None` if for one the LSAs may be too many.
 fn renew_all(
     alloc: Global,
     db: &Lsdb,

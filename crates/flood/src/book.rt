@@ -319,6 +319,9 @@ impl<L: Origin> Book<L> {
     /// A mark stands, whether the event is taken or not: so if it is refused for want of memory,
     /// the book is marked. None is made if 2^63 events were taken, nor if the event is refused for
     /// its moment or its interface.
+    ///
+    /// # Errors
+    /// As [`apply`](Book::apply), but `Journal` only if 2^63 events were taken.
     pub fn apply_anew(
         &mut self,
         mine: &mut Share<L>,

@@ -22,19 +22,20 @@ pub enum Case {
     /// At MaxAge, without a database copy, and no neighbor is in Exchange or Loading: nothing to
     /// flush.
     NothingToFlush,
-    /// Newer than a copy that flooding installed less than a second ago.
+    /// Newer than a copy that flooding installed in the same second (MinLSArrival).
     TooSoon,
     /// Newer than the copy, or there is none.
     Newer,
     /// Not newer, although it is on the sender's request list.
     BadRequest,
-    /// The same instance as on the sender's retransmission list: an implied acknowledgment.
+    /// The same instance as the copy, and it is on the sender's retransmission list: an implied
+    /// acknowledgment.
     ImpliedAcknowledgment,
-    /// The same instance.
+    /// The same instance as the copy, otherwise.
     Duplicate,
     /// The copy is newer, with MaxAge and MaxSequenceNumber: it is being flushed.
     SequenceWraps,
-    /// The copy is newer, and was sent less than a second ago.
+    /// The copy is newer, and was sent in the same second (MinLSArrival).
     SentJustNow,
     /// The copy is newer.
     Older,
@@ -77,7 +78,9 @@ fn same_as_copy(moment: Second, header: &Header, copy: &Option<DatabaseCopy<'_>>
     }
 }
 
-// Less than a second ago, which for whole seconds means in the same second (MinLSArrival).
+// Within MinLSArrival, 1 second (RFC 2328, appendix B). Since moments are whole seconds, only what
+// happened in the same second counts: an instance that comes less than a second later, but in the
+// next second, is accepted. There the router departs from section 13, steps 5 (a) and 8.
 fn in_this_second(moment: Second, then: Option<Second>) -> bool
     ensures { result ≡ in_this_second moment then }
 {

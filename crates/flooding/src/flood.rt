@@ -218,6 +218,9 @@ pub fn roll_back_links(links: &mut [Link])
 }
 
 /// Takes what was drafted away, in the order of the interfaces, so that nothing is left.
+///
+/// # Errors
+/// `AllocError` if an allocation is refused.
 pub fn take_drafts(alloc: Global, links: &mut [Link]) -> Result<Vec<Draft>, AllocError>
     ensures drafts { IfOk result (λ drafts. drafts.items ≡ map draft_of links.old) }
     ensures present { map present links.new ≡ map present links.old }

@@ -44,6 +44,9 @@ pub fn any_has_retransmission(key: &Key, links: &[Link]) -> bool
 }
 
 /// BadLSReq at one interface: from Exchange on, the neighbor goes back to ExStart.
+///
+/// # Errors
+/// `AllocError` if an allocation is refused.
 pub fn bad_request(
     alloc: Global,
     moment: Second,
@@ -61,6 +64,9 @@ pub fn bad_request(
 }
 
 /// Removes the header's key from the retransmission list of the neighbor at one interface.
+///
+/// # Errors
+/// `AllocError` if an allocation is refused.
 pub fn remove_retransmission(
     number: usize,
     header: &Header,
@@ -79,6 +85,9 @@ pub fn remove_retransmission(
 }
 
 /// Adds a delayed acknowledgment at one interface.
+///
+/// # Errors
+/// `AllocError` if an allocation is refused.
 pub fn delay_acknowledgment(
     number: usize,
     header: Header,
@@ -94,6 +103,9 @@ pub fn delay_acknowledgment(
 }
 
 /// Drafts a direct acknowledgment at one interface.
+///
+/// # Errors
+/// `AllocError` if an allocation is refused.
 pub fn draft_direct_acknowledgment(
     number: usize,
     header: Header,
@@ -109,6 +121,9 @@ pub fn draft_direct_acknowledgment(
 }
 
 /// Drafts a Link State Update with the copy at one interface.
+///
+/// # Errors
+/// `AllocError` if an allocation is refused.
 pub fn draft_update(
     alloc: Global,
     moment: Second,

@@ -57,12 +57,17 @@ impl Area {
         self.database.mark_sent(moment, &sent_key)
     }
 
-    /// Processes an LSA of this case, as `case_at` tells it, that was received at the interface
-    /// with this number (RFC 2328, section 13); for one of the case `Newer` there is `install`. It
-    /// is ignored within MinLSArrival. A duplicate is acknowledged directly, and so is an LSA at
-    /// MaxAge if there is nothing to flush. The same instance as on the sender's retransmission
-    /// list is removed from there. An LSA that is on the request list but not newer is BadLSReq. If
-    /// the copy is newer, it is sent to the sender, unless it is being flushed or was just sent.
+    /// Processes an LSA of a Link State Update that was received at the interface with this number,
+    /// if it isn't newer than the copy (RFC 2328, section 13); `case` is what `case_at` tells of
+    /// it. One of the case `Newer` isn't handled here: `router_state` gives it to
+    /// [`install`](Area::install), which floods it, and then looks whether it is self-originated
+    /// (section 13.4).
+    ///
+    /// A duplicate is acknowledged directly, and so is an LSA at MaxAge if there is nothing to
+    /// flush. The same instance as on the sender's retransmission list is removed from there. One
+    /// that is on the request list but not newer is BadLSReq; the caller then drops the rest of the
+    /// packet. If the copy is newer, it is sent to the sender. Nothing is done within MinLSArrival,
+    /// or if the newer copy is being flushed or was just sent.
     ///
     /// # Errors
     /// `AllocError` if an allocation is refused.
@@ -84,7 +89,7 @@ impl Area {
         match case {
             Case::NothingToFlush => draft_direct_acknowledgment(number, header, &mut self.links),
             Case::TooSoon => Ok(()),
-            // Excluded by what is required.
+            // Excluded by what is required: `install` takes it.
             Case::Newer => Ok(()),
             Case::BadRequest => bad_request(alloc, moment, number, &mut self.links),
             Case::ImpliedAcknowledgment => remove_retransmission(number, &header, &mut self.links),

@@ -36,6 +36,10 @@ pub trait LinkStep {
 
     ghost sends: { Self → Database → Shown → List Content };
 
+    /// Changes the link as `after` says, and drafts at it what `sends` says.
+    ///
+    /// # Errors
+    /// `AllocError` if an allocation is refused; the caller then rolls back.
     fn apply(&self, alloc: Global, database: &Lsdb, link: &mut Link) -> Result<(), AllocError>
         ensures { LinkDoes (after self.now database.now.present)
             (sends self.now database.now.present)

@@ -50,7 +50,8 @@ fn look(reader: ProgramReader, front: &mut Front) -> (ProgramReader, Option<Vaca
 }
 
 impl Asker {
-    // The same, for the programs that this asker reads.
+    // Which hooks have no program, by one reading of the published programs; `None` if they can't
+    // be read, or are older than those that the asker knows.
     fn vacancies(&mut self) -> Option<Vacancies>
         ensures history { asks_of self.new ≡ asks_of self.old }
         ensures known { IsPrefix (known_to self.old) (known_to self.new) }

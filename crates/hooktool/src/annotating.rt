@@ -316,7 +316,8 @@ fn annotate_code<'a, R: WholeFiles + AllocGlobal>(
     }
 }
 
-/// The same of bytes that may be an ELF file, which has no code of its own.
+/// Finds statements as `annotate_code` does; an ELF file is refused, since its functions are
+/// `build`'s to take.
 fn annotate_bytes<'a, R: WholeFiles + AllocGlobal>(
     rt: &R,
     hook: Hook,

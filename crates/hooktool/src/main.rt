@@ -39,7 +39,7 @@ fn status<O: Stream, E: Stream>(rt: &HostRuntime, output: &mut O, errors: &mut E
     }
 }
 
-// The same, with these arguments.
+// Runs the program with these arguments, and answers the status.
 fn run<O: Stream, E: Stream>(
     rt: &HostRuntime,
     words: &[String],

@@ -14,7 +14,7 @@ pub struct CommandReport {
     pub is_refused: bool,
 }
 
-/// What this text tells, if there was memory for it.
+/// A report of this text, if there was memory for it.
 pub(crate) fn told<'a>(
     text: Result<String, AllocError>,
     is_refused: bool,
@@ -28,7 +28,7 @@ pub(crate) fn told<'a>(
     }
 }
 
-/// The same of a text that tells a refusal.
+/// A report of a refusal, if there was memory for its text.
 pub(crate) fn refusal<'a>(text: Text) -> Result<CommandReport, HooktoolFault<'a>>
     ensures refused { IfOk result (λ report. report.is_refused ≡ true) }
     ensures fault { IfErr result (λ fault. fault ≡ HooktoolFault.Memory) }

@@ -128,7 +128,7 @@ fn told_of<'a>(
     }
 }
 
-/// The same, if the bytes hold a program.
+/// Runs the program as `told_of` does; a fault if the bytes hold none.
 fn trial_of<'a>(
     alloc: Global,
     bytes: &[u8],
@@ -144,7 +144,7 @@ fn trial_of<'a>(
     }
 }
 
-/// The same, with the packet of the question.
+/// Runs the program with the question's packet, which may have to be read from a file.
 fn try_bytes<'a, R: WholeFiles + AllocGlobal>(
     rt: &R,
     bytes: &[u8],

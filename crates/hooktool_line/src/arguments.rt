@@ -197,9 +197,9 @@ Leafrunt 0.4.0";
 pub(crate) enum Given {
     /// It has to be there, at its place.
     Required,
-    /// Behind its name with two hyphens, if it is there.
+    /// After its name with two hyphens, at most once.
     Once,
-    /// The same, several times.
+    /// After its name with two hyphens, any number of times.
     Repeated,
 }
 

@@ -38,9 +38,11 @@ fn taken<'a>(alloc: Global, words: &'a [&'a str]) -> Result<ArgMatches<'a>, Erro
 
 /// Reads the words of a command line, of which the first is the program's name.
 ///
-/// `Ok` is exactly what the words ask for. `Err` has the text for the user: a mistake in the words,
-/// if they ask for nothing, or the help that they ask for; its kind is `OutOfMemory` if an
-/// allocation was refused.
+/// `Ok` is exactly what the words ask for.
+///
+/// # Errors
+/// The text for the user: a mistake in the words, if they ask for nothing, or the help that they
+/// ask for. Its kind is `OutOfMemory` if an allocation was refused.
 pub fn parse<'a>(alloc: Global, words: &'a [&'a str]) -> Result<HooktoolRequest<'a>, Error>
     ensures { MatchResult result (Asks (map (λ w. w.now) words.entry.now))
         (IsRefusal (map (λ w. w.now) words.entry.now)) }

@@ -47,7 +47,7 @@ fn read_rows(alloc: Global, words: &[&str]) -> Result<Vec<TableRow>, NotRead>
     Ok(rows)
 }
 
-/// The same of the words of an option, if it is given.
+/// The rows that the words of an option are; none if it isn't given.
 pub(crate) fn rows_in(alloc: Global, words: Option<&[&str]>) -> Result<Vec<TableRow>, NotRead>
     ensures { ReadsOrLacks (λ rows. HasRows (option_map (λ s. map (λ w. w.now) s.now)
         words.entry) rows.items) result }

@@ -61,7 +61,7 @@ fn read_settings(
     Ok(settings)
 }
 
-/// The same of the words of an option, if it is given.
+/// The settings that the words of an option are; none if it isn't given.
 pub(crate) fn settings_in(
     alloc: Global,
     words: Option<&[&str]>,

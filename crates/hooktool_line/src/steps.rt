@@ -233,6 +233,9 @@ fn words_of_line<'a>(alloc: Global, line: &'a str) -> Result<Vec<&'a str>, Alloc
 }
 
 /// The words of each line of a text.
+///
+/// # Errors
+/// `AllocError` if an allocation is refused.
 pub fn words_of_lines<'a>(alloc: Global, text: &'a str) -> Result<Vec<Vec<&'a str>>, AllocError> {
     let mut lines = Vec::new(alloc);
     for line in text.split('\n') {
@@ -273,8 +276,11 @@ fn push_line<'a>(
     }
 }
 
-/// The lines that aren't blank, of these words of each line. Or the first one that says nothing
-/// that is done in a test.
+/// Reads the lines of a test, from the words of each: those that aren't blank.
+///
+/// # Errors
+/// The first line that says nothing that is done in a test, or at which an allocation is refused,
+/// by its number, counted from 1, and why.
 pub fn read_lines<'w, 't>(
     alloc: Global,
     lines: &'w [Vec<&'t str>],

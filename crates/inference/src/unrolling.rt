@@ -167,6 +167,9 @@ fn loops_of<'a>(memory: &'a Memory, code: &'a Code, hook: Hook, heads: &[usize])
 /// The maximum number of backward jumps to these slots in a run of the code at the hook, by what is
 /// known iteration by iteration. `None` if it may exceed `most`, or isn't found because the loops
 /// are too long or nothing that is known ends them.
+///
+/// # Errors
+/// `AllocError` if an allocation is refused.
 pub fn most_turns(
     alloc: Global,
     code: &Code,

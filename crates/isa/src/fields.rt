@@ -34,6 +34,9 @@ impl Fields {
     }
 
     /// Adds the eight bytes of the slot.
+    ///
+    /// # Errors
+    /// `AllocError` if an allocation is refused.
     pub fn write(self, bytes: &mut Vec<u8>) -> Result<(), AllocError>
         requires target { self.target < 16 }
         requires source { self.source < 16 }

@@ -173,6 +173,10 @@ fn is_first<X>(edits: &[Edit<X>], place: usize, key: &Key) -> bool
 
 /// A value that can be copied unless an allocation is refused.
 pub trait Copied: Drop + Sized {
+    /// An equal value of its own, as `Clone::clone` makes one.
+    ///
+    /// # Errors
+    /// `AllocError` if an allocation is refused.
     fn copy(&self, alloc: Global) -> Result<Self, AllocError>
         ensures { IfOk result (λ made. made ≡ self.now) };
 }

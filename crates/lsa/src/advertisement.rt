@@ -67,6 +67,9 @@ impl Lsa {
     }
 
     /// Sets the age of this instance, in seconds. The checksum doesn't cover the age.
+    ///
+    /// The age is in seconds, at most 3600 (MaxAge). Neither the checksum nor anything else
+    /// changes: the checksum doesn't cover the age (RFC 2328, section 12.1.7).
     pub fn set_age(&mut self, age: u16)
         requires { age ≤ max_age }
         ensures { self.new ≡ with_age age self.old }
@@ -74,7 +77,8 @@ impl Lsa {
         self.header.age = age;
     }
 
-    /// A lemma for proofs: the age is at most 3600 (MaxAge). It does nothing at run time.
+    /// For the prover alone: tells it that the age is at most 3600 (MaxAge), which an LSA always
+    /// keeps. It does nothing at run time.
     pub fn check_age(&self)
         ensures { self.now.header.age ≤ max_age }
     {
@@ -133,6 +137,10 @@ fn parsed(alloc: Global, bytes: &[u8]) -> Result<Lsa, LsaError>
 }
 
 /// Parses an LSA from all of the bytes, from its age to the last byte of its body.
+///
+/// # Errors
+/// `Fault` with the first fault of the bytes, in the order of [`LsaFault`](crate::LsaFault); `Memory` if they have
+/// none, and an allocation is refused.
 pub fn read(alloc: Global, bytes: &[u8]) -> Result<Lsa, LsaError>
     // The bytes encode the LSA that is returned.
     ensures found { IfOk result (λ lsa. LsaText bytes.now lsa) }

@@ -34,6 +34,10 @@ impl Model for StoredLsa {
 }
 
 impl StoredLsa {
+    /// Stores an LSA with its times, on the heap.
+    ///
+    /// # Errors
+    /// `AllocError` if an allocation is refused.
     pub(crate) fn new(alloc: Global, lsa: Lsa, times: CopyTimes) -> Result<Self, AllocError>
         ensures { IfOk result (λ made. made ≡ copy_of lsa times) }
     {
@@ -43,7 +47,7 @@ impl StoredLsa {
         }
     }
 
-    /// The same LSA and times, borrowed.
+    /// Borrows the LSA, with its times.
     pub(crate) fn borrowed(&self) -> DatabaseCopy<'_>
         ensures { result ≡ self.now }
     {

@@ -91,6 +91,9 @@ impl RegisterFields {
     }
 
     /// Adds the 40 bytes.
+    ///
+    /// # Errors
+    /// `AllocError` if an allocation is refused.
     pub fn write(self, out: &mut Vec<u8>) -> Result<(), AllocError>
         ensures { OnOk result (out.new.items ≡ out.old.items ++ register_bytes self) }
     {
@@ -150,6 +153,9 @@ impl RankFields {
     }
 
     /// Adds the 20 bytes.
+    ///
+    /// # Errors
+    /// `AllocError` if an allocation is refused.
     pub fn write(self, out: &mut Vec<u8>) -> Result<(), AllocError>
         ensures { OnOk result (out.new.items ≡ out.old.items ++ rank_bytes self) }
     {
@@ -192,6 +198,9 @@ impl HeaderFields {
     }
 
     /// Adds the 12 bytes.
+    ///
+    /// # Errors
+    /// `AllocError` if an allocation is refused.
     pub fn write(self, out: &mut Vec<u8>) -> Result<(), AllocError>
         ensures { OnOk result (out.new.items ≡ out.old.items ++ header_bytes self) }
     {

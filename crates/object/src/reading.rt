@@ -213,6 +213,10 @@ fn outcome(alloc: Global, bytes: &[u8]) -> Result<Object, ObjectError>
 }
 
 /// The object that the bytes spell: all of them, from BPFH to the last statement.
+///
+/// # Errors
+/// The first test that fails, in the order that [`ObjectError`] gives; `Memory` if none does, and
+/// an allocation is refused.
 pub fn read(alloc: Global, bytes: &[u8]) -> Result<Object, ObjectError>
     // Whatever is read, the bytes spell it.
     ensures found { IfOk result (λ object. Spells bytes.now object) }

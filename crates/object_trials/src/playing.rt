@@ -148,7 +148,7 @@ fn ask_packets(
     })
 }
 
-/// The same of the capture that these bytes are.
+/// Asks of each OSPF packet of the capture that these bytes are.
 fn ask_bytes(
     alloc: Global,
     stage: &mut Stage,
@@ -168,7 +168,7 @@ fn ask_bytes(
     }
 }
 
-/// The same of the capture in a file.
+/// Asks of each OSPF packet of the capture in the file at the path.
 fn ask_capture<R: WholeFiles + AllocGlobal>(
     rt: &R,
     stage: &mut Stage,
@@ -337,7 +337,11 @@ fn play_lines<'a, R: WholeFiles + AllocGlobal>(
 }
 
 /// Plays the lines of a test in their order, on a new table whose counters and cells are 0: what is
-/// found at each that asks or expects something. Or the first one that can't be played, and why.
+/// found at each that asks or expects something.
+///
+/// # Errors
+/// The first line that can't be played, by its number, and why; line 0 if an allocation for the
+/// table is refused.
 pub fn play<'a, R: WholeFiles + AllocGlobal>(
     rt: &R,
     lines: &[TestLine<'a>],

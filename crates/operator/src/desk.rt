@@ -354,9 +354,10 @@ impl<L: Site, Q: Wait + Drop, K: Transport + Drop, C: Seconds + Drop> Desk<L, Q,
         }
     }
 
-    /// Does what a line asks for, with the files that these give. None if it ends the console.
+    /// Does what a line of the console asks for, and reads program files by `files`. `None` if the
+    /// line ends the console.
     ///
-    /// If the table couldn't be made anew after the programs were changed, that is tried first.
+    /// If a refresh was refused after the programs had been changed, it is tried again first.
     pub fn obey_with<B: Taker<L>, R: Wait, F: ReadsFiles>(
         &mut self,
         rt: &R,
@@ -390,7 +391,8 @@ impl<L: Site, Q: Wait + Drop, K: Transport + Drop, C: Seconds + Drop> Desk<L, Q,
         self.answer(rt, files, hub, port, line)
     }
 
-    /// The same with the files of the system.
+    /// Does what a line of the console asks for, as [`obey_with`](Desk::obey_with) does, and reads
+    /// program files from the system.
     pub fn obey<B: Taker<L>, R: Wait + Files + AllocGlobal>(
         &mut self,
         rt: &R,

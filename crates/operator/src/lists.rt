@@ -44,7 +44,10 @@ fn routes_of(
     Ok(routes)
 }
 
-/// The routing table.
+/// What the console's `table` prints: the routing table.
+///
+/// # Errors
+/// `AllocError` if an allocation is refused.
 pub fn table<L: Site, B: Taker<L>, R: Wait>(
     rt: &R,
     alloc: Global,
@@ -62,7 +65,11 @@ pub fn table<L: Site, B: Taker<L>, R: Wait>(
     Ok(text)
 }
 
-/// The neighbors at this number of interfaces, of one moment.
+/// What the console's `neighbors` prints: the neighbors at the interfaces from 1 to `interfaces`,
+/// all of one moment.
+///
+/// # Errors
+/// `AllocError` if an allocation is refused.
 pub fn neighbors<L: Site, B: Taker<L>, R: Wait>(
     rt: &R,
     alloc: Global,
@@ -77,7 +84,11 @@ pub fn neighbors<L: Site, B: Taker<L>, R: Wait>(
     Ok(text)
 }
 
-/// The counters that the programs share, each read once, in order.
+/// What the console's `counters` prints: the 256 counters that the programs share, each read once,
+/// in order, so not all of one moment.
+///
+/// # Errors
+/// `AllocError` if an allocation is refused; some may have been read then.
 pub fn counters<L: Site, B: Taker<L>>(
     alloc: Global,
     hub: &Hub<L, B>,

@@ -33,9 +33,12 @@ fn send<K: Transport>(link: &mut K, failed: &mut bool, turned: &Turned)
 }
 
 impl<K: Transport + Drop, C: Seconds + Drop> Outlet<K, C> {
-    /// A turn at port 0, at the moment that the clock shows, whose outs are sent. The router took
-    /// the event of this work, and nothing else but the refresh that followed it; or the turn was
-    /// refused. That the link failed isn't forgotten.
+    /// Takes a turn at port 0 with this work, at the moment that the clock shows, and sends what
+    /// comes of it. The router takes this event, and nothing else but the refresh that may follow
+    /// it. If the link fails, `failed` is set, and the console goes on.
+    ///
+    /// # Errors
+    /// Why the turn was refused, as [`turn`](worker::turn) says: the router then took nothing.
     pub fn take<L: Site, B: Taker<L>, R: Wait>(
         &mut self,
         rt: &R,

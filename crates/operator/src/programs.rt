@@ -83,6 +83,9 @@ impl From<VerifyError> for AttachError {
 }
 
 /// The line that says why no program of the file at the path is attached.
+///
+/// # Errors
+/// `AllocError` if an allocation is refused.
 pub fn reason(alloc: Global, path: &str, error: AttachError) -> Result<String, AllocError>
     ensures { IfOk result (λ text. string_bytes text ≡ reason_text path.now error) }
 {
@@ -97,7 +100,11 @@ pub fn reason(alloc: Global, path: &str, error: AttachError) -> Result<String, A
     }
 }
 
-/// The program of the object file at this path, once it is verified.
+/// Reads the object file at this path, and verifies it: the program that the verifier accepts.
+///
+/// # Errors
+/// `Read` if the file can't be read, `Object` if it is no object file, `Code` if its code doesn't
+/// decode, `Refused` if the verifier refuses it, `Memory` if an allocation is refused.
 pub fn read_program<F: ReadsFiles>(
     alloc: Global,
     files: &F,

@@ -70,7 +70,10 @@ fn is_filled(kind: PacketType, body: &[u8]) -> bool
     }
 }
 
-/// The type of the packet in the bytes, or their first fault.
+/// The type of the packet that the bytes encode.
+///
+/// # Errors
+/// The first fault, in the order of [`PacketFault`].
 #[tactic(auto, unfolding(crate::specs::Reading::fault_of))]
 pub fn judge(bytes: &[u8]) -> Result<PacketType, PacketFault>
     ensures { Judges bytes.now result }

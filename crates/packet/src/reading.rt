@@ -145,9 +145,11 @@ fn parsed(alloc: Global, bytes: &[u8]) -> Result<Packet, PacketError>
 
 /// Parses a packet (RFC 2328, section 8.2 and appendix A.3).
 ///
-/// Faults are reported in the order of [`Fault`](crate::Fault); `Memory` only if nothing is wrong
-/// with the bytes. The authentication bytes and a Hello's two Designated Routers may have any
-/// values.
+/// The authentication bytes and a Hello's two Designated Routers may have any values.
+///
+/// # Errors
+/// `Fault` with the first fault, in the order of [`PacketFault`](crate::PacketFault); `Memory` if
+/// there is none, and an allocation is refused.
 pub fn read(alloc: Global, bytes: &[u8]) -> Result<Packet, PacketError>
     // The bytes encode the packet that is returned.
     ensures found { IfOk result (λ p. PacketText bytes.now p) }

@@ -125,6 +125,9 @@ fn ranked(
 /// `are_kept`, and their ranks tried first; otherwise only their numbers are used, as limits, and
 /// their ranks only if none are found. `most` is the greatest constant that keeps the code within
 /// its budget.
+///
+/// # Errors
+/// `AllocError` if an allocation is refused.
 pub fn rank_statements(
     alloc: Global,
     code: &Code,

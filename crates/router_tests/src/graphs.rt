@@ -59,7 +59,7 @@ const CHANGES: &[(&str, &[u8], bool)] = &[
     ),
 ];
 
-// The same routers on a transit network, 10.0.1.0/24, whose LSA 2.2.2.2 originates.
+// Routers 1.1.1.1 and 2.2.2.2 on a transit network, 10.0.1.0/24, whose LSA 2.2.2.2 originates.
 const ON_A_NETWORK: &[&[u8]] = &[
     b"\x00\x01\x02\x01\x01\x01\x01\x01\x01\x01\x01\x01\x80\x00\x00\x01\x11\x18\x00\x24\x00\x00\x00\
         \x01\x0a\x00\x01\x02\x0a\x00\x01\x01\x02\x00\x00\x0a",
@@ -144,7 +144,7 @@ fn is_followed(alloc: Global, db: &mut Lsdb, root: &Root, lsa: Lsa) -> Result<bo
     Ok(next.is_some())
 }
 
-// The same for the LSA in these bytes, and the graph of those LSAs.
+// Whether the graph of the LSAs in `texts` is updated for the LSA in `text`.
 fn follows(alloc: Global, texts: &[&[u8]], text: &[u8]) -> Result<bool, Fail> {
     let root = root(alloc)?;
     let mut db = Lsdb::new(alloc, root.router);

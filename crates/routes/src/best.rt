@@ -10,8 +10,9 @@ use std::alloc::{AllocError, Global};
 use words::{Prefix, Route};
 
 /// The routes of the offers, in the order of their prefixes (RFC 2328, sections 11, 16.1 and 16.4).
-/// The offers are sorted: the first one for a prefix is the best one, with the least tag, and
-/// equally good ones add their next hops.
+/// The offers are sorted: the first one for a prefix is the best one, and equally good ones add
+/// their next hops. Of several equally good ones the first, whose tag the route gets, is that of
+/// the least originator, and of one originator that with the least tag.
 ///
 /// # Errors
 /// `AllocError` if an allocation is refused.

@@ -109,7 +109,7 @@ fn agreed_at(
     }
 }
 
-// The same, each on a table of its own.
+// The run on which both agree, as `agreed_at` says, each on a new table.
 fn agreed(alloc: Global, code: &Code, accepted: &Accepted, input: &Input) -> Option<Run>
     requires { number_of (slice_range input.now.context 0 4) ≡ hook_number accepted.now.hook }
 {
@@ -125,7 +125,8 @@ fn agreed(alloc: Global, code: &Code, accepted: &Accepted, input: &Input) -> Opt
     )
 }
 
-// The same on the input of this number: a packet of up to 20 bytes, one row or none.
+// The run on which both agree on the input of this number: a packet of up to 20 bytes, one row or
+// none.
 fn agreed_of(
     alloc: Global,
     code: &Code,
@@ -181,7 +182,7 @@ pub fn tried(alloc: Global, bytes: &[u8], inputs: u8) -> ProgramOutcome {
     tried_on(alloc, &code, &accepted, inputs)
 }
 
-/// The same of a text.
+/// How the program of a text of assembly was tried on the inputs below this number.
 pub fn tried_text(alloc: Global, text: &str, inputs: u8) -> ProgramOutcome {
     match file_of(alloc, text) {
         Some(bytes) => tried(alloc, &bytes, inputs),

@@ -23,6 +23,9 @@ pub struct ScriptArea {
 }
 
 /// The bytes of a word, if it is `-` or hex digits.
+///
+/// # Errors
+/// `AllocError` if an allocation is refused.
 pub fn bytes_of(alloc: Global, digits: &str) -> Result<Option<Vec<u8>>, AllocError> {
     if digits == "-" {
         return Ok(Some(Vec::new(alloc)));
@@ -47,6 +50,9 @@ fn addresses_of(alloc: Global, words: &[&str]) -> Result<Option<Vec<Address>>, A
 }
 
 /// The router of a first line `area ROUTER ADDRESS..`, from the Router ID on.
+///
+/// # Errors
+/// `AllocError` if an allocation is refused.
 pub fn root_of(alloc: Global, words: &[&str]) -> Result<Option<Root>, AllocError> {
     let Some((router, own)) = words.split_first() else {
         return Ok(None);
@@ -161,6 +167,9 @@ impl ScriptArea {
     }
 
     /// Whether the words say anything.
+    ///
+    /// # Errors
+    /// `AllocError` if an allocation is refused.
     pub fn takes(&mut self, words: &[&str]) -> Result<bool, AllocError> {
         match *words {
             [a, b] => self.takes_two(a, b),

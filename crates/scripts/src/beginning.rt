@@ -92,6 +92,9 @@ fn head_of(words: &[&str]) -> Option<(RouterId, Second, Intervals)> {
 
 /// The router of a line `router ID MOMENT HELLO DEAD RETRANSMIT PLACE..`, from the Router ID on, if
 /// the words are of this form.
+///
+/// # Errors
+/// `AllocError` if an allocation is refused.
 pub fn router_of(alloc: Global, words: &[&str]) -> Result<Option<Config>, AllocError> {
     let (Some((router, start, intervals)), Some(places)) = (head_of(words), words.get(5..)) else {
         return Ok(None);
@@ -119,6 +122,9 @@ fn count_in(words: &[&str]) -> Option<u32> {
 }
 
 /// The router that a first line of these words begins, if it begins one.
+///
+/// # Errors
+/// `AllocError` if an allocation is refused.
 pub fn first_of(alloc: Global, words: &[&str]) -> Result<Option<Config>, AllocError> {
     match (words.split_first(), count_in(words)) {
         (_, Some(count)) => Ok(Some(numbered(alloc, count)?)),

@@ -6,6 +6,9 @@ use std::fmt::Write;
 use words::{Key, Prefix, Route, Second};
 
 /// Adds the digits of bytes, and the end of the line.
+///
+/// # Errors
+/// `AllocError` if an allocation is refused.
 pub fn push_hex(text: &mut String, bytes: &[u8]) -> Result<(), AllocError> {
     for byte in bytes {
         write!(text, "{byte:02x}")?;
@@ -14,6 +17,9 @@ pub fn push_hex(text: &mut String, bytes: &[u8]) -> Result<(), AllocError> {
 }
 
 /// Adds a line with numbers in the places of its `{}`.
+///
+/// # Errors
+/// `AllocError` if an allocation is refused.
 pub fn push_numbers(text: &mut String, line: &str, numbers: &[u64]) -> Result<(), AllocError> {
     let mut rest = line;
     for number in numbers {
@@ -37,6 +43,9 @@ fn push_outs(text: &mut String, moment: Second, outs: &[Out]) -> Result<(), Allo
 }
 
 /// Adds what an event sends, or `MOMENT refused: ` and why.
+///
+/// # Errors
+/// `AllocError` if an allocation is refused.
 pub fn push_answer(
     text: &mut String,
     moment: Second,
@@ -49,6 +58,9 @@ pub fn push_answer(
 }
 
 /// Adds a line for each neighbor that isn't Down, and `end`.
+///
+/// # Errors
+/// `AllocError` if an allocation is refused.
 pub fn push_neighbors(text: &mut String, alloc: Global, core: &Core) -> Result<(), AllocError> {
     let mut neighbors = Vec::new(alloc);
     for number in 1..=core.interface_count() {
@@ -59,6 +71,9 @@ pub fn push_neighbors(text: &mut String, alloc: Global, core: &Core) -> Result<(
 
 /// Adds `owed I N` for each neighbor that isn't Down: its retransmission list and its request list
 /// have N entries.
+///
+/// # Errors
+/// `AllocError` if an allocation is refused.
 pub fn push_owed(text: &mut String, core: &Core) -> Result<(), AllocError> {
     for interface in 1..=core.interface_count() {
         let number = (interface % 64) as u16;
@@ -71,6 +86,9 @@ pub fn push_owed(text: &mut String, core: &Core) -> Result<(), AllocError> {
 }
 
 /// Adds a line for each row of the table, and `end`.
+///
+/// # Errors
+/// `AllocError` if an allocation is refused.
 pub fn push_table(text: &mut String, alloc: Global, core: &Core) -> Result<(), AllocError> {
     text.push_str(&table_text(alloc, &core.rows()?)?)
 }
@@ -84,6 +102,9 @@ fn candidates_anew(core: &Core) -> Result<Vec<Route>, AllocError> {
 }
 
 /// Adds `candidates N`, and `, others anew` if a router that walks anew has others.
+///
+/// # Errors
+/// `AllocError` if an allocation is refused.
 pub fn push_candidates(text: &mut String, core: &Core) -> Result<(), AllocError> {
     let kept = core.candidates()?;
     let anew = candidates_anew(core)?;
@@ -96,6 +117,9 @@ pub fn push_candidates(text: &mut String, core: &Core) -> Result<(), AllocError>
 }
 
 /// Adds `offered N M`: how many candidates and how many rows there are.
+///
+/// # Errors
+/// `AllocError` if an allocation is refused.
 pub fn push_offered(text: &mut String, core: &Core) -> Result<(), AllocError> {
     let offered = core.offered()?;
     let numbers = [offered.candidates.len() as u64, offered.rows.len() as u64];
@@ -103,6 +127,9 @@ pub fn push_offered(text: &mut String, core: &Core) -> Result<(), AllocError> {
 }
 
 /// Adds the LSA's bytes, with its age at the moment of the last event, or `none`.
+///
+/// # Errors
+/// `AllocError` if an allocation is refused.
 pub fn push_lsa(
     text: &mut String,
     alloc: Global,
@@ -118,11 +145,17 @@ pub fn push_lsa(
 }
 
 /// Adds `lsas N`: how many LSAs the database has.
+///
+/// # Errors
+/// `AllocError` if an allocation is refused.
 pub fn push_count(text: &mut String, core: &Core) -> Result<(), AllocError> {
     push_numbers(text, "lsas {}\n", &[core.database().len() as u64])
 }
 
 /// Adds a line for each LSA of the database, as `push_lsa` does, and `end`.
+///
+/// # Errors
+/// `AllocError` if an allocation is refused.
 pub fn push_database(text: &mut String, alloc: Global, core: &Core) -> Result<(), AllocError> {
     for key in core.database().keys() {
         push_lsa(text, alloc, core, &key)?;
@@ -131,6 +164,9 @@ pub fn push_database(text: &mut String, alloc: Global, core: &Core) -> Result<()
 }
 
 /// Adds whether the destination is announced.
+///
+/// # Errors
+/// `AllocError` if an allocation is refused.
 pub fn push_announced(text: &mut String, core: &Core, prefix: Prefix) -> Result<(), AllocError> {
     let told = if core.wants(prefix) { "yes" } else { "no" };
     writeln!(text, "announced {prefix} {told}")

@@ -8,7 +8,7 @@ pub enum Scenario {
     Start,
     /// A link in the middle goes down, and both ends are told.
     Link,
-    /// The same, and nobody is told.
+    /// A link in the middle goes down, and neither end is told.
     Silent,
     /// A router in the middle begins anew, and announces again what it announced.
     Restart,

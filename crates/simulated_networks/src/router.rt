@@ -61,6 +61,9 @@ fn configured(alloc: Global, config: &Config) -> Result<Core, NetworkError> {
 }
 
 /// The router at a place as it begins at this moment.
+///
+/// # Errors
+/// `Memory` if an allocation is refused, `Configuration` if the times aren't allowed.
 pub fn begun(
     alloc: Global,
     ends: &[FarEnd],

@@ -51,7 +51,7 @@ pub fn number_of(
     }
 }
 
-/// The same, below 2^32.
+/// The number that the option gives, as a `u32`, or the usual one if it isn't given.
 ///
 /// # Errors
 /// `Number` if the word is no number from `least` to `most`.

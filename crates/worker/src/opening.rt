@@ -16,6 +16,7 @@ use turns::{Book, Core, Hub, Port, Site, WorkerSeat};
 /// for each seat of the setup. The last port has number 0, the one before it number 1, and so on.
 /// Beside them comes what is left of the ledger when each port has its part.
 ///
+/// # Errors
 /// `AllocError` if an allocation is refused.
 pub fn open_hub<L: Site>(
     alloc: Global,

@@ -207,8 +207,11 @@ fn is_clock_back(turned: &Result<Turned, TurnError>) -> bool
 }
 
 /// A turn at the moment. While the router's clock is ahead of this one it is tried again, at most
-/// three times, each time at a new moment, and each try asks the programs anew. What it gives and
-/// how it is refused is as the last [`turn`] says; afterwards `moment` is that of this last one.
+/// three times, each time at a new moment, and each try asks the programs anew. Afterwards `moment`
+/// is that of the last try.
+///
+/// # Errors
+/// As the last try's [`turn`].
 #[tactic(auto, using(crate::proofs::Living::not_again, crate::proofs::Living::once_more, crate::proofs::Living::at_last, crate::proofs::Tries::turned_first, crate::proofs::Tries::known_still, crate::proofs::Tries::known_first))]
 pub fn tried<L: Site, B: Taker<L>, G: Gate, S: Seconds, R: Wait>(
     rt: &R,
@@ -246,7 +249,10 @@ pub fn tried<L: Site, B: Taker<L>, G: Gate, S: Seconds, R: Wait>(
 }
 
 /// Sends what a turn sends, and then what its refresh sends: each out once, in their order, at its
-/// interface. An out that would wait is dropped; after a fault the later ones aren't sent.
+/// interface. An out that would wait is dropped.
+///
+/// # Errors
+/// `SocketFault` if a send fails: the later outs aren't sent.
 #[tactic(auto, using(crate::proofs::Sending::given_both))]
 pub fn send_all<K: Transport>(link: &mut K, turned: &Turned) -> Result<(), SocketFault>
     ensures each { OnOk result (MatchOption turned.now.refreshed

@@ -18,6 +18,7 @@ pub struct Settled<L: Site> {
 /// Puts the shares of the ports and the rest of the ledger together. The book has taken just as
 /// many events as they count.
 ///
+/// # Errors
 /// `AllocError` if an allocation is refused; the ports are lost then, and the book is as it was.
 pub fn settle<L: Site>(
     alloc: Global,
@@ -58,6 +59,7 @@ pub struct Closed<L: Site> {
 /// many events as the share counts; the words come with all their seats, as
 /// [`Shared::close`](maps::Shared::close) asks for them.
 ///
+/// # Errors
 /// `AllocError` if the ports didn't come back, or an allocation is refused.
 #[tactic(auto, using(crate::proofs::SeatsOf::of_the_same))]
 pub fn close_hub<L: Site>(

@@ -49,7 +49,7 @@ fn noted<L: Site, B: Taker<L>, R: Wait>(
     if noted == 4 { answer } else { 9 }
 }
 
-// The same of port 1, which port 0 sees pass.
+// Plays the turn of port 1 while port 0 looks on at the gate.
 fn watched<L: Site, B: Taker<L>, R: Wait>(
     rt: &R,
     hub: &Hub<L, B>,

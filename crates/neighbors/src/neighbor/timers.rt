@@ -116,7 +116,8 @@ fn draft_if_it_fits(
     Ok(None)
 }
 
-// The same for the copy of this key, if there is one.
+// Sends the copy of this key, as `draft_if_it_fits` does. Without one nothing is sent, and the
+// number of bytes stays.
 fn draft_key_if_it_fits(
     alloc: Global,
     moment: Second,

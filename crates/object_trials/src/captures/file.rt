@@ -95,6 +95,10 @@ fn records_of<'a>(
 }
 
 /// The capture that these bytes of a file are.
+///
+/// # Errors
+/// `NotCapture` if they begin otherwise, `Link` if the link type isn't known, `Short` if they end
+/// inside of a record, `Memory` if an allocation is refused.
 pub fn read(alloc: Global, bytes: &[u8]) -> Result<Capture<'_>, CaptureError>
     ensures found { IfOk result (IsCapture bytes.now) }
     // What isn't one has the fault that is told.

@@ -13,9 +13,9 @@ pub enum LinkType {
     /// The IP packet itself.
     Raw,
     Ethernet,
-    /// What Linux writes of packets of all interfaces.
+    /// The pseudo-header that Linux writes before packets that are captured at all interfaces.
     LinuxCooked,
-    /// The same of newer programs.
+    /// Its second version, which newer programs write.
     LinuxCooked2,
 }
 

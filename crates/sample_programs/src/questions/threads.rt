@@ -101,7 +101,7 @@ fn race<R: Threads + Wait + Sync>(
     (done, others, worker.price(external, &shared))
 }
 
-// The same of a new trial.
+// The outcome of `race` in a new trial.
 fn raced<R: Threads + Wait + Sync>(rt: &R, alloc: Global) -> Option<(bool, u32, Option<u64>)> {
     let of = samples()?;
     let trial = HookTrial::new(alloc, rt)?;

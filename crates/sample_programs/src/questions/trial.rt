@@ -33,7 +33,7 @@ pub struct Subjects {
     pub external: External,
     /// 192.0.2.0/24 within the area, with cost 20 by interface 1, twice.
     pub routes: [Route; 2],
-    /// The same network with cost 20.
+    /// The table: 192.0.2.0/24 with cost 20.
     pub rows: [TableRow; 1],
 }
 
