@@ -406,6 +406,7 @@ impl AreaRoutes {
         ensures externals { self.new.externals ≡ self.old.externals }
         ensures err { OnErr result (self.new ≡ self.old) }
     {
+        // For the prover alone, by what the calls ensure.
         walks_are_kept();
         candidates_are_kept();
         inner_routes_are_kept();
@@ -458,6 +459,7 @@ impl AreaRoutes {
         ensures none_new { BringsNoneNew self.old self.new
             → self.new.answered ≡ self.old.answered }
     {
+        // For the prover alone, by what the call ensures.
         inner_routes_are_kept();
         if let Ok(same) = area_lsas_are_unchanged(alloc, area, Some(4), before, moment) {
             if same {

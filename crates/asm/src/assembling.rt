@@ -276,6 +276,7 @@ impl Draft {
         let Some(statements) = statements else {
             return Err(AsmFault::Syntax);
         };
+        // For the prover alone, by what the call ensures.
         code_has_one_spelling();
         match Object::new(hook, rank, bytes, statements) {
             Some(object) => Ok(object),

@@ -264,6 +264,7 @@ fn operand_of(source: Source) -> Operand
     ensures line { result ≡ the_operand source }
     ensures again { source_of result ≡ Some source }
 {
+    // For the prover alone, by what the call ensures.
     source.check_ranges();
     match source {
         Source::Register(register) => Operand::Register(register),
@@ -278,6 +279,7 @@ pub(crate) fn line_of(instruction: Instruction) -> AssemblyLine
     ensures again { (slot : ℕ) (place : Option ℕ) → instruction_of result slot place
         ≡ Ok instruction }
 {
+    // For the prover alone, by what the call ensures.
     instruction.check_ranges();
     match instruction {
         Instruction::Jump { distance } => {
@@ -357,6 +359,7 @@ fn memory_line_of(instruction: Instruction) -> AssemblyLine
     ensures again { (slot : ℕ) (place : Option ℕ) → instruction_of result slot place
         ≡ Ok instruction }
 {
+    // For the prover alone, by what the call ensures.
     instruction.check_ranges();
     match instruction {
         Instruction::Load {
@@ -395,6 +398,7 @@ fn wide_line_of(instruction: Instruction) -> AssemblyLine
     ensures again { (slot : ℕ) (place : Option ℕ) → instruction_of result slot place
         ≡ Ok instruction }
 {
+    // For the prover alone, by what the call ensures.
     instruction.check_ranges();
     match instruction {
         Instruction::LoadNumber { target, number } => AssemblyLine::LoadNumber {

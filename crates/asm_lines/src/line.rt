@@ -130,7 +130,8 @@ pub enum AssemblyLine {
 impl Operand {
     ghost use Rattle.asm_lines.specs.Forms.{IsOperand};
 
-    /// Lemma: a register is one of r0 to r10. Does nothing at run time.
+    /// For the prover alone: tells it that a register is one of r0 to r10. It does nothing at run
+    /// time.
     fn check_ranges(&self)
         ensures { IsOperand self.now }
     {
@@ -146,7 +147,8 @@ impl Operand {
 impl Terms {
     ghost use Rattle.asm_lines.specs.Forms.{AreTerms};
 
-    /// Lemma: the registers are among r0 to r10. Does nothing at run time.
+    /// For the prover alone: tells it that the registers are among r0 to r10. It does nothing at
+    /// run time.
     fn check_ranges(&self)
         ensures { AreTerms self.now }
     {
@@ -166,8 +168,8 @@ impl Terms {
 impl AssemblyLine {
     ghost use Rattle.asm_lines.specs.Forms.{IsLine};
 
-    /// Lemma: each register of the line is one of r0 to r10, as its type guarantees. Does nothing
-    /// at run time.
+    /// For the prover alone: tells it that each register of the line is one of r0 to r10, as its
+    /// type guarantees. It does nothing at run time.
     pub fn check_ranges(&self)
         ensures { IsLine self.now }
     {

@@ -631,6 +631,7 @@ pub fn write_line(text: &mut String, line: AssemblyLine, name: &str) -> Result<(
         → AreLines (string_bytes text.old) items → AreLines (string_bytes text.new) (items
         ++ (line, name.now) ∷ [])) }
 {
+    // For the prover alone, by what the call ensures.
     line.check_ranges();
     write_words(text, line, name)?;
     text.push_str("\n")

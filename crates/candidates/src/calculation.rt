@@ -45,6 +45,7 @@ pub fn candidates(
 {
     let reached = walk(alloc, db, root, moment)?;
     let routes = routes_of(alloc, db, root, moment, &reached)?;
+    // For the prover alone, by what the call ensures.
     every_offer_has_a_candidate();
     Ok(routes)
 }

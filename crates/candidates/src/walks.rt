@@ -1,4 +1,4 @@
-//! The walk itself.
+//! The calculation of shortest paths (RFC 2328, section 16.1).
 ghost use Rattle.std.specs.Prelude.{◌≤◌, length, IfOk};
 ghost use Rattle.std.specs.FinMap as finite;
 ghost use Rattle.routes.specs.Said.{said_at};

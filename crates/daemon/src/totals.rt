@@ -28,7 +28,7 @@ fn sums_of(shared: Shared, seats: Vec<Seat>) -> Totals
     shared.close(seats)
 }
 
-// Prints these sums.
+// Prints the sums of the counters.
 #[tactic(auto, using(crate::proofs::Ended::failed_once))]
 fn print_sums<O: WritesTexts>(
     alloc: Global,

@@ -128,6 +128,7 @@ impl Area {
         requires last { number ≤ length self.old.present.links }
         ensures { AreaDoes (λ a. install moment number lsa (start a)) self.old self.new result }
     {
+        // For the prover alone, by what the call ensures.
         lsa.check_age();
         let header = lsa.header();
         let key = header.key();
@@ -148,6 +149,7 @@ impl Area {
     pub fn originate(&mut self, alloc: Global, moment: Second, lsa: Lsa) -> Result<(), AllocError>
         ensures { AreaDoes (originate_outcome moment lsa) self.old self.new result }
     {
+        // For the prover alone, by what the call ensures.
         lsa.check_age();
         let header = lsa.header();
         let key = header.key();

@@ -10,7 +10,7 @@ use verifier::BUDGET;
 pub enum Limit {
     /// `(entry rank + 1) * slots`, but at most 1,000,000.
     Own,
-    /// This many.
+    /// At most this many.
     Instructions(u64),
 }
 

@@ -73,6 +73,7 @@ impl CodeBuilder {
             ↔ (4096 < length self.old + length (slots_of instruction)) }
         ensures err { OnErr result (self.new ≡ self.old) }
     {
+        // For the prover alone, by what the call ensures.
         instruction.check_ranges();
         let is_wide = instruction.is_wide();
         let taken = if is_wide { 2 } else { 1 };

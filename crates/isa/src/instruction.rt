@@ -172,7 +172,8 @@ impl Instruction {
         )
     }
 
-    /// Lemma: every part is in the range that its type guarantees. Does nothing at run time.
+    /// For the prover alone: tells it that every part is in the range that its type guarantees. It
+    /// does nothing at run time.
     pub fn check_ranges(&self)
         ensures { IsInstruction self.now }
     {
@@ -256,8 +257,8 @@ impl Instruction {
 impl Source {
     ghost use Rattle.isa.specs.Code.{IsSource};
 
-    /// Lemma: the number or the register is in the range that its type guarantees. Does nothing at
-    /// run time.
+    /// For the prover alone: tells it that the number or the register is in the range that its type
+    /// guarantees. It does nothing at run time.
     pub fn check_ranges(&self)
         ensures { IsSource self.now }
     {

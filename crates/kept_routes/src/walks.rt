@@ -93,6 +93,7 @@ impl Routes {
             → (r : RouteValue) × Contains routes.items r × (r.prefix ≡ o.prefix)) }
     {
         let routes = routes_of(alloc, db, &self.root, moment, &self.reached)?;
+        // For the prover alone, by what the call ensures.
         every_offer_has_a_candidate();
         Ok(routes)
     }

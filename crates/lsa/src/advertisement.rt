@@ -48,6 +48,7 @@ impl Lsa {
         requires size { length (body_text body) ≤ 65515 }
         ensures { IfOk result (λ lsa. lsa ≡ sealed_lsa (record { header = header; body = body })) }
     {
+        // For the prover alone, by what the calls ensure.
         header.check_ranges();
         body.check_ranges();
         let mut rest = Vec::new(alloc);
@@ -139,8 +140,8 @@ fn parsed(alloc: Global, bytes: &[u8]) -> Result<Lsa, LsaError>
 /// Parses an LSA from all of the bytes, from its age to the last byte of its body.
 ///
 /// # Errors
-/// `Fault` with the first fault of the bytes, in the order of [`LsaFault`](crate::LsaFault); `Memory` if they have
-/// none, and an allocation is refused.
+/// `Fault` with the first fault of the bytes, in the order of [`LsaFault`](crate::LsaFault);
+/// `Memory` if they have none, and an allocation is refused.
 pub fn read(alloc: Global, bytes: &[u8]) -> Result<Lsa, LsaError>
     // The bytes encode the LSA that is returned.
     ensures found { IfOk result (λ lsa. LsaText bytes.now lsa) }

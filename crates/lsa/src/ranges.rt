@@ -50,7 +50,8 @@ fn check_router(router: &RouterLsa)
     check_links(router.links.as_slice());
 }
 
-/// Router IDs are numbers of 32 bits: for proofs alone, nothing happens at run time.
+/// For the prover alone: tells it that Router IDs are numbers of 32 bits. It does nothing at run
+/// time.
 pub fn check_router_ids(routers: &[RouterId])
     ensures { AllByRecursion IsRouterId routers.now }
 {
@@ -106,7 +107,8 @@ fn check_external(external: &ExternalLsa)
 }
 
 impl LsaBody {
-    /// A lemma for proofs: every field is in the range of its type. It does nothing at run time.
+    /// For the prover alone: tells it that every field is in the range of its type. It does nothing
+    /// at run time.
     ///
     /// The types don't ensure that a list is no longer than its count can say, nor that a metric of
     /// three bytes is below 2^24.

@@ -76,6 +76,7 @@ fn have_one_body(alloc: Global, old: &Lsa, new: &Lsa) -> Result<bool, AllocError
     }
     let old_text = write_at_age(alloc, old, 0)?;
     let new_text = write_at_age(alloc, new, 0)?;
+    // For the prover alone, by what the call ensures.
     texts_are_determined();
     if old.header().ls_type != new.header().ls_type {
         return Ok(false);

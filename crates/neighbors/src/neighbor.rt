@@ -117,14 +117,14 @@ pub fn is_entry(moment: Second, header: &Header, listed: Option<&ListEntry>) -> 
     }
 }
 
-// A function, as those of `connectives` are.
+// Not inlined: the prover would visit all parts of the neighbor in each branch (see `connectives`).
 fn gets(from: bool, passes: bool) -> bool
     ensures { result ≡ (not from && passes) }
 {
     !from && passes
 }
 
-// A function, as those of `connectives` are.
+// Not inlined: the prover would visit all parts of the neighbor in each branch (see `connectives`).
 fn later(first: bool, moment: Second, before: Second) -> Second
     ensures { result ≡ (if first then moment else before) }
 {

@@ -21,7 +21,8 @@ pub enum StatedKind {
 impl StatedKind {
     ghost use Rattle.object.specs.Statements.{IsKind};
 
-    /// Lemma: each part is in the range that its type guarantees. Does nothing at run time.
+    /// For the prover alone: tells it that each part is in the range that its type guarantees. It
+    /// does nothing at run time.
     pub fn check_ranges(&self)
         ensures { IsKind self.now }
     {

@@ -166,7 +166,8 @@ impl<L: Site, Q: Wait + Drop, K: Transport + Drop, C: Seconds + Drop> Desk<L, Q,
         self.refresh(rt, hub, port);
     }
 
-    // Publishes a program.
+    // Publishes a program at its hook, and has the table made anew, since the answers of `veto` may
+    // have changed.
     fn publish<B: Taker<L>, R: Wait>(
         &mut self,
         rt: &R,
@@ -318,7 +319,7 @@ impl<L: Site, Q: Wait + Drop, K: Transport + Drop, C: Seconds + Drop> Desk<L, Q,
         }
     }
 
-    // What a line asks for, done.
+    // Does what the line asks for, after `obey_with` has made up for a refused refresh.
     #[tactic(auto, using(crate::proofs::Answered::obeyed, crate::proofs::Served::line_served))]
     fn answer<B: Taker<L>, R: Wait, F: ReadsFiles>(
         &mut self,

@@ -7,7 +7,7 @@ use isa::Hook;
 use std::fmt;
 use worker::TurnError;
 
-/// What a line is answered. The text is what is printed.
+/// The answer to a line. What its `Display` writes is printed.
 #[derive(Drop)]
 pub enum Told {
     /// A program was published at this hook, which makes at most this number of steps.
@@ -26,12 +26,12 @@ pub enum Told {
     Unknown,
     /// Memory was refused.
     Memory,
-    /// These lines.
+    /// The lines that were asked for, as they are printed.
     Lines(String),
 }
 
 impl Told {
-    /// What a turn that was refused is answered.
+    /// The answer to a line whose turn was refused.
     pub fn refused(error: TurnError) -> Told
         ensures { result ≡ told.Refused (turn_error_number error) }
     {

@@ -23,6 +23,7 @@ pub fn next_number(copy: Option<DatabaseCopy<'_>>) -> Option<SequenceNumber>
         return Some(SequenceNumber::INITIAL);
     };
     let header = copy.lsa.header();
+    // For the prover alone, by what the call ensures.
     header.check_ranges();
     after(header.sequence)
 }

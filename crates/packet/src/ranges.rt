@@ -81,7 +81,8 @@ fn check_body(body: &PacketBody)
 }
 
 impl Packet {
-    /// A lemma for proofs: every field is in the range of its type. It does nothing at run time.
+    /// For the prover alone: tells it that every field is in the range of its type. It does nothing
+    /// at run time.
     ///
     /// The types don't ensure that each LSA of a Link State Update has room for its header and the
     /// length that it gives.

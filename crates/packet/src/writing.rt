@@ -213,6 +213,7 @@ pub fn write(alloc: Global, packet: &Packet) -> Result<Vec<u8>, AllocError>
     ensures text { LsasAreWhole packet.now.body
         → IfOk result (λ bytes. PacketText bytes.items packet.now) }
 {
+    // For the prover alone, by what the call ensures.
     packet.check_ranges();
     let mut out = draft(alloc, packet)?;
     let size = out.len() as u16;

@@ -428,7 +428,7 @@ const KNOWN_BITS: &[Row] = &[
 // The multiples of eight below 256.
 const EIGHTS: Numbers = Numbers::Stated(0, 0xf8, !0xf8, 0);
 
-// No number.
+// A value that stands for no number: its bounds and its known bits contradict each other.
 const NONE: Numbers = Numbers::Stated(1, 2, 8, 8);
 
 const PAIRS: &[Row] = &[

@@ -195,6 +195,7 @@ fn branch<'a, D: Domain>(
         → IsOk result }
     ensures keeps { IfOk result (λ after. KeepsNumbers state after.state) }
 {
+    // For the prover alone, by what the call ensures.
     what_can_step_is_never_stuck();
     let edges = tested(&state, width, test, operands.left, operands.right)?;
     let to = jumped_near(slot, distance);
@@ -238,6 +239,7 @@ fn end<D: Domain>(state: AbstractState<D>) -> Result<Known<D>, Rule>
     ensures plain { IsFilled state 0 → IsOk result }
     ensures same { IfOk result (λ after. after.state ≡ state) }
 {
+    // For the prover alone, by what the call ensures.
     an_answer_is_never_stuck(&state);
     answers(&state)?;
     Ok(Known {
@@ -269,6 +271,7 @@ fn go_on<'a, D: Domain>(
     ensures keeps { IsPlainHere D.contains targets.now segment.now slot instruction state
         → IfOk result (λ after. KeepsFilled instruction state after.state) }
 {
+    // For the prover alone, by what the call ensures.
     what_can_step_is_never_stuck();
     let next_slot = slot + slots_of(&instruction);
     let known = straight(state, hook, instruction)?;
@@ -303,6 +306,7 @@ pub fn follow<'a, D: Domain>(
     ensures keeps { IsPlainHere D.contains targets.now segment.now slot instruction state
         → IfOk result (λ after. KeepsFilled instruction state after.state) }
 {
+    // For the prover alone, by what the calls ensure.
     what_can_step_is_never_stuck();
     instruction.check_ranges();
     match instruction {

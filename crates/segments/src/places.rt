@@ -142,6 +142,7 @@ pub fn check_places<'a, D: Domain>(
         → MatchResult result (λ _. IsWellMade code.now statements slot)
         (IsPlaceRefusal code.now statements slot) }
 {
+    // For the prover alone, by what the call ensures.
     an_instruction_is_followed();
     // For the prover alone: the slots are code.
     let _is_code = code.slots();

@@ -174,6 +174,7 @@ fn step<'a, D: Domain>(
         → IfOk result (λ next. ComesPlainly code.now entry_rank statements
         (slot + size instruction.now) (segment_of targets.now entry.now next.0) next.1) }
 {
+    // For the prover alone, by what the call ensures.
     one_instruction_ends_at_a_slot();
     // For the prover alone: the slots are code.
     let _is_code = code.slots();
@@ -233,6 +234,7 @@ pub fn pass_all<'a, D: Domain>(
         → IsPlainProgram D.contains code.now entry_rank statements targets.now
         → HasRank entry.now entry_rank → IsOk result }
 {
+    // For the prover alone, by what the calls ensure.
     a_wide_instruction_has_its_second_half();
     an_instruction_is_followed();
     one_instruction_ends_at_a_slot();

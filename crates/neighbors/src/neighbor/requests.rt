@@ -28,7 +28,7 @@ fn put_keys(keys_set: &mut KeyedMap<()>, keys: &[Key]) -> Result<(), AllocError>
     Ok(())
 }
 
-// A function, as those of `connectives` are.
+// Not inlined: the prover would visit all parts of the neighbor in each branch (see `connectives`).
 fn all_hold(synchronizing: bool, unrequested: bool, unasked: bool) -> bool
     ensures { result ≡ (synchronizing && not unrequested && unasked) }
 {
