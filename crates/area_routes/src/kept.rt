@@ -234,7 +234,7 @@ fn calculated(
     }
 }
 
-// What was kept of what AS-external-LSAs advertise, or else the new list.
+// What AS-external-LSAs advertise: the list that was kept, or else the one that was made now.
 fn kept_or(
     kept: Option<Vec<ExternalAdvertisement>>,
     made: Option<Vec<ExternalAdvertisement>>,

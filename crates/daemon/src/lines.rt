@@ -127,8 +127,8 @@ fn last(alloc: Global, bytes: Vec<u8>, is_lost: bool) -> Given
     whole(alloc, bytes, is_lost)
 }
 
-/// The next line. Of one that is longer than 4,096 bytes, or for which there is no memory, all is
-/// passed over.
+/// Reads the next line. One that is longer than 4,096 bytes is read to its end and answered as an
+/// empty line; one for which there is no memory is read to its end too, and dropped.
 #[tactic(auto, using(crate::proofs::Reading::not_begun, crate::proofs::Reading::given_failed))]
 pub fn next_line<I: ReadsBytes, R: Wait>(rt: &R, alloc: Global, input: &mut I) -> Given
     ensures { IsGiven I.gives I.fails input.old result input.new }

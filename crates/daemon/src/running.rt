@@ -129,7 +129,7 @@ fn run_crew<
     Ok((ends, parted, printed))
 }
 
-// How a router ran, once the operator's things are let go.
+// Says how a router ran, and closes what the operator worked with.
 fn ran<L: Site, Q: Wait + Drop, C: Seconds + Drop>(
     origin: Snapshot<Core>,
     workers: Vec<Worked>,

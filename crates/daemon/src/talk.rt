@@ -46,7 +46,8 @@ pub enum Parting {
     Mute,
 }
 
-/// How a conversation ended. Only [`talk`] makes one, so whoever has it has talked.
+/// Evidence that the console's conversation ended, with how it did. Only [`talk`] makes one, so
+/// whoever has it has run the console.
 #[derive(Clone, Copy)]
 pub struct Parted {
     parting: Parting,
@@ -213,7 +214,7 @@ fn answer_all<
     unreachable!()
 }
 
-/// What is done at port 0 until the console is done: a Tick's turn, and then line by line.
+/// Runs the console at port 0 until it ends: first a Tick's turn, and then line by line.
 pub fn talk<
     L: Site,
     B: Taker<L>,

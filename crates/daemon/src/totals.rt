@@ -12,7 +12,8 @@ use console::totals_text;
 use maps::{Seat, Shared, Totals};
 use std::alloc::Global;
 
-/// The exact counters were printed. Only [`print_totals`] makes one, so whoever has it did that.
+/// Evidence that the exact counters were printed. Only [`print_totals`] makes one, so whoever has
+/// it has printed them.
 #[derive(Clone, Copy)]
 pub struct Printed {
     told: (),

@@ -28,8 +28,8 @@ impl Ages {
         }
     }
 
-    /// Notes that the database may have this copy of the key from this moment on. What was foreseen
-    /// stays valid.
+    /// Notes that the database may have this copy of the key from this moment on. What `Ages` says
+    /// of the database stays true.
     ///
     /// # Errors
     /// `AllocError` if an allocation is refused.
@@ -51,8 +51,8 @@ impl Ages {
     }
 }
 
-/// What is foreseen of these copies, from a scan of all of them. Copies that have MaxAge at the
-/// moment are among the aged keys, and no other reaches it before `due`, which is after the moment.
+/// Scans all of these copies for when they reach MaxAge. Copies that have MaxAge at the moment are
+/// among the aged keys, and no other reaches it before `due`, which is after the moment.
 ///
 /// # Errors
 /// `AllocError` if an allocation is refused.
@@ -72,8 +72,8 @@ pub fn foresee(
     Ok(ages)
 }
 
-/// What is foreseen of these copies, from what `ages` foresees of them: only the copies of its aged
-/// keys are visited. Those that have MaxAge at the moment stay among the aged keys.
+/// Updates `ages` for these copies, of which only those of its aged keys are visited. Those that
+/// have MaxAge at the moment stay among the aged keys.
 ///
 /// # Errors
 /// `AllocError` if an allocation is refused.

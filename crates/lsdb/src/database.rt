@@ -1,4 +1,4 @@
-//! The link state database of a router.
+//! The link-state database of a router.
 ghost use Rattle.std.specs.Prelude.{◌≡◌, ◌≤◌, ◌↔◌, length, take, IfOk, IsTrue, OnOk, option_copied};
 ghost use Rattle.std.specs.FinMap as finite;
 ghost use Rattle.lsdb.specs.Copies.{
@@ -30,10 +30,10 @@ use std::alloc::{AllocError, Global};
 use std::marker::Model;
 use words::{Key, RouterId, Second};
 
-/// The link state database of a router: at most one copy for each key, and the copies when it was
-/// last committed.
+/// The link-state database of a router (RFC 2328, section 12.2): at most one copy, that is
+/// instance, for each key, now and when the database was last committed.
 ///
-/// Copies of the database share its LSAs, and an edit of a copy's times copies no LSA.
+/// Clones of the database share its LSAs, and to change the times of a copy clones no LSA.
 #[derive(Drop)]
 pub struct Lsdb {
     alloc: Global,
@@ -103,7 +103,7 @@ impl<'a> KeyTest<()> for AgedAndThere<'a> {
     }
 }
 
-// Whether copies of the LS types up to this one, or of all types, say the same as before.
+// Tests whether copies of the LS types up to this one, or of all types, say the same as before.
 #[derive(Drop)]
 struct SameUpTo {
     last_type: Option<u32>,
@@ -172,7 +172,7 @@ impl Lsdb {
         }
     }
 
-    /// A copy of the database, committed.
+    /// A clone of the database, committed. It shares the LSAs.
     ///
     /// # Errors
     /// `AllocError` if an allocation is refused.
@@ -186,7 +186,7 @@ impl Lsdb {
             copies,
             externals: self.externals,
             committed_externals: self.externals,
-            // Nothing is foreseen: the first `commit_at` scans all copies.
+            // It isn't known when copies reach MaxAge: the first `commit_at` scans them all.
             ages: Ages::new(alloc, Second::new(0)),
             past: 0,
         })

@@ -12,7 +12,8 @@ use lsa::{HEADER_LENGTH, Lsa, write_at_age};
 use std::alloc::{AllocError, Global};
 use words::Second;
 
-/// Whether both copies say the same at the moment, or neither exists.
+/// Whether both copies say the same at the moment (RFC 2328, section 13.2), or neither exists:
+/// their bodies are equal, and they had one age or neither has MaxAge.
 ///
 /// # Errors
 /// `AllocError` if an allocation for their bytes, which are compared, is refused.
@@ -101,8 +102,9 @@ fn behind_header(text: &[u8]) -> &[u8]
     &text[HEADER_LENGTH..]
 }
 
-/// Whether the present copy says at the moment what the earlier one said, or the earlier one said
-/// nothing at the moment `before`, and the present one says nothing.
+/// Whether the event from `before` to `moment` changed nothing that routes depend on: both copies
+/// say the same, as in `contents_agree`; or the earlier one said nothing at `before` and the
+/// present one says nothing at `moment`, since each is missing or at MaxAge.
 ///
 /// # Errors
 /// `AllocError` if an allocation for their bytes, which are compared, is refused.

@@ -16,7 +16,7 @@ use std::marker::Model;
 use std::sync::Arc;
 use words::{MAX_AGE, Second};
 
-/// A copy of an LSA, as the database has it. Copies of the database share the LSA, and each has
+/// A copy of an LSA, as the database has it. Clones of the database share the LSA, and each has
 /// times of its own.
 #[derive(Drop)]
 pub struct StoredLsa {
@@ -63,7 +63,7 @@ impl StoredLsa {
         &self.lsa
     }
 
-    /// The copy, sent at this moment. It shares the LSA.
+    /// The copy, marked as sent at this moment. It shares the LSA.
     ///
     /// # Errors
     /// `AllocError` if the LSA has as many owners as can be counted.

@@ -16,7 +16,8 @@ pub enum Pointer {
 /// What a register holds.
 #[derive(Clone, Copy)]
 pub enum Content {
-    /// Empty: not written yet, or cleared by a call.
+    /// Empty: not written yet, or cleared by a call. It is a content as any other, known to be
+    /// none: the verifier's `Kind::Empty` is another thing, that nothing is known.
     Nothing,
     /// A number of 64 bits.
     Number(u64),

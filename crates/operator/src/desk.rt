@@ -51,20 +51,21 @@ use verifier::Accepted;
 use words::{External, Prefix};
 use worker::{Hub, Port, Site, Taker, Work};
 
-/// What an operator has: the loader of the programs, and where port 0 sends.
+/// What the console works with: the loader of the programs, and where port 0 sends.
 #[derive(Drop)]
 pub struct Desk<L: Site, Q: Wait + Drop, K: Transport + Drop, C: Seconds + Drop> {
     pub alloc: Global,
     pub loader: Loader<Q>,
     pub interfaces: u16,
     pub outlet: Outlet<K, C>,
-    /// The programs changed, and the refresh after that was refused.
+    /// Whether the refresh after the last change of the programs was refused, so that it has to be
+    /// tried again.
     pub unrefreshed: bool,
     pub of: PhantomData<L>,
     pub ghost loaded: { history_of loader ≡ L.history },
 }
 
-// A destination is announced, if no price keeps it back.
+// Announces a destination, unless the answer of `price` withholds it.
 fn add<L: Site, B: Taker<L>, R: Wait, K: Transport + Drop, C: Seconds + Drop>(
     rt: &R,
     hub: &Hub<L, B>,
@@ -96,7 +97,7 @@ fn add<L: Site, B: Taker<L>, R: Wait, K: Transport + Drop, C: Seconds + Drop>(
     }
 }
 
-// A destination is announced no longer.
+// Withdraws a destination.
 fn withdraw<L: Site, B: Taker<L>, R: Wait, K: Transport + Drop, C: Seconds + Drop>(
     rt: &R,
     hub: &Hub<L, B>,
@@ -122,7 +123,7 @@ fn withdraw<L: Site, B: Taker<L>, R: Wait, K: Transport + Drop, C: Seconds + Dro
 }
 
 impl<L: Site, Q: Wait + Drop, K: Transport + Drop, C: Seconds + Drop> Desk<L, Q, K, C> {
-    // The table is made anew. If that is refused, it is tried again before the next line.
+    // Refreshes the table. If that is refused, it is tried again before the next line.
     #[tactic(auto, using(crate::proofs::Done::refreshed))]
     fn refresh<B: Taker<L>, R: Wait>(&mut self, rt: &R, hub: &Hub<L, B>, port: &mut Port<L>)
         ensures done { IsRefreshed B.offers B.took B.refuses
@@ -143,8 +144,8 @@ impl<L: Site, Q: Wait + Drop, K: Transport + Drop, C: Seconds + Drop> Desk<L, Q,
         self.unrefreshed = self.outlet.take(rt, hub, port, &Work::Refresh).is_err();
     }
 
-    // After the programs were changed: the workers are told, so that no turn of theirs from before
-    // is followed by a refresh; the port learns of it, and makes the table anew by programs that
+    // Called after the programs were changed. It tells the workers, so that no turn that they began
+    // before is followed by a refresh; then the port, which refreshes the table by programs that
     // are no older.
     fn follow<B: Taker<L>, R: Wait>(&mut self, rt: &R, hub: &Hub<L, B>, port: &mut Port<L>)
         ensures followed { IsFollowed B.offers B.took B.refuses
@@ -166,7 +167,7 @@ impl<L: Site, Q: Wait + Drop, K: Transport + Drop, C: Seconds + Drop> Desk<L, Q,
         self.refresh(rt, hub, port);
     }
 
-    // Publishes a program at its hook, and has the table made anew, since the answers of `veto` may
+    // Publishes a program at its hook, and refreshes the table, since the answers of `veto` may
     // have changed.
     fn publish<B: Taker<L>, R: Wait>(
         &mut self,
@@ -259,7 +260,7 @@ impl<L: Site, Q: Wait + Drop, K: Transport + Drop, C: Seconds + Drop> Desk<L, Q,
         Told::Detached(hook)
     }
 
-    // Carries out a command. None if it ends the console.
+    // Carries out a command. `None` if it ends the console.
     fn carry_out<B: Taker<L>, R: Wait, F: ReadsFiles>(
         &mut self,
         rt: &R,
@@ -298,7 +299,7 @@ impl<L: Site, Q: Wait + Drop, K: Transport + Drop, C: Seconds + Drop> Desk<L, Q,
         })
     }
 
-    // Makes the table anew if that is due.
+    // Refreshes the table if an earlier refresh was refused.
     fn make_up<B: Taker<L>, R: Wait>(&mut self, rt: &R, hub: &Hub<L, B>, port: &mut Port<L>)
         ensures made_up { IsMadeUp B.offers B.took B.refuses self.old.unrefreshed
             self.new.unrefreshed (known_to port.old.asker) (known_to port.new.asker)

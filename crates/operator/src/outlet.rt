@@ -14,11 +14,11 @@ use worker::{Hub, Open, Port, Site, Taker, TurnError, Turned, Work, send_all, tr
 pub struct Outlet<K: Transport + Drop, C: Seconds + Drop> {
     pub link: K,
     pub clock: C,
-    /// The link failed. What is sent then goes nowhere, and the console goes on.
+    /// Whether the link failed. What is sent afterwards is lost, and the console goes on.
     pub failed: bool,
 }
 
-// Sends what a turn sends. That the link failed isn't forgotten.
+// Sends the outs of a turn, and sets `failed` if the link fails.
 #[tactic(auto, using(crate::proofs::Done::sent, crate::proofs::Served::never_fewer))]
 fn send<K: Transport>(link: &mut K, failed: &mut bool, turned: &Turned)
     ensures sent { K.faults link.new ≡ K.faults link.old

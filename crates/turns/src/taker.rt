@@ -282,7 +282,7 @@ fn taken_at(event: &Event, moment: Second, last: Second) -> Second
     }
 }
 
-// What is known, unless memory was refused.
+// The answer, or `None` if memory was refused for it.
 fn known(told: Result<bool, AllocError>) -> Option<bool>
     ensures { MatchResult told (λ is. result ≡ Some is) (λ _. result ≡ None) }
 {

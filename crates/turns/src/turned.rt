@@ -8,7 +8,8 @@ use thiserror::Error;
 
 /// What a turn sends, and after it what the refresh sends that followed it, if one did.
 ///
-/// They stand apart: to join them could want memory when neither event can be undone any more.
+/// They are two lists, since joining them could need memory at a point where neither event can be
+/// undone.
 #[derive(Drop)]
 pub struct Turned {
     pub outs: Vec<Out>,

@@ -42,19 +42,20 @@ fn bound_of_runs(rank: u32, size: usize) -> Result<u64, Refusal>
     Ok(bound)
 }
 
-/// Accepts the code only if it is safe: no run is ever stuck, and each ends within
-/// `(entry_rank + 1) * slots` instructions, at most 1,000,000. Each run that reaches a slot with a
-/// statement is as stated there, as far as the domain distinguishes numbers.
-///
-/// A refusal names the first slot that breaks a rule and, of the rules broken there, the one that
-/// is checked first. The rules on jumps, statements and the code's end are named only if they are
-/// broken and none of them is broken before; those on helpers, on the bound and on r10 only if they
-/// are broken. Any other rule may be named because the domain knows too little. `Memory`, at slot 0
-/// alone, means that an allocation was refused, which no clause says.
+/// Accepts the code only if it is safe: no run is ever stuck, and each ends within `(entry_rank +
+/// 1) * slots` instructions, at most 1,000,000. Each run that reaches a slot with a statement is as
+/// stated there, as far as the domain distinguishes numbers. The statements are in the order of
+/// their slots, each slot once, as an object holds them.
 ///
 /// A plain program, one that uses only numbers in registers and states no more than that they are
-/// numbers, is refused for memory or not at all, whatever the domain. The statements are in the
-/// order of their slots, each slot once, as an object holds them.
+/// numbers, is refused for memory or not at all, whatever the domain.
+///
+/// # Errors
+/// The first slot that breaks a rule and, of the rules broken there, the one that is checked first.
+/// The rules on jumps, statements and the code's end are named only if they are broken and none of
+/// them is broken before; those on helpers, on the bound and on r10 only if they are broken. Any
+/// other rule may be named because the domain knows too little. `Memory`, at slot 0 alone, means
+/// that an allocation was refused, which no clause says.
 pub fn verify<D: Domain>(
     alloc: Global,
     hook: Hook,

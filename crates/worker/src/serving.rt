@@ -41,7 +41,7 @@ impl Ended {
     }
 }
 
-/// A worker's life. In each round it takes a Tick's turn if the second has changed, and a turn with
+/// Runs a worker. In each round it takes a Tick's turn if the second has changed, and a turn with
 /// the datagram that its link gave, if one came, and sends what these turns send. Once before each
 /// round it looks at `quit`, and ends with `Quit` if that is set. With `Fault` it ends if its link
 /// failed, and only then.

@@ -55,8 +55,8 @@ pub struct Closed<L: Site> {
     pub seats: Vec<Seat>,
 }
 
-/// Settles with the ports, once all came back, and lets the book go. The book had taken just as
-/// many events as the share counts; the words come with all their seats, as
+/// Settles with the ports, once all came back, and drops the book. The book had taken just as many
+/// events as the share counts; the words come with all their seats, as
 /// [`Shared::close`](maps::Shared::close) asks for them.
 ///
 /// # Errors

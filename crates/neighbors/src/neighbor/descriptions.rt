@@ -35,7 +35,10 @@ use words::{E_BIT, Key, LARGEST_PACKET, Second, Sequence};
 /// The most headers in one Database Description.
 const MOST_HEADERS_DESCRIBED: usize = 408;
 
-// A copy of the Database Description.
+/// A second value of the Database Description, as `Clone::clone` would make one.
+///
+/// # Errors
+/// `AllocError` if an allocation is refused.
 pub fn copy(description: &Description) -> Result<Description, AllocError>
     ensures { IfOk result (λ made. made ≡ description.now) }
 {

@@ -13,7 +13,10 @@ use keyed_map::KeyedMap;
 use std::alloc::{AllocError, Global};
 use words::{Key, Second};
 
-// Removes these keys from the list.
+/// Removes these keys from the list.
+///
+/// # Errors
+/// `AllocError` if an allocation is refused.
 pub fn remove_keys(list: &mut KeyedMap<ListEntry>, keys: &[Key]) -> Result<(), AllocError>
     ensures { ListDoes (λ l. fold finite.remove l keys.now) list.old list.new result }
 {

@@ -50,9 +50,9 @@ fn is_lost(error: &io::Error) -> bool
     is_passing(error) || matches!(error.kind(), ErrorKind::InvalidInput)
 }
 
-/// Whether a packet went out, by what a send answered: a send that the system refuses for a reason
-/// of the packet or of its way (a rule of a firewall, no way there, no room for it) is a packet
-/// that is lost, as OSPF expects some to be.
+/// Whether a packet went out, by what a send answered: a packet that the system refuses to send
+/// because of itself or of its path (a firewall rule, no route, no buffer space) is lost, as OSPF
+/// expects some to be.
 ///
 /// # Errors
 /// `SocketFault` if the error says that the socket is of no use.
@@ -68,8 +68,8 @@ pub fn sent(outcome: io::Result<usize>) -> Result<bool, SocketFault>
     }
 }
 
-/// The length of the datagram that came, by what a receive answered; `None` if none did, or it was
-/// refused for a reason of a packet or of its way.
+/// The length of the datagram that came, by what a receive answered; `None` if none did, or the
+/// system refused the receive because of a packet or its path.
 ///
 /// # Errors
 /// `SocketFault` if the error says that the socket is of no use.
