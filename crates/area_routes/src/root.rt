@@ -1,4 +1,4 @@
-//! The root of a router's walks.
+//! The root of a router's shortest-path calculations.
 ghost use Rattle.std.specs.Prelude.{◌≡◌, ◌↔◌, IfOk, IsTrue, map};
 ghost use Rattle.flooding.specs.Links.{present};
 ghost use Rattle.area_routes.specs.Offers.{root_by};
@@ -55,7 +55,8 @@ fn are_addresses(addresses: &[Address], links: &[Link]) -> bool
     true
 }
 
-/// Whether this is the root of the router's walks.
+/// Whether this is the root that `root_of` gives: the router's own ID, and the addresses of its
+/// interfaces.
 pub fn is_root_of(root: &Root, router: RouterId, area: &Area) -> bool
     ensures { IsTrue result ↔ (root.now ≡ root_by router area.now.present.links) }
 {

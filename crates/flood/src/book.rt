@@ -1,4 +1,4 @@
-//! The book itself: an event is taken, and the book starts anew.
+//! A router with its past: how it takes events, and how its journal is emptied.
 ghost use Rattle.std.specs.Prelude.{◌≡◌, ℕ, ◌+◌, ◌^◌, ◌<◌, ◌≤◌, [], ◌∷◌, ◌++◌, ◌↔◌, ◌⊎◌, length};
 ghost use Rattle.std.specs.Prelude.{Err, IfErr, IfOk, IsOk, IsTrue, None, OnErr, OnOk, Some};
 ghost use Rattle.std.specs.Prelude.{false, true};
@@ -371,8 +371,8 @@ impl<L: Origin> Book<L> {
         }
     }
 
-    /// Whoever brings a share learns that the book has taken at least as many events as it counts,
-    /// and just as many if the share has every part of the ledger. It changes nothing.
+    /// For the prover alone: tells it that the book has taken at least as many events as the share
+    /// counts, and just as many if the share has every part of the ledger. It changes nothing.
     pub fn audit(&mut self, share: &mut Share<L>)
         ensures least { share.old.amount ≤ self.old.taken }
         ensures sum { share.old.parts ≡ L.parts → self.old.taken ≡ share.old.amount }

@@ -25,8 +25,8 @@ pub enum Event {
     LinkDown(u16),
 }
 
-/// A lemma for proofs: the destination's address is in the range of its type. It does nothing at
-/// run time.
+/// For the prover alone: tells it that the destination's address is in the range of its type. It
+/// does nothing at run time.
 pub fn check_address(price: &PriceAnswer)
     ensures { price.now.external.prefix.address < 2 ^ 32 }
 {

@@ -8,7 +8,7 @@ use procedures::{Router, receive_packet, redistribute, tick, withdraw};
 use std::alloc::{AllocError, Global};
 use words::Second;
 
-/// Does the event's own part.
+/// Does what the event itself asks for: processes its packet, its Tick or its command.
 ///
 /// # Errors
 /// `AllocError` if an allocation is refused.

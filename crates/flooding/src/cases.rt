@@ -80,7 +80,8 @@ fn same_as_copy(moment: Second, header: &Header, copy: &Option<DatabaseCopy<'_>>
 
 // Within MinLSArrival, 1 second (RFC 2328, appendix B). Since moments are whole seconds, only what
 // happened in the same second counts: an instance that comes less than a second later, but in the
-// next second, is accepted. There the router departs from section 13, steps 5 (a) and 8.
+// next second, is accepted. There the router departs from section 13, steps 5 (a) and 8
+// (docs/reference/DEPARTURES.md).
 fn in_this_second(moment: Second, then: Option<Second>) -> bool
     ensures { result ≡ in_this_second moment then }
 {

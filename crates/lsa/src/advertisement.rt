@@ -67,10 +67,8 @@ impl Lsa {
         Ok(Lsa { header, body })
     }
 
-    /// Sets the age of this instance, in seconds. The checksum doesn't cover the age.
-    ///
-    /// The age is in seconds, at most 3600 (MaxAge). Neither the checksum nor anything else
-    /// changes: the checksum doesn't cover the age (RFC 2328, section 12.1.7).
+    /// Sets the age of this instance, in seconds: at most 3600 (MaxAge). The checksum stays right,
+    /// since it doesn't cover the age (RFC 2328, section 12.1.7).
     pub fn set_age(&mut self, age: u16)
         requires { age ≤ max_age }
         ensures { self.new ≡ with_age age self.old }

@@ -1,4 +1,4 @@
-//! The router.
+//! A router's state, and how changes of it are made final or undone.
 ghost use Rattle.std.specs.Prelude.{◌≡◌, ◌≤◌, IfOk, OnOk, length, map};
 ghost use Rattle.std.specs.FinMap as finite;
 ghost use Rattle.event_rules.specs.Commands.{after_install};

@@ -1,4 +1,4 @@
-//! Where walks begin.
+//! The root of the shortest-path calculation (RFC 2328, section 16.1).
 use words::{Address, RouterId, Sequence};
 
 /// The router that calculates its table: its Router ID, and the addresses of its interfaces, that

@@ -181,7 +181,8 @@ impl<L: Site, B: Taker<L>> Hub<L, B> {
         book.offered()
     }
 
-    /// The candidates now, for a caller that needs no rows: less work than `offered`.
+    /// The candidates for the routing table now, for a caller that needs no rows: less work than
+    /// `offered`.
     pub(crate) fn candidates<R: Wait>(&self, rt: &R) -> Result<Vec<Route>, AllocError>
         ensures offered { IfOk result (λ c. (rows : List TableRow) × B.offers c.items rows) }
         ensures short { OnErr result (IsLacking B.refuses Lack.Memory) }

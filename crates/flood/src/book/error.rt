@@ -33,7 +33,7 @@ impl Refused {
         Refused { error, event }
     }
 
-    /// Whether an allocation was refused, and that is why.
+    /// Whether the event was refused because an allocation was.
     pub(crate) fn is_short(&self) -> bool
         ensures short { result ≡ true → self.now.error ≡ BookError.Core CoreError.Memory }
         ensures other { result ≡ false → self.now.error ≡ BookError.Core CoreError.Memory → ⊥ }
