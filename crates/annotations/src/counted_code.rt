@@ -1,4 +1,4 @@
-//! Counted code.
+//! Counted code: it counts the turns of its loops, and answers as it is told once they are used up.
 ghost use Rattle.std.specs.Prelude.{◌≡◌, ◌==◌, ◌+◌, ◌*◌, ◌^◌, ◌<◌, ◌≤◌, ◌++◌, IfErr, IfOk, OnOk};
 ghost use Rattle.std.specs.Prelude.{length, position};
 ghost use Rattle.isa.specs.Flow.{jump_target};

@@ -257,8 +257,7 @@ fn told(fault: DecodeFault) -> ListError
 /// range of stack bytes in one line.
 ///
 /// # Errors
-/// `Code` if the object's code doesn't decode, and with `Memory` if it does and an allocation is
-/// refused.
+/// `Code` if the object's code doesn't decode, `Memory` if it does and an allocation is refused.
 pub fn listing(alloc: Global, object: &Object) -> Result<String, ListError>
     ensures spells { IfOk result (λ text. TextSpells (string_bytes text) object.now) }
     ensures lines { IfOk result (λ text. IsListing (string_bytes text) object.now) }

@@ -23,7 +23,7 @@ pub const OUTSIDE: u8 = 3;
 /// Memory was refused.
 pub const MEMORY: u8 = 4;
 
-/// Why a command didn't do what it was asked. The text is the line that is printed.
+/// Why a command failed. Its `Display` is the line that is printed.
 #[derive(Debug, Drop, Error)]
 pub enum CommandError<'a> {
     /// A file can't be opened or read.

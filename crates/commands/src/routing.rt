@@ -1,11 +1,11 @@
-//! What the command `route` stands on.
+//! What the command `route` needs from outside: something that runs routers.
 
 ghost use Rattle.std.specs.Prelude.{◌≤◌};
 
 use std::io::{BufRead, Write};
 
-/// Runs routers, or keeps what is to be run. Whoever calls the program hands one in, and so nothing
-/// here stands on the router.
+/// Runs routers, or keeps what is to be run. The caller of the program passes one in, so that this
+/// crate doesn't depend on the router.
 pub trait Routing {
     /// Runs the router of a configuration's text, with a console that reads commands from `input`
     /// and answers on `output`, until `quit` or the end of input. Returns the status: 0 done, 1

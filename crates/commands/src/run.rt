@@ -49,7 +49,7 @@ fn outcome_of<'a>(
 }
 
 /// Runs the program of the object file that these bytes are once at its hook, on this context and
-/// packet and no table rows, and says what is to be told of it.
+/// packet and no table rows, and reports on it.
 fn run_of<'a>(
     alloc: Global,
     bytes: &[u8],

@@ -10,7 +10,7 @@ use std::alloc::{AllocError, AllocFailed};
 use thiserror::Error;
 use worker::SocketError;
 
-/// Why a router doesn't run. The text is the line that is printed.
+/// Why a router doesn't run. Its `Display` is the line that is printed.
 #[derive(Debug, Drop, Error)]
 pub enum RouteError {
     /// The first line of the configuration that is wrong or missing.

@@ -3,8 +3,8 @@
 use std::fmt;
 use thiserror::Error;
 
-/// What isn't as it has to be. Sections, symbols and relocations are told by their indices. The
-/// text is what is told of the file.
+/// What is wrong with the file. Sections, symbols and relocations are named by their indices. Its
+/// `Display` is the message about the file.
 #[derive(Clone, Copy, Error)]
 pub enum ElfFault {
     /// Fewer than 64 bytes, or other ones than 7f 'E' 'L' 'F' in front.

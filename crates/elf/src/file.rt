@@ -45,9 +45,9 @@ impl<'a> Model for ObjectFile<'a> {
 /// names, and of each section in turn.
 pub fn read(bytes: &[u8]) -> Result<ObjectFile<'_>, ElfFault>
     ensures found { IfOk result (λ file. (file ≡ bytes.now) × IsObjectFile bytes.now) }
-    // What is such an object is read.
+    // Every such object is read.
     ensures only { IsObjectFile bytes.now → IsOk result }
-    // What isn't has the fault that is told.
+    // The bytes have the fault that is returned.
     ensures why { IfErr result (λ fault. Breaks bytes.now fault) }
 {
     check(bytes)?;

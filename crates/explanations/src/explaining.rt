@@ -37,8 +37,11 @@ pub struct Explanation {
 /// Why there is no explanation.
 #[derive(Clone, Copy)]
 pub enum ExplainError {
+    /// The bytes are no object file.
     Object(ObjectError),
+    /// The object's code doesn't decode.
     Code(DecodeError),
+    /// An allocation was refused.
     Memory,
 }
 

@@ -128,8 +128,8 @@ fn push_endless(out: &mut Text, endless: &EndlessLoop, slots: usize, telling: Te
     }
 }
 
-/// What an explanation tells, and which loop has no rank. The program has this number of slots. An
-/// error if the verifier was refused memory.
+/// The report of an explanation, and which loop has no rank. The program has this number of slots.
+/// An error if the verifier was refused memory.
 fn told_of(
     alloc: Global,
     explanation: &Explanation,
@@ -187,7 +187,7 @@ fn uncounted<'a>(error: CountError) -> HooktoolFault<'a>
     HooktoolFault::Uncounted { reason }
 }
 
-/// What is told if nothing was accepted.
+/// The report if nothing was accepted.
 pub(crate) fn shortfall<'a>(
     alloc: Global,
     shortfall: Shortfall,
@@ -208,7 +208,7 @@ pub(crate) fn shortfall<'a>(
     }
 }
 
-/// What is told of how many turns are counted though nobody asked for that.
+/// The report on how many turns are counted though nobody asked for that.
 fn counted_words(alloc: Global, turns: Option<u32>) -> Result<String, AllocError>
     ensures { IfOk result (λ words. string_bytes words ≡ counted_words turns) }
 {
@@ -218,7 +218,7 @@ fn counted_words(alloc: Global, turns: Option<u32>) -> Result<String, AllocError
     }
 }
 
-/// What is told of an object that is written: its bound, how many turns it counts, and a note on
+/// The report on an object that is written: its bound, how many turns it counts, and a note on
 /// its cells.
 pub(crate) fn accepted_text(alloc: Global, found: &AnnotatedObject) -> Result<String, AllocError>
     ensures { IfOk result (λ text. string_bytes text
@@ -279,7 +279,7 @@ fn given_slots(file: &[u8]) -> Option<usize> {
     }
 }
 
-/// What is told of an ELF file in the place of code.
+/// The report on an ELF file in the place of code.
 fn elf_refusal<'a>(alloc: Global) -> Result<CommandReport, HooktoolFault<'a>>
     ensures refused { IfOk result (λ report. report.is_refused ≡ true) }
     ensures fault { IfErr result (λ fault. fault ≡ HooktoolFault.Memory) }

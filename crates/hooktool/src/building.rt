@@ -58,7 +58,7 @@ struct Names<'f> {
     function: &'f [u8],
 }
 
-/// Adds what else is told.
+/// Adds the rest of a report.
 fn join(report: &mut CommandReport, more: &CommandReport) -> Result<(), AllocError>
     ensures text { OnOk result (string_bytes report.new.text
         ≡ string_bytes report.old.text ++ string_bytes more.now.text) }
@@ -70,7 +70,7 @@ fn join(report: &mut CommandReport, more: &CommandReport) -> Result<(), AllocErr
     Ok(())
 }
 
-/// The report with what else is told behind it, or why that isn't told.
+/// The report with the rest after it, or the fault of that.
 fn added<'a>(
     mut report: CommandReport,
     more: Result<CommandReport, HooktoolFault<'a>>,
@@ -141,7 +141,7 @@ fn code_words(number: u8) -> &'static str {
     }
 }
 
-/// What is told of a function for which no object is made.
+/// The report on a function for which no object is made.
 fn function_told<'a>(
     alloc: Global,
     section: &[u8],
@@ -172,7 +172,7 @@ fn push_why(text: &mut Text, why: &Result<CommandReport, HooktoolFault<'_>>) {
     }
 }
 
-/// What is told of a function for which nothing was accepted.
+/// The report on a function for which nothing was accepted.
 fn function_refusal<'a>(
     alloc: Global,
     names: Names<'_>,
@@ -189,7 +189,7 @@ fn function_refusal<'a>(
     refusal(text)
 }
 
-/// What is told of an object that is written.
+/// The report on an object that is written.
 fn line_of(
     alloc: Global,
     folder: &str,
@@ -275,7 +275,7 @@ fn explain_function<'a>(
     added(head, Ok(explained))
 }
 
-/// What is told of a function for which no object was found. Its code has `size` bytes.
+/// The report on a function for which no object was found. Its code has `size` bytes.
 fn shortfall_refusal<'a>(
     alloc: Global,
     order: &Order<'_>,
@@ -369,7 +369,7 @@ fn build_function<'a, R: WholeFiles + AllocGlobal>(
     build_code(rt, order, hook, names, code)
 }
 
-/// What is told of a section with instructions that is for no hook.
+/// The report on a section with instructions that is for no hook.
 fn section_refusal<'a>(
     alloc: Global,
     purpose: Purpose<'_>,
@@ -397,7 +397,7 @@ fn section_refusal<'a>(
     refusal(text)
 }
 
-/// What is told of a section whose instructions are no function's.
+/// The report on a section whose instructions are no function's.
 fn nothing_refusal<'a>(
     alloc: Global,
     section: &[u8],
@@ -586,7 +586,7 @@ fn build_sections<'a, R: WholeFiles + AllocGlobal>(
     Ok(report)
 }
 
-/// What is told of a file that isn't what clang writes.
+/// The report on a file that isn't what clang writes.
 fn no_elf<'a>(
     alloc: Global,
     path: &str,
@@ -617,7 +617,7 @@ fn has_program(file: &ObjectFile<'_>) -> bool
     false
 }
 
-/// What is told of a file without a program.
+/// The report on a file without a program.
 fn no_program<'a>(
     alloc: Global,
     path: &str,

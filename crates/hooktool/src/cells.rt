@@ -1,4 +1,4 @@
-//! What is told of a program that uses cells where any worker may ask.
+//! The report on a program that uses cells where any worker may ask.
 
 ghost use Rattle.std.specs.Prelude.{◌≡◌};
 ghost use Rattle.std.specs.List.{list_any};
@@ -8,7 +8,7 @@ ghost use Rattle.hooktool.specs.Cells.{may_any_ask};
 use isa::{Hook, Instruction, Slot};
 use verifier::Accepted;
 
-/// What an author is told.
+/// The note that an author gets.
 const NOTE: &str =
     "  note: it uses cells: at tag, price and veto any worker may ask, each has cells of \
     its own, and they stay over programs\n  keep in counters what all are to see \
@@ -49,7 +49,7 @@ fn has_cells_of_many(program: &Accepted) -> bool
     may_any_ask(program.hook()) && is_any_loading(program.slots())
 }
 
-/// What is told of the program's cells: nothing, unless it uses some where any worker may ask.
+/// The report on the program's cells: nothing, unless it uses some where any worker may ask.
 pub(crate) fn cells_note(program: &Accepted) -> &'static str
     ensures { result.now ≡ cells_note program.now }
 {

@@ -41,7 +41,7 @@ pub(crate) fn lacks_memory(verdict: &Result<Accepted, VerifyError>) -> bool {
     }
 }
 
-/// What is told of an explanation: its three texts, one behind the other. A fault if no verdict was
+/// The report on an explanation: its three texts, one behind the other. A fault if no verdict was
 /// reached for want of memory.
 fn told_of<'a>(alloc: Global, explanation: &Explanation) -> Result<CommandReport, HooktoolFault<'a>>
     ensures text { IfOk result (λ report. string_bytes report.text
@@ -66,7 +66,7 @@ fn told_of<'a>(alloc: Global, explanation: &Explanation) -> Result<CommandReport
     }
 }
 
-/// What is told of the object file that these bytes are.
+/// The report on the object file that these bytes are.
 pub(crate) fn explanation_of<'a>(
     alloc: Global,
     bytes: &[u8],
@@ -90,7 +90,7 @@ const EXPLAINING: Order<'_> = Order {
     },
 };
 
-/// What is told of these bytes of the file at `path`: of an object file, or of each function of an
+/// The report on these bytes of the file at `path`: of an object file, or of each function of an
 /// ELF file.
 fn explain_bytes<'a, R: WholeFiles + AllocGlobal>(
     rt: &R,
@@ -107,9 +107,9 @@ fn explain_bytes<'a, R: WholeFiles + AllocGlobal>(
     }
 }
 
-/// Tells what the verifier knows at each slot of the program of the object file at `path`, up to
-/// the one that it refuses, and its verdict. The same of each function of an ELF file that is in
-/// the section of a hook, with the statements that are found for it.
+/// Reports what the verifier knows at each slot of the program of the object file at `path`, up to
+/// the one that it refuses, and its verdict. Of an ELF file it reports so on each function that is
+/// in the section of a hook, with the statements that are found for it.
 ///
 /// A fault if the file can't be read, is neither, or holds no code, or if memory is refused.
 pub(crate) fn explain<'a, R: WholeFiles + AllocGlobal>(

@@ -1,4 +1,4 @@
-//! Why a command didn't do what it was asked, and the statuses.
+//! Why a command failed, and the exit statuses.
 
 ghost use Rattle.std.specs.Prelude.{◌≡◌, ◌≤◌};
 ghost use Rattle.hooktool.specs.Statuses.{fault_of_object, fault_of_refusal, status_of};
@@ -21,7 +21,7 @@ pub const OUTSIDE: u8 = 3;
 /// Memory was refused.
 pub const MEMORY: u8 = 4;
 
-/// Why a command didn't do what it was asked. The text is the line that is printed.
+/// Why a command failed. Its `Display` is the line that is printed.
 #[derive(Clone, Copy, Error)]
 pub enum HooktoolFault<'a> {
     /// A file can't be opened or read.

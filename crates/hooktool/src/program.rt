@@ -89,8 +89,8 @@ fn tell_words<O: Stream, E: Stream>(error: &Error, output: &mut O, errors: &mut 
     }
 }
 
-/// Tells that the words can't be read, and answers the status: 4 if memory was refused, 2 if a word
-/// isn't UTF-8, and 3 if that can't be told.
+/// Prints that the words can't be read, and returns the status: 4 if memory was refused, 2 if a
+/// word isn't UTF-8, and 3 if nothing can be printed.
 pub fn end_without_words<O: Stream, E: Stream>(
     alloc: Global,
     error: &io::Error,
@@ -107,7 +107,7 @@ pub fn end_without_words<O: Stream, E: Stream>(
 }
 
 // An object of each function of the ELF file that is in the section of a hook, in the folder, if the
-// verifier accepts it. What is told of each is in the order of the file.
+// verifier accepts it. The report on each is in the order of the file.
 fn build<'a, R: WholeFiles + AllocGlobal>(
     rt: &R,
     file: &'a str,

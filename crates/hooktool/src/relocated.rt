@@ -1,4 +1,4 @@
-//! What is told of code that a linker would change: it uses data, or calls a function.
+//! The report on code that a linker would change: it uses data, or calls a function.
 
 ghost use Rattle.std.specs.Prelude.{◌≡◌, false, true, IfErr, IfOk};
 ghost use Rattle.std.specs.List.{All};
@@ -190,7 +190,7 @@ fn push_relocation(
     })
 }
 
-/// What is told of the places of a section that a linker would change: what code uses and calls
+/// The report on the places of a section that a linker would change: what code uses and calls
 /// there. Of more than sixteen the number of the others. Behind it stands what was built.
 pub(crate) fn relocation_report<'a>(
     alloc: Global,

@@ -55,7 +55,7 @@ fn is_any_wrong(points: &[Point<'_>]) -> bool
     points.iter().any(|point| !point.verdict.is_ok)
 }
 
-/// What is told of the points.
+/// The report on the points.
 fn report_of<'a>(alloc: Global, points: &[Point<'_>]) -> Result<CommandReport, HooktoolFault<'a>>
     ensures refused { IfOk result (λ report. report.is_refused
         ≡ list_any (λ point. not point.verdict.is_ok) points.now) }
@@ -64,7 +64,7 @@ fn report_of<'a>(alloc: Global, points: &[Point<'_>]) -> Result<CommandReport, H
     told(protocol(alloc, points), is_any_wrong(points))
 }
 
-/// Plays these lines, and says what is to be told.
+/// Plays these lines, and reports on them.
 fn played<'a, R: WholeFiles + AllocGlobal>(
     rt: &R,
     path: &'a str,

@@ -97,7 +97,7 @@ fn text_of(alloc: Global, program: &Program, trial: &ObjectTrial) -> Result<Stri
     text.finish()
 }
 
-/// What is told of the program's runs.
+/// The report on the program's runs.
 fn report_of<'a>(
     alloc: Global,
     program: &Program,
@@ -111,7 +111,7 @@ fn report_of<'a>(
 }
 
 /// Runs the program of the object file that these bytes are on the question, with this packet, and
-/// says what is to be told of it.
+/// reports on it.
 fn told_of<'a>(
     alloc: Global,
     bytes: &[u8],
@@ -165,8 +165,8 @@ fn try_bytes<'a, R: WholeFiles + AllocGlobal>(
     }
 }
 
-/// Runs the program of the object file at `path` on the question, and tells each run's end and what
-/// was left in counters and cells.
+/// Runs the program of the object file at `path` on the question, and reports each run's end and
+/// what was left in counters and cells.
 ///
 /// A fault if a file can't be read, is no object file, or holds no code, or if memory is refused.
 pub(crate) fn try_question<'a, R: WholeFiles + AllocGlobal>(

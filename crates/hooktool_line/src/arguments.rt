@@ -179,7 +179,7 @@ const CELL: &str = "Stores N in cell J, 0 to 63, before the runs; may be given a
 
 const TIMES: &str = "How many runs in a row, on the same counters and cells, 1 to 1000";
 
-// What is written behind the top help.
+// The end of the top-level help.
 const WORKED: &str = "\
 Examples:
   hooktool annotate price price.bin price.o    prints accepted bound 42, and writes price.o
@@ -212,7 +212,7 @@ pub(crate) struct Word {
     pub help: &'static str,
 }
 
-/// What is told of a command, or of all.
+/// A topic of the help: a command, or all of them.
 #[derive(Clone, Copy)]
 pub(crate) enum Topic {
     Commands,
@@ -496,7 +496,7 @@ pub(crate) const ASK: Form = Form {
     words: &ASK_WORDS,
 };
 
-// What is told on this: in a line, and behind the words. The long texts stand in this function
+// The help on this topic: in a line, and after the words. The long texts stand in this function
 // alone, since a proof writes out a text for each state of a function that names it.
 fn help_on(topic: Topic) -> (&'static str, &'static str) {
     match topic {

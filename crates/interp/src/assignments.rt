@@ -17,7 +17,7 @@ use crate::{contents, registers};
 use isa::{ByteOrder, Extension, Map, Operation, Register, Source, SwapWidth, Width, arithmetic};
 use machine::{Content, Fault, Pointer, State};
 
-/// An operation on two operands.
+/// Executes an operation on two operands.
 pub(crate) fn arithmetic(
     state: &mut State,
     width: Width,
@@ -61,7 +61,7 @@ fn number_in(state: &State, register: Register) -> Result<u64, Fault>
     }
 }
 
-/// NEG.
+/// Executes NEG.
 pub(crate) fn negate(state: &mut State, width: Width, target: Register) -> Result<(), Fault>
     requires { state.old.slot < 4096 }
     ensures ok { OnOk result (Fills state.old target (on_number (negated_number width)
@@ -82,7 +82,7 @@ pub(crate) fn negate(state: &mut State, width: Width, target: Register) -> Resul
     Ok(())
 }
 
-/// MOVSX: a sign-extending move.
+/// Executes MOVSX, a sign-extending move.
 pub(crate) fn sign_extend(
     state: &mut State,
     extension: Extension,
@@ -108,7 +108,7 @@ pub(crate) fn sign_extend(
     Ok(())
 }
 
-/// END: a reordering of bytes.
+/// Executes END, a reordering of bytes.
 pub(crate) fn reorder(
     state: &mut State,
     order: ByteOrder,
@@ -134,7 +134,7 @@ pub(crate) fn reorder(
     Ok(())
 }
 
-/// LDDW of a number.
+/// Executes LDDW of a number.
 pub(crate) fn load_number(state: &mut State, target: Register, number: u64) -> Result<(), Fault>
     requires { state.old.slot < 4096 }
     ensures ok { OnOk result ((target ≢ 10)
@@ -151,7 +151,7 @@ pub(crate) fn load_number(state: &mut State, target: Register, number: u64) -> R
     Ok(())
 }
 
-/// LDDW of a pointer into a map.
+/// Executes LDDW of a pointer into a map.
 pub(crate) fn load_map(
     state: &mut State,
     target: Register,

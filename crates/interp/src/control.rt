@@ -16,7 +16,7 @@ use isa::{Register, Source, Test, Width};
 use machine::{Content, Fault, Hook, Input, State};
 use maps::{Seat, Shared};
 
-/// A conditional jump.
+/// Executes a conditional jump.
 pub(crate) fn branch(
     state: &mut State,
     width: Width,
@@ -48,7 +48,7 @@ pub(crate) fn branch(
     Ok(())
 }
 
-/// EXIT's answer.
+/// The answer at EXIT: the number in r0.
 pub(crate) fn exit(state: &State) -> Result<u64, Fault>
     ensures ok { IfOk result (λ word. held state.now 0 ≡ Number word) }
     ensures err { IfErr result (λ fault. fault_of_exit (held state.now 0) ≡ Some fault) }
@@ -60,7 +60,7 @@ pub(crate) fn exit(state: &State) -> Result<u64, Fault>
     }
 }
 
-/// A call of a helper.
+/// Executes a call of a helper.
 pub(crate) fn call(
     state: &mut State,
     hook: Hook,

@@ -150,7 +150,7 @@ fn load_at(
     }
 }
 
-/// LDX: a load into a register, from the pointer in the base register plus the offset.
+/// Executes LDX: a load into a register, from the pointer in the base register plus the offset.
 pub(crate) fn load(
     state: &mut State,
     size: LoadSize,

@@ -115,7 +115,7 @@ fn store_at(
     }
 }
 
-/// ST and STX: a store at the pointer in the base register plus the offset.
+/// Executes ST or STX: a store at the pointer in the base register plus the offset.
 pub(crate) fn store(
     state: &mut State,
     size: StoreSize,

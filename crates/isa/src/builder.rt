@@ -63,10 +63,11 @@ impl CodeBuilder {
         self.slots.is_empty()
     }
 
-    /// Adds an instruction, in one slot or two. After an error the builder is unchanged.
+    /// Adds an instruction, in one slot or two.
     ///
     /// # Errors
-    /// `TooLong` if and only if there would be more than 4096 slots.
+    /// `TooLong` if and only if there would be more than 4096 slots, `Memory` if an allocation is
+    /// refused. The builder is then unchanged.
     pub fn push(&mut self, instruction: Instruction) -> Result<(), BuildError>
         ensures ok { OnOk result (self.new ≡ self.old ++ slots_of instruction) }
         ensures too_long { (result ≡ Err BuildError.TooLong)

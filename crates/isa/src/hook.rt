@@ -1,4 +1,4 @@
-//! The four hooks.
+//! The hooks: the points in the router at which programs are called.
 ghost use Rattle.std.specs.Prelude.{◌≡◌, IfSome, Some};
 ghost use Rattle.isa.specs.declared.hook.Hook.{Hook};
 ghost use Rattle.isa.specs.Hooks.{hook_number, hook_name};

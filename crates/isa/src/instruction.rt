@@ -213,7 +213,8 @@ impl Instruction {
         }
     }
 
-    /// Lemma: the same for a load or a store; nothing is said of other instructions.
+    /// For the prover alone: tells it so of a load or a store. Of other instructions it says
+    /// nothing.
     fn check_access_ranges(&self)
         ensures { IsAccess self.now }
     {

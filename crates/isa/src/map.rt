@@ -1,4 +1,4 @@
-//! The two maps.
+//! The maps that programs may point into: counters and cells.
 ghost use Rattle.std.specs.Prelude.{◌≡◌, IfSome, Some};
 ghost use Rattle.isa.specs.declared.map.Map.{Map};
 ghost use Rattle.isa.specs.Maps.{map_number, map_of};

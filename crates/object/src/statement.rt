@@ -36,7 +36,7 @@ impl Model for Statement {
     ghost inverse = { λ s. record { slot = s.slot; rank = s.rank; kinds = s.kinds; stack = s.stack } };
 }
 
-/// Lemma: what is stated of each register is in its range.
+/// For the prover alone: tells it that what is stated of each register is in its range.
 fn check_kinds(kinds: &[StatedKind])
     ensures { All IsKind kinds.now }
 {
@@ -97,7 +97,7 @@ impl Statement {
         self.slot
     }
 
-    /// The rank there.
+    /// The rank at the slot: what bounds the jumps back that are still to come.
     pub fn rank(&self) -> Rank
         ensures value { result ≡ self.now.rank }
         ensures is_statement { IsStatement self.now }

@@ -1,4 +1,4 @@
-//! Files, read and written whole, as those who only know of them what a call showed.
+//! Files, read and written whole, by whatever reads and writes them.
 
 ghost use Rattle.std.specs.Prelude.{◌≡◌, Err, IfOk, OnOk};
 ghost use Rattle.object_trials.specs.Stops.{KnownFiles};

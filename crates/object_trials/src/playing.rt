@@ -186,7 +186,7 @@ fn ask_capture<R: WholeFiles + AllocGlobal>(
     ask_bytes(rt.alloc(), stage, &bytes, interface, shared, seat)
 }
 
-/// From here on the program of the object file at this path is asked.
+/// Takes the program of the object file at this path, which the following questions are asked of.
 fn take_program<R: WholeFiles + AllocGlobal>(
     rt: &R,
     stage: &mut Stage,

@@ -4,7 +4,7 @@ use crate::error::TrialError;
 use std::fmt;
 use thiserror::Error;
 
-/// Why a test isn't played to its end. The text is what is told behind the line's number.
+/// Why a test isn't played to its end. Its `Display` is the message after the line's number.
 #[derive(Clone, Copy, Error)]
 pub enum PlayError {
     /// A question comes before any `program` that could be asked.

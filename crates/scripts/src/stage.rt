@@ -246,7 +246,7 @@ impl Stage {
         Ok(())
     }
 
-    // What was printed; the router is let go.
+    // Returns what was printed, and drops the router.
     fn close(self) -> String {
         let Stage {
             alloc: _,

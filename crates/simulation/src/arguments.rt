@@ -119,7 +119,7 @@ Statuses: 0 done, 1 not at rest or found, 2 usage, 3 stream, 4 memory.";
 enum Given {
     /// It has to be there, at its place.
     AtItsPlace,
-    /// Behind its name with two hyphens, if it is there.
+    /// After its name with two hyphens, if it is there.
     ByName,
     /// As its name with two hyphens alone, if it is there.
     Flag,

@@ -1,4 +1,4 @@
-//! Why the program didn't do what it was asked, and the statuses.
+//! Why the program failed, and the exit statuses.
 ghost use Rattle.std.specs.Prelude.{◌≡◌, ◌≤◌};
 ghost use Rattle.simulation.specs.Statuses.{fault_of_network, fault_of_words, status_of};
 ghost use Rattle.simulation.specs.declared.fault.SimulationError.TheVariants.{Output};
@@ -18,7 +18,7 @@ pub const OUTSIDE: u8 = 3;
 /// Memory was refused.
 pub const MEMORY: u8 = 4;
 
-/// Why the program didn't do what it was asked.
+/// Why the program failed.
 #[derive(Drop)]
 pub enum SimulationError {
     /// The words of the command line are wrong, or ask for help: the text says which.

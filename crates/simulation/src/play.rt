@@ -58,7 +58,7 @@ pub fn play_input<R: Input + AllocGlobal + Wait, O: Write>(rt: &R, output: &mut 
     }
 }
 
-// What is told of a file that can't be read.
+// Prints that a file can't be read. Returns the status.
 fn end_unread<O: Write>(output: &mut O, path: &str) -> u8 {
     let _written = writeln!(output, "cannot read {path}");
     OUTSIDE

@@ -104,7 +104,7 @@ fn play_on<
     }
 }
 
-// How many events stand in the journal, and how many the book took. It is let go.
+// How many events stand in the journal, and how many the book took. The book is dropped.
 fn closed<L: Site>(hub: Hub<L, Book<L>>) -> (usize, u64) {
     let (book, _shared) = hub.into_parts();
     let journal = book.journal().len();

@@ -5,7 +5,7 @@ use std::alloc::AllocFailed;
 use std::fmt;
 use thiserror::Error;
 
-/// Why bytes are no capture that can be read. The text is what is told of the file.
+/// Why bytes are no capture that can be read. Its `Display` is the message about the file.
 #[derive(Clone, Copy, Error)]
 pub enum CaptureError {
     /// Fewer than 24 bytes, another magic number in front, or another version than 2.

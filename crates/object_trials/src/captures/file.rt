@@ -101,7 +101,7 @@ fn records_of<'a>(
 /// inside of a record, `Memory` if an allocation is refused.
 pub fn read(alloc: Global, bytes: &[u8]) -> Result<Capture<'_>, CaptureError>
     ensures found { IfOk result (IsCapture bytes.now) }
-    // What isn't one has the fault that is told.
+    // The bytes have the fault that is returned.
     ensures why { IfErr result (Refuses bytes.now) }
 {
     let Some(order) = order_of(bytes) else {

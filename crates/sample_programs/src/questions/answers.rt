@@ -82,7 +82,7 @@ fn is_silent<R: Wait + Drop>(trial: HookTrial<R>, of: &Subjects) -> bool {
         .is_none()
 }
 
-// Plays the steps in a new trial, and lets its loader go at the end.
+// Plays the steps in a new trial, and drops its loader at the end.
 fn plays<R: Wait + Drop>(alloc: Global, rt: R, steps: &[Step<'_>]) -> bool {
     let Some(of) = samples() else {
         return false;

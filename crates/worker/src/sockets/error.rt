@@ -5,7 +5,7 @@ ghost use Rattle.worker.specs.declared.sockets.error.SocketError.TheVariants.{Me
 use std::alloc::{AllocError, AllocFailed};
 use thiserror::Error;
 
-/// Why there are no sockets. The text is the line that is printed.
+/// Why there are no sockets. Its `Display` is the line that is printed.
 #[derive(Debug, Drop, Error)]
 pub enum SocketError {
     /// The UDP port of 127.0.0.1 can't be had.
