@@ -339,6 +339,7 @@ fn annotate_bytes<'a, R: WholeFiles + AllocGlobal>(
 /// Finds statements for the code of the file at `code`, at the hook, and writes the object file
 /// `object`, if the verifier accepts it. If it doesn't, `object` is as it was.
 ///
+/// # Errors
 /// A fault if a file can't be read or written, if the first one is no code and no object for the
 /// hook, or if memory is refused.
 pub(crate) fn annotate<'a, R: WholeFiles + AllocGlobal>(

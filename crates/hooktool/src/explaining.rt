@@ -111,6 +111,7 @@ fn explain_bytes<'a, R: WholeFiles + AllocGlobal>(
 /// the one that it refuses, and its verdict. Of an ELF file it reports so on each function that is
 /// in the section of a hook, with the statements that are found for it.
 ///
+/// # Errors
 /// A fault if the file can't be read, is neither, or holds no code, or if memory is refused.
 pub(crate) fn explain<'a, R: WholeFiles + AllocGlobal>(
     rt: &R,

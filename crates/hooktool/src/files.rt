@@ -10,8 +10,11 @@ use object_trials::WholeFiles;
 use std::alloc::Global;
 use whole_files::{ReadFault, WriteFault};
 
-/// The bytes of the file at `path`. `Fault::Read` if it can't be opened or read, is no regular
-/// file, or is too long.
+/// The bytes of the file at `path`.
+///
+/// # Errors
+/// `Read` if it can't be opened or read, is no regular file, or is longer than 16 MiB; `Memory` if
+/// an allocation is refused.
 pub(crate) fn read<'a, R: WholeFiles>(rt: &R, path: &'a str) -> Result<Vec<u8>, HooktoolFault<'a>>
     ensures bytes { IfOk result (λ bytes. R.known.holds path.now bytes.items) }
     ensures fault { IfErr result (IsUnread R.known path.entry) }
@@ -25,6 +28,9 @@ pub(crate) fn read<'a, R: WholeFiles>(rt: &R, path: &'a str) -> Result<Vec<u8>, 
 
 /// Makes the file at `path` one of these bytes, written beside it first, so that after a fault it
 /// is as before. Only an object that the verifier accepts is ever written.
+///
+/// # Errors
+/// `Write` if that fails, `Memory` if an allocation is refused.
 pub(crate) fn write_accepted<'a, R: WholeFiles>(
     rt: &R,
     path: &'a str,

@@ -121,6 +121,7 @@ fn test_text<'a, R: WholeFiles + AllocGlobal>(
 /// Plays the test in the file at `path`: the text of its points, or of the first line that can't be
 /// read or played.
 ///
+/// # Errors
 /// A fault if the file can't be read or isn't UTF-8, or if memory is refused.
 pub(crate) fn test<'a, R: WholeFiles + AllocGlobal>(
     rt: &R,

@@ -168,6 +168,7 @@ fn try_bytes<'a, R: WholeFiles + AllocGlobal>(
 /// Runs the program of the object file at `path` on the question, and reports each run's end and
 /// what was left in counters and cells.
 ///
+/// # Errors
 /// A fault if a file can't be read, is no object file, or holds no code, or if memory is refused.
 pub(crate) fn try_question<'a, R: WholeFiles + AllocGlobal>(
     rt: &R,

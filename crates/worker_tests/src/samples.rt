@@ -22,6 +22,9 @@ pub const VETOING: &[u8] =
         \x00\x00\x00\x00\x00\x00";
 
 /// The Hello at the interface `number`, with this many zeros behind it.
+///
+/// # Errors
+/// `AllocError` if an allocation is refused.
 pub fn hello(alloc: Global, number: u16, zeros: usize) -> Result<Work, AllocError> {
     let mut bytes = Vec::from_slice(alloc, HELLO)?;
     bytes.resize(HELLO.len().saturating_add(zeros), 0)?;
