@@ -251,7 +251,7 @@ impl<L: Origin> Book<L> {
     /// as it is now is copied when the next event comes.
     ///
     /// # Errors
-    /// None.
+    /// Never.
     pub fn mark(&mut self) -> Result<(), AllocError>
         ensures ok { IsOk result }
         ensures book { self.new ≡ marked_book self.old }

@@ -155,11 +155,12 @@ fn first_instruction(bytes: &[u8]) -> Result<Instruction, DecodeFault>
 /// The code that the bytes spell (RFC 9669, section 3).
 ///
 /// # Errors
-/// The first fault, and the slot of its instruction: `Length` (slot 0) unless the bytes are one or
-/// more times eight; `TooLong` (slot 0) if they are more than 4096 slots; then for each instruction
-/// in turn `Opcode` if the opcode is none, `Register` if a register is above r10, `Reserved` if a
-/// field that it doesn't use isn't 0, `HalfWide` if the second slot of a wide one is missing.
-/// `Memory` (slot 0) only if there is no fault, and an allocation is refused.
+/// The first fault, and the slot of its instruction: `Length` (slot 0) if there are no bytes, or
+/// not whole slots of eight; `TooLong` (slot 0) if there are more than 4096 slots; then for each
+/// instruction in turn `Opcode` if no instruction has its opcode, `Register` if a register is above
+/// r10, `Reserved` if a field that it doesn't use isn't 0 or one that it uses holds a value that
+/// isn't listed, `HalfWide` if the second slot of a wide one is missing. `Memory` (slot 0) only if
+/// there is no fault, and an allocation is refused.
 pub fn decode(alloc: Global, bytes: &[u8]) -> Result<Code, DecodeError>
     // Whatever is read, the bytes spell it.
     ensures found { IfOk result (λ code. Spells bytes.now code) }

@@ -102,9 +102,9 @@ fn behind_header(text: &[u8]) -> &[u8]
     &text[HEADER_LENGTH..]
 }
 
-/// Whether the event from `before` to `moment` changed nothing that routes depend on: both copies
-/// say the same, as in `contents_agree`; or the earlier one said nothing at `before` and the
-/// present one says nothing at `moment`, since each is missing or at MaxAge.
+/// Whether what this key's copy says, on which routes depend, is the same at `moment` as it was at
+/// `before`: both copies say the same, as in `contents_agree`; or the earlier one said nothing at
+/// `before` and the present one says nothing at `moment`, since each is missing or at MaxAge.
 ///
 /// # Errors
 /// `AllocError` if an allocation for their bytes, which are compared, is refused.
