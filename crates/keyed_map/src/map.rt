@@ -188,6 +188,7 @@ pub trait KeyTest<X> {
 
     ghost accepts: { Self → Key → X → Bool };
 
+    /// Whether the key passes, with this value.
     fn accepts(&self, key: &Key, x: &X) -> bool
         ensures { result ≡ accepts self.now key.now x.now };
 }
