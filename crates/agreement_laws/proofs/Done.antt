@@ -41,7 +41,7 @@ use Rattle.received.specs.Flooding.{flood, flood_to, is_sender}
 use Rattle.received.specs.Holds.{Holds, HoldsOfEach}
 use Rattle.received.specs.Links.{Link, delay_acknowledgment, link_at, neighbor_at, neighbor_on}
 use Rattle.received.specs.Outcomes.{Outcome, on_database}
-use Rattle.received.specs.Updates.{after_case, copy_of, install, send_copy}
+use Rattle.received.specs.Updates.{after_case, copy_of, flood_and_install, send_copy}
 use Rattle.received.proofs.Holding.{changed_keeps, each_keeps, each_link_keeps, one_holds}
 use Rattle.received.proofs.Holding.{one_keeps}
 use Rattle.event_rules.specs.declared.model.Config.{Config}
@@ -259,7 +259,7 @@ flood_kept moment sender lsa o h =
     (λ number link n at. flooded moment (is_sender sender number) lsa n at) o h
 
 install_kept : (moment number : ℕ) (lsa : Lsa) (o : Outcome) → OnOutcome o
-    → OnOutcome (install moment number lsa o)
+    → OnOutcome (flood_and_install moment number lsa o)
 install_kept moment number lsa o h =
     let p : Outcome = on_database (install_flooded moment lsa) o in
     changed_keeps IsDone number (delay_acknowledgment lsa.header) (λ link at. at)

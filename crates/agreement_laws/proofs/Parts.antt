@@ -36,7 +36,7 @@ use Rattle.received.specs.Links.{link_at, neighbor_at, neighbor_on}
 use Rattle.received.specs.Outcomes.{Outcome, Send, Stepping, each_neighbor, marked_database}
 use Rattle.received.specs.Outcomes.{sends_at, on_database, on_links, one_neighbor, only_at, sending}
 use Rattle.received.specs.Outcomes.{sent_on, step_on, stepped_links, stepping_sends, sends_of}
-use Rattle.received.specs.Updates.{after_case, case_at, copy_of, install, send_copy}
+use Rattle.received.specs.Updates.{after_case, case_at, copy_of, flood_and_install, send_copy}
 use Rattle.received.proofs.Marks.{changed_by, tied}
 use Rattle.event_rules.specs.Commands.{taken_down}
 use Rattle.event_rules.specs.Endings.{link_loading_done, stays}
@@ -384,7 +384,7 @@ module _ (key : Key) (moment : ℕ) (number : ℕ) (There : Type 0) (Of : ℕ �
     turned a b e = eq-eqb b a (sym (eqb-true a b e))
 
     installs : (place : ℕ) (lsa : Lsa) (o : Outcome) → lsa.header.age ≤ 3600 → Says place lsa.header
-        → Stands o → Stands (install moment place lsa o)
+        → Stands o → Stands (flood_and_install moment place lsa o)
     installs place lsa o most says h =
         change_at place (delay_acknowledgment lsa.header)
         (flood moment (Some place) lsa (on_database (install_flooded moment lsa) o))

@@ -27,7 +27,7 @@ use Rattle.received.specs.Links.{Link, change_link, delay_acknowledgment, link_a
 use Rattle.received.specs.Outcomes.{Outcome, Send, Stepping, each_neighbor, on_database, on_links}
 use Rattle.received.specs.Outcomes.{one_neighbor, only_at, sending, sends_at, step_on, sends_of}
 use Rattle.received.specs.Outcomes.{stepped_links, stepping_sends}
-use Rattle.received.specs.Updates.{after_case, case_at, copy_of, install, send_copy}
+use Rattle.received.specs.Updates.{after_case, case_at, copy_of, flood_and_install, send_copy}
 use Rattle.received.proofs.Marks.{IsStill, mark_all, There}
 use Rattle.event_rules.specs.Commands.{taken_down}
 use Rattle.event_rules.specs.Endings.{link_loading_done, stays, with_age}
@@ -253,7 +253,7 @@ module _ (ranks : RanksFollowTheComparison) (key : Key) (moment : ℕ) (first : 
 
   installs : (place : ℕ) (lsa : Lsa) (o : Outcome)
       → newer_than_copy moment lsa.header (copy_of lsa o.area) ≡ true → Stands o
-      → Stands (install moment place lsa o)
+      → Stands (flood_and_install moment place lsa o)
   installs place lsa o is h =
       change_at place (delay_acknowledgment lsa.header)
       (flood moment (Some place) lsa (on_database (install_flooded moment lsa) o))

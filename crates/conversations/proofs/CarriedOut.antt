@@ -4,7 +4,7 @@ use Rattle.std.specs.FinMap as finite
 use Rattle.lsdb.specs.Copies.{install_flooded}
 use Rattle.lsdb.specs.Headers.{Lsa, lsa_key}
 use Rattle.received.specs.Cases.{Case}
-use Rattle.received.specs.Updates.{goes_on, install, send_copy}
+use Rattle.received.specs.Updates.{flood_and_install, goes_on, send_copy}
 use Rattle.event_rules.specs.EventState.{EventState, on_area}
 use Rattle.event_rules.specs.Originations.{is_wanted, originate_or_flush, wanted_body}
 use Rattle.event_rules.specs.Packets.{after_lsa, after_lsas, after_unread, case_in}
@@ -48,7 +48,8 @@ carried_out = record {
       done moment number bytes rest lsa p Case.Older is
       ∙ ap (λ o. after_lsas moment number rest (on_area (send_copy moment number o) p)) there;
   newer = λ moment bytes rest lsa r link n sends is foreign.
-      let p : EventState = on_area (install moment 1 lsa) (having_sent sends r link (full n)) in
+      let p : EventState = on_area (flood_and_install moment 1 lsa)
+      (having_sent sends r link (full n)) in
       done moment 1 bytes rest lsa (having_sent sends r link (full n)) Case.Newer is
       ∙ ap (λ b. after_lsas moment 1 rest
       (cond b (originate_or_flush (is_wanted (wanted_body p.router (lsa_key lsa))) moment

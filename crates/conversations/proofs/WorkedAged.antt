@@ -19,7 +19,7 @@ use Rattle.received.specs.Links.{Area, Link, any_has_retransmission, delay_ackno
 use Rattle.received.specs.Links.{any_exchange_or_loading, change_link, link_at, neighbor_at}
 use Rattle.received.specs.Links.{neighbor_on, neighbor_is_exchange_or_loading}
 use Rattle.received.specs.Outcomes.{Send, sends_at, sent_on, step_on, stepped_links, stepping_sends}
-use Rattle.received.specs.Updates.{case_at, install}
+use Rattle.received.specs.Updates.{case_at, flood_and_install}
 use Rattle.received.proofs.Flooded.{replaces_older}
 use Rattle.event_rules.specs.Endings.{end_event, stays_as}
 use Rattle.event_rules.specs.Originations.{is_wanted, originate_or_flush, wanted_body}
@@ -147,7 +147,7 @@ module _ (moment number other : ℕ) (lsa : Lsa) (another : Link) (m : Neighbor)
   neighbor_of false h l = refl
 
   is_on_some_list : IsOwedTo (record r {
-    area = (install moment number lsa (record {
+    area = (flood_and_install moment number lsa (record {
       area = r.area;
       sends = [];
     })).area;
@@ -202,7 +202,7 @@ aged_lsa_comes = record {
       );
   one_loading = λ old new moment number other bytes lsa link n another m outs nothing_ages from text
       there apart none foreign event.
-      let p : EventState = on_area (install moment number lsa) (start old) in
+      let p : EventState = on_area (flood_and_install moment number lsa) (start old) in
       let busy : any_exchange_or_loading old.area.links ≡ true =
       busy_on other old.area.links another there.link_there
       (ap neighbor_is_exchange_or_loading there.neighbor_there

@@ -22,7 +22,7 @@ use Rattle.received.specs.Cases.{Case, case_of_readable, case_tests, first_case}
 use Rattle.received.specs.Links.{Area, Link, any_has_retransmission, any_exchange_or_loading}
 use Rattle.received.specs.Links.{neighbor_at}
 use Rattle.received.specs.Outcomes.{Outcome, on_database}
-use Rattle.received.specs.Updates.{case_at, install}
+use Rattle.received.specs.Updates.{case_at, flood_and_install}
 use Rattle.event_rules.specs.declared.model.Out.{Out}
 use Rattle.event_rules.specs.Endings.{start_event, end_event, stays_as}
 use Rattle.event_rules.specs.Events.{Happens}
@@ -69,7 +69,7 @@ flushed r link n moment lsa =
     (put r link moment lsa (remove_retransmission (lsa_key lsa) (full n)))
 
 installs : (r : Router) (link : Link) (n : Neighbor) (moment : ℕ) (lsa : Lsa)
-    → on_area (install moment 1 lsa) (start (beside r link (full n)))
+    → on_area (flood_and_install moment 1 lsa) (start (beside r link (full n)))
     ≡ put r link moment lsa (remove_retransmission (lsa_key lsa) (full n))
 installs r link n moment lsa = refl
 

@@ -21,7 +21,7 @@ use Rattle.adjacency.specs.Retransmissions.{remove_retransmission}
 use Rattle.adjacency.specs.declared.state.NeighborState.TheVariants.{Full}
 use Rattle.received.specs.Flooding.{meets}
 use Rattle.received.specs.Links.{Link, delay_acknowledgment}
-use Rattle.received.specs.Updates.{install}
+use Rattle.received.specs.Updates.{flood_and_install}
 use Rattle.event_rules.specs.declared.model.Out.{Out}
 use Rattle.event_rules.specs.Endings.{copy_has_body, originate_router_lsa, put_off_router_lsa}
 use Rattle.event_rules.specs.Endings.{loading_done, end_event, is_at, is_current, links_differ}
@@ -76,7 +76,7 @@ put r link moment lsa n = record {
 
 becomes_full : (r : Router) (link : Link) (n : Neighbor) (moment : ℕ) (lsa : Lsa)
     → finite.len n.requests ≡ 1 → meets moment lsa (requested_entry n (lsa_key lsa)) ≡ true
-    → loading_done (on_area (install moment 1 lsa) (start (beside r link (loading n))))
+    → loading_done (on_area (flood_and_install moment 1 lsa) (start (beside r link (loading n))))
     ≡ put r link moment lsa (full lsa n)
 becomes_full r link n moment lsa one is_met =
     ap (λ b. loading_done (put r link moment lsa
@@ -145,7 +145,7 @@ ending : (r : Router) (link : Link) (n : Neighbor) (moment : ℕ) (lsa : Lsa) (o
     → is_at moment (finite.get r.originated (router_key r.id)) ≡ false
     → interval_is_over moment (finite.get r.originated (router_key r.id)) ≡ over
     → end_event (beside r link (loading n)) moment
-    (on_area (install moment 1 lsa) (start (beside r link (loading n))))
+    (on_area (flood_and_install moment 1 lsa) (start (beside r link (loading n))))
     ≡ ended moment (described over moment own
     (put r link moment lsa (full lsa n)))
 ending r link n moment lsa own over meet unsaid is_over =
@@ -182,11 +182,11 @@ own_update : (r new : Router) (link : Link) (n : Neighbor) (moment : ℕ) (bytes
     (own : DatabaseCopy) (outs : List Out) → MeetsTheLastRequest r n moment lsa own
     → IsUpdateWith bytes n.router lsa
     → (event : Happens (beside r link (loading n)) moment (Occurrence.Packet 1 bytes) outs
-    new) → event.after ≡ on_area (install moment 1 lsa)
+    new) → event.after ≡ on_area (flood_and_install moment 1 lsa)
     (start (beside r link (loading n)))
 own_update r new link n moment bytes lsa own outs meet text event =
     let old : Router = beside r link (loading n) in
-    let p : EventState = on_area (install moment 1 lsa) (start old) in
+    let p : EventState = on_area (flood_and_install moment 1 lsa) (start old) in
     own_part old moment 1 bytes lsa (loading n) event.after meet.nothing_ages refl meet.is_other
     refl text event.own
     ∙ ap (λ c. after_lsa c moment 1 lsa (start old))

@@ -29,7 +29,7 @@ use Rattle.received.specs.Flooding.{flood_to, meets, passes, request_of, without
 use Rattle.received.specs.Links.{Area, Link, any_has_retransmission, delay_acknowledgment}
 use Rattle.received.specs.Links.{any_exchange_or_loading, link_at, neighbor_at, neighbor_on}
 use Rattle.received.specs.Outcomes.{Outcome, step_on, stepped_links, stepping_sends}
-use Rattle.received.specs.Updates.{case_at, goes_on, install}
+use Rattle.received.specs.Updates.{case_at, flood_and_install, goes_on}
 pub use Rattle.received.proofs.Marks.{IsStill, changed_by, mark_all, marked_once, tied}
 use Rattle.event_rules.specs.declared.model.Out.{Out}
 use Rattle.event_rules.specs.Endings.{start_event, end_event, stays_as}
@@ -163,10 +163,14 @@ sender_step moment number lsa link n part rest =
     (no_sends (remove_retransmission (lsa_key lsa) (same i)))) (no_sends n)
 
 abbrev first : Router → ℕ → ℕ → Lsa → Outcome
-first r moment number lsa = install moment number lsa (record { area = r.area; sends = [] })
+first r moment number lsa = flood_and_install moment number lsa (record {
+  area = r.area;
+  sends = [];
+})
 
 abbrev second : Router → ℕ → ℕ → Lsa → Router
-second r moment number lsa = (ended moment (on_area (install moment number lsa) (start r))).router
+second r moment number lsa = (ended moment
+    (on_area (flood_and_install moment number lsa) (start r))).router
 
 first_seen : (r : Router) (moment number : ℕ) (lsa : Lsa)
     → map seen (first r moment number lsa).area.links ≡ map seen r.area.links
@@ -312,7 +316,7 @@ again r new moment number bytes lsa link n more rest from none text young event 
 pub comes_twice : ANewLsaComesTwice
 comes_twice old middle new moment number bytes lsa link n outs more rest from none text absent young
     other one two =
-    let p : EventState = on_area (install moment number lsa) (start old) in
+    let p : EventState = on_area (flood_and_install moment number lsa) (start old) in
     let own : one.after ≡ p =
     own_part old moment number bytes lsa n one.after rest.nothing_ages
     (ap neighbor_on from.link_there ∙ from.neighbor_there) from.is_other

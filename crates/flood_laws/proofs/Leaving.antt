@@ -47,7 +47,7 @@ use Rattle.received.specs.Links.{change_link, link_at, neighbor_at, neighbor_on}
 use Rattle.received.specs.Outcomes.{Outcome, Send, Stepping, each_neighbor, sends_at, on_database}
 use Rattle.received.specs.Outcomes.{on_links, one_neighbor, only_at, sending, step_on, sends_of}
 use Rattle.received.specs.Outcomes.{stepped_links, stepping_sends}
-use Rattle.received.specs.Updates.{after_case, case_at, copy_of, install, send_copy}
+use Rattle.received.specs.Updates.{after_case, case_at, copy_of, flood_and_install, send_copy}
 use Rattle.received.proofs.Marks.{IsStill, changed_by, mark_all, There, all_there}
 use Rattle.event_rules.specs.Commands.{taken_down}
 use Rattle.event_rules.specs.Endings.{link_loading_done, loading_done_on, start_event, stays}
@@ -705,11 +705,11 @@ module _ (old : Router) (moment : ℕ) (event : Occurrence) (number : ℕ) (befo
 
     install_became : (lsa : Lsa) (o : Outcome) (t : ByKey ℕ)
         → Contains (lsas_brought packet.body) lsa → case_at moment place lsa o.area ≡ Case.Newer
-        → Became o.area t → Became (install moment place lsa o).area t
+        → Became o.area t → Became (flood_and_install moment place lsa o).area t
     install_became lsa o t among is h = by_key (same_key key (lsa_key lsa)) refl
       where
-        by_same : key ≡ lsa_key lsa → IsStored (install moment place lsa o).area → Became o.area t
-            → Became (install moment place lsa o).area t
+        by_same : key ≡ lsa_key lsa → IsStored (flood_and_install moment place lsa o).area
+            → Became o.area t → Became (flood_and_install moment place lsa o).area t
         by_same e st (WasTold told) = WasTold told
         by_same e st (WasReplaced newer before_it) = WasReplaced newer st
         by_same e st (WasOriginated own now not_before before_it) =
@@ -720,7 +720,7 @@ module _ (old : Router) (moment : ℕ) (event : Occurrence) (number : ℕ) (befo
             WasReplaced (replaces lsa o t among is (sym e) c at like) st
 
         by_key : (b : Bool) → same_key key (lsa_key lsa) ≡ b
-            → Became (install moment place lsa o).area t
+            → Became (flood_and_install moment place lsa o).area t
         by_key true same =
             let c : DatabaseCopy = record {
               lsa = lsa;

@@ -36,7 +36,7 @@ use Rattle.received.specs.Flooding.{flood_to}
 use Rattle.received.specs.Links.{Area, Link, link_at}
 use Rattle.received.specs.Outcomes.{Outcome, Send, marked_database, sends_at, on_database, on_links}
 use Rattle.received.specs.Outcomes.{only_at, stepping_sends, sends_of}
-use Rattle.received.specs.Updates.{after_case, copy_of, install, send_copy}
+use Rattle.received.specs.Updates.{after_case, copy_of, flood_and_install, send_copy}
 use Rattle.received.proofs.Told.{OfArea, OfLink, OfSend, OfWaiting, case_told, change_told}
 use Rattle.received.proofs.Told.{each_told, flood_told, numbered_told, on_database_told}
 use Rattle.received.proofs.Told.{one_neighbor_told, one_told, sending_told}
@@ -358,7 +358,7 @@ module _ (old : Router) (moment : ℕ) (event : Occurrence) where
     received (body.Acknowledgment headers) lsa c = absurd (of_empty lsa c)
 
     install_last : (lsa : Lsa) (o : Outcome) (t : ByKey ℕ) → Contains (lsas_brought packet.body) lsa
-        → AllLast t o.area.database → AllLast t (install moment place lsa o).area.database
+        → AllLast t o.area.database → AllLast t (flood_and_install moment place lsa o).area.database
     install_last lsa o t among h =
         all_marked t (stepping_sends (flood_to moment (Some place) lsa) o.area.links)
         (install_flooded moment lsa o.area.database)

@@ -42,7 +42,7 @@ use Rattle.received.specs.Links.{has_retransmission, link_at, neighbor_on}
 use Rattle.received.specs.Outcomes.{Outcome, Send, Stepping, each_neighbor, marked_database}
 use Rattle.received.specs.Outcomes.{sends_at, on_database, on_links, one_neighbor, only_at, sending}
 use Rattle.received.specs.Outcomes.{step_on, stepped_links, stepping_sends, sends_of}
-use Rattle.received.specs.Updates.{after_case, copy_of, install, send_copy}
+use Rattle.received.specs.Updates.{after_case, copy_of, flood_and_install, send_copy}
 use Rattle.received.proofs.Holding.{changed_keeps, each_link_keeps, flood_to_kept, one_holds}
 use Rattle.received.proofs.Marks.{IsStill, StillThere, There, all_there, changed_by, mark_all}
 use Rattle.received.proofs.Marks.{still_all, still_marked}
@@ -448,7 +448,7 @@ flushes_kept moment key c o is h =
 -- ---- received LSAs
 
 install_kept : (moment number : ℕ) (lsa : Lsa) (o : Outcome) → OfOutcome o
-    → OfOutcome (install moment number lsa o)
+    → OfOutcome (flood_and_install moment number lsa o)
 install_kept moment number lsa o h =
     let flooded : Outcome = flood moment (Some number) lsa
     (on_database (install_flooded moment lsa) o) in

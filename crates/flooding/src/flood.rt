@@ -5,7 +5,7 @@ ghost use Rattle.adjacency.specs.lsdb.Copies.{has_just_aged_out, lsa_now};
 ghost use Rattle.adjacency.specs.Floods.{is_any};
 ghost use Rattle.received.specs.Flooding.{flood_to, is_sender};
 ghost use Rattle.received.specs.Outcomes.{stepped_links, stepping_sends};
-ghost use Rattle.received.specs.Updates.{install};
+ghost use Rattle.received.specs.Updates.{flood_and_install};
 ghost use Rattle.flooding.specs.Doing.{AreaDoes, LinksDo};
 ghost use Rattle.flooding.specs.Drafted.{nothing_at};
 ghost use Rattle.flooding.specs.Links.{age_outcome, draft_of, flood_new_max_age, flooded_key};
@@ -117,7 +117,7 @@ impl Area {
     ///
     /// # Errors
     /// `AllocError` if an allocation is refused.
-    pub fn install(
+    pub fn flood_and_install(
         &mut self,
         alloc: Global,
         moment: Second,
@@ -126,7 +126,8 @@ impl Area {
     ) -> Result<(), AllocError>
         requires first { 1 ≤ number }
         requires last { number ≤ length self.old.present.links }
-        ensures { AreaDoes (λ a. install moment number lsa (start a)) self.old self.new result }
+        ensures { AreaDoes (λ a. flood_and_install moment number lsa (start a)) self.old self.new
+            result }
     {
         // For the prover alone, by what the call ensures.
         lsa.check_age();

@@ -19,7 +19,7 @@ use Rattle.received.specs.Holds.{Holds, HoldsOfEach}
 use Rattle.received.specs.Links.{Link, change_link, delay_acknowledgment, link_at, neighbor_on}
 use Rattle.received.specs.Outcomes.{Outcome, Stepping, each_neighbor, on_database, one_neighbor}
 use Rattle.received.specs.Outcomes.{only_at, step_on}
-use Rattle.received.specs.Updates.{after_case, copy_of, install, send_copy}
+use Rattle.received.specs.Updates.{after_case, copy_of, flood_and_install, send_copy}
 
 module _ (P : Neighbor → Type 0) where
   -- ---- links
@@ -112,7 +112,7 @@ module _ (Q : Fact) (kept : IsKept Q) where
       each_keeps (Of Q) moment (flood_to moment sender lsa) (flood_to_kept moment sender lsa) o h
 
   install_kept : (moment number : ℕ) (lsa : Lsa) (o : Outcome) → HoldsOfEach (Of Q) o.area.links
-      → HoldsOfEach (Of Q) (install moment number lsa o).area.links
+      → HoldsOfEach (Of Q) (flood_and_install moment number lsa o).area.links
   install_kept moment number lsa o h =
       let p : Outcome = on_database (install_flooded moment lsa) o in
       changed_keeps (Of Q) number (delay_acknowledgment lsa.header) (λ link at. at)

@@ -28,7 +28,8 @@ use Rattle.received.specs.Links.{Area, Link, change_link, delay_acknowledgment}
 use Rattle.received.specs.Outcomes.{Outcome, Send, Stepping, each_neighbor, marked_database}
 use Rattle.received.specs.Outcomes.{sends_at, on_database, on_links, one_neighbor, only_at, sending}
 use Rattle.received.specs.Outcomes.{sent_on, step_on, stepped_links}
-use Rattle.received.specs.Updates.{acknowledge_directly, after_case, copy_of, install, send_copy}
+use Rattle.received.specs.Updates.{acknowledge_directly, after_case, copy_of, flood_and_install}
+use Rattle.received.specs.Updates.{send_copy}
 use Rattle.received.proofs.Holding.{changed_keeps, each_keeps}
 use Rattle.received.proofs.Marks.{changed_by}
 
@@ -232,7 +233,7 @@ at_once_roomy moment number lsa o h =
     sending_roomy moment (sends_at number (Acknowledges lsa.header ∷ [])) o (tt, tt) h
 
 install_roomy : (moment number : ℕ) (lsa : Lsa) (o : Outcome) → Fits lsa → IsRoomyOutcome o
-    → IsRoomyOutcome (install moment number lsa o)
+    → IsRoomyOutcome (flood_and_install moment number lsa o)
 install_roomy moment number lsa o fits h =
     let p : Outcome = on_database (install_flooded moment lsa) o in
     let installed : IsRoomyOutcome p =

@@ -26,7 +26,8 @@ use Rattle.received.specs.Links.{neighbor_on}
 use Rattle.received.specs.Outcomes.{Outcome, Send, Stepping, each_neighbor, marked_database}
 use Rattle.received.specs.Outcomes.{sends_at, on_database, on_links, one_neighbor, only_at, sending}
 use Rattle.received.specs.Outcomes.{sent_on, step_on, stepped_links}
-use Rattle.received.specs.Updates.{acknowledge_directly, after_case, copy_of, install, send_copy}
+use Rattle.received.specs.Updates.{acknowledge_directly, after_case, copy_of, flood_and_install}
+use Rattle.received.specs.Updates.{send_copy}
 use Rattle.received.proofs.Marks.{changed_by}
 use Rattle.received.proofs.Roomy.{joined, same_number}
 
@@ -246,7 +247,7 @@ module _ (t : Telling) where
       sending_told moment (sends_at number (Acknowledges lsa.header ∷ [])) o (t.header lsa so, tt) h
 
   install_told : (moment number : ℕ) (lsa : Lsa) (o : Outcome) → t.of_lsa lsa → OfOutcome t o
-      → OfOutcome t (install moment number lsa o)
+      → OfOutcome t (flood_and_install moment number lsa o)
   install_told moment number lsa o so h =
       let p : Outcome = on_database (install_flooded moment lsa) o in
       let installed : OfOutcome t p =

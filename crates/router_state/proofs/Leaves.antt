@@ -21,7 +21,7 @@ use Rattle.flooding.specs.received.Flooding.{flood_to}
 use Rattle.flooding.specs.received.Links.{Area, any_exchange_or_loading, delay_acknowledgment}
 use Rattle.flooding.specs.received.Links.{change_link}
 use Rattle.flooding.specs.received.Outcomes.{Outcome, on_database, on_links, only_at, stepped_links}
-use Rattle.flooding.specs.received.Updates.{after_case, copy_of, install, send_copy}
+use Rattle.flooding.specs.received.Updates.{after_case, copy_of, flood_and_install, send_copy}
 use Rattle.event_rules.specs.Commands.{after_link_down, taken_down}
 use Rattle.event_rules.specs.Endings.{link_loading_done, remove_aged, request_all, stays}
 use Rattle.event_rules.specs.Endings.{with_age, with_ages}
@@ -138,7 +138,7 @@ module _ (moment number : ℕ) (lsa : Lsa) where
 
   -- an LSA of the case `Newer` is installed
   pub newer_installs : (c : Case) → is_newer c ≡ true → (o : Outcome)
-      → install moment number lsa o ≡ after_case c moment number lsa o
+      → flood_and_install moment number lsa o ≡ after_case c moment number lsa o
   newer_installs Case.Unreadable is o = absurd (false≢true is)
   newer_installs Case.NothingToFlush is o = absurd (false≢true is)
   newer_installs Case.TooSoon is o = absurd (false≢true is)

@@ -85,7 +85,7 @@ impl Router {
         let case = self.area.case_at(moment, number, &lsa);
         let newer = is_newer(case);
         if newer {
-            self.area.install(alloc, moment, number, lsa)?;
+            self.area.flood_and_install(alloc, moment, number, lsa)?;
             receive_self_originated(self, alloc, moment, &header)?;
             return Ok(true);
         }

@@ -26,12 +26,13 @@ returns-in_default-clause-does c =
     done _ (subst (λ (o : Option Lsa). Makes (after_unread c.args.moment c.args.number o) r r)
     (sym c.in_default.is ∙ c.in_ok-unread.ensures) (text_skipped c.args.moment c.args.number r))
 
-pub returns-in_err-install-clause-does : goal.returns-in_err-install-clause-does
-returns-in_err-install-clause-does c =
-    let away = c.from_residual-in_err-install in
+pub returns-in_err-flood_and_install-clause-does : goal.returns-in_err-flood_and_install-clause-does
+returns-in_err-flood_and_install-clause-does c =
+    let away = c.from_residual-in_err-flood_and_install in
     refused away.result away.ensures.0
-    (area_stays _ c.args.self.now c.self.inside.area c.install.new.self c.self.view_is refl
-    c.in_err-install.ensures.committed)
+    (area_stays _ c.args.self.now c.self.inside.area c.flood_and_install.new.self c.self.view_is
+    refl
+    c.in_err-flood_and_install.ensures.committed)
 
 pub returns-then-newer-clause-goes_on : goal.returns-then-newer-clause-goes_on
 returns-then-newer-clause-goes_on c =
@@ -52,8 +53,9 @@ returns-in_err-receive_self_originated-clause-does c =
     refused away.result away.ensures.0
     ((c.in_err-receive_self_originated.ensures c.in-Some.lsa
     (sym c.header-header.ensures)).committed
-    ∙ area_stays _ c.args.self.now c.self.inside.area c.install.new.self c.self.view_is refl
-    c.in_ok-install.ensures.committed)
+    ∙ area_stays _ c.args.self.now c.self.inside.area c.flood_and_install.new.self c.self.view_is
+    refl
+    c.in_ok-flood_and_install.ensures.committed)
 
 pub returns-then-newer-clause-does : goal.returns-then-newer-clause-does
 returns-then-newer-clause-does c =
@@ -69,8 +71,8 @@ returns-then-newer-clause-does c =
     ∙ ap (λ (r : KeptRouter). case_at m n lsa r.present.area) c.self.view_is)
     (newer_received m n lsa case newer
     (area_does (after_case case m n lsa) (keeps_case m n lsa case) (appends_case m n lsa case) _
-    c.args.self.now c.self.inside.area c.install.new.self _ c.self.view_is refl
-    c.in_ok-install.ensures
+    c.args.self.now c.self.inside.area c.flood_and_install.new.self _ c.self.view_is refl
+    c.in_ok-flood_and_install.ensures
     (newer_installs m n lsa case newer (start c.self.inside.area.present))).makes
     (c.in_ok-receive_self_originated.ensures lsa (sym c.header-header.ensures)).makes)))
 
