@@ -157,7 +157,7 @@ impl Link {
     {
         let exchanging = self.slot.is_exchange_or_later();
         if exchanging {
-            return self.slot.attempt(alloc, moment, &mut self.draft);
+            return self.slot.enter_exstart(alloc, moment, &mut self.draft);
         }
         Ok(())
     }

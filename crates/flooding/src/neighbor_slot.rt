@@ -119,7 +119,7 @@ impl NeighborSlot {
     ///
     /// # Errors
     /// `AllocError` if an allocation is refused; the caller then rolls back.
-    pub fn attempt(
+    pub fn enter_exstart(
         &mut self,
         alloc: Global,
         moment: Second,

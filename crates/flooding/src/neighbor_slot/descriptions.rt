@@ -58,7 +58,7 @@ impl NeighborSlot {
     {
         let init = self.is_init();
         if init {
-            return self.attempt(alloc, moment, draft);
+            return self.enter_exstart(alloc, moment, draft);
         }
         Ok(())
     }
@@ -83,7 +83,7 @@ impl NeighborSlot {
         let verdict = neighbor.verdict(own, description);
         let over = starts_over(verdict, description);
         if over {
-            return self.attempt(alloc, moment, draft);
+            return self.enter_exstart(alloc, moment, draft);
         }
         neighbor.proceed(alloc, verdict, moment, database, description, draft)
     }

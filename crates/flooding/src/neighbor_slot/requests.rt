@@ -94,7 +94,7 @@ impl NeighborSlot {
             if there {
                 return draft_copies(alloc, moment, delay, database, keys, draft);
             }
-            return self.attempt(alloc, moment, draft);
+            return self.enter_exstart(alloc, moment, draft);
         }
         Ok(())
     }

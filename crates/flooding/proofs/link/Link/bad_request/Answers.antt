@@ -18,18 +18,19 @@ returns-then-exchanging c =
     let o = c.self.inside.slot.present in
     let delay = c.self.inside.interface.delay in
     let is = sym c.is_exchange_or_later-exchanging.ensures ∙ c.if-exchanging.true in
-    place_becomes (step_on F) (sent_on F) _ c.args.self.now c.attempt.new.self.present
-    c.attempt.new.self.committed c.attempt.new.draft c.attempt.result c.self.view_is
-    (on_ok c.attempt.result
+    place_becomes (step_on F) (sent_on F) _ c.args.self.now c.enter_exstart.new.self.present
+    c.enter_exstart.new.self.committed c.enter_exstart.new.draft c.enter_exstart.result
+    c.self.view_is
+    (on_ok c.enter_exstart.result
     (λ made. made ∙ begins_anew m o is
     ∙ ap (λ (k : KeptLink). step_on F k.present.neighbor) c.self.view_is)
-    c.attempt.ensures.ok)
-    (on_ok c.attempt.result
+    c.enter_exstart.ensures.ok)
+    (on_ok c.enter_exstart.result
     (λ sent. sent delay ∙ ap (λ cs. drafting delay cs c.self.inside.draft) (sends_anew m o is)
     ∙ ap (λ (k : KeptLink). drafting k.present.interface.delay (sent_on F k.present.neighbor)
     k.drafted) c.self.view_is)
-    c.attempt.ensures.draft)
-    (c.attempt.ensures.committed ∙ ap (λ (k : KeptLink). k.committed.neighbor) c.self.view_is)
+    c.enter_exstart.ensures.draft)
+    (c.enter_exstart.ensures.committed ∙ ap (λ (k : KeptLink). k.committed.neighbor) c.self.view_is)
 
 pub returns : goal.returns
 returns c =

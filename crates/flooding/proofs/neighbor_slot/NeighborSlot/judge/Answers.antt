@@ -25,11 +25,11 @@ returns-then-over c =
     let n = c.in-Some.neighbor.present in
     let shown = ap present_of (sym c.in-Some.is) ∙ ap (λ h. h.present) c.self.view_is in
     let is = sym c.starts_over-over.ensures ∙ c.if-over.true in
-    sent_after c.attempt.result (first_of (search rules, grind (arith, common_steps)))
+    sent_after c.enter_exstart.result (first_of (search rules, grind (arith, common_steps)))
     (over_on c.args.own c.args.moment db d v (Some n) c.verdict-verdict.ensures is
     ∙ ap (step_on F) shown)
     (over_sent c.args.own c.args.moment db d v (Some n) c.verdict-verdict.ensures is
-    ∙ ap (sent_on F) shown) c.attempt.ensures
+    ∙ ap (sent_on F) shown) c.enter_exstart.ensures
 
 pub returns : goal.returns
 returns c =

@@ -26,14 +26,14 @@ returns-then-exchanging c =
     let is = sym c.is_exchange_or_later-exchanging.ensures ∙ c.if-exchanging.true in
     let some = sym c.are_there-there.ensures ∙ c.if-there.false in
     record {
-      ok = on_ok c.attempt.result (λ made. made
+      ok = on_ok c.enter_exstart.result (λ made. made
           ∙ fails_on c.args.moment c.args.database.now.present c.args.keys.now
-          c.args.self.now.present is some) c.attempt.ensures.ok;
-      draft = on_ok c.attempt.result (λ sent. sent c.args.delay
+          c.args.self.now.present is some) c.enter_exstart.ensures.ok;
+      draft = on_ok c.enter_exstart.result (λ sent. sent c.args.delay
           ∙ ap (λ cs. drafting c.args.delay cs c.args.draft.now)
           (fails_sent c.args.moment c.args.database.now.present c.args.keys.now
-          c.args.self.now.present is some)) c.attempt.ensures.draft;
-      committed = c.attempt.ensures.committed;
+          c.args.self.now.present is some)) c.enter_exstart.ensures.draft;
+      committed = c.enter_exstart.ensures.committed;
     }
 
 pub returns : goal.returns

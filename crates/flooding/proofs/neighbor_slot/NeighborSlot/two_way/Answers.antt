@@ -6,8 +6,8 @@ use Rattle.flooding.proofs.neighbor_slot.NeighborSlot.two_way.Goals as goal
 pub returns-then-init : goal.returns-then-init
 returns-then-init c =
     let is = sym c.is_init-init.ensures ∙ c.if-init.true in
-    sent_after c.attempt.result refl (begins_on c.args.moment c.args.self.now.present is)
-    (begins_sent c.args.moment c.args.self.now.present is) c.attempt.ensures
+    sent_after c.enter_exstart.result refl (begins_on c.args.moment c.args.self.now.present is)
+    (begins_sent c.args.moment c.args.self.now.present is) c.enter_exstart.ensures
 
 pub returns : goal.returns
 returns c =

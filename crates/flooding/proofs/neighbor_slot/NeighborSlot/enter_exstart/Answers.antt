@@ -3,7 +3,7 @@ use Rattle.adjacency.specs.Adjacencies.{enter_exstart}
 use Rattle.adjacency.specs.Contents.{sent_on, step_on}
 use Rattle.adjacency.specs.Views.{present_of}
 use Rattle.neighbors.proofs.Doing.{nothing_sent}
-use Rattle.flooding.proofs.neighbor_slot.NeighborSlot.attempt.Goals as goal
+use Rattle.flooding.proofs.neighbor_slot.NeighborSlot.enter_exstart.Goals as goal
 
 pub returns-in_default : goal.returns-in_default
 returns-in_default c =
