@@ -12,12 +12,12 @@
 //! whoever brings every share knows the number.
 #![tactic(auto)]
 
+mod applying;
 mod book;
 mod clash;
 mod event;
 mod keeping;
 pub mod laws;
-mod making;
 mod part;
 mod processing;
 mod profile;

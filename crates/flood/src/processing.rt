@@ -10,9 +10,9 @@ ghost use Rattle.flood.specs.Early.{early_refusal};
 ghost use Rattle.flood.specs.Occurrences.{occurrence_of};
 ghost use Rattle.flood.specs.Offers.{AreKeptNow, WalkStaysUnlessChanged};
 
+use crate::applying::apply_part;
 use crate::event::Event;
 use crate::keeping::pack_and_update_routes;
-use crate::making::make_part;
 use crate::part::read_part;
 use area_routes::AreaRoutes;
 use event_rules::{CoreError, Out};
@@ -99,7 +99,7 @@ pub fn process_event(
     let before = router.moment();
     let full = full_routers(router, alloc)?;
     router.age(alloc, moment)?;
-    make_part(router, alloc, moment, part)?;
+    apply_part(router, alloc, moment, part)?;
     end_event(router, alloc, moment, &full)?;
     let drafts = router.take_drafts(alloc)?;
     pack_and_update_routes(router, routes, alloc, own, before, event, drafts)

@@ -3,7 +3,7 @@ use Rattle.procedures.specs.Making.{Makes}
 use Rattle.procedures.proofs.Making.{done}
 use Rattle.flood.specs.declared.part.Part.{Part}
 use Rattle.flood.specs.Parts.{after_part}
-use Rattle.flood.proofs.making.make_part.Goals as goal
+use Rattle.flood.proofs.applying.apply_part.Goals as goal
 
 pub returns-in-Install : goal.returns-in-Install
 returns-in-Install c =

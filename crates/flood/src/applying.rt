@@ -12,7 +12,7 @@ use words::Second;
 ///
 /// # Errors
 /// `AllocError` if an allocation is refused.
-pub fn make_part(
+pub fn apply_part(
     router: &mut Router,
     alloc: Global,
     moment: Second,
