@@ -31,7 +31,7 @@ use Rattle.received.specs.Outcomes.{one_neighbor, only_at, sending, sends_at, se
 use Rattle.received.specs.Outcomes.{stepped_links, stepping_sends, sends_of}
 use Rattle.received.specs.Updates.{after_case, copy_of, send_copy}
 use Rattle.event_rules.specs.Commands.{taken_down}
-use Rattle.event_rules.specs.Endings.{link_loading_done, with_age}
+use Rattle.event_rules.specs.Endings.{flood_if_aged, link_loading_done}
 use Rattle.event_rules.specs.EventState.{flood_from_nobody}
 use Rattle.event_rules.specs.Hellos.{accepts, agrees, hello_is_due, hello_on, is_foreign, may_be}
 use Rattle.event_rules.specs.Hellos.{names}
@@ -342,10 +342,10 @@ module _ (own : ℕ) (Acc : Description → Type 0) (Began : Conversation → Ty
               other_on r.0 r.0.neighbor (Content.Describes d) r.2
 
   pub ages : (before : ℕ) (es : List (Key × DatabaseCopy)) (o : Outcome) → Aged o
-      → Aged (fold (with_age before moment) o es)
+      → Aged (fold (flood_if_aged before moment) o es)
   ages before [] o h = h
   ages before (e ∷ es) o h =
-      ages before es (with_age before moment o e)
+      ages before es (flood_if_aged before moment o e)
       (chosen Aged (has_just_aged_out before moment e.1)
       (flood_from_nobody moment (lsa_now moment e.1) o) o
       (λ just. aged_one (lsa_now moment e.1) o h) (λ young. h))

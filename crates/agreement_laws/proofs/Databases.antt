@@ -24,7 +24,7 @@ use Rattle.received.specs.Outcomes.{Outcome, Send, Stepping, each_neighbor, mark
 use Rattle.received.specs.Outcomes.{on_database, only_at, sends_at, stepping_sends, sends_of}
 use Rattle.received.specs.Updates.{after_case, case_at, copy_of, send_copy}
 use Rattle.received.proofs.Marks.{changed_by}
-use Rattle.event_rules.specs.Endings.{start_event, with_age}
+use Rattle.event_rules.specs.Endings.{flood_if_aged, start_event}
 use Rattle.event_rules.specs.EventState.{EventState, flood_from_nobody}
 use Rattle.event_rules.specs.Hellos.{accepts, names}
 use Rattle.event_rules.specs.Originations.{install_and_flood, new_instance, wanted_body}
@@ -88,10 +88,10 @@ module _ (own moment : ℕ) (P : Database → Type 0) (kept : IsKept own moment 
       (wanted_type p.router k says so.announced.1 wants)) h)
 
   pub ages : (before : ℕ) (es : List (Key × DatabaseCopy)) (o : Outcome) → P o.area.database
-      → P (fold (with_age before moment) o es).area.database
+      → P (fold (flood_if_aged before moment) o es).area.database
   ages before [] o h = h
   ages before (e ∷ es) o h =
-      ages before es (with_age before moment o e)
+      ages before es (flood_if_aged before moment o e)
       (chosen (λ (p : Outcome). P p.area.database) (has_just_aged_out before moment e.1)
       (flood_from_nobody moment (lsa_now moment e.1) o) o
       (λ is. each (flood_to moment None (lsa_now moment e.1)) o h) (λ is. h))

@@ -27,7 +27,7 @@ use Rattle.adjacency.specs.Neighbors.{Neighbor, fresh}
 use Rattle.adjacency.specs.Requests.{next_request}
 use Rattle.received.specs.Outcomes.{Outcome, one_neighbor}
 use Rattle.event_rules.specs.Endings.{end_event, loading_done, put_off_router_lsa, remove_aged}
-use Rattle.event_rules.specs.Endings.{start_event, stays, with_age}
+use Rattle.event_rules.specs.Endings.{flood_if_aged, start_event, stays}
 use Rattle.event_rules.specs.EventState.{EventState, flood_from_nobody, on_area, on_router}
 use Rattle.event_rules.specs.Hellos.{hello_on}
 use Rattle.event_rules.specs.Packets.{after_packet}
@@ -85,7 +85,7 @@ opened_at_end = opened_with finite.empty 3600
 ages : start_event 3600 greets_first.router ≡ record { router = greets_first.router; sends = [] }
 ages =
     let o : Outcome = record { area = greets_first.router.area; sends = [] } in
-    ap (λ (es : List (Key × DatabaseCopy)). let q : Outcome = fold (with_age 0 3600) o es in
+    ap (λ (es : List (Key × DatabaseCopy)). let q : Outcome = fold (flood_if_aged 0 3600) o es in
     record {
       router = record greets_first.router { area = q.area };
       sends = q.sends;

@@ -29,7 +29,7 @@ use Rattle.received.specs.Outcomes.{Outcome, Stepping, each_neighbor, on_databas
 use Rattle.received.specs.Outcomes.{one_neighbor, only_at, step_on, stepped_links}
 use Rattle.received.specs.Updates.{after_case, copy_of, send_copy}
 use Rattle.event_rules.specs.Commands.{taken_down}
-use Rattle.event_rules.specs.Endings.{link_loading_done, start_event, with_age}
+use Rattle.event_rules.specs.Endings.{flood_if_aged, link_loading_done, start_event}
 use Rattle.event_rules.specs.EventState.{EventState, flood_from_nobody}
 use Rattle.event_rules.specs.Hellos.{accepts, names}
 use Rattle.event_rules.specs.Originations.{new_instance}
@@ -118,10 +118,10 @@ module _ (old : Router) (moment : ℕ) (event : Occurrence) (number : ℕ) (n : 
 
   ages : (es : List (Key × DatabaseCopy)) (o : Outcome)
       → SameThere (neighbor_at number o.area.links)
-      → SameThere (neighbor_at number (fold (with_age old.moment moment) o es).area.links)
+      → SameThere (neighbor_at number (fold (flood_if_aged old.moment moment) o es).area.links)
   ages [] o h = h
   ages (e ∷ es) o h =
-      ages es (with_age old.moment moment o e)
+      ages es (flood_if_aged old.moment moment o e)
       (chosen (λ (p : Outcome). SameThere (neighbor_at number p.area.links))
       (has_just_aged_out old.moment moment e.1)
       (flood_from_nobody moment (lsa_now moment e.1) o) o

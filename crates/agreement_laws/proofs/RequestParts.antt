@@ -30,7 +30,7 @@ use Rattle.received.specs.Outcomes.{stepped_links, stepping_sends}
 use Rattle.received.specs.Updates.{after_case, case_at, copy_of, flood_and_install, send_copy}
 use Rattle.received.proofs.Marks.{IsStill, mark_all, There}
 use Rattle.event_rules.specs.Commands.{taken_down}
-use Rattle.event_rules.specs.Endings.{link_loading_done, stays, with_age}
+use Rattle.event_rules.specs.Endings.{flood_if_aged, link_loading_done, stays}
 use Rattle.event_rules.specs.EventState.{flood_from_nobody}
 use Rattle.event_rules.specs.Hellos.{accepts, names}
 use Rattle.event_rules.specs.Originations.{install_and_flood, new_instance}
@@ -207,14 +207,14 @@ module _ (ranks : RanksFollowTheComparison) (key : Key) (moment : ℕ) (first : 
 
     pub ages : (before : ℕ) (es : List (Key × DatabaseCopy))
         → AllByRecursion (OfEntry (There db)) es → (o : Outcome) → Still o.area.database → Stands o
-        → Stands (fold (with_age before moment) o es)
+        → Stands (fold (flood_if_aged before moment) o es)
     ages before [] all o still h = h
     ages before (e ∷ es) all o still h =
         let one = chosen (λ (p : Outcome). Stands p × Still p.area.database)
         (has_just_aged_out before moment e.1) (flood_from_nobody moment (lsa_now moment e.1) o)
         o
         (λ just. aged_one e all.0 o still h) (λ young. (h, still)) in
-        ages before es all.1 (with_age before moment o e) one.1 one.0
+        ages before es all.1 (flood_if_aged before moment o e) one.1 one.0
 
   -- ---- the router's own LSAs
 

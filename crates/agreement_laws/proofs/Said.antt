@@ -39,7 +39,7 @@ use Rattle.received.specs.Updates.{after_case, case_at, copy_of, send_copy}
 use Rattle.received.proofs.Marks.{There}
 use Rattle.received.proofs.Roomy.{joined}
 use Rattle.event_rules.specs.Commands.{taken_down}
-use Rattle.event_rules.specs.Endings.{link_loading_done, stays, with_age}
+use Rattle.event_rules.specs.Endings.{flood_if_aged, link_loading_done, stays}
 use Rattle.event_rules.specs.EventState.{flood_from_nobody}
 use Rattle.event_rules.specs.LsaInstances.{instance_of_lsa}
 use Rattle.event_rules.specs.Hellos.{accepts, hello_is_due, hello_on, names}
@@ -355,10 +355,10 @@ module _ (old : Router) (moment : ℕ) where
 
   pub ages : (es : List (Key × DatabaseCopy)) (o : Outcome) → OwnKeys old.area.database
       → AllByRecursion (OfEntry (There old.area.database)) es → IsSo o
-      → IsSo (fold (with_age old.moment moment) o es)
+      → IsSo (fold (flood_if_aged old.moment moment) o es)
   ages [] o own all h = h
   ages (e ∷ es) o own all h =
-      ages es (with_age old.moment moment o e) own all.1
+      ages es (flood_if_aged old.moment moment o e) own all.1
       (chosen IsSo (has_just_aged_out old.moment moment e.1)
       (flood_from_nobody moment (lsa_now moment e.1) o) o
       (λ is. flooded None (lsa_now moment e.1) o

@@ -34,7 +34,7 @@ use Rattle.received.specs.Outcomes.{Outcome, sends_at, step_on, stepping_sends}
 use Rattle.received.proofs.Holding.{one_holds}
 use Rattle.received.proofs.Marks.{There, all_there}
 use Rattle.event_rules.specs.declared.model.Out.{Out}
-use Rattle.event_rules.specs.Endings.{end_event, start_event, with_age}
+use Rattle.event_rules.specs.Endings.{end_event, flood_if_aged, start_event}
 use Rattle.event_rules.specs.EventState.{EventState, flood_from_nobody}
 use Rattle.event_rules.specs.Events.{Happens}
 use Rattle.event_rules.specs.Originations.{new_instance}
@@ -259,10 +259,10 @@ module _ (key : Key) (number : ℕ) (Before : Saying) (old : Router) (moment : �
 
       all_aged : (es : List (Key × DatabaseCopy))
           → AllByRecursion (OfEntry (There old.area.database)) es → (o : Outcome) → Ages c es o
-          → Ages c [] (fold (with_age old.moment moment) o es)
+          → Ages c [] (fold (flood_if_aged old.moment moment) o es)
       all_aged [] all o h = h
       all_aged (e ∷ es) all o h =
-          all_aged es all.1 (with_age old.moment moment o e)
+          all_aged es all.1 (flood_if_aged old.moment moment o e)
           (chosen (λ (p : Outcome). Ages c es p) (has_just_aged_out old.moment moment e.1)
           (flooded e o) o (λ just. aged_one e es o all.0 just h)
           (λ young. kept_one e es o young h))
@@ -283,12 +283,12 @@ module _ (key : Key) (number : ℕ) (Before : Saying) (old : Router) (moment : �
         ≡ None → AllByRecursion (OfEntry (There old.area.database)) es → OwnKeys old.area.database
         → finite.get old.area.database key ≡ None → Aging None o
         → parts.Stands key moment number HasLink Anybody Base
-        (fold (with_age old.moment moment) o es)
+        (fold (flood_if_aged old.moment moment) o es)
     none_aged [] o is all keys nothing h =
         subst (λ (x : Option Instance). parts.HoldsThere key moment number HasLink Anybody Base
         o.sends x (neighbor_at number o.area.links)) (sym is) h
     none_aged (e ∷ es) o is all keys nothing h =
-        let p : Outcome = with_age old.moment moment o e in
+        let p : Outcome = flood_if_aged old.moment moment o e in
         let so : (held moment key p.area.database ≡ None) × Aging None p =
         chosen (λ (q : Outcome). (held moment key q.area.database ≡ None) × Aging None q)
         (has_just_aged_out old.moment moment e.1)
@@ -414,7 +414,7 @@ module _ (key : Key) (number : ℕ) (Before : Saying) (old : Router) (moment : �
               ended : Ages c (finite.entries old.area.database) begun
                   → parts.Stands key moment number HasLink Anybody Base (outcome start)
               ended a =
-                  done c at keys (fold (with_age old.moment moment) begun
+                  done c at keys (fold (flood_if_aged old.moment moment) begun
                   (finite.entries old.area.database))
                   (all_aged c at keys (finite.entries old.area.database)
                   (all_there old.area.database)
@@ -507,10 +507,11 @@ module _ (key : Key) (number : ℕ) (Before : Saying) (old : Router) (moment : �
       -- if there was no neighbor before, there is none after aging
       still_nobody : (es : List (Key × DatabaseCopy)) (o : Outcome)
           → neighbor_at number o.area.links
-          ≡ None → neighbor_at number (fold (with_age old.moment moment) o es).area.links ≡ None
+          ≡ None → neighbor_at number (fold (flood_if_aged old.moment moment) o es).area.links
+          ≡ None
       still_nobody [] o is = is
       still_nobody (e ∷ es) o is =
-          still_nobody es (with_age old.moment moment o e)
+          still_nobody es (flood_if_aged old.moment moment o e)
           (chosen (λ (p : Outcome). neighbor_at number p.area.links ≡ None)
           (has_just_aged_out old.moment moment e.1)
           (flood_from_nobody moment (lsa_now moment e.1) o) o

@@ -28,7 +28,7 @@ use Rattle.received.specs.Outcomes.{Outcome, on_database}
 use Rattle.event_rules.specs.Endings.{originate_router_lsa, put_off_router_lsa, start_event}
 use Rattle.event_rules.specs.Endings.{link_loading_done, loading_done, loading_done_on, end_event}
 use Rattle.event_rules.specs.Endings.{is_current, links_differ, remove_aged, request_all, same_body}
-use Rattle.event_rules.specs.Endings.{stays, stays_as, with_age}
+use Rattle.event_rules.specs.Endings.{flood_if_aged, stays, stays_as}
 use Rattle.event_rules.specs.Originations.{originate_or_put_off, put_off, router_body, router_key}
 use Rattle.event_rules.specs.EventState.{EventState, flood_from_nobody, on_area, on_router}
 use Rattle.event_rules.specs.Routers.{Router}
@@ -39,10 +39,10 @@ use Rattle.conversations.proofs.WorkedLinks.{same_router, seen}
 
 ages_nothing : (before moment : ℕ) (o : Outcome) (es : List (Key × DatabaseCopy))
     → list_any (λ e. has_just_aged_out before moment e.1) es ≡ false
-    → fold (with_age before moment) o es ≡ o
+    → fold (flood_if_aged before moment) o es ≡ o
 ages_nothing before moment o [] e = refl
 ages_nothing before moment o (x ∷ es) e =
-    ap (λ b. fold (with_age before moment)
+    ap (λ b. fold (flood_if_aged before moment)
     (cond b (flood_from_nobody moment (lsa_now moment x.1) o) o) es) (left_false _ _ e)
     ∙ ages_nothing before moment o es (right_false (has_just_aged_out before moment x.1) _ e)
 

@@ -50,7 +50,7 @@ use Rattle.event_rules.specs.declared.model.Config.{Config}
 use Rattle.event_rules.specs.declared.model.Out.{Out}
 use Rattle.event_rules.specs.Commands.{taken_down}
 use Rattle.event_rules.specs.Endings.{link_loading_done, loading_done_on, end_event, stays}
-use Rattle.event_rules.specs.Endings.{with_age}
+use Rattle.event_rules.specs.Endings.{flood_if_aged}
 use Rattle.event_rules.specs.Events.{Happens, Run, Step, initial}
 use Rattle.event_rules.specs.Hellos.{accepts, hello_is_due, heard_of, hello_on, names}
 use Rattle.event_rules.specs.Originations.{due_keys, install_and_flood, new_instance}
@@ -143,10 +143,10 @@ roomy = record {
 
 ages_roomy : (before moment : ℕ) (es : List (Key × DatabaseCopy)) (o : Outcome)
     → AllByRecursion EntryFits es → IsRoomyOutcome o
-    → IsRoomyOutcome (fold (with_age before moment) o es)
+    → IsRoomyOutcome (fold (flood_if_aged before moment) o es)
 ages_roomy before moment [] o fits h = h
 ages_roomy before moment (e ∷ es) o fits h =
-    ages_roomy before moment es (with_age before moment o e) fits.1
+    ages_roomy before moment es (flood_if_aged before moment o e) fits.1
     (chosen IsRoomyOutcome (has_just_aged_out before moment e.1)
     (flood_from_nobody moment (lsa_now moment e.1) o) o
     (λ is. flood_roomy moment None (lsa_now moment e.1) o (now_fits moment e.1 fits.0) h) (λ is. h))

@@ -37,7 +37,7 @@ use Rattle.event_rules.specs.Commands.{is_for}
 use Rattle.event_rules.specs.Commands.{taken_down, unannounce}
 use Rattle.event_rules.specs.Endings.{originate_router_lsa, put_off_router_lsa, start_event}
 use Rattle.event_rules.specs.Endings.{link_loading_done, loading_done, end_event, is_current}
-use Rattle.event_rules.specs.Endings.{links_differ, remove_aged, request_all, stays, with_ages}
+use Rattle.event_rules.specs.Endings.{flood_aged, links_differ, remove_aged, request_all, stays}
 use Rattle.event_rules.specs.Events.{OwnPart}
 use Rattle.event_rules.specs.Originations.{due_keys, external_key, flush, flush_copy}
 use Rattle.event_rules.specs.Originations.{forget_originations, has_max_sequence, has_room}
@@ -112,7 +112,7 @@ pub data MayGrow (i : Invariant) (key : Key) (r : Router) : Type 0 where
 
 pub record IsKeptByParts (i : Invariant) : Type 0 where
   -- aging, and self-originated LSAs
-  pub ages : (before moment : ℕ) → Keeps i (with_ages before moment)
+  pub ages : (before moment : ℕ) → Keeps i (flood_aged before moment)
   pub flushes : (moment : ℕ) (key : Key) (c : DatabaseCopy) (o : Outcome)
       → finite.get o.area.database key ≡ Some c → is_aged_out moment c ≡ false → OfOutcome i o
       → OfOutcome i (flood_from_nobody moment (lsa_aged 3600 c.lsa)

@@ -22,18 +22,21 @@ use Rattle.event_rules.specs.Routers.{Router}
 -- ---- ages (section 14)
 
 -- a copy that has reached MaxAge since the moment `before` is flooded
-abbrev pub with_age : (before : Moment) → (moment : Moment) → Outcome → (Key × DatabaseCopy)
+abbrev pub flood_if_aged : (before : Moment) → (moment : Moment) → Outcome → (Key × DatabaseCopy)
     → Outcome
-with_age before moment o e =
+flood_if_aged before moment o e =
     if has_just_aged_out before moment e.1 then flood_from_nobody moment (lsa_now moment e.1) o
     else o
 
-abbrev pub with_ages : (before : Moment) → (moment : Moment) → Outcome → Outcome
-with_ages before moment o = fold (with_age before moment) o (finite.entries o.area.database)
+abbrev pub flood_aged : (before : Moment) → (moment : Moment) → Outcome → Outcome
+flood_aged before moment o = fold (flood_if_aged before moment) o (finite.entries o.area.database)
 
 -- the copies that have reached MaxAge are flooded first; nothing was sent before
 abbrev pub start_event : Moment → Router → EventState
-start_event moment old = on_area (with_ages old.moment moment) (record { router = old; sends = [] })
+start_event moment old = on_area (flood_aged old.moment moment) (record {
+  router = old;
+  sends = [];
+})
 
 -- ---- Loading to Full (section 10.3)
 

@@ -8,7 +8,7 @@ use Rattle.event_rules.specs.received.Outcomes.{Send}
 use Rattle.event_rules.specs.declared.model.CoreError.{CoreError}
 use Rattle.event_rules.specs.declared.model.CoreError.TheVariants as error
 use Rattle.event_rules.specs.declared.model.Out.{Out}
-use Rattle.event_rules.specs.Endings.{end_event, with_ages}
+use Rattle.event_rules.specs.Endings.{end_event, flood_aged}
 use Rattle.event_rules.specs.EventState.{EventState, on_area}
 use Rattle.event_rules.specs.Packing.{outs_of}
 use Rattle.event_rules.specs.Refusals.{exceeds}
@@ -44,7 +44,8 @@ ok_if (Ok a) f p = f a p
 ok_if (Err e) f p = tt
 
 -- no limit is exceeded if that isn't the refusal
-pub stays_within : {X : Type 0} (r : Result X CoreError) (new : Router) → RefusesAtLimit {X = X} new r
+pub stays_within : {X : Type 0} (r : Result X CoreError) (new : Router)
+    → RefusesAtLimit {X = X} new r
     → OnOk r (exceeds new ≡ false)
 stays_within (Ok x) new tells = tells
 stays_within (Err error.Memory) new tells = tt
@@ -59,7 +60,7 @@ stays_within (Err error.Full) new tells = tt
 -- the complete event in its three parts
 pub made_whole : (old aged parted new : KeptRouter) (moment : ℕ) (p : Part)
     → old.committed ≡ old.present
-    → Makes (on_area (with_ages old.present.moment moment)) old aged
+    → Makes (on_area (flood_aged old.present.moment moment)) old aged
     → Makes (after_part p moment) aged parted → Makes (end_event parted.committed moment) parted new
     → Makes (after_event old.present moment p) old new
 made_whole old aged parted new moment p is ages part end =

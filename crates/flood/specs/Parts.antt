@@ -9,7 +9,7 @@ use Rattle.event_rules.specs.declared.model.CoreError.TheVariants as error
 use Rattle.event_rules.specs.declared.model.Out.{Out}
 use Rattle.event_rules.specs.Commands.{after_install, after_link_down, after_redistribute}
 use Rattle.event_rules.specs.Commands.{after_withdraw}
-use Rattle.event_rules.specs.Endings.{end_event, with_ages}
+use Rattle.event_rules.specs.Endings.{end_event, flood_aged}
 use Rattle.event_rules.specs.Events.{OwnPart}
 use Rattle.event_rules.specs.EventState.{EventState, on_area}
 use Rattle.event_rules.specs.Packets.{after_packet}
@@ -51,7 +51,7 @@ HasInterface (part.LinkDown number) count = Unit {0}
 -- aging, the own part, and the end; `old` is the router before the event
 abbrev pub after_event : Router → Moment → Part → EventState → EventState
 after_event old moment p before =
-    end_event old moment (after_part p moment (on_area (with_ages old.moment moment) before))
+    end_event old moment (after_part p moment (on_area (flood_aged old.moment moment) before))
 
 -- nothing was sent before
 abbrev pub made_state : Router → Moment → Part → EventState

@@ -98,7 +98,7 @@ pub fn process_event(
     let own = router.id();
     let before = router.moment();
     let full = full_routers(router, alloc)?;
-    router.age(alloc, moment)?;
+    router.flood_aged(alloc, moment)?;
     apply_part(router, alloc, moment, part)?;
     end_event(router, alloc, moment, &full)?;
     let drafts = router.take_drafts(alloc)?;

@@ -28,7 +28,7 @@ use Rattle.received.proofs.Holding.{flood_kept, one_holds, one_keeps}
 use Rattle.event_rules.specs.declared.model.Config.{Config}
 use Rattle.event_rules.specs.declared.model.Out.{Out}
 use Rattle.event_rules.specs.Commands.{taken_down}
-use Rattle.event_rules.specs.Endings.{link_loading_done, loading_done_on, with_age}
+use Rattle.event_rules.specs.Endings.{flood_if_aged, link_loading_done, loading_done_on}
 use Rattle.event_rules.specs.Events.{Happens, initial}
 use Rattle.event_rules.specs.EventState.{flood_from_nobody}
 use Rattle.event_rules.specs.Hellos.{accepts, names}
@@ -78,10 +78,10 @@ module _ (Q : Fact) (kept : IsKept Q) where
   OnOutcome o = HoldsOfEach (Of Q) o.area.links
 
   ages_kept : (before moment : ℕ) (es : List (Key × DatabaseCopy)) (o : Outcome) → OnOutcome o
-      → OnOutcome (fold (with_age before moment) o es)
+      → OnOutcome (fold (flood_if_aged before moment) o es)
   ages_kept before moment [] o h = h
   ages_kept before moment (e ∷ es) o h =
-      ages_kept before moment es (with_age before moment o e)
+      ages_kept before moment es (flood_if_aged before moment o e)
       (chosen OnOutcome (has_just_aged_out before moment e.1)
       (flood_from_nobody moment (lsa_now moment e.1) o) o
       (λ is. flood_kept Q kept moment None (lsa_now moment e.1) o h) (λ is. h))

@@ -51,7 +51,7 @@ use Rattle.received.specs.Updates.{after_case, case_at, copy_of, flood_and_insta
 use Rattle.received.proofs.Marks.{IsStill, changed_by, mark_all, There, all_there}
 use Rattle.event_rules.specs.Commands.{taken_down}
 use Rattle.event_rules.specs.Endings.{link_loading_done, loading_done_on, start_event, stays}
-use Rattle.event_rules.specs.Endings.{with_age}
+use Rattle.event_rules.specs.Endings.{flood_if_aged}
 use Rattle.event_rules.specs.EventState.{EventState, flood_from_nobody}
 use Rattle.event_rules.specs.Hellos.{accepts, names}
 use Rattle.event_rules.specs.LsaInstances.{LsaInstance, instance_of_header, instance_of_lsa}
@@ -1119,12 +1119,12 @@ module _ (old : Router) (moment : ℕ) (event : Occurrence) (number : ℕ) (befo
   ages_became : (keys : OwnKeys old.area.database) (es : List (Key × DatabaseCopy))
       → AllByRecursion (OfEntry (There old.area.database)) es → (o : Outcome) (t : ByKey ℕ)
       → Became o.area t × StandsThere (neighbor_at number o.area.links)
-      → Became (fold (with_age old.moment moment) o es).area t
+      → Became (fold (flood_if_aged old.moment moment) o es).area t
       × StandsThere (neighbor_at number
-      (fold (with_age old.moment moment) o es).area.links)
+      (fold (flood_if_aged old.moment moment) o es).area.links)
   ages_became keys [] all o t h = h
   ages_became keys (e ∷ es) all o t h =
-      ages_became keys es all.1 (with_age old.moment moment o e) t
+      ages_became keys es all.1 (flood_if_aged old.moment moment o e) t
       (chosen (λ (p : Outcome). Became p.area t × StandsThere (neighbor_at number p.area.links))
       (has_just_aged_out old.moment moment e.1)
       (flood_from_nobody moment (lsa_now moment e.1) o) o

@@ -35,7 +35,7 @@ use Rattle.received.specs.Outcomes.{sends_at, on_database, on_links, one_neighbo
 use Rattle.received.specs.Outcomes.{stepping_sends, sends_of}
 use Rattle.received.proofs.Marks.{changed_by}
 use Rattle.event_rules.specs.declared.model.Out.{Out}
-use Rattle.event_rules.specs.Endings.{end_event, stays, with_age}
+use Rattle.event_rules.specs.Endings.{end_event, flood_if_aged, stays}
 use Rattle.event_rules.specs.declared.model.Config.{Config}
 use Rattle.event_rules.specs.Events.{Happens, Run, Step as RunStep, initial}
 use Rattle.event_rules.specs.EventState.{EventState, flood_from_nobody}
@@ -266,10 +266,10 @@ module _ (id : RouterNumber) where
   flooded moment lsa o h = each_within moment (flood_to moment None lsa) o h
 
   ages_within : (before moment : ℕ) (es : List (Key × DatabaseCopy)) (o : Outcome) → OnOutcome o
-      → OnOutcome (fold (with_age before moment) o es)
+      → OnOutcome (fold (flood_if_aged before moment) o es)
   ages_within before moment [] o h = h
   ages_within before moment (e ∷ es) o h =
-      ages_within before moment es (with_age before moment o e)
+      ages_within before moment es (flood_if_aged before moment o e)
       (chosen OnOutcome (has_just_aged_out before moment e.1)
       (flood_from_nobody moment (lsa_now moment e.1) o) o
       (λ is. flooded moment (lsa_now moment e.1) o h) (λ is. h))

@@ -43,7 +43,8 @@ use Rattle.received.proofs.Told.{one_neighbor_told, one_told, sending_told}
 use Rattle.received.proofs.Marks.{changed_by}
 use Rattle.event_rules.specs.declared.model.Out.{Out}
 use Rattle.event_rules.specs.Commands.{taken_down}
-use Rattle.event_rules.specs.Endings.{end_event, link_loading_done, start_event, stays, with_age}
+use Rattle.event_rules.specs.Endings.{end_event, flood_if_aged, link_loading_done, start_event}
+use Rattle.event_rules.specs.Endings.{stays}
 use Rattle.event_rules.specs.Events.{Happens}
 use Rattle.event_rules.specs.EventState.{EventState, flood_from_nobody}
 use Rattle.event_rules.specs.Hellos.{accepts, names}
@@ -572,10 +573,10 @@ module _ (old : Router) (moment : ℕ) (event : Occurrence) where
 
     ages_last : (t : ByKey ℕ) (es : List (Key × DatabaseCopy)) (o : Outcome)
         → AllLast t o.area.database → AllLast t
-        (fold (with_age old.moment moment) o es).area.database
+        (fold (flood_if_aged old.moment moment) o es).area.database
     ages_last t [] o h = h
     ages_last t (e ∷ es) o h =
-        ages_last t es (with_age old.moment moment o e)
+        ages_last t es (flood_if_aged old.moment moment o e)
         (chosen (λ (q : Outcome). AllLast t q.area.database)
         (has_just_aged_out old.moment moment e.1)
         (flood_from_nobody moment (lsa_now moment e.1) o) o

@@ -49,7 +49,7 @@ use Rattle.received.proofs.Marks.{still_all, still_marked}
 use Rattle.event_rules.specs.declared.model.Config.{Config}
 use Rattle.event_rules.specs.declared.model.Out.{Out}
 use Rattle.event_rules.specs.Commands.{taken_down}
-use Rattle.event_rules.specs.Endings.{link_loading_done, stays, stays_as, with_age}
+use Rattle.event_rules.specs.Endings.{flood_if_aged, link_loading_done, stays, stays_as}
 use Rattle.event_rules.specs.Events.{Happens, Run, Step as EventStep, initial}
 use Rattle.event_rules.specs.EventState.{flood_from_nobody}
 use Rattle.event_rules.specs.Hellos.{accepts, names}
@@ -395,11 +395,11 @@ both_aged false b e = e
 
 pub ages_kept : (before moment : ℕ) (es : List (Key × DatabaseCopy)) (o : Outcome)
     → AllByRecursion (StillThere o.area.database) es → OfOutcome o
-    → OfOutcome (fold (with_age before moment) o es)
+    → OfOutcome (fold (flood_if_aged before moment) o es)
 ages_kept before moment [] o still h = h
 ages_kept before moment (e ∷ es) o still h =
-    let so : OfOutcome (with_age before moment o e)
-    × AllByRecursion (StillThere (with_age before moment o e).area.database) es =
+    let so : OfOutcome (flood_if_aged before moment o e)
+    × AllByRecursion (StillThere (flood_if_aged before moment o e).area.database) es =
     chosen (λ (p : Outcome). OfOutcome p × AllByRecursion (StillThere p.area.database) es)
     (has_just_aged_out before moment e.1)
     (flood_from_nobody moment (lsa_now moment e.1) o) o
@@ -410,7 +410,7 @@ ages_kept before moment (e ∷ es) o still h =
           o.area.database es still.1,
     ))
     (λ is. (h, still.1)) in
-    ages_kept before moment es (with_age before moment o e) so.1 so.0
+    ages_kept before moment es (flood_if_aged before moment o e) so.1 so.0
 
 abbrev aged : ℕ → DatabaseCopy → DatabaseCopy
 aged moment d = record d { lsa = lsa_aged 3600 d.lsa; stored = moment }

@@ -37,7 +37,7 @@ use Rattle.received.proofs.Roomy.{joined}
 use Rattle.event_rules.specs.Commands.{taken_down}
 use Rattle.event_rules.specs.Endings.{start_event, link_loading_done, loading_done_on, end_event}
 use Rattle.event_rules.specs.Endings.{stays}
-use Rattle.event_rules.specs.Endings.{with_age}
+use Rattle.event_rules.specs.Endings.{flood_if_aged}
 use Rattle.event_rules.specs.Events.{OwnPart}
 use Rattle.event_rules.specs.Hellos.{accepts, hello_is_due, hello_on, names}
 use Rattle.event_rules.specs.Originations.{due_keys, external_key, has_max_sequence}
@@ -80,10 +80,10 @@ module _ (t : Telling) where
 
   pub ages_told : (before moment : ℕ) (es : List (Key × DatabaseCopy)) (o : Outcome)
       → AllByRecursion (OfEntry (OfCopy t)) es → OfOutcome t o
-      → OfOutcome t (fold (with_age before moment) o es)
+      → OfOutcome t (fold (flood_if_aged before moment) o es)
   ages_told before moment [] o so h = h
   ages_told before moment (e ∷ es) o so h =
-      ages_told before moment es (with_age before moment o e) so.1
+      ages_told before moment es (flood_if_aged before moment o e) so.1
       (chosen (OfOutcome t) (has_just_aged_out before moment e.1)
       (flood_from_nobody moment (lsa_now moment e.1) o) o
       (λ is. flood_told t moment None (lsa_now moment e.1) o (lsa_now_told t moment e.1 so.0) h)

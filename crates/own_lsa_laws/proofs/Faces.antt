@@ -33,7 +33,7 @@ use Rattle.received.specs.Flooding.{flood, flood_to, is_sender}
 use Rattle.received.specs.Links.{Link, delay_acknowledgment}
 use Rattle.received.specs.Outcomes.{Outcome, Stepping, each_neighbor, on_database, only_at, step_on}
 use Rattle.received.specs.Updates.{after_case, goes_on, send_copy}
-use Rattle.event_rules.specs.Endings.{with_age}
+use Rattle.event_rules.specs.Endings.{flood_if_aged}
 use Rattle.event_rules.specs.EventState.{EventState, flood_from_nobody, on_area, on_router}
 use Rattle.event_rules.specs.Originations.{flush, flush_copy, has_max_sequence, links_of}
 use Rattle.event_rules.specs.Originations.{may_originate}
@@ -192,10 +192,10 @@ flood_faces moment sender lsa o = each_faces moment (flood_to moment sender lsa)
 
 -- LSAs that reach MaxAge are flooded
 pub ages_faces : (before moment : ℕ) (es : List (Key × DatabaseCopy)) (o : Outcome)
-    → faces (fold (with_age before moment) o es).area.links ≡ faces o.area.links
+    → faces (fold (flood_if_aged before moment) o es).area.links ≡ faces o.area.links
 ages_faces before moment [] o = refl
 ages_faces before moment (e ∷ es) o =
-    ages_faces before moment es (with_age before moment o e)
+    ages_faces before moment es (flood_if_aged before moment o e)
     ∙ chosen (λ (q : Outcome). faces q.area.links ≡ faces o.area.links)
     (has_just_aged_out before moment e.1) (flood_from_nobody moment (lsa_now moment e.1) o) o
     (λ is. flood_faces moment None (lsa_now moment e.1) o) (λ is. refl)

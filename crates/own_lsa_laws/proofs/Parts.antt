@@ -28,7 +28,7 @@ use Rattle.received.specs.Cases.{Case}
 use Rattle.received.specs.Flooding.{flood_to}
 use Rattle.received.specs.Outcomes.{Outcome, Send, on_database, only_at, stepping_sends}
 use Rattle.received.specs.Updates.{after_case, case_at, goes_on, send_copy}
-use Rattle.event_rules.specs.Endings.{with_age}
+use Rattle.event_rules.specs.Endings.{flood_if_aged}
 use Rattle.event_rules.specs.EventState.{EventState, flood_from_nobody, on_area, on_router}
 use Rattle.event_rules.specs.Originations.{flush, flush_copy, has_max_sequence, has_room}
 use Rattle.event_rules.specs.Originations.{interval_is_over, is_wanted, may_originate, new_instance}
@@ -620,12 +620,12 @@ lsas_kept moment number t (bytes ∷ rest) p tells h =
 -- whatever the moment for the copies
 pub ages_kept : (at before moment : ℕ) (t : Terms) (r : Router) (es : List (Key × DatabaseCopy))
     (o : Outcome) → AllIn (FitsAt at t r) o.area.database
-    → AllIn (FitsAt at t r) (fold (with_age before moment) o es).area.database
+    → AllIn (FitsAt at t r) (fold (flood_if_aged before moment) o es).area.database
 ages_kept at before moment t r [] o all = all
 ages_kept at before moment t r (e ∷ es) o all =
     let more : List Send = stepping_sends (flood_to moment None (lsa_now moment e.1)) o.area.links
     in
-    ages_kept at before moment t r es (with_age before moment o e)
+    ages_kept at before moment t r es (flood_if_aged before moment o e)
     (chosen (λ (q : Outcome). AllIn (FitsAt at t r) q.area.database)
     (has_just_aged_out before moment e.1) (flood_from_nobody moment (lsa_now moment e.1) o) o
     (λ is. marked (FitsAt at t r) (λ key c sent fits. fits) moment more o.area.database all)

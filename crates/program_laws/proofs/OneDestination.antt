@@ -31,7 +31,7 @@ use Rattle.received.specs.Outcomes.{step_on, stepping_sends}
 use Rattle.received.proofs.Marks.{changed_by}
 use Rattle.event_rules.specs.Commands.{after_redistribute, announce, announce_as, answered_external}
 use Rattle.event_rules.specs.Commands.{end_want, is_announced_as, unannounce}
-use Rattle.event_rules.specs.Endings.{end_event, start_event, with_age}
+use Rattle.event_rules.specs.Endings.{end_event, flood_if_aged, start_event}
 use Rattle.event_rules.specs.Events.{Happens}
 use Rattle.event_rules.specs.EventState.{EventState, flood_from_nobody, on_area, on_router}
 use Rattle.event_rules.specs.Originations.{announced_body, as_originated, external_body}
@@ -426,10 +426,10 @@ module _ (key : Key) (is_external : key.ls_type ≡ 5) where
       (still_not_requested moment lsa 1 o.area.links ready.0, good.0, good.1)
 
   ready_aged : (before moment : Moment) (other : Key) (entries : List (Key × DatabaseCopy))
-      (o : Outcome) → Ready other o → Ready other (fold (with_age before moment) o entries)
+      (o : Outcome) → Ready other o → Ready other (fold (flood_if_aged before moment) o entries)
   ready_aged before moment other [] o ready = ready
   ready_aged before moment other (e ∷ entries) o ready =
-      ready_aged before moment other entries (with_age before moment o e)
+      ready_aged before moment other entries (flood_if_aged before moment o e)
       (by_age (has_just_aged_out before moment e.1))
     where
       by_age : (b : Bool) → Ready other (cond b (flood_from_nobody moment (lsa_now moment e.1) o) o)

@@ -24,7 +24,7 @@ use Rattle.flooding.specs.received.Outcomes.{Outcome, on_database, on_links, onl
 use Rattle.flooding.specs.received.Updates.{after_case, copy_of, flood_and_install, send_copy}
 use Rattle.event_rules.specs.Commands.{after_link_down, taken_down}
 use Rattle.event_rules.specs.Endings.{link_loading_done, remove_aged, request_all, stays}
-use Rattle.event_rules.specs.Endings.{with_age, with_ages}
+use Rattle.event_rules.specs.Endings.{flood_aged, flood_if_aged}
 use Rattle.event_rules.specs.EventState.{EventState, flood_from_nobody, on_area}
 use Rattle.event_rules.specs.Originations.{flush, flush_copy, install_and_flood}
 use Rattle.event_rules.specs.Ticks.{again, expire_timers, send_acknowledgments, send_all_again}
@@ -154,10 +154,10 @@ module _ (moment number : ℕ) (lsa : Lsa) where
 
 module _ (before moment : ℕ) where
   abbrev aged : (Key × DatabaseCopy) → Outcome → Outcome
-  aged e o = with_age before moment o e
+  aged e o = flood_if_aged before moment o e
 
   abbrev all_aged : List (Key × DatabaseCopy) → Outcome → Outcome
-  all_aged es o = fold (with_age before moment) o es
+  all_aged es o = fold (flood_if_aged before moment) o es
 
   age_by : (e : Key × DatabaseCopy) (o : Outcome) (b : Bool)
       → cond b (flood_from_nobody moment (lsa_now moment e.1) o) o
@@ -171,7 +171,7 @@ module _ (before moment : ℕ) where
   appends_each (e ∷ es) o = appends_then (aged e) (all_aged es)
       (λ p. age_by e p (has_just_aged_out before moment e.1)) (appends_each es) o
 
-  pub appends_ages : Appends (with_ages before moment)
+  pub appends_ages : Appends (flood_aged before moment)
   appends_ages o = appends_each (finite.entries o.area.database) o
 
   keeps_by : (e : Key × DatabaseCopy) (o : Outcome) (b : Bool)
@@ -186,7 +186,7 @@ module _ (before moment : ℕ) where
   keeps_each (e ∷ es) o = keeps_each es (aged e o)
       ∙ keeps_by e o (has_just_aged_out before moment e.1)
 
-  pub keeps_ages : KeepsInterfaces (with_ages before moment)
+  pub keeps_ages : KeepsInterfaces (flood_aged before moment)
   keeps_ages a = keeps_each (finite.entries a.database) (start a)
 
 -- ---- timers

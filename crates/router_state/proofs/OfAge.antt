@@ -14,7 +14,7 @@ use Rattle.flooding.specs.received.Links.{Area}
 use Rattle.flooding.specs.received.Outcomes.{Outcome, Send, stepping_sends}
 use Rattle.flooding.proofs.received.Marks.{IsStill, StillThere, all_there, still_all}
 use Rattle.flooding.proofs.received.Marks.{still_marked}
-use Rattle.event_rules.specs.Endings.{with_age, with_ages}
+use Rattle.event_rules.specs.Endings.{flood_aged, flood_if_aged}
 use Rattle.flooding.specs.Drafted.{drafts_with}
 use Rattle.flooding.specs.Links.{flood_new_max_age, flood_new_max_age_copy, start}
 use Rattle.flooding.proofs.Sends.{append_none}
@@ -37,7 +37,8 @@ module _ (before moment : ℕ) where
   by_age e o false = nothing_followed o
 
   aged_by_key : (e : Key × DatabaseCopy) (o : Outcome) → IsStill o.area.database e.0 e.1
-      → with_age before moment o e ≡ outcomes_in_turn o (flood_new_max_age before moment e.0 o.area)
+      → flood_if_aged before moment o e
+      ≡ outcomes_in_turn o (flood_new_max_age before moment e.0 o.area)
   aged_by_key e o still =
       by_age e o (has_just_aged_out before moment e.1)
       ∙ ap (λ (c : Option DatabaseCopy). outcomes_in_turn o
@@ -59,7 +60,7 @@ module _ (before moment : ℕ) where
 
   by_test : (e : Key × DatabaseCopy) (es : List (Key × DatabaseCopy)) (o : Outcome)
       → IsStill o.area.database e.0 e.1 → (b : Bool) → is_aged_out moment e.1 ≡ b
-      → going_on (keys_of es) (with_age before moment o e)
+      → going_on (keys_of es) (flood_if_aged before moment o e)
       ≡ going_on (map (λ e. e.0) (cond b (e ∷ filter (λ e. is_aged_out moment e.1) es)
       (filter (λ e. is_aged_out moment e.1) es))) o
   by_test e es o still true is =
@@ -75,15 +76,15 @@ module _ (before moment : ℕ) where
 
   ages_by_keys : (es : List (Key × DatabaseCopy)) (o : Outcome)
       → AllByRecursion (StillThere o.area.database) es
-      → fold (with_age before moment) o es ≡ going_on (keys_of es) o
+      → fold (flood_if_aged before moment) o es ≡ going_on (keys_of es) o
   ages_by_keys [] o h = nothing_followed o
   ages_by_keys (e ∷ es) o h =
-      ages_by_keys es (with_age before moment o e)
+      ages_by_keys es (flood_if_aged before moment o e)
       (still_aged e es o (has_just_aged_out before moment e.1) h.1)
       ∙ by_test e es o h.0 (is_aged_out moment e.1) refl
 
   pub ages_are : (a : Area) → flood_each_new_max_age before moment (aged_keys moment a.database) a
-      ≡ with_ages before moment (start a)
+      ≡ flood_aged before moment (start a)
   ages_are a = sym (ages_by_keys (finite.entries a.database) (start a)
       (still_all a.database (finite.entries a.database) (all_there a.database)))
 

@@ -1,7 +1,7 @@
 //! Copies that have reached MaxAge (RFC 2328, section 14).
 ghost use Rattle.flooding.specs.Doing.{AreaDoes};
 ghost use Rattle.flooding.specs.Links.{start};
-ghost use Rattle.event_rules.specs.Endings.{remove_aged, with_ages};
+ghost use Rattle.event_rules.specs.Endings.{flood_aged, remove_aged};
 ghost use Rattle.router_state.specs.Aging.{flood_each_new_max_age, without_each};
 
 use flooding::{Area, any_exchange_or_loading};
@@ -63,13 +63,13 @@ fn flood_each_new_max_age(
 ///
 /// # Errors
 /// `AllocError` if an allocation is refused.
-pub fn with_ages(
+pub fn flood_aged(
     area: &mut Area,
     alloc: Global,
     before: Second,
     moment: Second,
 ) -> Result<(), AllocError>
-    ensures { AreaDoes (λ a. with_ages before moment (start a)) area.old area.new result }
+    ensures { AreaDoes (λ a. flood_aged before moment (start a)) area.old area.new result }
 {
     if before.count() == moment.count() {
         return Ok(());

@@ -4,12 +4,12 @@ ghost use Rattle.std.specs.Prelude.{map};
 ghost use Rattle.flooding.specs.received.Outcomes.{on_links};
 ghost use Rattle.event_rules.specs.Commands.{after_link_down};
 ghost use Rattle.event_rules.specs.EventState.{on_area};
-ghost use Rattle.event_rules.specs.Endings.{loading_done, with_ages};
+ghost use Rattle.event_rules.specs.Endings.{flood_aged, loading_done};
 ghost use Rattle.event_rules.specs.Ticks.{expire_timers};
 ghost use Rattle.router_state.specs.Making.{Makes, RouterDoes};
 ghost use Rattle.router_state.specs.Parts.{request_and_remove_aged, send_what_is_due};
 
-use crate::aging::{remove_aged, with_ages};
+use crate::aging::{flood_aged, remove_aged};
 use crate::router::Router;
 use crate::sent_hellos::SendingHello;
 use flooding::{EndLoading, Link, LinkStep, Lsdb, NextRequest, RunOut, SendingAgain};
@@ -38,12 +38,12 @@ impl Router {
     ///
     /// # Errors
     /// `AllocError` if an allocation is refused.
-    pub fn age(&mut self, alloc: Global, moment: Second) -> Result<(), AllocError>
-        ensures { RouterDoes (on_area (with_ages self.old.present.moment moment))
+    pub fn flood_aged(&mut self, alloc: Global, moment: Second) -> Result<(), AllocError>
+        ensures { RouterDoes (on_area (flood_aged self.old.present.moment moment))
             self.old self.new result }
     {
         let before = self.moment();
-        with_ages(&mut self.area, alloc, before, moment)
+        flood_aged(&mut self.area, alloc, before, moment)
     }
 
     /// What a Tick sends: what is retransmitted if RxmtInterval has passed (RFC 2328, sections

@@ -21,21 +21,21 @@ use Rattle.flood.proofs.processing.process_event.Goals as goal
 pub apply_part-requires : goal.apply_part-requires
 apply_part-requires c = record {
   interface = subst (HasInterface c.in_ok-part.part)
-      (sym (as_many_links c.in_ok-age.ensures.makes)) c.in_ok-part.ensures.interface;
+      (sym (as_many_links c.in_ok-flood_aged.ensures.makes)) c.in_ok-part.ensures.interface;
 }
 
 pub end_event-requires-clause-before : goal.end_event-requires-clause-before
 end_event-requires-clause-before c =
-    let kept = c.in_ok-apply_part.ensures.committed ∙ c.in_ok-age.ensures.committed
+    let kept = c.in_ok-apply_part.ensures.committed ∙ c.in_ok-flood_aged.ensures.committed
     ∙ c.requires.committed in
     c.deref.ensures.value ∙ c.in_ok-full.ensures
     ∙ ap (λ (r : Router). full_routers r.area.links) (sym kept)
 
 pub end_event-requires-clause-interfaces : goal.end_event-requires-clause-interfaces
 end_event-requires-clause-interfaces c =
-    let kept = c.in_ok-apply_part.ensures.committed ∙ c.in_ok-age.ensures.committed
+    let kept = c.in_ok-apply_part.ensures.committed ∙ c.in_ok-flood_aged.ensures.committed
     ∙ c.requires.committed in
-    c.in_ok-apply_part.ensures.makes.interfaces ∙ c.in_ok-age.ensures.makes.interfaces
+    c.in_ok-apply_part.ensures.makes.interfaces ∙ c.in_ok-flood_aged.ensures.makes.interfaces
     ∙ ap (λ (r : Router). interfaces_of r.area.links) (sym kept)
 
 pub pack_and_update_routes-requires-clause-drafts :
@@ -43,8 +43,8 @@ pub pack_and_update_routes-requires-clause-drafts :
 pack_and_update_routes-requires-clause-drafts c =
     let old = c.args.router.now in
     let event = occurrence_of c.args.event.now in
-    let whole = made_whole old c.age.new.self c.apply_part.new.router c.end_event.new.router
-    c.args.moment c.in_ok-part.part c.requires.committed c.in_ok-age.ensures.makes
+    let whole = made_whole old c.flood_aged.new.self c.apply_part.new.router c.end_event.new.router
+    c.args.moment c.in_ok-part.part c.requires.committed c.in_ok-flood_aged.ensures.makes
     c.in_ok-apply_part.ensures.makes c.in_ok-end_event.ensures.makes in
     let new = c.take_drafts.new.self.present in
     let is = ap (λ (r : KeptRouter). r.present) c.in_ok-drafts.ensures.rest in
@@ -59,8 +59,8 @@ pub pack_and_update_routes-requires-clause-few : goal.pack_and_update_routes-req
 pack_and_update_routes-requires-clause-few c =
     let old = c.args.router.now in
     let event = occurrence_of c.args.event.now in
-    let whole = made_whole old c.age.new.self c.apply_part.new.router c.end_event.new.router
-    c.args.moment c.in_ok-part.part c.requires.committed c.in_ok-age.ensures.makes
+    let whole = made_whole old c.flood_aged.new.self c.apply_part.new.router c.end_event.new.router
+    c.args.moment c.in_ok-part.part c.requires.committed c.in_ok-flood_aged.ensures.makes
     c.in_ok-apply_part.ensures.makes c.in_ok-end_event.ensures.makes in
     let new = c.take_drafts.new.self.present in
     let is = ap (λ (r : KeptRouter). r.present) c.in_ok-drafts.ensures.rest in
@@ -75,8 +75,8 @@ pub pack_and_update_routes-requires-clause-order : goal.pack_and_update_routes-r
 pack_and_update_routes-requires-clause-order c =
     let old = c.args.router.now in
     let event = occurrence_of c.args.event.now in
-    let whole = made_whole old c.age.new.self c.apply_part.new.router c.end_event.new.router
-    c.args.moment c.in_ok-part.part c.requires.committed c.in_ok-age.ensures.makes
+    let whole = made_whole old c.flood_aged.new.self c.apply_part.new.router c.end_event.new.router
+    c.args.moment c.in_ok-part.part c.requires.committed c.in_ok-flood_aged.ensures.makes
     c.in_ok-apply_part.ensures.makes c.in_ok-end_event.ensures.makes in
     let new = c.take_drafts.new.self.present in
     let is = ap (λ (r : KeptRouter). r.present) c.in_ok-drafts.ensures.rest in
@@ -95,8 +95,8 @@ pub pack_and_update_routes-requires-clause-kept : goal.pack_and_update_routes-re
 pack_and_update_routes-requires-clause-kept c =
     let old = c.args.router.now in
     let event = occurrence_of c.args.event.now in
-    let whole = made_whole old c.age.new.self c.apply_part.new.router c.end_event.new.router
-    c.args.moment c.in_ok-part.part c.requires.committed c.in_ok-age.ensures.makes
+    let whole = made_whole old c.flood_aged.new.self c.apply_part.new.router c.end_event.new.router
+    c.args.moment c.in_ok-part.part c.requires.committed c.in_ok-flood_aged.ensures.makes
     c.in_ok-apply_part.ensures.makes c.in_ok-end_event.ensures.makes in
     let new = c.take_drafts.new.self.present in
     let is = ap (λ (r : KeptRouter). r.present) c.in_ok-drafts.ensures.rest in
@@ -104,7 +104,7 @@ pack_and_update_routes-requires-clause-kept c =
     c.in_ok-part.part whole c.requires.drafted is c.in_ok-drafts.ensures.drafts in
     let kept = c.args.routes.now in
     let committed = c.in_ok-drafts.ensures.committed ∙ c.in_ok-end_event.ensures.committed
-    ∙ c.in_ok-apply_part.ensures.committed ∙ c.in_ok-age.ensures.committed
+    ∙ c.in_ok-apply_part.ensures.committed ∙ c.in_ok-flood_aged.ensures.committed
     ∙ c.requires.committed in
     let same = ap (λ (r : Router). r.id) at
     ∙ made_id old.present c.args.moment event c.in_ok-part.part c.in_ok-part.ensures.part
@@ -121,15 +121,15 @@ pub pack_and_update_routes-requires-clause-answers :
 pack_and_update_routes-requires-clause-answers c none =
     let old = c.args.router.now in
     let event = occurrence_of c.args.event.now in
-    let whole = made_whole old c.age.new.self c.apply_part.new.router c.end_event.new.router
-    c.args.moment c.in_ok-part.part c.requires.committed c.in_ok-age.ensures.makes
+    let whole = made_whole old c.flood_aged.new.self c.apply_part.new.router c.end_event.new.router
+    c.args.moment c.in_ok-part.part c.requires.committed c.in_ok-flood_aged.ensures.makes
     c.in_ok-apply_part.ensures.makes c.in_ok-end_event.ensures.makes in
     let new = c.take_drafts.new.self.present in
     let is = ap (λ (r : KeptRouter). r.present) c.in_ok-drafts.ensures.rest in
     let at = made_router old c.end_event.new.router new c.in_ok-drafts.drafts.items c.args.moment
     c.in_ok-part.part whole c.requires.drafted is c.in_ok-drafts.ensures.drafts in
     let committed = c.in_ok-drafts.ensures.committed ∙ c.in_ok-end_event.ensures.committed
-    ∙ c.in_ok-apply_part.ensures.committed ∙ c.in_ok-age.ensures.committed
+    ∙ c.in_ok-apply_part.ensures.committed ∙ c.in_ok-flood_aged.ensures.committed
     ∙ c.requires.committed in
     ap (λ (r : Router). r.answers) at
     ∙ made_answers old.present c.args.moment event c.in_ok-part.part c.in_ok-part.ensures.part none
@@ -139,8 +139,8 @@ pub returns-clause-ok : goal.returns-clause-ok
 returns-clause-ok c =
     let old = c.args.router.now in
     let event = occurrence_of c.args.event.now in
-    let whole = made_whole old c.age.new.self c.apply_part.new.router c.end_event.new.router
-    c.args.moment c.in_ok-part.part c.requires.committed c.in_ok-age.ensures.makes
+    let whole = made_whole old c.flood_aged.new.self c.apply_part.new.router c.end_event.new.router
+    c.args.moment c.in_ok-part.part c.requires.committed c.in_ok-flood_aged.ensures.makes
     c.in_ok-apply_part.ensures.makes c.in_ok-end_event.ensures.makes in
     let new = c.take_drafts.new.self.present in
     let is = ap (λ (r : KeptRouter). r.present) c.in_ok-drafts.ensures.rest in
@@ -161,8 +161,8 @@ pub returns-clause-keeps : goal.returns-clause-keeps
 returns-clause-keeps c =
     let old = c.args.router.now in
     let event = occurrence_of c.args.event.now in
-    let whole = made_whole old c.age.new.self c.apply_part.new.router c.end_event.new.router
-    c.args.moment c.in_ok-part.part c.requires.committed c.in_ok-age.ensures.makes
+    let whole = made_whole old c.flood_aged.new.self c.apply_part.new.router c.end_event.new.router
+    c.args.moment c.in_ok-part.part c.requires.committed c.in_ok-flood_aged.ensures.makes
     c.in_ok-apply_part.ensures.makes c.in_ok-end_event.ensures.makes in
     let new = c.take_drafts.new.self.present in
     let is = ap (λ (r : KeptRouter). r.present) c.in_ok-drafts.ensures.rest in
@@ -187,8 +187,8 @@ pub returns-clause-order : goal.returns-clause-order
 returns-clause-order c =
     let old = c.args.router.now in
     let event = occurrence_of c.args.event.now in
-    let whole = made_whole old c.age.new.self c.apply_part.new.router c.end_event.new.router
-    c.args.moment c.in_ok-part.part c.requires.committed c.in_ok-age.ensures.makes
+    let whole = made_whole old c.flood_aged.new.self c.apply_part.new.router c.end_event.new.router
+    c.args.moment c.in_ok-part.part c.requires.committed c.in_ok-flood_aged.ensures.makes
     c.in_ok-apply_part.ensures.makes c.in_ok-end_event.ensures.makes in
     let new = c.take_drafts.new.self.present in
     let is = ap (λ (r : KeptRouter). r.present) c.in_ok-drafts.ensures.rest in
@@ -210,8 +210,8 @@ pub returns-clause-holds : goal.returns-clause-holds
 returns-clause-holds c =
     let old = c.args.router.now in
     let event = occurrence_of c.args.event.now in
-    let whole = made_whole old c.age.new.self c.apply_part.new.router c.end_event.new.router
-    c.args.moment c.in_ok-part.part c.requires.committed c.in_ok-age.ensures.makes
+    let whole = made_whole old c.flood_aged.new.self c.apply_part.new.router c.end_event.new.router
+    c.args.moment c.in_ok-part.part c.requires.committed c.in_ok-flood_aged.ensures.makes
     c.in_ok-apply_part.ensures.makes c.in_ok-end_event.ensures.makes in
     let new = c.take_drafts.new.self.present in
     let is = ap (λ (r : KeptRouter). r.present) c.in_ok-drafts.ensures.rest in
@@ -234,8 +234,8 @@ pub returns-clause-refused : goal.returns-clause-refused
 returns-clause-refused c =
     let old = c.args.router.now in
     let event = occurrence_of c.args.event.now in
-    let whole = made_whole old c.age.new.self c.apply_part.new.router c.end_event.new.router
-    c.args.moment c.in_ok-part.part c.requires.committed c.in_ok-age.ensures.makes
+    let whole = made_whole old c.flood_aged.new.self c.apply_part.new.router c.end_event.new.router
+    c.args.moment c.in_ok-part.part c.requires.committed c.in_ok-flood_aged.ensures.makes
     c.in_ok-apply_part.ensures.makes c.in_ok-end_event.ensures.makes in
     let new = c.take_drafts.new.self.present in
     let is = ap (λ (r : KeptRouter). r.present) c.in_ok-drafts.ensures.rest in
@@ -256,7 +256,7 @@ returns-clause-limit c =
 pub returns-clause-committed : goal.returns-clause-committed
 returns-clause-committed c =
     c.in_ok-drafts.ensures.committed ∙ c.in_ok-end_event.ensures.committed
-    ∙ c.in_ok-apply_part.ensures.committed ∙ c.in_ok-age.ensures.committed
+    ∙ c.in_ok-apply_part.ensures.committed ∙ c.in_ok-flood_aged.ensures.committed
 
 pub returns-clause-kept : goal.returns-clause-kept
 returns-clause-kept c = c.pack_and_update_routes.ensures.kept
@@ -266,7 +266,7 @@ returns-clause-walks c =
     let new = c.take_drafts.new.self.present in
     let old = c.args.routes.now in
     let committed = c.in_ok-drafts.ensures.committed ∙ c.in_ok-end_event.ensures.committed
-    ∙ c.in_ok-apply_part.ensures.committed ∙ c.in_ok-age.ensures.committed
+    ∙ c.in_ok-apply_part.ensures.committed ∙ c.in_ok-flood_aged.ensures.committed
     ∙ c.requires.committed in
     on_ok c.pack_and_update_routes.result
     (λ walks. subst (λ m. KeepsWalkUnlessChanged m new.moment new.id c.args.router.now.present.area
