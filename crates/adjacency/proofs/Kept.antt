@@ -22,7 +22,7 @@ use Rattle.adjacency.specs.Descriptions.{Verdict, accept, act, after_description
 use Rattle.adjacency.specs.Descriptions.{announced_more, changes_options, exchange_done}
 use Rattle.adjacency.specs.Descriptions.{send_description}
 use Rattle.adjacency.specs.Descriptions.{exchange_over, exchanging, expected_sequence, in_state}
-use Rattle.adjacency.specs.Descriptions.{is_duplicate, is_kept, is_over_for, is_wanted, judge}
+use Rattle.adjacency.specs.Descriptions.{is_duplicate, is_kept, is_over_for, is_wanted, process}
 use Rattle.adjacency.specs.Descriptions.{knows_types, as_received, master_goes_on}
 use Rattle.adjacency.specs.Descriptions.{negotiated_neighbor, negotiating, is_initial_description}
 use Rattle.adjacency.specs.Descriptions.{repeat, same_flag, slave_replies, with_requests}
@@ -254,7 +254,7 @@ module _ {Begins : ByKey ListEntry → Type 0} {Adds : Key → ListEntry → Typ
 
       judged_in : (s : NeighborState) (own : ℕ) (n : Neighbor) → Of Q (record n {
         state = s;
-      }) → Of Q (judge own moment db d (record n { state = s })).neighbor
+      }) → Of Q (process own moment db d (record n { state = s })).neighbor
       judged_in Init own n k = k
       judged_in ExStart own n k =
           negotiating_one_of (Keeps (record n {
@@ -275,7 +275,7 @@ module _ {Begins : ByKey ListEntry → Type 0} {Adds : Key → ListEntry → Typ
           over_one_of (Keeps at) at d k (repeat_kept moment at k) (mismatched_kept moment at k)
 
   judge_kept : (own moment : ℕ) (db : Database) (d : Description) → Begins (aged_copies moment db)
-      → (n : Neighbor) → Of Q n → Of Q (judge own moment db d n).neighbor
+      → (n : Neighbor) → Of Q n → Of Q (process own moment db d n).neighbor
   judge_kept own moment db d begun n h = judged_in moment db d begun n.state own n h
 
   pub hello_kept : (moment from : ℕ) (names : Bool) (o : Option Neighbor)

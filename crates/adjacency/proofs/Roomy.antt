@@ -31,7 +31,7 @@ use Rattle.adjacency.specs.Adjacencies.{one_way_received, initial_description, r
 use Rattle.adjacency.specs.Adjacencies.{enter_exstart, after_inactivity_timer}
 use Rattle.adjacency.specs.Contents.{Requests, Step, Updates, no_sends, then_}
 use Rattle.adjacency.specs.Descriptions.{Verdict, accept, act, after_description, announced_more}
-use Rattle.adjacency.specs.Descriptions.{exchange_done, in_state, is_over_for, judge}
+use Rattle.adjacency.specs.Descriptions.{exchange_done, in_state, is_over_for, process}
 use Rattle.adjacency.specs.Descriptions.{send_description}
 use Rattle.adjacency.specs.Descriptions.{knows_types, as_received, master_goes_on}
 use Rattle.adjacency.specs.Descriptions.{negotiated_neighbor, next_description, repeat}
@@ -324,13 +324,13 @@ act_roomy Verdict.Accepted moment db d n h = accept_roomy moment db d n h
 act_roomy Verdict.Mismatch moment db d n h = mismatched_roomy moment n h
 
 judge_roomy : (own moment : ℕ) (db : Database) (d : Description) (n : Neighbor) → HasRoomyLists n
-    → IsRoomyStep (judge own moment db d n)
+    → IsRoomyStep (process own moment db d n)
 judge_roomy own moment db d n h = act_roomy (verdict own n d) moment db d n h
 
 in_state_roomy : (s : NeighborState) (own moment : ℕ) (db : Database) (d : Description)
     (n : Neighbor) → HasRoomyLists n → IsRoomyStep (in_state s own moment db d n)
 in_state_roomy Init own moment db d n h =
-    then_roomy (two_way_received moment n) (judge own moment db d) (named_roomy moment n h)
+    then_roomy (two_way_received moment n) (process own moment db d) (named_roomy moment n h)
     (judge_roomy own moment db d)
 in_state_roomy ExStart own moment db d n h = judge_roomy own moment db d n h
 in_state_roomy Exchange own moment db d n h = judge_roomy own moment db d n h

@@ -21,7 +21,7 @@ use Rattle.adjacency.specs.Adjacencies.{two_way_received_in, one_way_received, r
 use Rattle.adjacency.specs.Adjacencies.{enter_exstart, after_inactivity_timer}
 use Rattle.adjacency.specs.Contents.{Content, Requests, Step, Updates, no_sends, then_}
 use Rattle.adjacency.specs.Descriptions.{Verdict, accept, act, after_description, announced_more}
-use Rattle.adjacency.specs.Descriptions.{exchange_done, in_state, is_over_for, judge}
+use Rattle.adjacency.specs.Descriptions.{exchange_done, in_state, is_over_for, process}
 use Rattle.adjacency.specs.Descriptions.{send_description}
 use Rattle.adjacency.specs.Descriptions.{knows_types, as_received, master_goes_on}
 use Rattle.adjacency.specs.Descriptions.{negotiated_neighbor, repeat, slave_replies, verdict}
@@ -218,13 +218,13 @@ module _ (t : Telling) where
   act_told Verdict.Mismatch moment db d n copies h = mismatched_told moment n h
 
   judge_told : (own moment : ℕ) (db : Database) (d : Description) → OfCopies t db → (n : Neighbor)
-      → OfOwed t n → OfStep t (judge own moment db d n)
+      → OfOwed t n → OfStep t (process own moment db d n)
   judge_told own moment db d copies n h = act_told (verdict own n d) moment db d n copies h
 
   in_state_told : (s : NeighborState) (own moment : ℕ) (db : Database) (d : Description)
       (n : Neighbor) → OfCopies t db → OfOwed t n → OfStep t (in_state s own moment db d n)
   in_state_told Init own moment db d n copies h =
-      then_told (two_way_received moment n) (judge own moment db d) (named_told moment n h)
+      then_told (two_way_received moment n) (process own moment db d) (named_told moment n h)
       (judge_told own moment db d copies)
   in_state_told ExStart own moment db d n copies h = judge_told own moment db d copies n h
   in_state_told Exchange own moment db d n copies h = judge_told own moment db d copies n h

@@ -17,7 +17,7 @@ use Rattle.adjacency.specs.declared.verdict.Verdict.{Verdict as Said}
 use Rattle.adjacency.specs.declared.verdict.Verdict.TheVariants as said
 use Rattle.adjacency.specs.declared.verdict.Mismatch.{Mismatch}
 use Rattle.adjacency.specs.Contents.{Step, no_sends}
-use Rattle.adjacency.specs.Descriptions.{Verdict, as_received, is_initial_description, judge}
+use Rattle.adjacency.specs.Descriptions.{Verdict, as_received, is_initial_description, process}
 use Rattle.adjacency.specs.Descriptions.{knows_types, master_goes_on, negotiated_neighbor, repeat}
 use Rattle.adjacency.specs.Descriptions.{slave_replies, verdict, with_requests}
 use Rattle.adjacency.specs.Neighbors.{Neighbor}
@@ -115,8 +115,9 @@ proceeding Verdict.Accepted moment db d n = accept_description moment db d n
 proceeding Verdict.Mismatch moment db d n = no_sends n
 
 -- the complete step, under a name for contracts
-unfoldable pub judging : RouterNumber → Moment → Database → Description → Neighbor → Step
-judging own moment db d n = judge own moment db d n
+unfoldable pub process_description : RouterNumber → Moment → Database → Description → Neighbor
+    → Step
+process_description own moment db d n = process own moment db d n
 
 abbrev pub is_init : NeighborState → Bool
 is_init Init = true

@@ -23,7 +23,7 @@ use Rattle.adjacency.specs.Descriptions.{as_received, changes_options, exchange_
 use Rattle.adjacency.specs.Descriptions.{send_description}
 use Rattle.adjacency.specs.Descriptions.{exchange_over, expected_sequence, in_state, is_duplicate}
 use Rattle.adjacency.specs.Descriptions.{is_empty, is_initial_description, is_kept}
-use Rattle.adjacency.specs.Descriptions.{judge, knows_types, master_goes_on, negotiated_neighbor}
+use Rattle.adjacency.specs.Descriptions.{knows_types, master_goes_on, negotiated_neighbor, process}
 use Rattle.adjacency.specs.Descriptions.{next_description, repeat, same_flag, slave_replies}
 use Rattle.adjacency.specs.Descriptions.{verdict, with_requests, without_old_description}
 use Rattle.adjacency.specs.Floods.{flooding, without_met_request}
@@ -504,7 +504,7 @@ module _ (own : ℕ) (Acc : Description → Type 0) (Began : Conversation → Ty
     in_exchange : (S : Description → Type 0) (role : Bool) (m : Neighbor)
         → Sound S (record m { state = Exchange; is_master = role })
         → Accepts (record m { state = Exchange; is_master = role })
-        → OfStep S (judge own moment db d (record m { state = Exchange; is_master = role }))
+        → OfStep S (process own moment db d (record m { state = Exchange; is_master = role }))
     in_exchange S role m (f, inl e) acc = absurd cc
     in_exchange S role m (f, inr g) acc =
         in_order V (is_duplicate n.received d && n.is_master) (is_duplicate n.received d)
@@ -541,7 +541,7 @@ module _ (own : ℕ) (Acc : Description → Type 0) (Began : Conversation → Ty
         → ((x : Description) → m.described ≡ Some x → x ≡ initial_description m.sequence)
         → ((x : Description) → S x → x ≡ initial_description m.sequence)
         → Accepts (record m { state = ExStart })
-        → OfStep S (judge own moment db d (record m { state = ExStart }))
+        → OfStep S (process own moment db d (record m { state = ExStart }))
     negotiated S m foreign new starts last said acc =
         chosen V follows Verdict.NegotiatedAsSlave
         (cond leads Verdict.NegotiatedAsMaster Verdict.Discarded)
@@ -610,8 +610,8 @@ module _ (own : ℕ) (Acc : Description → Type 0) (Began : Conversation → Ty
         → Accepts (two_way_received moment (record m { state = s; is_master = role })).neighbor
         → OfStep S (in_state s own moment db d (record m { state = s; is_master = role }))
     stated S Init role m h new acc =
-        further S opening.sends (judge own moment db d opening.neighbor).sends
-        (judge own moment db d opening.neighbor).neighbor
+        further S opening.sends (process own moment db d opening.neighbor).sends
+        (process own moment db d opening.neighbor).neighbor
         (negotiated (With S opening.sends) opening.neighbor h.0 (new refl).0 refl
         (λ x at. sym (some_same at)) by_said acc)
       where

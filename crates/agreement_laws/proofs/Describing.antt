@@ -27,7 +27,7 @@ use Rattle.adjacency.specs.Descriptions.{announced_more, as_received, changes_op
 use Rattle.adjacency.specs.Descriptions.{send_description}
 use Rattle.adjacency.specs.Descriptions.{exchange_done, exchange_over, expected_sequence, in_state}
 use Rattle.adjacency.specs.Descriptions.{is_duplicate, is_initial_description, is_kept, is_wanted}
-use Rattle.adjacency.specs.Descriptions.{judge, knows_types, master_goes_on, negotiated_neighbor}
+use Rattle.adjacency.specs.Descriptions.{knows_types, master_goes_on, negotiated_neighbor, process}
 use Rattle.adjacency.specs.Descriptions.{next_description, repeat, same_flag, slave_replies}
 use Rattle.adjacency.specs.Descriptions.{with_request, with_requests, young_copies}
 use Rattle.adjacency.specs.Neighbors.{Neighbor, is_exchange_or_later}
@@ -243,7 +243,7 @@ module _ (key : Key) (now : ℕ) (Of : ℕ → Type 0) (Said : Saying) where
         -- in ExStart, with an empty request list
         negotiating_so : (m : Neighbor) → Of m.router → Tells m
             → AreSaid key now Of Said m.requests (conversation_with m) → m.state ≡ ExStart
-            → OfStep (held now key db) (judge own_id now db d (record m { state = ExStart }))
+            → OfStep (held now key db) (process own_id now db d (record m { state = ExStart }))
         negotiating_so m of said requests is =
             let n : Neighbor = record m { state = ExStart } in
             as_slave_or_master (Does n) (negotiated false d.sequence n of said requests)
@@ -285,16 +285,16 @@ module _ (key : Key) (now : ℕ) (Of : ℕ → Type 0) (Said : Saying) where
             (λ h c is o. said (conversation_with (entered m)) h c is refl)
             (λ l at. absurd (none_empty l at)) refl)
           where
-            more : OfStep (held now key db) (judge own_id now db d (entered m))
+            more : OfStep (held now key db) (process own_id now db d (entered m))
                 → Settling key now Of (SaidWith
-                (opening m ++ (judge own_id now db d (entered m)).sends)) (held now key db)
-                (judge own_id now db d (entered m)).neighbor
+                (opening m ++ (process own_id now db d (entered m)).sends)) (held now key db)
+                (process own_id now db d (entered m)).neighbor
             more h =
-                settling_more key now Of Of (SaidWith (judge own_id now db d (entered m)).sends)
-                (SaidWith (opening m ++ (judge own_id now db d (entered m)).sends))
-                (judge own_id now db d (entered m)).neighbor (λ o. o)
-                (λ l k. further (opening m) (judge own_id now db d (entered m)).sends
-                (conversation_with (judge own_id now db d (entered m)).neighbor) l k)
+                settling_more key now Of Of (SaidWith (process own_id now db d (entered m)).sends)
+                (SaidWith (opening m ++ (process own_id now db d (entered m)).sends))
+                (process own_id now db d (entered m)).neighbor (λ o. o)
+                (λ l k. further (opening m) (process own_id now db d (entered m)).sends
+                (conversation_with (process own_id now db d (entered m)).neighbor) l k)
                 (held now key db) h
 
         stated : (st : NeighborState) (m : Neighbor) → Of m.router

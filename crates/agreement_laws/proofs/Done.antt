@@ -28,7 +28,7 @@ use Rattle.adjacency.specs.Descriptions.{Verdict, accept, act, after_description
 use Rattle.adjacency.specs.Descriptions.{as_received, changes_options, exchange_done}
 use Rattle.adjacency.specs.Descriptions.{send_description, exchange_over, expected_sequence}
 use Rattle.adjacency.specs.Descriptions.{in_state, is_duplicate, is_initial_description, is_kept}
-use Rattle.adjacency.specs.Descriptions.{is_over_for, judge, knows_types, master_goes_on}
+use Rattle.adjacency.specs.Descriptions.{is_over_for, knows_types, master_goes_on, process}
 use Rattle.adjacency.specs.Descriptions.{negotiated_neighbor, same_flag, slave_replies}
 use Rattle.adjacency.specs.Descriptions.{with_requests, without_old_description}
 use Rattle.adjacency.specs.Floods.{flooding, without_met_request}
@@ -193,7 +193,7 @@ module _ (own moment : ℕ) (db : Database) (d : Description) where
           opened e = let no : true ≡ false = sym k.1 ∙ e in absurd cc
 
   negotiating_so : (m : Neighbor) → (m.exchanged ≡ None) × (announced_more m.described ≡ true)
-      → IsDone (judge own moment db d (record m { state = ExStart })).neighbor
+      → IsDone (process own moment db d (record m { state = ExStart })).neighbor
   negotiating_so m h =
       let n : Neighbor = record m { state = ExStart } in
       as_slave_or_master (Does n) (negotiated false d.sequence n h) (negotiated true n.sequence n h)

@@ -20,7 +20,7 @@ use Rattle.adjacency.specs.Contents.{Step, no_sends}
 use Rattle.adjacency.specs.Descriptions.{Verdict, accept, act, after_description, announced_more}
 use Rattle.adjacency.specs.Descriptions.{as_received, exchange_done, in_state, is_wanted}
 use Rattle.adjacency.specs.Descriptions.{send_description}
-use Rattle.adjacency.specs.Descriptions.{judge, knows_types, master_goes_on, negotiated_neighbor}
+use Rattle.adjacency.specs.Descriptions.{knows_types, master_goes_on, negotiated_neighbor, process}
 use Rattle.adjacency.specs.Descriptions.{slave_replies, verdict, with_request, with_requests}
 use Rattle.adjacency.specs.Neighbors.{Neighbor, is_exchange_or_later}
 use Rattle.adjacency.proofs.Kept.{chosen}
@@ -147,7 +147,7 @@ module _ (own moment : ℕ) (db : Database) (d : Description) where
   by_verdict known m Verdict.Mismatch e = absurd cc
 
   judged : knows_types d ≡ true → (m : Neighbor) → is_accepting (verdict own m d) ≡ true
-      → HasRequested m (judge own moment db d m)
+      → HasRequested m (process own moment db d m)
   judged known m e = by_verdict known m (verdict own m d) e
 
   as_it_is : (m : Neighbor) (s : NeighborState) → m.state ≡ s
@@ -157,11 +157,11 @@ module _ (own moment : ℕ) (db : Database) (d : Description) where
       (verdict own (two_way_received_in x moment m).neighbor d) ≡ true) is e
 
   in_it : knows_types d ≡ true → (m : Neighbor) (s : NeighborState) → m.state ≡ s
-      → HasRequested (two_way_received_in s moment m).neighbor (judge own moment db d m)
-      → HasRequested (two_way_received moment m).neighbor (judge own moment db d m)
+      → HasRequested (two_way_received_in s moment m).neighbor (process own moment db d m)
+      → HasRequested (two_way_received moment m).neighbor (process own moment db d m)
   in_it known m s is = subst (λ (x : NeighborState). HasRequested
       (two_way_received_in x moment m).neighbor
-      (judge own moment db d m)) (sym is)
+      (process own moment db d m)) (sym is)
 
   in_its_state : knows_types d ≡ true → (m : Neighbor) (s : NeighborState) → m.state ≡ s
       → is_accepting (verdict own (two_way_received moment m).neighbor d) ≡ true

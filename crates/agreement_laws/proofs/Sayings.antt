@@ -24,7 +24,7 @@ use Rattle.adjacency.specs.Adjacencies.{two_way_received_in, with_hello_heard}
 use Rattle.adjacency.specs.Contents.{Content, Step, no_sends, then_}
 use Rattle.adjacency.specs.Descriptions.{Verdict, accept, act, after_description, announced_more}
 use Rattle.adjacency.specs.Descriptions.{as_received, exchange_done, in_state, send_description}
-use Rattle.adjacency.specs.Descriptions.{is_over_for, judge, knows_types, master_goes_on}
+use Rattle.adjacency.specs.Descriptions.{is_over_for, knows_types, master_goes_on, process}
 use Rattle.adjacency.specs.Descriptions.{negotiated_neighbor, repeat, slave_replies, verdict}
 use Rattle.adjacency.specs.Descriptions.{with_requests}
 use Rattle.adjacency.specs.Floods.{flooding, meets, request_of, without_met_request}
@@ -353,13 +353,13 @@ module _ (old : Router) where
     acted Verdict.Mismatch moment db d n copies h = mismatched moment n h
 
     judged : (own moment : ℕ) (db : Database) (d : Description) → OfCopies db → (n : Neighbor)
-        → OfNeighbor T number n → OfStep (judge own moment db d n)
+        → OfNeighbor T number n → OfStep (process own moment db d n)
     judged own moment db d copies n h = acted (verdict own n d) moment db d n copies h
 
     in_state_so : (s : NeighborState) (own moment : ℕ) (db : Database) (d : Description)
         (n : Neighbor) → OfCopies db → OfNeighbor T number n → OfStep (in_state s own moment db d n)
     in_state_so Init own moment db d n copies h =
-        then_step (two_way_received moment n) (judge own moment db d) (named moment n h)
+        then_step (two_way_received moment n) (process own moment db d) (named moment n h)
         (judged own moment db d copies)
     in_state_so ExStart own moment db d n copies h = judged own moment db d copies n h
     in_state_so Exchange own moment db d n copies h = judged own moment db d copies n h

@@ -12,7 +12,7 @@ use Rattle.adjacency.specs.Adjacencies.{next_dd_sequence_start, initial_descript
 use Rattle.adjacency.specs.Adjacencies.{requests_nothing, enter_exstart}
 use Rattle.adjacency.specs.Contents.{Step, no_sends}
 use Rattle.adjacency.specs.Contents as contents
-use Rattle.adjacency.specs.Descriptions.{Verdict, act, judge, repeat, after_description}
+use Rattle.adjacency.specs.Descriptions.{Verdict, act, after_description, process, repeat}
 use Rattle.adjacency.specs.Neighbors.{Neighbor, fresh}
 use Rattle.adjacency.specs.Requests.{next_request}
 use Rattle.adjacency.specs.declared.state.NeighborState.TheVariants.{ExStart, Full, Loading}
@@ -84,7 +84,7 @@ taken r link n moment s = on_area (λ o. one_neighbor moment 1 (λ m. s) o) (sta
 pub judged : (r new : Router) (link : Link) (n : Neighbor) (moment : ℕ) (bytes : List ℕ)
     (d : Description) (v : Verdict) (outs : List Out) → NothingAges r moment
     → IsJudged r n bytes d v → after_description r.id moment r.area.database d n
-    ≡ cond (nat_lt 8192 d.mtu) (no_sends n) (judge r.id moment r.area.database d n)
+    ≡ cond (nat_lt 8192 d.mtu) (no_sends n) (process r.id moment r.area.database d n)
     → (event : Happens (beside r link n) moment (Occurrence.Packet 1 bytes) outs new)
     → event.after ≡ taken r link n moment (act v moment r.area.database d n)
 judged r new link n moment bytes d v outs nothing said same event =
@@ -98,7 +98,7 @@ judged r new link n moment bytes d v outs nothing said same event =
     (on_area (receive_description r.id moment 1 d) (start old)) (start old))
     ∙ ap (taken r link n moment) same
     ∙ (λ i. taken r link n moment (cond (said.fits i) (no_sends n)
-    (judge r.id moment r.area.database d n)))
+    (process r.id moment r.area.database d n)))
     ∙ (λ i. taken r link n moment (act (said.is_judged i) moment r.area.database d n))
 
 begins_it_again : (r new : Router) (link : Link) (n : Neighbor) (moment : ℕ) (bytes : List ℕ)

@@ -3,7 +3,7 @@ ghost use Rattle.std.specs.Prelude.{◌≡◌, nat_lt};
 ghost use Rattle.words.specs.Constants.{largest_packet};
 ghost use Rattle.adjacency.specs.Adjacencies.{two_way_received};
 ghost use Rattle.adjacency.specs.Descriptions.{after_description};
-ghost use Rattle.adjacency.specs.Exchanges.{any_init, is_init, judging};
+ghost use Rattle.adjacency.specs.Exchanges.{any_init, is_init, process_description};
 ghost use Rattle.flooding.specs.Doing.{SlotSends};
 
 use super::NeighborSlot;
@@ -65,7 +65,7 @@ impl NeighborSlot {
 
     // The step for the Database Description in the neighbor's state; without a neighbor it is
     // ignored.
-    fn judge(
+    fn process_description(
         &mut self,
         alloc: Global,
         own: RouterId,
@@ -74,8 +74,8 @@ impl NeighborSlot {
         description: &Description,
         draft: &mut Draft,
     ) -> Result<(), AllocError>
-        ensures { SlotSends (judging own moment database.now.present description.now) self.old
-            self.new draft.old draft.new result }
+        ensures { SlotSends (process_description own moment database.now.present description.now)
+            self.old self.new draft.old draft.new result }
     {
         let Some(neighbor) = &mut self.neighbor else {
             return Ok(());
@@ -117,6 +117,6 @@ impl NeighborSlot {
             return Ok(());
         }
         self.two_way(alloc, moment, draft)?;
-        self.judge(alloc, own, moment, database, description, draft)
+        self.process_description(alloc, own, moment, database, description, draft)
     }
 }

@@ -1,6 +1,6 @@
 use Rattle.std.proofs.Common.{refl, sym, ◌∙◌}
 use Rattle.neighbors.proofs.Doing.{nothing_sent, sent_after}
-use Rattle.flooding.proofs.Judging.{begins_on, begins_sent, rests_on, rests_sent}
+use Rattle.flooding.proofs.Processing.{begins_on, begins_sent, rests_on, rests_sent}
 use Rattle.flooding.proofs.neighbor_slot.NeighborSlot.two_way.Goals as goal
 
 pub returns-then-init : goal.returns-then-init

@@ -11,12 +11,12 @@ use Rattle.adjacency.specs.Adjacencies.{enter_exstart, mismatch_step, two_way_re
 use Rattle.adjacency.specs.Adjacencies.{two_way_received_in}
 use Rattle.adjacency.specs.Contents.{Content, Step, no_sends, sent_on, step_on, then_}
 use Rattle.adjacency.specs.Descriptions.{Verdict, accept, act, after_description, as_received}
-use Rattle.adjacency.specs.Descriptions.{in_state, judge, knows_types, master_goes_on}
+use Rattle.adjacency.specs.Descriptions.{in_state, knows_types, master_goes_on, process}
 use Rattle.adjacency.specs.Descriptions.{negotiated_neighbor, slave_replies, verdict_in}
 use Rattle.adjacency.specs.Descriptions.{with_requests}
 use Rattle.adjacency.specs.Drafts.{Drafted, drafting}
 use Rattle.adjacency.specs.Exchanges.{accept_description, any_init, is_init, verdict_of_description}
-use Rattle.adjacency.specs.Exchanges.{judged_on, judging, proceeding, starts_over}
+use Rattle.adjacency.specs.Exchanges.{judged_on, proceeding, process_description, starts_over}
 use Rattle.adjacency.specs.Neighbors.{Neighbor, is_exchange_or_later}
 use Rattle.flooding.proofs.Answered.{same_sent, same_step, sends_nothing, stays}
 use Rattle.adjacency.proofs.Sends.{drafting-append}
@@ -98,36 +98,36 @@ module _ (own moment : ℕ) (db : Database) (d : Description) (n : Neighbor) whe
   on Verdict.Mismatch is = absurd (false≢true (sym is))
 
   goes_over : (v : Verdict) → v ≡ verdict_of_description own n d → starts_over v d ≡ true
-      → enter_exstart moment n ≡ judging own moment db d n
-  unfolding verdict_of_description judging
+      → enter_exstart moment n ≡ process_description own moment db d n
+  unfolding verdict_of_description process_description
   goes_over v said is = over v (λ late. late_in own n d n.state (sym (ap is_late said) ∙ late)) is
       ∙ ap (λ w. act w moment db d n) said
 
   goes : (v : Verdict) → v ≡ verdict_of_description own n d → starts_over v d ≡ false
-      → proceeding v moment db d n ≡ judging own moment db d n
-  unfolding verdict_of_description judging
+      → proceeding v moment db d n ≡ process_description own moment db d n
+  unfolding verdict_of_description process_description
   goes v said is = on v is ∙ ap (λ w. act w moment db d n) said
 
 module _ (own moment : ℕ) (db : Database) (d : Description) (v : Verdict) (o : Option Neighbor)
     (said : v ≡ judged_on own o d) where
   pub over_on : starts_over v d ≡ true
-      → step_on (enter_exstart moment) o ≡ step_on (judging own moment db d) o
-  over_on is = same_step (enter_exstart moment) (judging own moment db d) o
+      → step_on (enter_exstart moment) o ≡ step_on (process_description own moment db d) o
+  over_on is = same_step (enter_exstart moment) (process_description own moment db d) o
       (λ n there. goes_over own moment db d n v (said ∙ ap (λ p. judged_on own p d) there) is)
 
   pub over_sent : starts_over v d ≡ true
-      → sent_on (enter_exstart moment) o ≡ sent_on (judging own moment db d) o
-  over_sent is = same_sent (enter_exstart moment) (judging own moment db d) o
+      → sent_on (enter_exstart moment) o ≡ sent_on (process_description own moment db d) o
+  over_sent is = same_sent (enter_exstart moment) (process_description own moment db d) o
       (λ n there. goes_over own moment db d n v (said ∙ ap (λ p. judged_on own p d) there) is)
 
   pub goes_on_on : starts_over v d ≡ false
-      → step_on (proceeding v moment db d) o ≡ step_on (judging own moment db d) o
-  goes_on_on is = same_step (proceeding v moment db d) (judging own moment db d) o
+      → step_on (proceeding v moment db d) o ≡ step_on (process_description own moment db d) o
+  goes_on_on is = same_step (proceeding v moment db d) (process_description own moment db d) o
       (λ n there. goes own moment db d n v (said ∙ ap (λ p. judged_on own p d) there) is)
 
   pub goes_on_sent : starts_over v d ≡ false
-      → sent_on (proceeding v moment db d) o ≡ sent_on (judging own moment db d) o
-  goes_on_sent is = same_sent (proceeding v moment db d) (judging own moment db d) o
+      → sent_on (proceeding v moment db d) o ≡ sent_on (process_description own moment db d) o
+  goes_on_sent is = same_sent (proceeding v moment db d) (process_description own moment db d) o
       (λ n there. goes own moment db d n v (said ∙ ap (λ p. judged_on own p d) there) is)
 
 -- ---- like a Hello that lists this router
@@ -171,19 +171,20 @@ module _ (moment : ℕ) (o : Option Neighbor) where
 
 module _ (own moment : ℕ) (db : Database) (d : Description) where
   abbrev whole : Neighbor → Step
-  whole n = then_ (two_way_received moment n) (judging own moment db d)
+  whole n = then_ (two_way_received moment n) (process_description own moment db d)
 
   in_its_state : (n : Neighbor) (s : NeighborState) → n.state ≡ s
       → whole n ≡ in_state s own moment db d n
-  unfolding judging
+  unfolding process_description
   in_its_state n Init is = refl
   in_its_state n ExStart is = ap (λ t. then_ (two_way_received_in t moment n)
-      (judge own moment db d)) is
+      (process own moment db d)) is
   in_its_state n Exchange is = ap (λ t. then_ (two_way_received_in t moment n)
-      (judge own moment db d)) is
+      (process own moment db d)) is
   in_its_state n Loading is = ap (λ t. then_ (two_way_received_in t moment n)
-      (judge own moment db d)) is
-  in_its_state n Full is = ap (λ t. then_ (two_way_received_in t moment n) (judge own moment db d))
+      (process own moment db d)) is
+  in_its_state n Full is = ap (λ t. then_ (two_way_received_in t moment n)
+      (process own moment db d))
       is
 
   fits : (n : Neighbor) → nat_lt 8192 d.mtu ≡ false → whole n ≡ after_description own moment db d n
@@ -195,13 +196,14 @@ module _ (own moment : ℕ) (db : Database) (d : Description) where
   is_discarded n is = sym (ap (λ b. cond b (no_sends n) (in_state n.state own moment db d n)) is)
 
   joined_on : (o : Option Neighbor)
-      → step_on (judging own moment db d) (step_on (two_way_received moment) o) ≡ step_on whole o
+      → step_on (process_description own moment db d) (step_on (two_way_received moment) o)
+      ≡ step_on whole o
   joined_on None = refl
   joined_on (Some n) = refl
 
   joined_sent : (o : Option Neighbor)
       → (sent_on (two_way_received moment) o
-      ++ sent_on (judging own moment db d) (step_on (two_way_received moment) o))
+      ++ sent_on (process_description own moment db d) (step_on (two_way_received moment) o))
       ≡ sent_on whole o
   joined_sent None = refl
   joined_sent (Some n) = refl
@@ -217,18 +219,19 @@ module _ (own moment : ℕ) (db : Database) (d : Description) where
         ∙ same_sent no_sends (after_description own moment db d) o (λ n there. is_discarded n is)
 
     pub judged_after : nat_lt 8192 d.mtu ≡ false
-        → step_on (judging own moment db d) (step_on (two_way_received moment) o)
+        → step_on (process_description own moment db d) (step_on (two_way_received moment) o)
         ≡ step_on (after_description own moment db d) o
     judged_after is = joined_on o ∙ same_step whole (after_description own moment db d) o
         (λ n there. fits n is)
 
     pub sent_after : (delay : ℕ) (draft : Drafted) → nat_lt 8192 d.mtu ≡ false
-        → drafting delay (sent_on (judging own moment db d) (step_on (two_way_received moment) o))
+        → drafting delay (sent_on (process_description own moment db d)
+        (step_on (two_way_received moment) o))
         (drafting delay (sent_on (two_way_received moment) o) draft)
         ≡ drafting delay (sent_on (after_description own moment db d) o) draft
     sent_after delay draft is =
         drafting-append delay (sent_on (two_way_received moment) o)
-        (sent_on (judging own moment db d) (step_on (two_way_received moment) o)) draft
+        (sent_on (process_description own moment db d) (step_on (two_way_received moment) o)) draft
         ∙ ap (λ (cs : List Content). drafting delay cs draft)
         (joined_sent o ∙ same_sent whole (after_description own moment db d) o
         (λ n there. fits n is))

@@ -3,15 +3,16 @@ use Rattle.std.proofs.lemmas.Grind.{common_steps}
 use Rattle.keyed_map.proofs.Helds.{on_ok}
 use Rattle.adjacency.specs.Contents.{sent_on, step_on}
 use Rattle.adjacency.specs.Drafts.{drafting}
-use Rattle.adjacency.specs.Exchanges.{judging, verdict_of}
+use Rattle.adjacency.specs.Exchanges.{process_description, verdict_of}
 use Rattle.adjacency.specs.Views.{present_of}
 use Rattle.neighbors.proofs.Doing.{nothing_sent, sent_after}
-use Rattle.flooding.proofs.Judging.{goes_on_on, goes_on_sent, over_on, over_sent}
-use Rattle.flooding.proofs.neighbor_slot.NeighborSlot.judge.Goals as goal
+use Rattle.flooding.proofs.Processing.{goes_on_on, goes_on_sent, over_on, over_sent}
+use Rattle.flooding.proofs.neighbor_slot.NeighborSlot.process_description.Goals as goal
 
 pub returns-in_default : goal.returns-in_default
 returns-in_default c =
-    let F = judging c.args.own c.args.moment c.args.database.now.present c.args.description.now in
+    let F = process_description c.args.own c.args.moment c.args.database.now.present
+    c.args.description.now in
     let none = ap present_of (sym c.in_default.is) ∙ ap (λ h. h.present) c.self.view_is in
     nothing_sent _ (ap (λ h. h.committed) c.self.view_is)
     (ap present_of c.in_default.is ∙ ap (step_on F) none) (ap (sent_on F) none)
@@ -20,7 +21,7 @@ pub returns-then-over : goal.returns-then-over
 returns-then-over c =
     let db = c.args.database.now.present in
     let d = c.args.description.now in
-    let F = judging c.args.own c.args.moment db d in
+    let F = process_description c.args.own c.args.moment db d in
     let v = verdict_of c.verdict-verdict.result in
     let n = c.in-Some.neighbor.present in
     let shown = ap present_of (sym c.in-Some.is) ∙ ap (λ h. h.present) c.self.view_is in
@@ -35,7 +36,7 @@ pub returns : goal.returns
 returns c =
     let db = c.args.database.now.present in
     let d = c.args.description.now in
-    let F = judging c.args.own c.args.moment db d in
+    let F = process_description c.args.own c.args.moment db d in
     let v = verdict_of c.verdict-verdict.result in
     let n = c.in-Some.neighbor.present in
     let shown = ap present_of (sym c.in-Some.is) ∙ ap (λ h. h.present) c.self.view_is in
