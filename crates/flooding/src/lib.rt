@@ -15,7 +15,7 @@ pub use area::Area;
 pub use cases::Case;
 pub use link::Link;
 pub use link::packets::{ReceivingAcknowledgment, ReceivingDescription, ReceivingRequest};
-pub use link::timers::{EndLoading, NextRequest, RunOut, SendingAgain};
+pub use link::timers::{EndLoading, ExpireTimers, NextRequest, SendingAgain};
 pub use on_links::any_exchange_or_loading;
 pub use steps::{LinkChange, LinkStep};
 // Names from the crates below that crates above use.

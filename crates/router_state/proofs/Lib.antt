@@ -11,7 +11,7 @@ pub mod OneLink
 pub mod ReceivedHellos
 pub mod Replies
 pub mod Stepped
-pub mod RunOut
+pub mod ExpiredTimers
 pub mod SentHellos
 pub mod Aged
 pub mod OfAge

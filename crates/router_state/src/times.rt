@@ -12,7 +12,7 @@ ghost use Rattle.router_state.specs.Parts.{request_and_remove_aged, send_what_is
 use crate::aging::{flood_aged, remove_aged};
 use crate::router::Router;
 use crate::sent_hellos::SendingHello;
-use flooding::{EndLoading, Link, LinkStep, Lsdb, NextRequest, RunOut, SendingAgain};
+use flooding::{EndLoading, ExpireTimers, Link, LinkStep, Lsdb, NextRequest, SendingAgain};
 use std::alloc::{AllocError, Global};
 use words::Second;
 
@@ -90,7 +90,7 @@ impl Router {
     pub fn expire_timers(&mut self, moment: Second)
         ensures { Makes (on_area (on_links (map (expire_timers moment)))) self.old self.new }
     {
-        self.area.change_links(&RunOut { moment });
+        self.area.change_links(&ExpireTimers { moment });
     }
 
     /// LoadingDone (RFC 2328, section 10.3): each neighbor goes from Loading to Full if its request

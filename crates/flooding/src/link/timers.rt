@@ -22,11 +22,11 @@ impl Link {
 /// The timers that a Tick finds expired, as in `NeighborSlot::expire_timers`, with the interface's
 /// RouterDeadInterval.
 #[derive(Drop)]
-pub struct RunOut {
+pub struct ExpireTimers {
     pub moment: Second,
 }
 
-impl LinkChange for RunOut {
+impl LinkChange for ExpireTimers {
     ghost use Rattle.adjacency.specs.Timers.{expire_timers};
     ghost use Rattle.flooding.specs.Links.{with_neighbor};
 

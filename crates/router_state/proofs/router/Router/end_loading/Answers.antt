@@ -4,7 +4,7 @@ use Rattle.flooding.specs.received.Outcomes.{on_links}
 use Rattle.event_rules.specs.Endings.{link_loading_done}
 use Rattle.router_state.proofs.Answered.{makes_alone}
 use Rattle.router_state.proofs.Leaves.{appends_loading, keeps_loading}
-use Rattle.router_state.proofs.RunOut.{loading_done_is}
+use Rattle.router_state.proofs.ExpiredTimers.{loading_done_is}
 use Rattle.router_state.proofs.router.Router.end_loading.Goals as goal
 
 pub returns : goal.returns

@@ -4,7 +4,7 @@ use Rattle.flooding.specs.received.Outcomes.{on_links}
 use Rattle.event_rules.specs.Ticks.{expire_timers}
 use Rattle.router_state.proofs.Answered.{makes_alone}
 use Rattle.router_state.proofs.Leaves.{appends_expiry, keeps_expiry}
-use Rattle.router_state.proofs.RunOut.{run_out_is}
+use Rattle.router_state.proofs.ExpiredTimers.{expire_timers_is}
 use Rattle.router_state.proofs.router.Router.expire_timers.Goals as goal
 
 pub returns : goal.returns
@@ -15,5 +15,5 @@ returns c =
     c.args.self.now a
     c.change_links.new.self c.self.view_is refl
     (c.change_links.ensures ∙ (λ i. record a {
-      present = record a.present { links = map (λ l. run_out_is m l i) a.present.links };
+      present = record a.present { links = map (λ l. expire_timers_is m l i) a.present.links };
     })) refl

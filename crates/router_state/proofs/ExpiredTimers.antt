@@ -17,10 +17,10 @@ given_up : (moment dead : ℕ) (o : Option Neighbor)
 given_up moment dead None = refl
 given_up moment dead (Some n) = refl
 
-pub run_out_is : (moment : ℕ) (l : Link)
+pub expire_timers_is : (moment : ℕ) (l : Link)
     → with_neighbor (neighbor.expire_timers moment l.interface.dead_interval l.neighbor) l
     ≡ expire_timers moment l
-run_out_is moment l = ap (λ o. with_neighbor o l)
+expire_timers_is moment l = ap (λ o. with_neighbor o l)
     (given_up moment l.interface.dead_interval
     (after_inactivity_timer moment l.interface.dead_interval l.neighbor))
 
