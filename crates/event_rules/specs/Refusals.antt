@@ -76,8 +76,9 @@ pub record WouldExceed (old : Router) (moment : ℕ) (event : Occurrence) : Type
 -- ---- results
 
 -- the reason to refuse is neither the clock nor the interface
-abbrev pub MayRunOut : Option CoreError → Type 0
-MayRunOut refusal = (refusal ≡ Some error.ClockBack → ⊥) × (refusal ≡ Some error.NoInterface → ⊥)
+abbrev pub MayLackMemory : Option CoreError → Type 0
+MayLackMemory refusal = (refusal ≡ Some error.ClockBack → ⊥)
+    × (refusal ≡ Some error.NoInterface → ⊥)
 
 -- The result is the reason that applies, or `Ok` if none does. `Memory` is only possible if neither
 -- the clock nor the interface is the reason.
@@ -85,11 +86,12 @@ abbrev pub RefusesByRules : {X : Type 0} → Router → ℕ → Occurrence → R
 RefusesByRules old moment event (Ok x) =
     (first_refusal old moment event ≡ None) × (WouldExceed old moment event → ⊥)
 RefusesByRules old moment event (Err error.Full) = WouldExceed old moment event
-RefusesByRules old moment event (Err error.Memory) = MayRunOut (first_refusal old moment event)
+RefusesByRules old moment event (Err error.Memory) = MayLackMemory (first_refusal old moment event)
 RefusesByRules old moment event (Err (error.BadPacket f)) =
     first_refusal old moment event ≡ Some (error.BadPacket f)
 RefusesByRules old moment event (Err error.NoInterface) =
     first_refusal old moment event ≡ Some error.NoInterface
-RefusesByRules old moment event (Err error.Clash) = first_refusal old moment event ≡ Some error.Clash
+RefusesByRules old moment event (Err error.Clash) =
+    first_refusal old moment event ≡ Some error.Clash
 RefusesByRules old moment event (Err error.ClockBack) =
     first_refusal old moment event ≡ Some error.ClockBack

@@ -6,7 +6,8 @@ use Rattle.packet.specs.declared.refusal.PacketFault.{PacketFault}
 use Rattle.packet.specs.Reading.{fault_of}
 use Rattle.event_rules.specs.declared.model.CoreError.{CoreError}
 use Rattle.event_rules.specs.declared.model.CoreError.TheVariants as error
-use Rattle.event_rules.specs.Refusals.{RefusesByRules, MayRunOut, bad_packet, clashes, first_refusal}
+use Rattle.event_rules.specs.Refusals.{MayLackMemory, RefusesByRules, bad_packet, clashes}
+use Rattle.event_rules.specs.Refusals.{first_refusal}
 use Rattle.event_rules.specs.Refusals.{is_clock_back, is_interface}
 use Rattle.event_rules.specs.Routers.{Occurrence, Router}
 use Rattle.flood.specs.Early.{early_refusal, early_refusal_of}
@@ -53,44 +54,44 @@ none_of_event old moment o = clock_none (is_clock_back moment old) (early_refusa
 
 -- ---- so an allocation may be refused
 
-bad_may : (f : Option PacketFault) → MayRunOut (bad_packet f)
+bad_may : (f : Option PacketFault) → MayLackMemory (bad_packet f)
 bad_may None = (λ p. absurd cc, λ p. absurd cc)
 bad_may (Some f) = (λ p. absurd cc, λ p. absurd cc)
 
-clash_may : (b : Bool) → MayRunOut (if b then Some error.Clash else None)
+clash_may : (b : Bool) → MayLackMemory (if b then Some error.Clash else None)
 clash_may true = (λ p. absurd cc, λ p. absurd cc)
 clash_may false = (λ p. absurd cc, λ p. absurd cc)
 
-clock_may : (c : Bool) (early late : Option CoreError) → (early ≡ None → MayRunOut late)
+clock_may : (c : Bool) (early late : Option CoreError) → (early ≡ None → MayLackMemory late)
     → (if c then Some error.ClockBack else early) ≡ None
-    → MayRunOut (if c then Some error.ClockBack else late)
+    → MayLackMemory (if c then Some error.ClockBack else late)
 clock_may true early late m e = absurd cc
 clock_may false early late m e = m e
 
-there_may : (i : Bool) (late : Option CoreError) → MayRunOut late
+there_may : (i : Bool) (late : Option CoreError) → MayLackMemory late
     → (if i then None else Some error.NoInterface) ≡ None
-    → MayRunOut (if i then late else Some error.NoInterface)
+    → MayLackMemory (if i then late else Some error.NoInterface)
 there_may true late m e = m
 there_may false late m e = absurd cc
 
-none_is_fine : MayRunOut None
+none_is_fine : MayLackMemory None
 none_is_fine = (λ p. absurd cc, λ p. absurd cc)
 
-pub may_run_out : (old : Router) (moment : ℕ) (o : Occurrence) → early_refusal old moment o ≡ None
-    → MayRunOut (first_refusal old moment o)
-may_run_out old moment (Occurrence.Packet number bytes) =
+pub may_lack_memory : (old : Router) (moment : ℕ) (o : Occurrence)
+    → early_refusal old moment o ≡ None → MayLackMemory (first_refusal old moment o)
+may_lack_memory old moment (Occurrence.Packet number bytes) =
     clock_may (is_clock_back moment old) _ _
     (there_may (is_interface number old) (bad_packet (fault_of bytes))
     (bad_may (fault_of bytes)))
-may_run_out old moment Occurrence.Tick =
+may_lack_memory old moment Occurrence.Tick =
     clock_may (is_clock_back moment old) None None (λ _. none_is_fine)
-may_run_out old moment (Occurrence.Redistribute tagged tag priced price) =
+may_lack_memory old moment (Occurrence.Redistribute tagged tag priced price) =
     clock_may (is_clock_back moment old) None _ (λ _. clash_may (clashes old tagged priced))
-may_run_out old moment (Occurrence.Withdraw prefix) =
+may_lack_memory old moment (Occurrence.Withdraw prefix) =
     clock_may (is_clock_back moment old) None None (λ _. none_is_fine)
-may_run_out old moment (Occurrence.Install answers) =
+may_lack_memory old moment (Occurrence.Install answers) =
     clock_may (is_clock_back moment old) None None (λ _. none_is_fine)
-may_run_out old moment (Occurrence.LinkDown number) =
+may_lack_memory old moment (Occurrence.LinkDown number) =
     clock_may (is_clock_back moment old) _ _ (there_may (is_interface number old) None none_is_fine)
 
 -- ---- an early refusal is the result
@@ -165,7 +166,7 @@ early_never_full old moment (Occurrence.Install answers) =
 early_never_full old moment (Occurrence.LinkDown number) =
     full_clock (is_clock_back moment old) _ (full_there (is_interface number old))
 
-some_may : (r : Option CoreError) → r ≡ Some error.Memory → MayRunOut r
+some_may : (r : Option CoreError) → r ≡ Some error.Memory → MayLackMemory r
 some_may None e = absurd cc
 some_may (Some x) e = (λ p. absurd cc, λ p. absurd cc)
 

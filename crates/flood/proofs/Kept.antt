@@ -4,7 +4,7 @@ use Rattle.area_routes.specs.Kept.{AreKept, AreRoutesOf, KeptRoutes, KeepsWalkUn
 use Rattle.area_routes.specs.Offers.{root_by}
 use Rattle.area_routes.proofs.AfterExternals.{unanswered}
 use Rattle.event_rules.specs.declared.model.CoreError.{CoreError}
-use Rattle.event_rules.specs.Refusals.{MayRunOut}
+use Rattle.event_rules.specs.Refusals.{MayLackMemory}
 use Rattle.event_rules.specs.Routers.{Router}
 use Rattle.event_rules.specs.received.Links.{Area}
 use Rattle.area_routes.specs.routes.Said.{said_at}
@@ -51,6 +51,6 @@ begun r id area moment kept a b c routes is =
     })
 
 -- if no reason of refusal applies, an allocation may be refused
-pub memory_may_run_out : (r : Option CoreError) → r ≡ None → MayRunOut r
-memory_may_run_out None is = (λ p. absurd cc, λ p. absurd cc)
-memory_may_run_out (Some x) is = absurd cc
+pub memory_may_lack : (r : Option CoreError) → r ≡ None → MayLackMemory r
+memory_may_lack None is = (λ p. absurd cc, λ p. absurd cc)
+memory_may_lack (Some x) is = absurd cc

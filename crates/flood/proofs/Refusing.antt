@@ -8,7 +8,7 @@ use Rattle.event_rules.specs.Routers.{Occurrence, Router}
 use Rattle.flood.specs.declared.part.Part.{Part}
 use Rattle.flood.specs.Early.{early_refusal}
 use Rattle.flood.specs.Parts.{IsPartOf, RefusesAs, RefusesAtLimit, late_refusal, made_state}
-use Rattle.flood.proofs.Early.{first_is_late, may_run_out, never_full}
+use Rattle.flood.proofs.Early.{first_is_late, may_lack_memory, never_full}
 use Rattle.flood.proofs.Happening.{made_exceeds, made_stays_within}
 
 module _ (X Y : Type 0) (old : Router) (moment : ℕ) (event : Occurrence)
@@ -16,7 +16,7 @@ module _ (X Y : Type 0) (old : Router) (moment : ℕ) (event : Occurrence)
   -- the own part can't be read
   pub unread_answers : (x : CoreError) → RefusesAs {X = X} (late_refusal old event) (Err x)
       → RefusesByRules {X = Y} old moment event (Err x)
-  unread_answers error.Memory tells = may_run_out old moment event none
+  unread_answers error.Memory tells = may_lack_memory old moment event none
   unread_answers (error.BadPacket f) tells = first_is_late old moment event none ∙ tells
   unread_answers error.NoInterface tells = first_is_late old moment event none ∙ tells
   unread_answers error.Clash tells = first_is_late old moment event none ∙ tells
@@ -28,7 +28,7 @@ module _ (X Y : Type 0) (old : Router) (moment : ℕ) (event : Occurrence)
     pub limit_answers : (x : CoreError)
         → RefusesAtLimit {X = X} (made_state old moment p).router (Err x)
         → RefusesByRules {X = Y} old moment event (Err x)
-    limit_answers error.Memory tells = may_run_out old moment event none
+    limit_answers error.Memory tells = may_lack_memory old moment event none
     limit_answers (error.BadPacket f) tells = absurd tells
     limit_answers error.NoInterface tells = absurd tells
     limit_answers error.Clash tells = absurd tells

@@ -200,7 +200,7 @@ impl<L: Origin> Book<L> {
 
     // As `apply`, if neither the journal nor the clock nor the interface is refused. A refusal
     // gives the event back.
-    #[tactic(auto, using(crate::proofs::Early::may_run_out, crate::proofs::Noted::not_full))]
+    #[tactic(auto, using(crate::proofs::Early::may_lack_memory, crate::proofs::Noted::not_full))]
     fn attempt(
         &mut self,
         mine: &mut Share<L>,

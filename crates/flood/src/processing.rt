@@ -60,7 +60,7 @@ pub fn refuses(router: &Router, moment: Second, event: &Event) -> Option<CoreErr
 ///
 /// # Errors
 /// As [`Core::step`](crate::Core::step), in the same order.
-#[tactic(auto, using(crate::proofs::Early::may_run_out))]
+#[tactic(auto, using(crate::proofs::Early::may_lack_memory))]
 pub fn process_event(
     router: &mut Router,
     routes: &mut AreaRoutes,
