@@ -22,7 +22,8 @@ use Rattle.adjacency.specs.Descriptions.{Verdict, accept, act, after_description
 use Rattle.adjacency.specs.Descriptions.{announced_more, changes_options, exchange_done}
 use Rattle.adjacency.specs.Descriptions.{send_description}
 use Rattle.adjacency.specs.Descriptions.{exchange_over, exchanging, expected_sequence, in_state}
-use Rattle.adjacency.specs.Descriptions.{is_duplicate, is_kept, is_over_for, is_wanted, process}
+use Rattle.adjacency.specs.Descriptions.{is_duplicate, is_kept, is_more_recent, is_over_for}
+use Rattle.adjacency.specs.Descriptions.{process}
 use Rattle.adjacency.specs.Descriptions.{knows_types, as_received, master_goes_on}
 use Rattle.adjacency.specs.Descriptions.{negotiated_neighbor, negotiating, is_initial_description}
 use Rattle.adjacency.specs.Descriptions.{repeat, same_flag, slave_replies, with_requests}
@@ -205,10 +206,10 @@ module _ {Begins : ByKey ListEntry → Type 0} {Adds : Key → ListEntry → Typ
         at = moment;
       }) in
       requests_kept moment db hs (record n {
-        requests = cond (is_wanted moment db x) more n.requests;
+        requests = cond (is_more_recent moment db x) more n.requests;
       })
       (chosen (λ (r : ByKey ListEntry). Q Exchange n.summary r n.retransmissions n.outstanding)
-      (is_wanted moment db x) more n.requests
+      (is_more_recent moment db x) more n.requests
       (λ e. kept.wants n.summary n.requests n.retransmissions n.outstanding (key_of x) (record {
         header = x;
         at = moment;

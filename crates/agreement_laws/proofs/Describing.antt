@@ -26,7 +26,8 @@ use Rattle.adjacency.specs.Descriptions.{Verdict, accept, act, after_description
 use Rattle.adjacency.specs.Descriptions.{announced_more, as_received, changes_options}
 use Rattle.adjacency.specs.Descriptions.{send_description}
 use Rattle.adjacency.specs.Descriptions.{exchange_done, exchange_over, expected_sequence, in_state}
-use Rattle.adjacency.specs.Descriptions.{is_duplicate, is_initial_description, is_kept, is_wanted}
+use Rattle.adjacency.specs.Descriptions.{is_duplicate, is_initial_description, is_kept}
+use Rattle.adjacency.specs.Descriptions.{is_more_recent}
 use Rattle.adjacency.specs.Descriptions.{knows_types, master_goes_on, negotiated_neighbor, process}
 use Rattle.adjacency.specs.Descriptions.{next_description, repeat, same_flag, slave_replies}
 use Rattle.adjacency.specs.Descriptions.{with_request, with_requests, young_copies}
@@ -167,7 +168,7 @@ module _ (key : Key) (now : ℕ) (Of : ℕ → Type 0) (Said : Saying) where
   requests_said db w [] said r h = h
   requests_said db w (g ∷ hs) said r h =
       requests_said db w hs (λ k c is. said k (later_is g hs k c) is) (with_request now db r g)
-      (chosen (λ (q : ByKey ListEntry). AreSaid key now Of Said q w) (is_wanted now db g)
+      (chosen (λ (q : ByKey ListEntry). AreSaid key now Of Said q w) (is_more_recent now db g)
       (finite.insert r (key_of g) (record { header = g; at = now })) r
       (λ e l at. by_place l (put_there r (key_of g) key (record {
         header = g;

@@ -17,7 +17,7 @@ use Rattle.packet.specs.declared.model.Description.{Description}
 use Rattle.packet.specs.declared.model.Packet.{Packet}
 use Rattle.adjacency.specs.Adjacencies.{two_way_received}
 use Rattle.adjacency.specs.Contents.{Content, Step}
-use Rattle.adjacency.specs.Descriptions.{after_description, is_wanted}
+use Rattle.adjacency.specs.Descriptions.{after_description, is_more_recent}
 use Rattle.adjacency.specs.Lists.{HasSoundLists}
 use Rattle.adjacency.specs.Neighbors.{Neighbor, is_exchange_or_later}
 use Rattle.adjacency.specs.Requests.{request_next}
@@ -504,7 +504,7 @@ module _ (ranks : RanksFollowTheComparison) (old : Router) (moment : ℕ) (event
 
   abbrev AskedAt : Option Neighbor → Type 0
   AskedAt o = parts.AsksThere ranks (key_of h) moment told entered as_new conversation ⊥ ⊥ number o
-      ⊎ (is_wanted moment begins.router.area.database h ≡ false)
+      ⊎ (is_more_recent moment begins.router.area.database h ≡ false)
 
   one_taken : (link : Link) (o : Option Neighbor) → o ≡ Some n
       → AskedAt (step_on (only_at number takes number link) o)
@@ -520,12 +520,12 @@ module _ (ranks : RanksFollowTheComparison) (old : Router) (moment : ℕ) (event
     where
       by_result : (conversation_with (takes n).neighbor ≡ conversation)
           × ((finite.get (takes n).neighbor.requests (key_of h) ≡ Some entered)
-          ⊎ (is_wanted moment begins.router.area.database h ≡ false))
+          ⊎ (is_more_recent moment begins.router.area.database h ≡ false))
           → AskedAt (Some (takes n).neighbor)
       by_result k = by_place k.1
         where
           by_place : (finite.get (takes n).neighbor.requests (key_of h) ≡ Some entered)
-              ⊎ (is_wanted moment begins.router.area.database h ≡ false)
+              ⊎ (is_more_recent moment begins.router.area.database h ≡ false)
               → AskedAt (Some (takes n).neighbor)
           by_place (inl at) = inl (inr (k.0, at))
           by_place (inr unwanted) = inr unwanted

@@ -18,7 +18,7 @@ use Rattle.adjacency.specs.declared.state.NeighborState.TheVariants.{Loading, Fu
 use Rattle.adjacency.specs.Adjacencies.{mismatch_step, two_way_received, two_way_received_in}
 use Rattle.adjacency.specs.Contents.{Step, no_sends}
 use Rattle.adjacency.specs.Descriptions.{Verdict, accept, act, after_description, announced_more}
-use Rattle.adjacency.specs.Descriptions.{as_received, exchange_done, in_state, is_wanted}
+use Rattle.adjacency.specs.Descriptions.{as_received, exchange_done, in_state, is_more_recent}
 use Rattle.adjacency.specs.Descriptions.{send_description}
 use Rattle.adjacency.specs.Descriptions.{knows_types, master_goes_on, negotiated_neighbor, process}
 use Rattle.adjacency.specs.Descriptions.{slave_replies, verdict, with_request, with_requests}
@@ -45,7 +45,7 @@ module _ (moment : ℕ) (db : Database) (key : Key) (entry : ListEntry) where
   one_kept : (g : Header) (r : ByKey ListEntry) → same_key key (key_of g) ≡ false → finite.get r key
       ≡ Some entry → finite.get (with_request moment db r g) key ≡ Some entry
   one_kept g r other at =
-      chosen (λ (q : ByKey ListEntry). finite.get q key ≡ Some entry) (is_wanted moment db g)
+      chosen (λ (q : ByKey ListEntry). finite.get q key ≡ Some entry) (is_more_recent moment db g)
       (finite.insert r (key_of g) (record { header = g; at = moment })) r
       (λ e. put_other r (key_of g) key (record { header = g; at = moment }) other ∙ at) (λ e. at)
 
@@ -86,15 +86,15 @@ last_requested : (moment : ℕ) (db : Database) (h : Header) (before rest : List
     → (finite.get (fold (with_request moment db) r (before ++ h ∷ rest)) (key_of h) ≡ Some (record {
       header = h;
       at = moment;
-    })) ⊎ (is_wanted moment db h ≡ false)
-last_requested moment db h [] rest r others = by_test (is_wanted moment db h) refl
+    })) ⊎ (is_more_recent moment db h ≡ false)
+last_requested moment db h [] rest r others = by_test (is_more_recent moment db h) refl
   where
     entry : ListEntry
     entry = record { header = h; at = moment }
 
-    by_test : (b : Bool) → is_wanted moment db h ≡ b
+    by_test : (b : Bool) → is_more_recent moment db h ≡ b
         → (finite.get (fold (with_request moment db) (with_request moment db r h) rest) (key_of h)
-        ≡ Some entry) ⊎ (is_wanted moment db h ≡ false)
+        ≡ Some entry) ⊎ (is_more_recent moment db h ≡ false)
     by_test true e =
         inl (all_kept moment db (key_of h) entry rest (with_request moment db r h) others
         (subst (λ b. finite.get (cond b (finite.insert r (key_of h) entry) r) (key_of h)
@@ -190,7 +190,7 @@ module _ (own moment : ℕ) (db : Database) (d : Description) where
       (after_description own moment db d m).neighbor
       ≡ conversation_with (two_way_received moment m).neighbor)
       × ((finite.get (after_description own moment db d m).neighbor.requests (key_of h)
-      ≡ Some (record { header = h; at = moment })) ⊎ (is_wanted moment db h ≡ false))
+      ≡ Some (record { header = h; at = moment })) ⊎ (is_more_recent moment db h ≡ false))
   accepted_one m e h last =
       let r = has_requested m e in
       (r.2, asked r)
@@ -198,12 +198,12 @@ module _ (own moment : ℕ) (db : Database) (d : Description) where
       asked : HasRequested (two_way_received moment m).neighbor
           (after_description own moment db d m)
           → (finite.get (after_description own moment db d m).neighbor.requests (key_of h)
-          ≡ Some (record { header = h; at = moment })) ⊎ (is_wanted moment db h ≡ false)
+          ≡ Some (record { header = h; at = moment })) ⊎ (is_more_recent moment db h ≡ false)
       asked r =
           subst (λ (q : ByKey ListEntry). (finite.get q (key_of h) ≡ Some (record {
             header = h;
             at = moment;
-          })) ⊎ (is_wanted moment db h ≡ false))
+          })) ⊎ (is_more_recent moment db h ≡ false))
           (sym (r.1 ∙ ap (λ (hs : List Header). fold (with_request moment db) r.0 hs) last.is))
           (last_requested moment db h last.before last.rest r.0 last.others)
 

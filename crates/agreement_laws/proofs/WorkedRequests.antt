@@ -12,7 +12,8 @@ use Rattle.lsdb.specs.declared.order.Instance.{Instance}
 use Rattle.packet.specs.declared.model.Description.{Description}
 use Rattle.adjacency.specs.declared.state.NeighborState.TheVariants.{Full, Loading}
 use Rattle.adjacency.specs.Adjacencies.{two_way_received, two_way_received_in}
-use Rattle.adjacency.specs.Descriptions.{Verdict, is_duplicate, is_kept, is_wanted, knows_types}
+use Rattle.adjacency.specs.Descriptions.{Verdict, is_duplicate, is_kept, is_more_recent}
+use Rattle.adjacency.specs.Descriptions.{knows_types}
 use Rattle.adjacency.specs.Descriptions.{verdict, verdict_in, with_request}
 use Rattle.adjacency.specs.Neighbors.{Neighbor}
 use Rattle.event_rules.specs.Events.{Step}
@@ -27,7 +28,7 @@ abbrev entry : ℕ → Header → ListEntry
 entry moment h = record { header = h; at = moment }
 
 later : (moment : ℕ) (db : Database) (n : Neighbor) (h g : Header) → key_of g ≡ key_of h
-    → is_wanted moment db h ≡ true → is_wanted moment db g ≡ true
+    → is_more_recent moment db h ≡ true → is_more_recent moment db g ≡ true
     → finite.get (with_request moment db (with_request moment db n.requests h) g) (key_of h)
     ≡ Some (entry moment g)
 later moment db n h g same wants too =
@@ -37,9 +38,9 @@ later moment db n h g same wants too =
     ≡ Some (entry moment g)) same (put_same r (key_of g) (key_of g) (entry moment g)
     (itself (key_of g)))
 
-unwanted : (moment : ℕ) (db : Database) (n : Neighbor) (h g : Header) → is_wanted moment db h ≡ true
-    → is_wanted moment db g ≡ false → finite.get
-    (with_request moment db (with_request moment db n.requests h) g) (key_of h)
+unwanted : (moment : ℕ) (db : Database) (n : Neighbor) (h g : Header)
+    → is_more_recent moment db h ≡ true → is_more_recent moment db g ≡ false
+    → finite.get (with_request moment db (with_request moment db n.requests h) g) (key_of h)
     ≡ Some (entry moment h)
 unwanted moment db n h g wants not_g =
     let r : ByKey ListEntry = with_request moment db n.requests h in

@@ -9,7 +9,7 @@ use Rattle.lsdb.specs.Headers.{Header, key_of}
 use Rattle.lsdb.specs.declared.order.Instance.{Instance}
 use Rattle.packet.specs.declared.model.Description.{Description}
 use Rattle.adjacency.specs.declared.state.NeighborState.TheVariants.{Full, Loading}
-use Rattle.adjacency.specs.Descriptions.{is_wanted, knows_types, with_requests}
+use Rattle.adjacency.specs.Descriptions.{is_more_recent, knows_types, with_requests}
 use Rattle.adjacency.specs.Neighbors.{Neighbor}
 use Rattle.event_rules.specs.Routers.{Router}
 use Rattle.agreement_laws.specs.Accepted.{IsLastOfItsKey, accepts_description}
@@ -19,12 +19,12 @@ pub record WorkedRequests : Type 0 where
   -- two headers of one key, both newer than the copy: the later one is requested, even if the first
   -- one is the newer of the two
   pub later : (moment : Moment) (db : Database) (n : Neighbor) (h g : Header) → key_of g ≡ key_of h
-      → is_wanted moment db h ≡ true → is_wanted moment db g ≡ true
+      → is_more_recent moment db h ≡ true → is_more_recent moment db g ≡ true
       → finite.get (with_requests moment db (h ∷ g ∷ []) n).requests (key_of h)
       ≡ Some (record { header = g; at = moment })
   -- one that isn't wanted leaves the first one's request
   pub unwanted : (moment : Moment) (db : Database) (n : Neighbor) (h g : Header)
-      → is_wanted moment db h ≡ true → is_wanted moment db g ≡ false
+      → is_more_recent moment db h ≡ true → is_more_recent moment db g ≡ false
       → finite.get (with_requests moment db (h ∷ g ∷ []) n).requests (key_of h)
       ≡ Some (record { header = h; at = moment })
   pub last_of_two : (h g : Header) → IsLastOfItsKey (h ∷ g ∷ []) g

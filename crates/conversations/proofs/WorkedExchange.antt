@@ -14,7 +14,7 @@ use Rattle.packet.specs.declared.model.Description.{Description}
 use Rattle.adjacency.specs.Adjacencies.{mismatch_step, initial_description, requests_nothing}
 use Rattle.adjacency.specs.Contents.{Content, Step, no_sends}
 use Rattle.adjacency.specs.Contents as contents
-use Rattle.adjacency.specs.Descriptions.{Verdict, exchange_done, send_description, is_wanted}
+use Rattle.adjacency.specs.Descriptions.{Verdict, exchange_done, is_more_recent, send_description}
 use Rattle.adjacency.specs.Descriptions.{as_received, negotiated_neighbor, young_copies}
 use Rattle.adjacency.specs.Neighbors.{Neighbor}
 use Rattle.adjacency.specs.Requests.{next_request}
@@ -88,7 +88,7 @@ negotiates_it r new link n moment sequence bytes outs nothing said none event =
 loads_it : (r new : Router) (link : Link) (n : Neighbor) (moment : ℕ) (bytes : List ℕ)
     (d : Description) (h : Header) (outs : List Out) → NothingAges r moment
     → IsJudged r (slave n) bytes (last_with h d) Verdict.Accepted → is_known_type h.ls_type
-    ≡ true → is_wanted moment r.area.database h ≡ true → nat_lt 408 (finite.len n.summary)
+    ≡ true → is_more_recent moment r.area.database h ≡ true → nat_lt 408 (finite.len n.summary)
     ≡ false → finite.entries n.requests ≡ [] → (set.len n.outstanding == 0) ≡ true
     → Happens (beside r link (slave n)) moment (Occurrence.Packet 1 bytes) outs new
     → (shown_at new 1 ≡ Some (n.router, Loading))

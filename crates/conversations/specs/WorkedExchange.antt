@@ -11,7 +11,7 @@ use Rattle.lsdb.specs.Keys.{ByKey}
 use Rattle.packet.specs.declared.model.Description.{Description}
 use Rattle.adjacency.specs.Adjacencies.{initial_description, requests_nothing}
 use Rattle.adjacency.specs.Contents.{Content}
-use Rattle.adjacency.specs.Descriptions.{Verdict, is_wanted, young_copies}
+use Rattle.adjacency.specs.Descriptions.{Verdict, is_more_recent, young_copies}
 use Rattle.adjacency.specs.declared.state.NeighborState.TheVariants.{Exchange, ExStart, Loading}
 use Rattle.adjacency.specs.Neighbors.{Neighbor}
 use Rattle.received.specs.Links.{Link}
@@ -64,7 +64,7 @@ pub record AnExchangeAsSlave : Type 0 where
   pub loads : (r new : Router) (link : Link) (n : Neighbor) (moment : ℕ) (bytes : List ℕ)
       (d : Description) (h : Header) (outs : List Out)
       → NothingAges r moment → IsJudged r (slave n) bytes (last_with h d) Verdict.Accepted
-      → is_known_type h.ls_type ≡ true → is_wanted moment r.area.database h ≡ true
+      → is_known_type h.ls_type ≡ true → is_more_recent moment r.area.database h ≡ true
       → nat_lt 408 (finite.len n.summary) ≡ false → finite.entries n.requests ≡ []
       → (set.len n.outstanding == 0) ≡ true
       → Happens (beside r link (slave n)) moment (Occurrence.Packet 1 bytes) outs new

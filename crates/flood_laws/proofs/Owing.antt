@@ -25,7 +25,7 @@ use Rattle.adjacency.specs.Descriptions.{Verdict, accept, act, after_description
 use Rattle.adjacency.specs.Descriptions.{as_received, changes_options, exchange_done}
 use Rattle.adjacency.specs.Descriptions.{send_description}
 use Rattle.adjacency.specs.Descriptions.{exchange_over, expected_sequence, in_state, is_duplicate}
-use Rattle.adjacency.specs.Descriptions.{is_kept, is_over_for, is_wanted, knows_types}
+use Rattle.adjacency.specs.Descriptions.{is_kept, is_more_recent, is_over_for, knows_types}
 use Rattle.adjacency.specs.Descriptions.{master_goes_on, repeat, same_flag, slave_replies}
 use Rattle.adjacency.specs.Descriptions.{with_request, with_requests, without_old_description}
 use Rattle.adjacency.specs.Floods.{flooded_in_exchange, flooding, meets, passes, request_of}
@@ -236,7 +236,7 @@ module _ (key : Key) (name : LsaInstance) (Asked : Type 0) where
           ⊎ Contains (map key_of (x ∷ hs)) key
       by_rest (inl k) =
           first (chosen (λ (q : ByKey ListEntry). finite.contains_key q key ≡ true
-          → (finite.contains_key r key ≡ true) ⊎ (key_of x ≡ key)) (is_wanted moment db x)
+          → (finite.contains_key r key ≡ true) ⊎ (key_of x ≡ key)) (is_more_recent moment db x)
           (finite.insert r (key_of x) (record { header = x; at = moment })) r
           (λ e c. put_there r (key_of x) (record { header = x; at = moment }) c) (λ e c. inl c) k)
       by_rest (inr k) = inr (later_is (key_of x) (map key_of hs) key k)

@@ -7,7 +7,7 @@ ghost use Rattle.adjacency.specs.lsdb.Instances.{aged_header};
 ghost use Rattle.adjacency.specs.Descriptions.{
   announced_more,
   exchange_done,
-  is_wanted,
+  is_more_recent,
   master_goes_on,
   negotiated_neighbor,
   next_description,
@@ -55,8 +55,8 @@ pub fn copy(description: &Description) -> Result<Description, AllocError>
 }
 
 // Whether this instance is newer than the database copy of its key, or there is none.
-fn is_wanted(moment: Second, database: &Lsdb, header: &Header) -> bool
-    ensures { result ≡ is_wanted moment database.now.present header.now }
+fn is_more_recent(moment: Second, database: &Lsdb, header: &Header) -> bool
+    ensures { result ≡ is_more_recent moment database.now.present header.now }
 {
     match database.get(&header.key()) {
         None => true,
@@ -64,8 +64,8 @@ fn is_wanted(moment: Second, database: &Lsdb, header: &Header) -> bool
     }
 }
 
-// Adds the instance to the request list if it is wanted.
-fn want(
+// Adds the instance to the request list if it is more recent than the database copy.
+fn list_if_more_recent(
     moment: Second,
     database: &Lsdb,
     requests: &mut KeyedMap<ListEntry>,
@@ -74,8 +74,8 @@ fn want(
     ensures { ListDoes (λ l. with_request moment database.now.present l header.now) requests.old
         requests.new result }
 {
-    let wanted = is_wanted(moment, database, header);
-    if wanted {
+    let recent = is_more_recent(moment, database, header);
+    if recent {
         let entry = ListEntry {
             header: *header,
             at: moment,
@@ -85,8 +85,9 @@ fn want(
     Ok(())
 }
 
-// Adds the wanted ones of these instances to the request list.
-fn want_all(
+// Adds those of these instances that are more recent than their database copies to the request
+// list.
+fn list_all_more_recent(
     moment: Second,
     database: &Lsdb,
     requests: &mut KeyedMap<ListEntry>,
@@ -96,7 +97,7 @@ fn want_all(
         requests.old requests.new result }
 {
     for header in headers {
-        want(moment, database, requests, header)?;
+        list_if_more_recent(moment, database, requests, header)?;
     }
     Ok(())
 }
@@ -316,7 +317,7 @@ impl Neighbor {
     {
         let received = as_received(description);
         self.standing.received = Some(received);
-        want_all(
+        list_all_more_recent(
             moment,
             database,
             &mut self.requests,

@@ -26,7 +26,8 @@ returns-then-leads c =
     c.as_received-received.ensures
     ∙ ap (λ h. record h.present { received = Some (as_received d) }) c.self.view_is in
     let now = ap (λ r. neighbor_of (record s { received = got }) des sum r out retr)
-    (c.in_ok-want_all.ensures.ok ∙ ap (fold (with_request moment db) req) c.as_slice.ensures)
+    (c.in_ok-list_all_more_recent.ensures.ok
+    ∙ ap (fold (with_request moment db) req) c.as_slice.ensures)
     ∙ wants (record s { received = got }) des sum req out retr moment db d.headers
     ∙ ap (with_requests moment db d.headers) noted in
     let is = ap (λ h. h.present.is_master) (sym c.self.view_is)
@@ -52,7 +53,8 @@ returns c =
     c.as_received-received.ensures
     ∙ ap (λ h. record h.present { received = Some (as_received d) }) c.self.view_is in
     let now = ap (λ r. neighbor_of (record s { received = got }) des sum r out retr)
-    (c.in_ok-want_all.ensures.ok ∙ ap (fold (with_request moment db) req) c.as_slice.ensures)
+    (c.in_ok-list_all_more_recent.ensures.ok
+    ∙ ap (fold (with_request moment db) req) c.as_slice.ensures)
     ∙ wants (record s { received = got }) des sum req out retr moment db d.headers
     ∙ ap (with_requests moment db d.headers) noted in
     let is = ap (λ h. h.present.is_master) (sym c.self.view_is)

@@ -1,7 +1,7 @@
 use Rattle.std.proofs.Common.{◌≡◌, take}
 use Rattle.std.specs.List.{fold}
 use Rattle.adjacency.specs.Descriptions.{with_request}
-use Rattle.neighbors.proofs.neighbor.descriptions.want_all.Given as goal
+use Rattle.neighbors.proofs.neighbor.descriptions.list_all_more_recent.Given as goal
 
 abbrev pub invariant-loop-header : goal.invariant-loop-header
 invariant-loop-header l = record {
