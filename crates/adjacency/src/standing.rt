@@ -66,7 +66,7 @@ pub struct Standing {
 
 impl Standing {
     /// A copy: a `Copy` struct with a field that has a model counts as moved when it is used.
-    pub fn same(&self) -> Standing
+    pub fn copy(&self) -> Standing
         ensures { result ≡ self.now }
     {
         *self

@@ -52,7 +52,7 @@ impl<X> Model for KeyedMap<X> {
 }
 
 // A copy of the key: a `Copy` struct with a field that has a model counts as moved when it is used.
-fn same(key: &Key) -> Key
+fn copy_key(key: &Key) -> Key
     ensures { result ≡ key.now }
 {
     *key
@@ -437,7 +437,7 @@ impl<X: Drop> KeyedMap<X> {
     {
         for (first, slot) in self.slots.range(*key..) {
             if let KeySlot::Holds(_) = slot {
-                return Some(same(first));
+                return Some(copy_key(first));
             }
         }
         None
@@ -528,7 +528,7 @@ impl<X: Drop> KeyedMap<X> {
         for place in 0..edits.len() {
             let edit = &edits[place];
             if !self.keeps_at(alloc, test, edits, place)? {
-                keys.push(same(&edit.key))?;
+                keys.push(copy_key(&edit.key))?;
             }
         }
         Ok(keys)
@@ -544,7 +544,7 @@ impl<X: Drop> KeyedMap<X> {
         ensures err { OnErr result (self.new.present ≡ self.old.present) }
     {
         self.edits.reserve(1)?;
-        let noted = same(&key);
+        let noted = copy_key(&key);
         let before = self.slots.insert(key, KeySlot::Holds(x))?;
         let held = held(&before);
         self.edits.push_reserved(Edit { key: noted, before });
@@ -565,7 +565,7 @@ impl<X: Drop> KeyedMap<X> {
         if let Some(x) = take_out(&mut self.slots, key) {
             let before = Some(KeySlot::Holds(x));
             self.edits.push_reserved(Edit {
-                key: same(key),
+                key: copy_key(key),
                 before,
             });
             self.gone = self.gone.saturating_add(1);

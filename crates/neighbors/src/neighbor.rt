@@ -405,7 +405,7 @@ impl Neighbor {
     pub fn commit(&mut self)
         ensures { self.new ≡ record { present = self.old.present; committed = self.old.present } }
     {
-        self.before = self.standing.same();
+        self.before = self.standing.copy();
         self.described.commit();
         self.summary.commit();
         self.requests.commit();
@@ -418,7 +418,7 @@ impl Neighbor {
         ensures { self.new
             ≡ record { present = self.old.committed; committed = self.old.committed } }
     {
-        self.standing = self.before.same();
+        self.standing = self.before.copy();
         self.described.roll_back();
         self.summary.roll_back();
         self.requests.roll_back();

@@ -34,8 +34,8 @@ impl Neighbor {
         let outstanding = self.outstanding.copied(alloc)?;
         let retransmissions = self.retransmissions.copied(alloc)?;
         Ok(Neighbor {
-            standing: self.standing.same(),
-            before: self.standing.same(),
+            standing: self.standing.copy(),
+            before: self.standing.copy(),
             described: Revertible::new(described),
             summary,
             requests,

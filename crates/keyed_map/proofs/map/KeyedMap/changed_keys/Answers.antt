@@ -27,7 +27,7 @@ loop-place-preserved g c =
     let kept_here = c.in_ok-keeps_at.ensures edit at in
     elim c.if-not-branch.branch [
       | then-not-branch+in_ok-push w ↦
-          let pushed = w.in_ok-push.ensures.items ∙ ap (λ k. keys ++ k ∷ []) w.same.ensures in
+          let pushed = w.in_ok-push.ensures.items ∙ ap (λ k. keys ++ k ∷ []) w.copy_key.ensures in
           let items = c.self.inside.edits.items in
           let slots = slots_of c.self.inside.slots.entries in
           let value = c.as_slice-edits.ensures.value in

@@ -22,13 +22,13 @@ invariant_of-self-2 g c =
       before = c.in_ok-before.before;
     } ∷ [] =
     c.push_reserved.ensures.items ∙ ap (λ es. es ++ record {
-      key = c.same-noted.result;
+      key = c.copy_key-noted.result;
       before = c.in_ok-before.before;
     } ∷ []) c.reserve.ensures.items
     ∙ ap (λ k. c.self.inside.edits.items ++ record {
       key = k;
       before = c.in_ok-before.before;
-    } ∷ []) c.same-noted.ensures in
+    } ∷ []) c.copy_key-noted.ensures in
     let back = put_back_is slots c.args.key (Holds c.args.x) c.in_ok-before.before stood in
     let fit : AllFit c.push_reserved.new.self.items (slots_of c.insert.new.self.entries) =
     subst (AllFit c.push_reserved.new.self.items) (sym now)
@@ -64,13 +64,13 @@ returns-clause-committed g c =
       before = c.in_ok-before.before;
     } ∷ [] =
     c.push_reserved.ensures.items ∙ ap (λ es. es ++ record {
-      key = c.same-noted.result;
+      key = c.copy_key-noted.result;
       before = c.in_ok-before.before;
     } ∷ []) c.reserve.ensures.items
     ∙ ap (λ k. c.self.inside.edits.items ++ record {
       key = k;
       before = c.in_ok-before.before;
-    } ∷ []) c.same-noted.ensures in
+    } ∷ []) c.copy_key-noted.ensures in
     let back = put_back_is slots c.args.key (Holds c.args.x) c.in_ok-before.before stood in
     ap (λ es. live (undone es (slots_of c.insert.new.self.entries))) pushed
     ∙ ap (λ m. live (undone (edits ++ edit ∷ []) m)) now

@@ -17,7 +17,7 @@ returns-in-Holds g c =
     ∙ kept_from c.args.key.now entries
     ∙ ap (keys_from c.args.key.now) (sym shown ∙ ap (λ h. finite.keys h.present) c.self.view_is)
     in
-    ap Some c.same.ensures ∙ ap (λ ks. slice_get ks 0)
+    ap Some c.copy_key.ensures ∙ ap (λ ks. slice_get ks 0)
     (ap (λ (s : KeySlot _). map (λ e. e.0) (kept ((c.in-Some.first.now, s) ∷ c.next.new.self)))
     (sym c.in-Holds.is) ∙ ap (λ es. map (λ e. e.0) (kept es)) (sym c.in-Some.ensures.steps)
     ∙ whole)

@@ -21,13 +21,13 @@ invariant_of-self-in-Some g c =
       before = Some (Holds c.in-Some.x);
     } ∷ [] =
     c.push_reserved.ensures.items ∙ ap (λ es. es ++ record {
-      key = c.same.result;
+      key = c.copy_key.result;
       before = Some (Holds c.in-Some.x);
     } ∷ []) c.reserve.ensures.items
     ∙ ap (λ k. c.self.inside.edits.items ++ record {
       key = k;
       before = Some (Holds c.in-Some.x);
-    } ∷ []) c.same.ensures in
+    } ∷ []) c.copy_key.ensures in
     let back = put_back_is slots key Gone (Some (Holds c.in-Some.x)) stood in
     let fit : AllFit c.push_reserved.new.self.items (slots_of c.take_out.new.slots.entries) =
     subst (AllFit c.push_reserved.new.self.items) (sym now)
@@ -63,13 +63,13 @@ returns-in-Some-clause-committed g c =
       before = Some (Holds c.in-Some.x);
     } ∷ [] =
     c.push_reserved.ensures.items ∙ ap (λ es. es ++ record {
-      key = c.same.result;
+      key = c.copy_key.result;
       before = Some (Holds c.in-Some.x);
     } ∷ []) c.reserve.ensures.items
     ∙ ap (λ k. c.self.inside.edits.items ++ record {
       key = k;
       before = Some (Holds c.in-Some.x);
-    } ∷ []) c.same.ensures in
+    } ∷ []) c.copy_key.ensures in
     let back = put_back_is slots key Gone (Some (Holds c.in-Some.x)) stood in
     ap (λ es. live (undone es (slots_of c.take_out.new.slots.entries))) pushed
     ∙ ap (λ m. live (undone (edits ++ edit ∷ []) m)) now
