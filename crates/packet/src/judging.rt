@@ -82,7 +82,7 @@ pub fn judge(bytes: &[u8]) -> Result<PacketType, PacketFault>
     if size < 24 {
         return Err(PacketFault::Short);
     }
-    let named = PacketType::named(byte_at(bytes, 1));
+    let named = PacketType::from_number(byte_at(bytes, 1));
     if size < least_length(named) {
         return Err(PacketFault::Short);
     }

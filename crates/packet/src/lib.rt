@@ -14,7 +14,6 @@ mod reading;
 mod refusal;
 mod writing;
 
-pub use lsa::Header;
 pub use model::{Description, Hello, Packet, PacketBody, PacketType};
 pub use reading::read;
 pub use refusal::{PacketError, PacketFault};
