@@ -5,7 +5,7 @@ ghost use Rattle.std.specs.Int.{w16, w32, w64, to_le_bytes};
 use std::alloc::AllocError;
 
 /// The number in the two bytes at a place, the lowest byte first.
-fn u16_at(bytes: &[u8], at: usize) -> u16
+fn u16_le_at(bytes: &[u8], at: usize) -> u16
     requires { at + 2 ≤ length bytes.now }
     ensures { to_le_bytes w16 result ≡ take 2 (drop at bytes.now) }
 {
@@ -13,7 +13,7 @@ fn u16_at(bytes: &[u8], at: usize) -> u16
 }
 
 /// The number in the four bytes at a place.
-pub fn u32_at(bytes: &[u8], at: usize) -> u32
+pub fn u32_le_at(bytes: &[u8], at: usize) -> u32
     requires { at + 4 ≤ length bytes.now }
     ensures { to_le_bytes w32 result ≡ take 4 (drop at bytes.now) }
 {
@@ -21,7 +21,7 @@ pub fn u32_at(bytes: &[u8], at: usize) -> u32
 }
 
 /// The number in the eight bytes at a place.
-fn u64_at(bytes: &[u8], at: usize) -> u64
+fn u64_le_at(bytes: &[u8], at: usize) -> u64
     requires { at + 8 ≤ length bytes.now }
     ensures { to_le_bytes w64 result ≡ take 8 (drop at bytes.now) }
 {
@@ -37,19 +37,19 @@ fn u64_at(bytes: &[u8], at: usize) -> u64
     ])
 }
 
-fn put_u16(out: &mut Vec<u8>, number: u16) -> Result<(), AllocError>
+fn put_u16_le(out: &mut Vec<u8>, number: u16) -> Result<(), AllocError>
     ensures { OnOk result (out.new.items ≡ out.old.items ++ to_le_bytes w16 number) }
 {
     out.extend_from_slice(&number.to_le_bytes())
 }
 
-fn put_u32(out: &mut Vec<u8>, number: u32) -> Result<(), AllocError>
+fn put_u32_le(out: &mut Vec<u8>, number: u32) -> Result<(), AllocError>
     ensures { OnOk result (out.new.items ≡ out.old.items ++ to_le_bytes w32 number) }
 {
     out.extend_from_slice(&number.to_le_bytes())
 }
 
-fn put_u64(out: &mut Vec<u8>, number: u64) -> Result<(), AllocError>
+fn put_u64_le(out: &mut Vec<u8>, number: u64) -> Result<(), AllocError>
     ensures { OnOk result (out.new.items ≡ out.old.items ++ to_le_bytes w64 number) }
 {
     out.extend_from_slice(&number.to_le_bytes())
@@ -81,12 +81,12 @@ impl RegisterFields {
         RegisterFields {
             kind: bytes[0],
             map: bytes[1],
-            unused: u16_at(bytes, 2),
-            offset: u32_at(bytes, 4),
-            low: u64_at(bytes, 8),
-            high: u64_at(bytes, 16),
-            mask: u64_at(bytes, 24),
-            value: u64_at(bytes, 32),
+            unused: u16_le_at(bytes, 2),
+            offset: u32_le_at(bytes, 4),
+            low: u64_le_at(bytes, 8),
+            high: u64_le_at(bytes, 16),
+            mask: u64_le_at(bytes, 24),
+            value: u64_le_at(bytes, 32),
         }
     }
 
@@ -105,17 +105,17 @@ impl RegisterFields {
         ensures { OnOk result (out.new.items ≡ out.old.items ++ register_front self) }
     {
         out.extend_from_slice(&[self.kind, self.map])?;
-        put_u16(out, self.unused)?;
-        put_u32(out, self.offset)
+        put_u16_le(out, self.unused)?;
+        put_u32_le(out, self.offset)
     }
 
     fn write_numbers(self, out: &mut Vec<u8>) -> Result<(), AllocError>
         ensures { OnOk result (out.new.items ≡ out.old.items ++ register_numbers self) }
     {
-        put_u64(out, self.low)?;
-        put_u64(out, self.high)?;
-        put_u64(out, self.mask)?;
-        put_u64(out, self.value)
+        put_u64_le(out, self.low)?;
+        put_u64_le(out, self.high)?;
+        put_u64_le(out, self.mask)?;
+        put_u64_le(out, self.value)
     }
 }
 
@@ -142,13 +142,13 @@ impl RankFields {
         ensures ranges { AreRank result }
     {
         RankFields {
-            slot: u32_at(bytes, 0),
-            constant: u32_at(bytes, 4),
+            slot: u32_le_at(bytes, 0),
+            constant: u32_le_at(bytes, 4),
             first_register: bytes[8],
             second_register: bytes[9],
-            unused: u16_at(bytes, 10),
-            first_coefficient: u32_at(bytes, 12),
-            second_coefficient: u32_at(bytes, 16),
+            unused: u16_le_at(bytes, 10),
+            first_coefficient: u32_le_at(bytes, 12),
+            second_coefficient: u32_le_at(bytes, 16),
         }
     }
 
@@ -159,12 +159,12 @@ impl RankFields {
     pub fn write(self, out: &mut Vec<u8>) -> Result<(), AllocError>
         ensures { OnOk result (out.new.items ≡ out.old.items ++ rank_bytes self) }
     {
-        put_u32(out, self.slot)?;
-        put_u32(out, self.constant)?;
+        put_u32_le(out, self.slot)?;
+        put_u32_le(out, self.constant)?;
         out.extend_from_slice(&[self.first_register, self.second_register])?;
-        put_u16(out, self.unused)?;
-        put_u32(out, self.first_coefficient)?;
-        put_u32(out, self.second_coefficient)
+        put_u16_le(out, self.unused)?;
+        put_u32_le(out, self.first_coefficient)?;
+        put_u32_le(out, self.second_coefficient)
     }
 }
 
@@ -191,9 +191,9 @@ impl HeaderFields {
         HeaderFields {
             version: bytes[0],
             hook: bytes[1],
-            statements: u16_at(bytes, 2),
-            entry_rank: u32_at(bytes, 4),
-            slots: u32_at(bytes, 8),
+            statements: u16_le_at(bytes, 2),
+            entry_rank: u32_le_at(bytes, 4),
+            slots: u32_le_at(bytes, 8),
         }
     }
 
@@ -205,8 +205,8 @@ impl HeaderFields {
         ensures { OnOk result (out.new.items ≡ out.old.items ++ header_bytes self) }
     {
         out.extend_from_slice(&[self.version, self.hook])?;
-        put_u16(out, self.statements)?;
-        put_u32(out, self.entry_rank)?;
-        put_u32(out, self.slots)
+        put_u16_le(out, self.statements)?;
+        put_u32_le(out, self.entry_rank)?;
+        put_u32_le(out, self.slots)
     }
 }

@@ -12,7 +12,7 @@ ghost use Rattle.object.specs.Spelling.{Spells, kind_text, magic, statement_text
 ghost use Rattle.object.specs.Refusals.{AreFieldsOf, AreSpelled, Fails, Refuses, StatementsFail};
 
 use crate::error::ObjectError;
-use crate::fields::{HeaderFields, RankFields, RegisterFields, u32_at};
+use crate::fields::{HeaderFields, RankFields, RegisterFields, u32_le_at};
 use crate::kind::StatedKind;
 use crate::lawful::{kind_of, rank_of};
 use crate::object::Object;
@@ -77,7 +77,7 @@ fn slot_of(bytes: &[u8]) -> u32
     requires { 4 ≤ length bytes.now }
     ensures { result ≡ from_le_bytes w32 (take 4 bytes.now) }
 {
-    u32_at(bytes, 0)
+    u32_le_at(bytes, 0)
 }
 
 /// The statement with this index, if it is valid and its slot is neither below `least` nor outside

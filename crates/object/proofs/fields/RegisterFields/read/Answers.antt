@@ -8,12 +8,12 @@ returns-clause-bytes c =
     register_cut c.args.bytes.now (record {
       kind = _;
       map = _;
-      unused = c.u16_at.result;
-      offset = c.u32_at.result;
-      low = c.u64_at.result;
-      high = c.u64_at-2.result;
-      mask = c.u64_at-3.result;
-      value = c.u64_at-4.result;
+      unused = c.u16_le_at.result;
+      offset = c.u32_le_at.result;
+      low = c.u64_le_at.result;
+      high = c.u64_le_at-2.result;
+      mask = c.u64_le_at-3.result;
+      value = c.u64_le_at-4.result;
     })
-    long refl refl c.u16_at.ensures c.u32_at.ensures c.u64_at.ensures c.u64_at-2.ensures
-    c.u64_at-3.ensures c.u64_at-4.ensures
+    long refl refl c.u16_le_at.ensures c.u32_le_at.ensures c.u64_le_at.ensures c.u64_le_at-2.ensures
+    c.u64_le_at-3.ensures c.u64_le_at-4.ensures
