@@ -32,15 +32,17 @@ pub rest_alike : {A B : Type 0} (f : A → ℕ) (g : B → ℕ) (ps xs : List A)
     (y : B) → ps ≡ xs ++ x ∷ [] → qs ≡ ys ++ y ∷ [] → map f ps ≡ map g qs → map f xs ≡ map g ys
 rest_alike f g ps xs qs ys x y is_ps is_qs e = (both f g ps xs qs ys x y is_ps is_qs e).1
 
--- ports that count down to 0, without the last one, have the numbers of links that count down to 1
+-- ports that count down to 0, without the last one, have the numbers of transports that count down
+-- to 1
 pub paired : {A B : Type 0} (f : A → ℕ) (g : B → ℕ) (every ports : List A) (first : A)
-    (links : List B) → every ≡ ports ++ first ∷ [] → CountDownTo 0 (map f every)
-    → CountDownTo 1 (map g links) → length every ≡ length links + 1 → map f ports ≡ map g links
-paired f g every ports first links is h k e =
+    (transports : List B) → every ≡ ports ++ first ∷ [] → CountDownTo 0 (map f every)
+    → CountDownTo 1 (map g transports) → length every ≡ length transports + 1
+    → map f ports ≡ map g transports
+paired f g every ports first transports is h k e =
     let numbers : CountDownTo 0 (map f (ports ++ first ∷ [])) =
     subst (λ l. CountDownTo 0 (map f l)) is h in
     let many : length every ≡ length ports + 1 = ap length is ∙ length-append ports (first ∷ []) in
-    let as_many : length ports ≡ length links = omega (arith, many, e) in
-    counted_same 1 (map f ports) (map g links)
-    (length-map ports f ∙ as_many ∙ sym (length-map links g))
+    let as_many : length ports ≡ length transports = omega (arith, many, e) in
+    counted_same 1 (map f ports) (map g transports)
+    (length-map ports f ∙ as_many ∙ sym (length-map transports g))
     (counted_off f 0 ports first numbers).1 k

@@ -42,10 +42,10 @@ pub ran_from : (origin first : Router) (interfaces : ℕ) (ran : Ran) → HasRan
     → first ≡ origin → HasRan origin interfaces ran
 ran_from origin first interfaces ran h is = subst (λ o. HasRan o interfaces ran) is h
 
-pub ran_over : (configured : Configured) (config : Config) (sockets links : ℕ) (ran : Ran)
-    → IsConfigOf configured config → HasRan (initial config) links ran → links ≡ sockets
+pub ran_over : (configured : Configured) (config : Config) (sockets transports : ℕ) (ran : Ran)
+    → IsConfigOf configured config → HasRan (initial config) transports ran → transports ≡ sockets
     → HasRanOver sockets configured ran
-ran_over configured config sockets links ran is h same =
+ran_over configured config sockets transports ran is h same =
     (config, is, subst (λ n. HasRan (initial config) n ran) same h)
 
 pub ran_for : {Socket : Type 0} (text : List ℕ) (bound : Bound Socket) (configured : Configured)

@@ -4,7 +4,7 @@ use Rattle.std.proofs.Common.{sym, subst, ◌∙◌, arith}
 use Rattle.std.proofs.lemmas.Bool.{ltb-false, ltb-true}
 use Rattle.std.specs.Prelude.{◌↔◌, ⊤, IfErr, IfOk, nat_lt}
 use Rattle.worker.specs.Ends.{has_failed}
-use Rattle.worker.specs.declared.sockets.socket_links.LinkEnd.{LinkEnd}
+use Rattle.worker.specs.declared.sockets.socket_transports.TransportEnd.{TransportEnd}
 use Rattle.worker.specs.declared.serving.Ended.{Ended}
 use Rattle.worker.specs.declared.serving.Ended.TheVariants.{Fault, Quit}
 use Rattle.console.specs.Configurations.{Refuses, Says}
@@ -25,17 +25,18 @@ use Rattle.daemon.specs.declared.error.RouteError.TheVariants.{Configuration, Bi
 use Rattle.daemon.specs.declared.error.RouteError.TheVariants.{Output, Memory}
 use Rattle.daemon.specs.declared.ran.Ran.{Ran}
 
--- what is so of a worker that ended as it was told to is so of one whose link didn't fail
-pub until_told : {A : Type 0} (ended : Ended) (old new : ℕ) (end : LinkEnd) → (ended ≡ Quit → A)
-    → ((ended ≡ Fault) ↔ (old < new)) → has_failed end ≡ nat_lt 0 new → has_failed end ≡ false → A
+-- what is so of a worker that ended as it was told to is so of one whose transport didn't fail
+pub until_told : {A : Type 0} (ended : Ended) (old new : ℕ) (end : TransportEnd)
+    → (ended ≡ Quit → A) → ((ended ≡ Fault) ↔ (old < new)) → has_failed end ≡ nat_lt 0 new
+    → has_failed end ≡ false → A
 until_told Quit old new end lived fault is not = lived refl
 until_told Fault old new end lived fault is not =
     absurd (omega (arith, fault.0 refl, ltb-false 0 new (sym is ∙ not)))
 
--- and what is so of one that ended at a fault is so of one whose link failed then
-pub until_fault : {A : Type 0} (ended : Ended) (old new : ℕ) (end : LinkEnd) → (ended ≡ Fault → A)
-    → ((ended ≡ Fault) ↔ (old < new)) → has_failed end ≡ nat_lt 0 new → has_failed end ≡ true
-    → old ≡ 0 → A
+-- and what is so of one that ended at a fault is so of one whose transport failed then
+pub until_fault : {A : Type 0} (ended : Ended) (old new : ℕ) (end : TransportEnd)
+    → (ended ≡ Fault → A) → ((ended ≡ Fault) ↔ (old < new)) → has_failed end ≡ nat_lt 0 new
+    → has_failed end ≡ true → old ≡ 0 → A
 until_fault ended old new end lived fault is failed none =
     lived (fault.1 (omega (arith, none, ltb-true 0 new (sym is ∙ failed))))
 

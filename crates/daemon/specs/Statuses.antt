@@ -29,7 +29,7 @@ status_of Memory = 4
 abbrev pub any_failed : List Worked → Bool
 any_failed workers = list_any (λ (worked : Worked). has_failed worked.end) workers
 
--- 3 if the link of a worker or of the console failed, or the input couldn't be read, else 0
+-- 3 if the transport of a worker or of the console failed, or the input couldn't be read, else 0
 abbrev pub status_of_ran : Ran → ℕ
 status_of_ran ran =
     if any_failed ran.workers.items || has_failed ran.console || is_deaf ran.parted then 3 else 0
@@ -37,7 +37,8 @@ status_of_ran ran =
 -- ---- which router ran
 
 -- A router that began as this one ran, with this number of interfaces: each had a worker that lived
--- until it was told to end, or its link failed. So says that there is a `Worked` of it, which only
+-- until it was told to end, or its transport failed. So says that there is a `Worked` of it, which
+-- only
 -- `labor::work` makes.
 pub record HasRan (origin : Router) (interfaces : ℕ) (ran : Ran) : Type 0 where
   pub began : ran.origin.value ≡ origin

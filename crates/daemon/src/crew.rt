@@ -26,11 +26,11 @@ use worker::{
 
 /// Runs each worker on a thread with a port of its own, and the operator on this thread at port 0,
 /// until the operator is done. Every thread is joined before this returns, whatever it returns.
-/// There is a link for each port but the operator's: port n's receives at interface n.
+/// There is a transport for each port but the operator's: port n's receives at interface n.
 ///
 /// Returns the closed book, which took just as many events as all shares count; the shared words
-/// with all their seats, as [`Shared::close`](maps::Shared::close) requires them; how each link
-/// ended; and the conversation, which is mute only if the output couldn't be written.
+/// with all their seats, as [`Shared::close`](maps::Shared::close) requires them; how each
+/// transport ended; and the conversation, which is mute only if the output couldn't be written.
 ///
 /// # Errors
 /// `AllocError` if an allocation is refused, or if a thread couldn't be started.
@@ -47,14 +47,14 @@ pub fn side_by_side<
     setup: Setup,
     core: Core,
     workers: &Workers<'_, R>,
-    links: Vec<Sockets<'_>>,
+    transports: Vec<Sockets<'_>>,
     desk: &mut Desk<L, Q, Sockets<'_>, SystemSeconds<'_, S>>,
     console: &mut Console<'_, S, I, O>,
 ) -> Result<(Closed<L>, Vec<Worked>, Parted), AllocError>
     requires setup { IsSetUpFor L.name L.parts L.words L.history setup }
     requires origin { core ≡ L.origin }
-    requires links { vec_len setup.seats ≡ vec_len links + 1 }
-    requires interfaces { CountDownTo 1 (map (λ l. l.own) links.items) }
+    requires transports { vec_len setup.seats ≡ vec_len transports + 1 }
+    requires interfaces { CountDownTo 1 (map (λ l. l.own) transports.items) }
     ensures taken { IfOk result (λ r.
         (r.0.taken ≡ r.0.share.amount) × (r.0.share.parts ≡ L.parts)) }
     ensures seats { IfOk result (λ r.
@@ -63,7 +63,7 @@ pub fn side_by_side<
     ensures mute { IfOk result (λ r. is_mute r.2 ≡ true → HasFailed O.fails) }
 {
     let (hub, ports, rest) = open_hub::<L>(alloc, setup, core)?;
-    match in_scope(rt, &hub, ports, workers, links, desk, console) {
+    match in_scope(rt, &hub, ports, workers, transports, desk, console) {
         Ok((back, ends, parted)) => {
             let closed = close_hub(alloc, hub, rest, Ok(back))?;
             Ok((closed, ends, parted))
@@ -88,13 +88,13 @@ fn in_scope<
     hub: &Hub<L, Book<L>>,
     ports: Vec<Port<L>>,
     workers: &Workers<'_, R>,
-    links: Vec<Sockets<'_>>,
+    transports: Vec<Sockets<'_>>,
     desk: &mut Desk<L, Q, Sockets<'_>, SystemSeconds<'_, S>>,
     console: &mut Console<'_, S, I, O>,
 ) -> Result<(Vec<Port<L>>, Vec<Worked>, Parted), AllocError>
-    requires links { vec_len ports ≡ vec_len links + 1 }
+    requires transports { vec_len ports ≡ vec_len transports + 1 }
     requires numbers { CountDownTo 0 (map (λ p. p.number) ports.items) }
-    requires interfaces { CountDownTo 1 (map (λ l. l.own) links.items) }
+    requires interfaces { CountDownTo 1 (map (λ l. l.own) transports.items) }
     ensures ports { IfOk result (λ back. vec_len back.0 ≡ vec_len ports) }
     ensures ends { IfOk result (λ back. vec_len back.1 + 1 ≡ vec_len ports) }
     ensures mute { IfOk result (λ back. is_mute back.2 ≡ true → HasFailed O.fails) }
@@ -103,13 +103,13 @@ fn in_scope<
         thread::scope_env(),
         rt,
         |scope| -> Result<(Vec<Port<L>>, Vec<Worked>, Parted), AllocError>
-            requires links { vec_len ports ≡ vec_len links + 1 }
+            requires transports { vec_len ports ≡ vec_len transports + 1 }
             requires numbers { CountDownTo 0 (map (λ p. p.number) ports.items) }
-            requires interfaces { CountDownTo 1 (map (λ l. l.own) links.items) }
+            requires interfaces { CountDownTo 1 (map (λ l. l.own) transports.items) }
             ensures ports { IfOk result (λ back. vec_len back.0 ≡ vec_len ports) }
             ensures ends { IfOk result (λ back. vec_len back.1 + 1 ≡ vec_len ports) }
             ensures mute { IfOk result (λ back. is_mute back.2 ≡ true → HasFailed O.fails) }
-        { crew(scope, rt, hub, workers, links, desk, console, ports) },
+        { crew(scope, rt, hub, workers, transports, desk, console, ports) },
     )
 }
 
@@ -128,55 +128,55 @@ fn crew<
     rt: &R,
     hub: &'s Hub<L, Book<L>>,
     workers: &'s Workers<'_, R>,
-    links: Vec<Sockets<'s>>,
+    transports: Vec<Sockets<'s>>,
     desk: &mut Desk<L, Q, Sockets<'_>, SystemSeconds<'_, S>>,
     console: &mut Console<'_, S, I, O>,
     ports: Vec<Port<L>>,
 ) -> Result<(Vec<Port<L>>, Vec<Worked>, Parted), AllocError>
-    requires links { vec_len ports ≡ vec_len links + 1 }
+    requires transports { vec_len ports ≡ vec_len transports + 1 }
     requires numbers { CountDownTo 0 (map (λ p. p.number) ports.items) }
-    requires interfaces { CountDownTo 1 (map (λ l. l.own) links.items) }
+    requires interfaces { CountDownTo 1 (map (λ l. l.own) transports.items) }
     ensures ports { IfOk result (λ back. vec_len back.0 ≡ vec_len ports) }
     ensures ends { IfOk result (λ back. vec_len back.1 + 1 ≡ vec_len ports) }
     ensures mute { IfOk result (λ back. is_mute back.2 ≡ true → HasFailed O.fails) }
 {
     let mut ports = ports;
     let back = Vec::with_capacity(workers.alloc, ports.len())?;
-    let ends = Vec::with_capacity(workers.alloc, links.len())?;
+    let ends = Vec::with_capacity(workers.alloc, transports.len())?;
     let Some(first) = ports.pop() else {
         unreachable!()
     };
-    let running = started(scope, hub, workers, links, ports)?;
+    let running = started(scope, hub, workers, transports, ports)?;
     let (first, parted) = talk(hub, first, desk, console);
     workers.quit.store(true, Ordering::SeqCst);
     let (back, ends) = joined(rt, running, first, back, ends)?;
     Ok((back, ends, parted))
 }
 
-// A thread for each port, each with the link that receives at the interface of its number. If one
-// can't be started, the others are told to end.
+// A thread for each port, each with the transport that receives at the interface of its number. If
+// one can't be started, the others are told to end.
 fn started<'s, E, L: Site + Send + Sync, R: Threads + Wait + Clock + Log + Sync>(
     scope: &Scope<'s, E>,
     hub: &'s Hub<L, Book<L>>,
     workers: &'s Workers<'_, R>,
-    links: Vec<Sockets<'s>>,
+    transports: Vec<Sockets<'s>>,
     ports: Vec<Port<L>>,
 ) -> Result<Vec<JoinHandle<(Port<L>, Worked)>>, AllocError>
-    requires { map (λ p. p.number) ports.items ≡ map (λ l. l.own) links.items }
+    requires { map (λ p. p.number) ports.items ≡ map (λ l. l.own) transports.items }
     ensures { IfOk result (λ running. vec_len running ≡ vec_len ports) }
 {
-    let (mut ports, mut links) = (ports, links);
+    let (mut ports, mut transports) = (ports, transports);
     let mut running = Vec::with_capacity(workers.alloc, ports.len())?;
     let (clock, memory) = (workers.rt, workers.alloc);
     let quit = &workers.quit;
-    while let Some((port, link)) = next_pair(&mut ports, &mut links) {
+    while let Some((port, transport)) = next_pair(&mut ports, &mut transports) {
         let life = move || -> (Port<L>, Worked)
-            requires { port.number ≡ link.own }
+            requires { port.number ≡ transport.own }
         {
             work(
                 clock,
                 memory,
-                link,
+                transport,
                 SystemSeconds::new(clock),
                 Signal { word: quit },
                 hub,
@@ -195,7 +195,7 @@ fn started<'s, E, L: Site + Send + Sync, R: Threads + Wait + Clock + Log + Sync>
     Ok(running)
 }
 
-// All ports, once the threads that have them are done, and how the threads' links ended.
+// All ports, once the threads that have them are done, and how the threads' transports ended.
 fn joined<L: Site, R: Threads>(
     rt: &R,
     running: Vec<JoinHandle<(Port<L>, Worked)>>,

@@ -10,7 +10,9 @@ use std::alloc::Global;
 use std::sync::Wait;
 use std::sync::atomic::AtomicBool;
 use transports::{Seconds, Transport};
-use worker::{Book, DatagramSocket, Flag, Hub, LinkEnd, Open, Port, Site, Sockets, Waits, run};
+use worker::{
+    Book, DatagramSocket, Flag, Hub, Open, Port, Site, Sockets, TransportEnd, Waits, run,
+};
 
 /// What all workers share.
 #[derive(Drop)]
@@ -21,15 +23,15 @@ pub struct Workers<'a, R> {
     pub quit: AtomicBool,
 }
 
-/// Evidence that a worker ran to its end, with how its link ended. Only [`work`] makes one, so
+/// Evidence that a worker ran to its end, with how its transport ended. Only [`work`] makes one, so
 /// whoever has it has run a worker.
 #[derive(Drop)]
 pub struct Worked {
-    end: LinkEnd,
+    end: TransportEnd,
 }
 
 impl Worked {
-    /// Whether its link failed.
+    /// Whether its transport failed.
     pub fn has_failed(&self) -> bool
         ensures { result ≡ has_failed self.now.end }
     {
@@ -37,9 +39,9 @@ impl Worked {
     }
 }
 
-/// Runs a worker on a thread of its own, with its port and the link that receives at the port's
-/// interface, until it finds the flag `quit` set or its link fails. Returns the port, and how the
-/// link ended; a warning is logged if it failed.
+/// Runs a worker on a thread of its own, with its port and the transport that receives at the
+/// port's interface, until it finds the flag `quit` set or its transport fails. Returns the port,
+/// and how the transport ended; a warning is logged if it failed.
 ///
 /// It is generic over sockets, clock and flag, so that tests run it with their own.
 pub fn work<
@@ -53,36 +55,36 @@ pub fn work<
 >(
     rt: &R,
     alloc: Global,
-    link: Sockets<'x, S, E>,
+    transport: Sockets<'x, S, E>,
     clock: C,
     quit: F,
     hub: &Hub<L, Book<L>>,
     port: Port<L>,
 ) -> (Port<L>, Worked)
-    requires { port.number ≡ link.own }
+    requires { port.number ≡ transport.own }
     ensures number { result.0.number ≡ port.number }
     ensures lived { has_failed result.1.end ≡ false → HasServed
         (senses_at ⟦<Sockets<'x, S, E> as Transport>⟧.gives
         ⟦<Sockets<'x, S, E> as Transport>⟧.hears C.shows L.origin port.number)
-        F.reads quit (standing link.entry clock (known_to port.asker) port.share.amount)
+        F.reads quit (standing transport.entry clock (known_to port.asker) port.share.amount)
         (known_to result.0.asker) result.0.share.amount }
-    ensures lived_on { has_failed result.1.end ≡ true → link.entry.faults ≡ 0 → HasServedOn
+    ensures lived_on { has_failed result.1.end ≡ true → transport.entry.faults ≡ 0 → HasServedOn
         (senses_at ⟦<Sockets<'x, S, E> as Transport>⟧.gives
         ⟦<Sockets<'x, S, E> as Transport>⟧.hears C.shows L.origin port.number)
-        F.reads quit (standing link.entry clock (known_to port.asker) port.share.amount) }
+        F.reads quit (standing transport.entry clock (known_to port.asker) port.share.amount) }
 {
-    let (mut port, mut link, mut clock, mut quit) = (port, link, clock, quit);
+    let (mut port, mut transport, mut clock, mut quit) = (port, transport, clock, quit);
     let _ended = run(
         rt,
         alloc,
         hub,
         &mut port,
         &mut Open {},
-        &mut link,
+        &mut transport,
         &mut clock,
         &mut quit,
     );
-    let end = link.end();
+    let end = transport.end();
     if end.has_failed() {
         let number = port.number();
         warn!(rt; "worker {number} stopped");

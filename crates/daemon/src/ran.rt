@@ -6,21 +6,21 @@ use crate::labor::Worked;
 use crate::talk::Parted;
 use crate::totals::Printed;
 use std::snapshot::Snapshot;
-use worker::{Core, LinkEnd};
+use worker::{Core, TransportEnd};
 
 /// How a router ran: the router that it began with (a snapshot for contracts, of which nothing is
-/// kept at run time), how each worker's link ended and how the console's did, how the conversation
-/// ended, and that the counters' sums were printed.
+/// kept at run time), how each worker's transport ended and how the console's did, how the
+/// conversation ended, and that the counters' sums were printed.
 #[derive(Drop)]
 pub struct Ran {
     pub(crate) origin: Snapshot<Core>,
     pub(crate) workers: Vec<Worked>,
-    pub(crate) console: LinkEnd,
+    pub(crate) console: TransportEnd,
     pub(crate) parted: Parted,
     pub(crate) printed: Printed,
 }
 
-// Whether the link of some worker failed.
+// Whether the transport of some worker failed.
 fn is_any_failed(workers: &[Worked]) -> bool
     ensures { result ≡ any_failed workers.now }
 {
@@ -28,8 +28,8 @@ fn is_any_failed(workers: &[Worked]) -> bool
 }
 
 impl Ran {
-    /// The exit status of the program: 3 if the link of a worker or of the console failed, or the
-    /// input couldn't be read; else 0.
+    /// The exit status of the program: 3 if the transport of a worker or of the console failed, or
+    /// the input couldn't be read; else 0.
     pub fn status(&self) -> u8
         ensures { result ≡ status_of_ran self.now }
     {

@@ -87,7 +87,7 @@ fn core_of(alloc: Global, config: &Config) -> Result<Core, RouteError>
 }
 
 // Runs the workers and the console over a setup, and prints the exact counters. Tells how the
-// workers' links ended, and the conversation.
+// workers' transports ended, and the conversation.
 fn run_crew<
     L: Site + Send + Sync,
     R: Threads + Wait + Clock + Log + Files + AllocGlobal + Sync,
@@ -99,22 +99,22 @@ fn run_crew<
     setup: Setup,
     core: Core,
     workers: &Workers<'_, R>,
-    links: Vec<Sockets<'_>>,
+    transports: Vec<Sockets<'_>>,
     desk: &mut Desk<L, Q, Sockets<'_>, SystemSeconds<'_, R>>,
     console: &mut Console<'_, R, I, O>,
 ) -> Result<(Vec<Worked>, Parted, Printed), RouteError>
     requires setup { IsSetUpFor L.name L.parts L.words L.history setup }
     requires origin { core ≡ L.origin }
-    requires links { vec_len setup.seats ≡ vec_len links + 1 }
-    requires interfaces { CountDownTo 1 (map (λ l. l.own) links.items) }
-    requires told { desk.old.interfaces ≡ vec_len links }
+    requires transports { vec_len setup.seats ≡ vec_len transports + 1 }
+    requires interfaces { CountDownTo 1 (map (λ l. l.own) transports.items) }
+    requires told { desk.old.interfaces ≡ vec_len transports }
     ensures ends { IfOk result (λ r. vec_len r.0 + 1 ≡ vec_len setup.seats) }
     ensures heard { IfOk result (λ r. is_mute r.1 ≡ false) }
     ensures refused { IfErr result (IsLaterWhy (HasFailed O.fails)) }
 {
     let alloc = workers.alloc;
     let (closed, ends, parted) = side_by_side(
-        rt, alloc, setup, core, workers, links, desk, console,
+        rt, alloc, setup, core, workers, transports, desk, console,
     )?;
     let Closed {
         taken: _,
@@ -141,7 +141,7 @@ fn ran<L: Site, Q: Wait + Drop, C: Seconds + Drop>(
     ensures workers { result.workers ≡ workers }
     ensures many { vec_len result.workers ≡ vec_len workers }
     ensures parted { result.parted ≡ parted }
-    ensures console { has_failed result.console ≡ nat_lt 0 desk.entry.outlet.link.faults }
+    ensures console { has_failed result.console ≡ nat_lt 0 desk.entry.outlet.transport.faults }
 {
     let Desk {
         alloc: _,
@@ -152,14 +152,14 @@ fn ran<L: Site, Q: Wait + Drop, C: Seconds + Drop>(
         of: _,
     } = desk;
     let Outlet {
-        link,
+        transport,
         clock: _,
         failed: _,
     } = outlet;
     Ran {
         origin,
         workers,
-        console: link.end(),
+        console: transport.end(),
         parted,
         printed,
     }
@@ -179,7 +179,7 @@ fn run_all<
     setup: Setup,
     loader: Loader<Q>,
     core: Core,
-    links: Vec<Sockets<'x>>,
+    transports: Vec<Sockets<'x>>,
     own: Sockets<'x>,
     input: &'x mut I,
     output: &'x mut O,
@@ -187,14 +187,14 @@ fn run_all<
     requires setup { IsSetUpFor L.name L.parts L.words L.history setup }
     requires history { history_of loader ≡ L.history }
     requires origin { core ≡ L.origin }
-    requires links { vec_len setup.seats ≡ vec_len links + 1 }
-    requires interfaces { CountDownTo 1 (map (λ l. l.own) links.items) }
-    ensures ran { IfOk result (HasRan L.origin (vec_len links.entry)) }
+    requires transports { vec_len setup.seats ≡ vec_len transports + 1 }
+    requires interfaces { CountDownTo 1 (map (λ l. l.own) transports.items) }
+    ensures ran { IfOk result (HasRan L.origin (vec_len transports.entry)) }
     ensures refused { IfErr result (IsLaterWhy (HasFailed O.fails)) }
 {
     let alloc = rt.alloc();
-    let interfaces = if links.len() <= 63 {
-        links.len() as u16
+    let interfaces = if transports.len() <= 63 {
+        transports.len() as u16
     } else {
         63
     };
@@ -208,7 +208,7 @@ fn run_all<
         loader,
         interfaces,
         outlet: Outlet {
-            link: own,
+            transport: own,
             clock: SystemSeconds::new(rt),
             failed: false,
         },
@@ -222,15 +222,15 @@ fn run_all<
         setup,
         core,
         &workers,
-        links,
+        transports,
         &mut desk,
         &mut console,
     )?;
     Ok(ran(origin, ends, desk, parted, printed))
 }
 
-/// Runs this router over these links, one for each interface and that of the first one last, and
-/// over one of the console's own, as [`run_router`] does.
+/// Runs this router over these transports, one for each interface and that of the first one last,
+/// and over one of the console's own, as [`run_router`] does.
 ///
 /// # Errors
 /// `Hooks` if the programs have no places, also for more than 63 sockets; `Configuration` with line
@@ -245,23 +245,25 @@ pub fn operate<
 >(
     rt: &'x R,
     config: &Config,
-    links: Vec<Sockets<'x>>,
+    transports: Vec<Sockets<'x>>,
     own: Sockets<'x>,
     input: &'x mut I,
     output: &'x mut O,
 ) -> Result<Ran, RouteError>
-    requires { CountDownTo 1 (map (λ l. l.own) links.items) }
-    ensures ran { IfOk result (HasRan (initial config.now) (vec_len links.entry)) }
+    requires { CountDownTo 1 (map (λ l. l.own) transports.items) }
+    ensures ran { IfOk result (HasRan (initial config.now) (vec_len transports.entry)) }
     ensures refused { IfErr result (IsLaterWhy (HasFailed O.fails)) }
 {
-    let ports = links.len().saturating_add(1);
+    let ports = transports.len().saturating_add(1);
     let (loader, setup) = Setup::new(rt.alloc(), rt, ports)?;
     let core = core_of(rt.alloc(), config)?;
-    let ran = run_all::<Brand, R, &R, I, O>(rt, setup, loader, core, links, own, input, output)?;
+    let ran = run_all::<Brand, R, &R, I, O>(
+        rt, setup, loader, core, transports, own, input, output,
+    )?;
     Ok(ran)
 }
 
-// Runs it over links that are all at the same sockets, one for each, and of which no call has
+// Runs it over transports that are all at the same sockets, one for each, and of which no call has
 // failed.
 fn operate_at_same<
     'x,
@@ -271,19 +273,20 @@ fn operate_at_same<
 >(
     rt: &'x R,
     config: &Config,
-    links: Vec<Sockets<'x>>,
+    transports: Vec<Sockets<'x>>,
     own: Sockets<'x>,
     input: &'x mut I,
     output: &'x mut O,
 ) -> Result<Ran, RouteError>
-    requires interfaces { CountDownTo 1 (map (λ l. l.own) links.items) }
-    requires each { vec_len links ≡ length own.wires.now }
-    requires links { All (λ l. (l.wires.now ≡ own.wires.now) × (l.faults ≡ 0)) links.items }
+    requires interfaces { CountDownTo 1 (map (λ l. l.own) transports.items) }
+    requires each { vec_len transports ≡ length own.wires.now }
+    requires transports { All (λ l. (l.wires.now ≡ own.wires.now) × (l.faults ≡ 0))
+        transports.items }
     requires fine { own.faults ≡ 0 }
-    ensures ran { IfOk result (HasRan (initial config.now) (vec_len links.entry)) }
+    ensures ran { IfOk result (HasRan (initial config.now) (vec_len transports.entry)) }
     ensures refused { IfErr result (IsLaterWhy (HasFailed O.fails)) }
 {
-    operate(rt, config, links, own, input, output)
+    operate(rt, config, transports, own, input, output)
 }
 
 // Runs the router of a configuration over the sockets of its interfaces, in their order.
@@ -305,15 +308,16 @@ fn run_over<
 {
     let mut clock = SystemSeconds::new(rt);
     let config = config_of(rt.alloc(), &mut clock, configured)?;
-    let links = listening(rt, rt.alloc(), wires)?;
+    let transports = listening(rt, rt.alloc(), wires)?;
     let own = Sockets::of_console(wires);
-    let ran = operate_at_same(rt, &config, links, own, input, output)?;
+    let ran = operate_at_same(rt, &config, transports, own, input, output)?;
     Ok(ran)
 }
 
 /// Runs the router that a configuration's text says, with a console that reads commands from
 /// `input` and answers on `output`, until `quit` or the end of input. Every thread is joined before
-/// it answers, and tells how its link ended; each worker whose link failed is told by a warning
+/// it answers, and tells how its transport ended; each worker whose transport failed is told by a
+/// warning
 /// `worker N stopped`.
 ///
 /// # Errors

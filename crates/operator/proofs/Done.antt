@@ -69,24 +69,25 @@ announced offers took refuses wanted knew then known external counted between co
 
 -- ---- a turn
 
--- what was sent by a link that didn't fail
-pub sent : {Link X E : Type 0} (gives : Gives Link) (faults : Link → ℕ) (before after : Link)
-    (turned : Turned) (outcome : Result X E) → OnOk outcome (IsSent gives before turned after)
+-- what was sent by a transport that didn't fail
+pub sent : {Transport X E : Type 0} (gives : Gives Transport) (faults : Transport → ℕ)
+    (before after : Transport) (turned : Turned) (outcome : Result X E)
+    → OnOk outcome (IsSent gives before turned after)
     → OnErr outcome (faults before < faults after) → faults after ≡ faults before
     → IsSent gives before turned after
 sent gives faults before after turned (Ok x) is failed fine = is
 sent gives faults before after turned (Err error) is failed fine =
     absurd (omega (arith, failed, fine))
 
-pub served : {Link Clock : Type 0} (senses : Senses Link Clock) (w : Work)
-    (before after : Standing Link Clock) (moment : Moment) (shown : Clock) (ended : Moment)
+pub served : {Transport Clock : Type 0} (senses : Senses Transport Clock) (w : Work)
+    (before after : Standing Transport Clock) (moment : Moment) (shown : Clock) (ended : Moment)
     (outcome : Result Turned TurnError) (turned : Turned)
     → senses.shows before.clock moment shown → outcome ≡ Ok turned
     → IsPrefix before.known after.known
     → IsTried senses.shows (λ m. senses.refusals before.known after.known before.events m w)
     shown moment after.clock ended outcome → senses.asks ended w
     → senses.turns before.known after.known ended w before.events after.events turned
-    → IsSent senses.gives before.link turned after.link → IsServed senses w before after
+    → IsSent senses.gives before.transport turned after.transport → IsServed senses w before after
 served senses w before after moment shown ended outcome turned is_shown is learnt tried asked turns
     sent = (
       moment,
@@ -104,18 +105,18 @@ served senses w before after moment shown ended outcome turned is_shown is learn
       },
     )
 
-pub unserved : {Link Clock : Type 0} (senses : Senses Link Clock) (w : Work)
-    (before after : Standing Link Clock) (moment : Moment) (shown : Clock) (ended : Moment)
+pub unserved : {Transport Clock : Type 0} (senses : Senses Transport Clock) (w : Work)
+    (before after : Standing Transport Clock) (moment : Moment) (shown : Clock) (ended : Moment)
     (outcome : Result Turned TurnError) (error : TurnError)
     → senses.shows before.clock moment shown → outcome ≡ Err error
     → IsPrefix before.known after.known
     → IsTried senses.shows (λ m. senses.refusals before.known after.known before.events m w)
     shown moment after.clock ended outcome → senses.asks ended w
     → senses.refusals before.known after.known before.events ended w error
-    → after.link ≡ before.link → after.events ≡ before.events
+    → after.transport ≡ before.transport → after.events ≡ before.events
     → IsServed senses w before after
 unserved senses w before after moment shown ended outcome error is_shown is learnt tried asked why
-    link events = (
+    transport events = (
       moment,
       shown,
       ended,
@@ -127,6 +128,6 @@ unserved senses w before after moment shown ended outcome error is_shown is lear
             (λ m. senses.refusals before.known after.known before.events m w) shown moment
             after.clock ended) is tried;
         asked = asked;
-        given = (why, link, events);
+        given = (why, transport, events);
       },
     )

@@ -18,36 +18,37 @@ use Rattle.operator.specs.declared.told.Told.{Told}
 use Rattle.operator.specs.declared.told.Told.TheVariants as told
 use Rattle.operator.proofs.Answered.{never_unknown}
 
--- whether it failed or not, a link counts no fewer faults
-pub never_fewer : {Link X E : Type 0} (faults : Link → ℕ) (before after : Link)
+-- whether it failed or not, a transport counts no fewer faults
+pub never_fewer : {Transport X E : Type 0} (faults : Transport → ℕ) (before after : Transport)
     (outcome : Result X E) → OnOk outcome (faults after ≡ faults before)
     → OnErr outcome (faults before < faults after) → faults before ≤ faults after
 never_fewer faults before after (Ok x) fine failed = omega (arith, fine)
 never_fewer faults before after (Err error) fine failed = omega (arith, failed)
 
-module _ {Link Clock : Type 0} (faults : Link → ℕ) (senses : Senses Link Clock) where
+module _ {Transport Clock : Type 0} (faults : Transport → ℕ) (senses : Senses Transport Clock) where
   -- a turn that was served, by a port that since learnt nothing and gave no event
-  pub served_still : (w : Work) (before : Standing Link Clock) (link : Link) (clock : Clock)
-      (then known : List LoaderOperation) (between events : ℕ) → known ≡ then → events ≡ between
-      → faults before.link ≤ faults link
-      → (faults link ≡ faults before.link
-      → IsServed senses w before (standing link clock then between))
-      → IsUnlessFault faults (IsServed senses w) before (standing link clock known events)
-  served_still w before link clock then known between events kept same grown is = (
+  pub served_still : (w : Work) (before : Standing Transport Clock) (transport : Transport)
+      (clock : Clock) (then known : List LoaderOperation) (between events : ℕ) → known ≡ then
+      → events ≡ between → faults before.transport ≤ faults transport
+      → (faults transport ≡ faults before.transport
+      → IsServed senses w before (standing transport clock then between))
+      → IsUnlessFault faults (IsServed senses w) before
+      (standing transport clock known events)
+  served_still w before transport clock then known between events kept same grown is = (
     grown,
-    λ fine. subst (λ l. IsServed senses w before (standing link clock l events)) (sym kept)
-        (subst (λ n. IsServed senses w before (standing link clock then n)) (sym same)
+    λ fine. subst (λ l. IsServed senses w before (standing transport clock l events)) (sym kept)
+        (subst (λ n. IsServed senses w before (standing transport clock then n)) (sym same)
         (is fine)),
   )
 
   -- a port that learnt nothing before knows what it had known
-  pub as_known : (w : Work) (before after : Standing Link Clock)
+  pub as_known : (w : Work) (before after : Standing Transport Clock)
       → IsUnlessFault faults (IsServed senses w) before after
       → IsUnlessFault faults (IsTurnServed senses (Some w)) before after
   as_known w before after is = (is.0, λ fine. (before.known, prefix_self before.known, is.1 fine))
 
   -- if there is no turn
-  pub unserved_still : (before after : Standing Link Clock) → after ≡ before
+  pub unserved_still : (before after : Standing Transport Clock) → after ≡ before
       → IsUnlessFault faults (IsTurnServed senses None) before after
   unserved_still before after same =
       subst (λ a. IsUnlessFault faults (IsTurnServed senses None) before a) (sym same)
@@ -55,7 +56,7 @@ module _ {Link Clock : Type 0} (faults : Link → ℕ) (senses : Senses Link Clo
 
   -- nor if lines were made of an answer, or there was no memory for them
   pub lines_served : {E : Type 0} (lines : Result (String Global) E) (answer : Told)
-      (now : Standing Link Clock)
+      (now : Standing Transport Clock)
       → MatchResult lines (λ text. answer ≡ told.Lines text) (λ _. answer ≡ told.Memory)
       → IsUnlessFault faults (IsTurnServed senses (turn_after answer)) now now
   lines_served (Ok text) answer now is =
@@ -67,7 +68,7 @@ module _ {Link Clock : Type 0} (faults : Link → ℕ) (senses : Senses Link Clo
 
   -- the turn of a command by other names
   pub served_moved : (command same : Command) (answer told : Told)
-      (before after other : Standing Link Clock) → after ≡ other → command ≡ same
+      (before after other : Standing Transport Clock) → after ≡ other → command ≡ same
       → answer ≡ told
       → IsUnlessFault faults (IsTurnServed senses (turn_of same told)) before other
       → IsUnlessFault faults (IsTurnServed senses (turn_of command answer)) before after
@@ -80,14 +81,14 @@ module _ {Link Clock : Type 0} (faults : Link → ℕ) (senses : Senses Link Clo
       (sym is_told) is))
 
   -- a refresh that was due, or none
-  pub due_served : (due : Bool) (before after : Standing Link Clock) → due ≡ true
+  pub due_served : (due : Bool) (before after : Standing Transport Clock) → due ≡ true
       → IsUnlessFault faults (IsServed senses work.Refresh) before after
       → IsUnlessFault faults (IsTurnServed senses (turn_due due)) before after
   due_served due before after is served =
       subst (λ d. IsUnlessFault faults (IsTurnServed senses (turn_due d)) before after) (sym is)
       (as_known work.Refresh before after served)
 
-  pub none_due : (due : Bool) (now : Standing Link Clock) → due ≡ false
+  pub none_due : (due : Bool) (now : Standing Transport Clock) → due ≡ false
       → IsUnlessFault faults (IsTurnServed senses (turn_due due)) now now
   none_due due now is =
       subst (λ d. IsUnlessFault faults (IsTurnServed senses (turn_due d)) now now) (sym is)
@@ -95,7 +96,7 @@ module _ {Link Clock : Type 0} (faults : Link → ℕ) (senses : Senses Link Clo
 
   -- what is answered out of memory had no turn
   no_turn : (s : Sources) (n : ℕ) (c : Change) (command : Command)
-      (before after : Standing Link Clock) → IsAnswerTo s n c command told.Memory
+      (before after : Standing Transport Clock) → IsAnswerTo s n c command told.Memory
       → IsTurnServed senses (turn_of command told.Memory) before after → after ≡ before
   no_turn s n c (commands.Attach path) before after is served = served
   no_turn s n c (commands.Detach hook) before after is served = served
@@ -108,7 +109,7 @@ module _ {Link Clock : Type 0} (faults : Link → ℕ) (senses : Senses Link Clo
 
   -- the turn of a command that a line asks for is the line's
   line_turn : (s : Sources) (n : ℕ) (c : Change) (line : List ℕ) (command : Command)
-      (answer : Option Told) (before after : Standing Link Clock) → LineAsks line command
+      (answer : Option Told) (before after : Standing Transport Clock) → LineAsks line command
       → IsCarriedOut s n c command answer → IsCommandServed senses command answer before after
       → IsLineServed senses line answer before after
   line_turn s n c line command None before after asks is served = served
@@ -132,7 +133,7 @@ module _ {Link Clock : Type 0} (faults : Link → ℕ) (senses : Senses Link Clo
       (command, asks, served)
 
   pub line_served : (s : Sources) (n : ℕ) (c : Change) (line : List ℕ) (command : Command)
-      (answer : Option Told) (before after : Standing Link Clock) → LineAsks line command
+      (answer : Option Told) (before after : Standing Transport Clock) → LineAsks line command
       → IsCarriedOut s n c command answer
       → IsUnlessFault faults (IsCommandServed senses command answer) before after
       → IsUnlessFault faults (IsLineServed senses line answer) before after
@@ -143,7 +144,7 @@ module _ {Link Clock : Type 0} (faults : Link → ℕ) (senses : Senses Link Clo
 
   -- first what was due, and then the line
   pub both_served : (due : Bool) (line : List ℕ) (answer : Option Told)
-      (before between after : Standing Link Clock)
+      (before between after : Standing Transport Clock)
       → IsUnlessFault faults (IsTurnServed senses (turn_due due)) before between
       → IsUnlessFault faults (IsLineServed senses line answer) between after
       → IsUnlessFault faults (AreServed senses due line answer) before after
@@ -157,16 +158,17 @@ module _ {Link Clock : Type 0} (faults : Link → ℕ) (senses : Senses Link Clo
   )
 
   -- a port that learnt of a change before
-  pub served_then : (w : Work) (link : Link) (clock : Clock) (after : Standing Link Clock)
-      (knew learnt : List LoaderOperation) (between events : ℕ) → IsPrefix knew learnt
-      → between ≡ events
-      → IsUnlessFault faults (IsServed senses w) (standing link clock learnt between) after
-      → IsUnlessFault faults (IsServedThen senses w) (standing link clock knew events) after
-  served_then w link clock after knew learnt between events grown same is = (
+  pub served_then : (w : Work) (transport : Transport) (clock : Clock)
+      (after : Standing Transport Clock) (knew learnt : List LoaderOperation) (between events : ℕ)
+      → IsPrefix knew learnt → between ≡ events
+      → IsUnlessFault faults (IsServed senses w) (standing transport clock learnt between)
+      after → IsUnlessFault faults (IsServedThen senses w)
+      (standing transport clock knew events) after
+  served_then w transport clock after knew learnt between events grown same is = (
     is.0,
     λ fine. (
       learnt,
       grown,
-      subst (λ n. IsServed senses w (standing link clock learnt n) after) same (is.1 fine),
+      subst (λ n. IsServed senses w (standing transport clock learnt n) after) same (is.1 fine),
     ),
   )

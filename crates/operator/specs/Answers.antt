@@ -108,9 +108,9 @@ IsDone offers took refuses known now w counted counts =
     × IsTurned offers took refuses known now moment w counted counts turned
 
 -- as a worker serves one: a turn for this work was tried at a moment that the clock showed, and the
--- link was given what it sends
-abbrev pub IsServed : {Link Clock : Type 0} → Senses Link Clock → Work
-    → (before after : Standing Link Clock) → Type 0
+-- transport was given what it sends
+abbrev pub IsServed : {Transport Clock : Type 0} → Senses Transport Clock → Work
+    → (before after : Standing Transport Clock) → Type 0
 IsServed {Clock = Clock} senses w before after =
     (moment : Moment) × (shown : Clock) × (ended : Moment) × senses.shows before.clock moment shown
     × Serves senses moment w (record before { clock = shown }) ended after
@@ -219,8 +219,8 @@ IsAnswerToDetach offers took refuses c hook (told.Detached of) =
 IsAnswerToDetach offers took refuses c hook told.Memory = IsUntouched c
 IsAnswerToDetach offers took refuses c hook other = ⊥
 
--- the router took the announcement, and after that announces the destination or doesn't; or the turn
--- was refused
+-- the router took the announcement, and after that announces the destination or doesn't; or the
+-- turn was refused
 abbrev pub IsAnswerToAdd : Offers → Took → Refuses → Wanted → (knew known : List LoaderOperation)
     → External → (counted counts : ℕ) → Told → Type 0
 IsAnswerToAdd offers took refuses wanted knew known external counted counts told.Originated =

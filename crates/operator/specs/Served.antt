@@ -40,30 +40,30 @@ turn_due false = None
 
 -- a turn for this work was served, by a port that knew all that it had known, and perhaps a change
 -- of the programs too
-abbrev pub IsServedThen : {Link Clock : Type 0} → Senses Link Clock → Work
-    → (before after : Standing Link Clock) → Type 0
+abbrev pub IsServedThen : {Transport Clock : Type 0} → Senses Transport Clock → Work
+    → (before after : Standing Transport Clock) → Type 0
 IsServedThen senses w before after =
     (knew : List LoaderOperation) × IsPrefix before.known knew
     × IsServed senses w (record before { known = knew }) after
 
 -- So was the turn that there is. If there is none, the clock wasn't looked at, nothing was sent,
 -- the port learnt nothing, and the router got no event.
-abbrev pub IsTurnServed : {Link Clock : Type 0} → Senses Link Clock → Option Work
-    → (before after : Standing Link Clock) → Type 0
+abbrev pub IsTurnServed : {Transport Clock : Type 0} → Senses Transport Clock → Option Work
+    → (before after : Standing Transport Clock) → Type 0
 IsTurnServed senses turn before after =
     MatchOption turn (after ≡ before) (λ w. IsServedThen senses w before after)
 
 -- the turn of a command was; that which is answered by nothing has none
-abbrev pub IsCommandServed : {Link Clock : Type 0} → Senses Link Clock → Command → Option Told
-    → (before after : Standing Link Clock) → Type 0
+abbrev pub IsCommandServed : {Transport Clock : Type 0} → Senses Transport Clock → Command
+    → Option Told → (before after : Standing Transport Clock) → Type 0
 IsCommandServed senses command None before after = after ≡ before
 IsCommandServed senses command (Some answer) before after =
     IsTurnServed senses (turn_of command answer) before after
 
 -- the turn of the command that a line asks for was; a line that is no command, that there was no
 -- memory for, or that ends the console, has none
-abbrev pub IsLineServed : {Link Clock : Type 0} → Senses Link Clock → (line : List ℕ) → Option Told
-    → (before after : Standing Link Clock) → Type 0
+abbrev pub IsLineServed : {Transport Clock : Type 0} → Senses Transport Clock → (line : List ℕ)
+    → Option Told → (before after : Standing Transport Clock) → Type 0
 IsLineServed senses line None before after = after ≡ before
 IsLineServed senses line (Some told.Unknown) before after = after ≡ before
 IsLineServed senses line (Some told.Memory) before after = after ≡ before
@@ -72,18 +72,18 @@ IsLineServed senses line (Some answer) before after =
     × IsTurnServed senses (turn_of command answer) before after
 
 -- first the turn of a refresh that was due, and then that of the line
-abbrev pub AreServed : {Link Clock : Type 0} → Senses Link Clock → (due : Bool) → (line : List ℕ)
-    → Option Told → (before after : Standing Link Clock) → Type 0
-AreServed {Link = Link} {Clock = Clock} senses due line answer before after =
-    (between : Standing Link Clock) × IsTurnServed senses (turn_due due) before between
+abbrev pub AreServed : {Transport Clock : Type 0} → Senses Transport Clock → (due : Bool)
+    → (line : List ℕ) → Option Told → (before after : Standing Transport Clock) → Type 0
+AreServed {Transport = Transport} {Clock = Clock} senses due line answer before after =
+    (between : Standing Transport Clock) × IsTurnServed senses (turn_due due) before between
     × IsLineServed senses line answer between after
 
--- ---- by a link that counts its faults
+-- ---- by a transport that counts its faults
 
--- A link never counts fewer faults than before. If it counts no more, this is so.
-abbrev pub IsUnlessFault : {Link Clock : Type 0} → (faults : Link → ℕ)
-    → (Is : (before after : Standing Link Clock) → Type 0) → (before after : Standing Link Clock)
-    → Type 0
+-- A transport never counts fewer faults than before. If it counts no more, this is so.
+abbrev pub IsUnlessFault : {Transport Clock : Type 0} → (faults : Transport → ℕ)
+    → (Is : (before after : Standing Transport Clock) → Type 0)
+    → (before after : Standing Transport Clock) → Type 0
 IsUnlessFault faults Is before after =
-    (faults before.link ≤ faults after.link)
-    × (faults after.link ≡ faults before.link → Is before after)
+    (faults before.transport ≤ faults after.transport)
+    × (faults after.transport ≡ faults before.transport → Is before after)

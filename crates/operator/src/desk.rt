@@ -79,9 +79,9 @@ fn add<L: Site, B: Taker<L>, R: Wait, K: Transport + Drop, C: Seconds + Drop>(
     ensures served { IsUnlessFault K.faults (IsServed
         (senses_of K.gives K.hears C.shows B.offers B.took B.refuses port.old.number)
         (work.Add external))
-        (standing outlet.old.link outlet.old.clock (known_to port.old.asker)
+        (standing outlet.old.transport outlet.old.clock (known_to port.old.asker)
         port.old.share.amount)
-        (standing outlet.new.link outlet.new.clock (known_to port.new.asker)
+        (standing outlet.new.transport outlet.new.clock (known_to port.new.asker)
         port.new.share.amount) }
 {
     let prefix = external.prefix;
@@ -111,9 +111,9 @@ fn withdraw<L: Site, B: Taker<L>, R: Wait, K: Transport + Drop, C: Seconds + Dro
     ensures served { IsUnlessFault K.faults (IsServed
         (senses_of K.gives K.hears C.shows B.offers B.took B.refuses port.old.number)
         (work.Withdraw prefix))
-        (standing outlet.old.link outlet.old.clock (known_to port.old.asker)
+        (standing outlet.old.transport outlet.old.clock (known_to port.old.asker)
         port.old.share.amount)
-        (standing outlet.new.link outlet.new.clock (known_to port.new.asker)
+        (standing outlet.new.transport outlet.new.clock (known_to port.new.asker)
         port.new.share.amount) }
 {
     match outlet.take(rt, hub, port, &Work::Withdraw(prefix)) {
@@ -134,9 +134,9 @@ impl<L: Site, Q: Wait + Drop, K: Transport + Drop, C: Seconds + Drop> Desk<L, Q,
         ensures served { IsUnlessFault K.faults (IsServed
             (senses_of K.gives K.hears C.shows B.offers B.took B.refuses port.old.number)
             work.Refresh)
-            (standing self.old.outlet.link self.old.outlet.clock (known_to port.old.asker)
+            (standing self.old.outlet.transport self.old.outlet.clock (known_to port.old.asker)
             port.old.share.amount)
-            (standing self.new.outlet.link self.new.outlet.clock (known_to port.new.asker)
+            (standing self.new.outlet.transport self.new.outlet.clock (known_to port.new.asker)
             port.new.share.amount) }
         ensures loader { self.new.loader ≡ self.old.loader }
         ensures interfaces { self.new.interfaces ≡ self.old.interfaces }
@@ -154,9 +154,9 @@ impl<L: Site, Q: Wait + Drop, K: Transport + Drop, C: Seconds + Drop> Desk<L, Q,
         ensures served { IsUnlessFault K.faults (IsServedThen
             (senses_of K.gives K.hears C.shows B.offers B.took B.refuses port.old.number)
             work.Refresh)
-            (standing self.old.outlet.link self.old.outlet.clock (known_to port.old.asker)
+            (standing self.old.outlet.transport self.old.outlet.clock (known_to port.old.asker)
             port.old.share.amount)
-            (standing self.new.outlet.link self.new.outlet.clock (known_to port.new.asker)
+            (standing self.new.outlet.transport self.new.outlet.clock (known_to port.new.asker)
             port.new.share.amount) }
         ensures loader { self.new.loader ≡ self.old.loader }
         ensures interfaces { self.new.interfaces ≡ self.old.interfaces }
@@ -185,9 +185,9 @@ impl<L: Site, Q: Wait + Drop, K: Transport + Drop, C: Seconds + Drop> Desk<L, Q,
         ensures served { IsUnlessFault K.faults (IsTurnServed
             (senses_of K.gives K.hears C.shows B.offers B.took B.refuses port.old.number)
             (turn_after result))
-            (standing self.old.outlet.link self.old.outlet.clock (known_to port.old.asker)
+            (standing self.old.outlet.transport self.old.outlet.clock (known_to port.old.asker)
             port.old.share.amount)
-            (standing self.new.outlet.link self.new.outlet.clock (known_to port.new.asker)
+            (standing self.new.outlet.transport self.new.outlet.clock (known_to port.new.asker)
             port.new.share.amount) }
         ensures interfaces { self.new.interfaces ≡ self.old.interfaces }
     {
@@ -219,9 +219,9 @@ impl<L: Site, Q: Wait + Drop, K: Transport + Drop, C: Seconds + Drop> Desk<L, Q,
         ensures served { IsUnlessFault K.faults (IsTurnServed
             (senses_of K.gives K.hears C.shows B.offers B.took B.refuses port.old.number)
             (turn_after result))
-            (standing self.old.outlet.link self.old.outlet.clock (known_to port.old.asker)
+            (standing self.old.outlet.transport self.old.outlet.clock (known_to port.old.asker)
             port.old.share.amount)
-            (standing self.new.outlet.link self.new.outlet.clock (known_to port.new.asker)
+            (standing self.new.outlet.transport self.new.outlet.clock (known_to port.new.asker)
             port.new.share.amount) }
         ensures interfaces { self.new.interfaces ≡ self.old.interfaces }
     {
@@ -247,9 +247,9 @@ impl<L: Site, Q: Wait + Drop, K: Transport + Drop, C: Seconds + Drop> Desk<L, Q,
         ensures served { IsUnlessFault K.faults (IsTurnServed
             (senses_of K.gives K.hears C.shows B.offers B.took B.refuses port.old.number)
             (turn_after result))
-            (standing self.old.outlet.link self.old.outlet.clock (known_to port.old.asker)
+            (standing self.old.outlet.transport self.old.outlet.clock (known_to port.old.asker)
             port.old.share.amount)
-            (standing self.new.outlet.link self.new.outlet.clock (known_to port.new.asker)
+            (standing self.new.outlet.transport self.new.outlet.clock (known_to port.new.asker)
             port.new.share.amount) }
         ensures interfaces { self.new.interfaces ≡ self.old.interfaces }
     {
@@ -281,9 +281,9 @@ impl<L: Site, Q: Wait + Drop, K: Transport + Drop, C: Seconds + Drop> Desk<L, Q,
         ensures served { IsUnlessFault K.faults (IsCommandServed
             (senses_of K.gives K.hears C.shows B.offers B.took B.refuses port.old.number)
             command.now result)
-            (standing self.old.outlet.link self.old.outlet.clock (known_to port.old.asker)
+            (standing self.old.outlet.transport self.old.outlet.clock (known_to port.old.asker)
             port.old.share.amount)
-            (standing self.new.outlet.link self.new.outlet.clock (known_to port.new.asker)
+            (standing self.new.outlet.transport self.new.outlet.clock (known_to port.new.asker)
             port.new.share.amount) }
         ensures interfaces { self.new.interfaces ≡ self.old.interfaces }
     {
@@ -308,9 +308,9 @@ impl<L: Site, Q: Wait + Drop, K: Transport + Drop, C: Seconds + Drop> Desk<L, Q,
         ensures served { IsUnlessFault K.faults (IsTurnServed
             (senses_of K.gives K.hears C.shows B.offers B.took B.refuses port.old.number)
             (turn_due self.old.unrefreshed))
-            (standing self.old.outlet.link self.old.outlet.clock (known_to port.old.asker)
+            (standing self.old.outlet.transport self.old.outlet.clock (known_to port.old.asker)
             port.old.share.amount)
-            (standing self.new.outlet.link self.new.outlet.clock (known_to port.new.asker)
+            (standing self.new.outlet.transport self.new.outlet.clock (known_to port.new.asker)
             port.new.share.amount) }
         ensures loader { self.new.loader ≡ self.old.loader }
         ensures interfaces { self.new.interfaces ≡ self.old.interfaces }
@@ -342,9 +342,9 @@ impl<L: Site, Q: Wait + Drop, K: Transport + Drop, C: Seconds + Drop> Desk<L, Q,
         ensures served { IsUnlessFault K.faults (IsLineServed
             (senses_of K.gives K.hears C.shows B.offers B.took B.refuses port.old.number)
             line.now result)
-            (standing self.old.outlet.link self.old.outlet.clock (known_to port.old.asker)
+            (standing self.old.outlet.transport self.old.outlet.clock (known_to port.old.asker)
             port.old.share.amount)
-            (standing self.new.outlet.link self.new.outlet.clock (known_to port.new.asker)
+            (standing self.new.outlet.transport self.new.outlet.clock (known_to port.new.asker)
             port.new.share.amount) }
         ensures interfaces { self.new.interfaces ≡ self.old.interfaces }
     {
@@ -383,9 +383,9 @@ impl<L: Site, Q: Wait + Drop, K: Transport + Drop, C: Seconds + Drop> Desk<L, Q,
         ensures served { IsUnlessFault K.faults (AreServed
             (senses_of K.gives K.hears C.shows B.offers B.took B.refuses port.old.number)
             self.old.unrefreshed line.now result)
-            (standing self.old.outlet.link self.old.outlet.clock (known_to port.old.asker)
+            (standing self.old.outlet.transport self.old.outlet.clock (known_to port.old.asker)
             port.old.share.amount)
-            (standing self.new.outlet.link self.new.outlet.clock (known_to port.new.asker)
+            (standing self.new.outlet.transport self.new.outlet.clock (known_to port.new.asker)
             port.new.share.amount) }
         ensures interfaces { self.new.interfaces ≡ self.old.interfaces }
     {
@@ -417,9 +417,9 @@ impl<L: Site, Q: Wait + Drop, K: Transport + Drop, C: Seconds + Drop> Desk<L, Q,
         ensures served { IsUnlessFault K.faults (AreServed
             (senses_of K.gives K.hears C.shows B.offers B.took B.refuses port.old.number)
             self.old.unrefreshed line.now result)
-            (standing self.old.outlet.link self.old.outlet.clock (known_to port.old.asker)
+            (standing self.old.outlet.transport self.old.outlet.clock (known_to port.old.asker)
             port.old.share.amount)
-            (standing self.new.outlet.link self.new.outlet.clock (known_to port.new.asker)
+            (standing self.new.outlet.transport self.new.outlet.clock (known_to port.new.asker)
             port.new.share.amount) }
         ensures interfaces { self.new.interfaces ≡ self.old.interfaces }
     {

@@ -9,25 +9,25 @@ use std::sync::Wait;
 use transports::{Seconds, Transport};
 use worker::{Hub, Open, Port, Site, Taker, TurnError, Turned, Work, send_all, tried};
 
-/// The link and the clock of port 0.
+/// The transport and the clock of port 0.
 #[derive(Drop)]
 pub struct Outlet<K: Transport + Drop, C: Seconds + Drop> {
-    pub link: K,
+    pub transport: K,
     pub clock: C,
-    /// Whether the link failed. What is sent afterwards is lost, and the console goes on.
+    /// Whether the transport failed. What is sent afterwards is lost, and the console goes on.
     pub failed: bool,
 }
 
-// Sends the outs of a turn, and sets `failed` if the link fails.
+// Sends the outs of a turn, and sets `failed` if the transport fails.
 #[tactic(auto, using(crate::proofs::Done::sent, crate::proofs::Served::never_fewer))]
-fn send<K: Transport>(link: &mut K, failed: &mut bool, turned: &Turned)
-    ensures sent { K.faults link.new ≡ K.faults link.old
-        → IsSent K.gives link.old turned.now link.new }
-    ensures faults { K.faults link.old ≤ K.faults link.new }
+fn send<K: Transport>(transport: &mut K, failed: &mut bool, turned: &Turned)
+    ensures sent { K.faults transport.new ≡ K.faults transport.old
+        → IsSent K.gives transport.old turned.now transport.new }
+    ensures faults { K.faults transport.old ≤ K.faults transport.new }
     ensures failed { IsTrue failed.new
-        ↔ (IsTrue failed.old ⊎ (K.faults link.old < K.faults link.new)) }
+        ↔ (IsTrue failed.old ⊎ (K.faults transport.old < K.faults transport.new)) }
 {
-    if send_all(link, turned).is_err() {
+    if send_all(transport, turned).is_err() {
         *failed = true;
     }
 }
@@ -35,7 +35,7 @@ fn send<K: Transport>(link: &mut K, failed: &mut bool, turned: &Turned)
 impl<K: Transport + Drop, C: Seconds + Drop> Outlet<K, C> {
     /// Takes a turn at port 0 with this work, at the moment that the clock shows, and sends what
     /// comes of it. The router takes this event, and nothing else but the refresh that may follow
-    /// it. If the link fails, `failed` is set, and the console goes on.
+    /// it. If the transport fails, `failed` is set, and the console goes on.
     ///
     /// # Errors
     /// Why the turn was refused, as [`turn`](worker::turn) says: the router then took nothing.
@@ -55,15 +55,16 @@ impl<K: Transport + Drop, C: Seconds + Drop> Outlet<K, C> {
         ensures err { OnErr result (port.new.share.amount ≡ port.old.share.amount) }
         ensures known { IsPrefix (known_to port.old.asker) (known_to port.new.asker) }
         ensures number { port.new.number ≡ port.old.number }
-        ensures faults { K.faults self.old.link ≤ K.faults self.new.link }
-        ensures served { K.faults self.new.link ≡ K.faults self.old.link → IsServed
+        ensures faults { K.faults self.old.transport ≤ K.faults self.new.transport }
+        ensures served { K.faults self.new.transport ≡ K.faults self.old.transport → IsServed
             (senses_of K.gives K.hears C.shows B.offers B.took B.refuses port.old.number) work.now
-            (standing self.old.link self.old.clock (known_to port.old.asker)
+            (standing self.old.transport self.old.clock (known_to port.old.asker)
             port.old.share.amount)
-            (standing self.new.link self.new.clock (known_to port.new.asker)
+            (standing self.new.transport self.new.clock (known_to port.new.asker)
             port.new.share.amount) }
         ensures failed { IsTrue self.new.failed
-            ↔ (IsTrue self.old.failed ⊎ (K.faults self.old.link < K.faults self.new.link)) }
+            ↔ (IsTrue self.old.failed ⊎ (K.faults self.old.transport < K.faults
+            self.new.transport)) }
     {
         let mut moment = self.clock.second();
         let turned = tried(
@@ -75,7 +76,7 @@ impl<K: Transport + Drop, C: Seconds + Drop> Outlet<K, C> {
             &mut moment,
             work,
         )?;
-        send(&mut self.link, &mut self.failed, &turned);
+        send(&mut self.transport, &mut self.failed, &turned);
         Ok(())
     }
 }

@@ -10,9 +10,9 @@ use Rattle.own_lsa_laws.specs.Deeds.{heard_by, last_tick, tick_after}
 
 -- ---- one list after another
 
-then_each : {Link Clock : Type 0} (senses : Senses Link Clock) (a b c : Standing Link Clock)
-    (xs ys : List Deed) → DoesEach senses a xs b → DoesEach senses b ys c
-    → DoesEach senses a (xs ++ ys) c
+then_each : {Transport Clock : Type 0} (senses : Senses Transport Clock)
+    (a b c : Standing Transport Clock) (xs ys : List Deed) → DoesEach senses a xs b
+    → DoesEach senses b ys c → DoesEach senses a (xs ++ ys) c
 then_each senses a b c [] ys same h = subst (λ s. DoesEach senses s ys c) same h
 then_each senses a b c (x ∷ xs) ys (between, does, rest) h =
     (between, does, then_each senses between b c xs ys rest h)
@@ -43,8 +43,9 @@ follow_append earlier (x ∷ xs) ys (first, rest) k = (
 
 -- ---- what was done so far, and the moment of the last Tick
 
-module _ {Link Clock : Type 0} (senses : Senses Link Clock) where
-  record Done (start : Standing Link Clock) (ticked : Option ℕ) (now : Standing Link Clock) : Type 0
+module _ {Transport Clock : Type 0} (senses : Senses Transport Clock) where
+  record Done (start : Standing Transport Clock) (ticked : Option ℕ)
+      (now : Standing Transport Clock) : Type 0
     where
       pub deeds : List Deed
       pub does : DoesEach senses start deeds now
@@ -53,8 +54,8 @@ module _ {Link Clock : Type 0} (senses : Senses Link Clock) where
       pub last : last_tick None deeds ≡ ticked
 
   -- more of it
-  abbrev done_more : (start : Standing Link Clock) (ticked : Option ℕ)
-      (before : Standing Link Clock) (next : Option ℕ) (after : Standing Link Clock)
+  abbrev done_more : (start : Standing Transport Clock) (ticked : Option ℕ)
+      (before : Standing Transport Clock) (next : Option ℕ) (after : Standing Transport Clock)
       (d : Done start ticked before) (more : List Deed) → DoesEach senses before more after
       → EachMayFollow d.deeds more → given more
       ≡ map (λ bytes. Datagram senses.number bytes) (heard more) → last_tick ticked more
@@ -71,20 +72,23 @@ module _ {Link Clock : Type 0} (senses : Senses Link Clock) where
   }
 
   -- at the end of a round the worker may look at its clock
-  record Rounded (start : Standing Link Clock) (ticked : Option ℕ) (now : Standing Link Clock)
+  record Rounded (start : Standing Transport Clock) (ticked : Option ℕ)
+      (now : Standing Transport Clock)
       : Type 0 where
     pub so_far : Done start ticked now
     pub looks : IsLookingAfter so_far.deeds
 
   -- whether the clock was looked at alone, or a Tick came of it, whoever listens now may
-  record Looked (start : Standing Link Clock) (ticked : Option ℕ) (now : Standing Link Clock) : Type
+  record Looked (start : Standing Transport Clock) (ticked : Option ℕ)
+      (now : Standing Transport Clock) : Type
       0 where
     pub so_far : Done start ticked now
     pub listens : (heard : Option (List ℕ)) → MayFollow so_far.deeds (Deed.Listens heard)
 
-  ticked_now : (start : Standing Link Clock) (ticked : Option ℕ) (before : Standing Link Clock)
-      (next : Option ℕ) (after : Standing Link Clock) (d : Done start ticked before)
-      → IsLookingAfter d.deeds → Ticks senses ticked before next after → Looked start next after
+  ticked_now : (start : Standing Transport Clock) (ticked : Option ℕ)
+      (before : Standing Transport Clock) (next : Option ℕ) (after : Standing Transport Clock)
+      (d : Done start ticked before) → IsLookingAfter d.deeds
+      → Ticks senses ticked before next after → Looked start next after
   ticked_now start ticked before next after d looks t =
       elim t.turn as (λ _. Looked start next after) [
         | inl (same, keeps, is_after) ↦
@@ -137,15 +141,16 @@ module _ {Link Clock : Type 0} (senses : Senses Link Clock) where
             }
       ]
 
-  heard_now : (start : Standing Link Clock) (ticked : Option ℕ) (before : Standing Link Clock)
-      (heard : Option (List ℕ)) (between : Link) (after : Standing Link Clock)
-      → Looked start ticked before → senses.hears before.link heard between
-      → IsHeard senses heard (record before { link = between }) after
+  heard_now : (start : Standing Transport Clock) (ticked : Option ℕ)
+      (before : Standing Transport Clock) (heard : Option (List ℕ)) (between : Transport)
+      (after : Standing Transport Clock) → Looked start ticked before
+      → senses.hears before.transport heard between
+      → IsHeard senses heard (record before { transport = between }) after
       → Rounded start ticked after
   heard_now start ticked before None between after l is_heard turn = record {
     so_far = done_more start ticked before ticked after l.so_far (Deed.Listens None ∷ []) (
       record before {
-        link = between;
+        transport = between;
       },
       (between, is_heard, refl),
       turn,
@@ -160,11 +165,11 @@ module _ {Link Clock : Type 0} (senses : Senses Link Clock) where
       record {
         so_far = done_more start ticked before ticked after l.so_far
             (hearing ∷ looking ∷ giving ∷ []) (
-              record before { link = between },
+              record before { transport = between },
               (between, is_heard, refl),
               (
                 record before {
-                  link = between;
+                  transport = between;
                   clock = shown;
                 },
                 (shown, is_shown, refl),
@@ -195,15 +200,16 @@ module _ {Link Clock : Type 0} (senses : Senses Link Clock) where
         ));
       }
 
-  listened_now : (start : Standing Link Clock) (ticked : Option ℕ)
-      (before after : Standing Link Clock) → Looked start ticked before
+  listened_now : (start : Standing Transport Clock) (ticked : Option ℕ)
+      (before after : Standing Transport Clock) → Looked start ticked before
       → Listens senses before after → Rounded start ticked after
   listened_now start ticked before after l h =
       heard_now start ticked before h.heard h.between after l h.is_heard h.turn
 
-  all_rounds : {Flag : Type 0} (reads : Reads Flag) (begun : Flag) (start : Standing Link Clock)
-      (rounds : ℕ) (ticked : Option ℕ) (flag : Flag) (now : Standing Link Clock)
-      → Lives senses reads begun start rounds ticked flag now → Rounded start ticked now
+  all_rounds : {Flag : Type 0} (reads : Reads Flag) (begun : Flag)
+      (start : Standing Transport Clock) (rounds : ℕ) (ticked : Option ℕ) (flag : Flag)
+      (now : Standing Transport Clock) → Lives senses reads begun start rounds ticked flag now
+      → Rounded start ticked now
   all_rounds reads begun start zero ticked flag now (none, unread, same) = record {
     so_far = record { deeds = []; does = same; follows = tt; works = refl; last = sym none };
     looks = inl refl;
@@ -214,8 +220,8 @@ module _ {Link Clock : Type 0} (senses : Senses Link Clock) where
       listened_now start ticked between now
       (ticked_now start earlier then ticked between r.so_far r.looks ticks) listens
 
-pub in_order : {Link Clock Flag : Type 0} (senses : Senses Link Clock) (reads : Reads Flag)
-    → LivesAreDeedsInOrder senses reads
+pub in_order : {Transport Clock Flag : Type 0} (senses : Senses Transport Clock)
+    (reads : Reads Flag) → LivesAreDeedsInOrder senses reads
 in_order senses reads begun flag start now rounds ticked lives =
     let r = all_rounds senses reads begun start rounds ticked flag now lives in
     record {

@@ -9,28 +9,28 @@ use Rattle.worker.specs.Lives.{Lives, Reads, Senses, Serves, Standing}
 pub data Deed : Type 0 where
   -- its clock showed this moment
   Looks : (moment : ℕ) → Deed
-  -- its link gave a datagram or none
+  -- its transport gave a datagram or none
   Listens : (heard : Option (List ℕ)) → Deed
   -- it gave a work to a turn at the moment, whose last try was at the other one
   Gives : (moment : ℕ) → (work : Work) → (ended : ℕ) → Deed
 
 -- what it is to do so
-abbrev pub Does : {Link Clock : Type 0} → Senses Link Clock → (before : Standing Link Clock) → Deed
-    → (after : Standing Link Clock) → Type 0
+abbrev pub Does : {Transport Clock : Type 0} → Senses Transport Clock
+    → (before : Standing Transport Clock) → Deed → (after : Standing Transport Clock) → Type 0
 Does {Clock = Clock} senses before (Deed.Looks moment) after =
     (shown : Clock) × senses.shows before.clock moment shown
     × (after ≡ record before { clock = shown })
-Does {Link = Link} senses before (Deed.Listens heard) after =
-    (between : Link) × senses.hears before.link heard between
-    × (after ≡ record before { link = between })
+Does {Transport = Transport} senses before (Deed.Listens heard) after =
+    (between : Transport) × senses.hears before.transport heard between
+    × (after ≡ record before { transport = between })
 Does senses before (Deed.Gives moment work ended) after =
     Serves senses moment work before ended after
 
-abbrev pub DoesEach : {Link Clock : Type 0} → Senses Link Clock → (before : Standing Link Clock)
-    → List Deed → (after : Standing Link Clock) → Type 0
+abbrev pub DoesEach : {Transport Clock : Type 0} → Senses Transport Clock
+    → (before : Standing Transport Clock) → List Deed → (after : Standing Transport Clock) → Type 0
 DoesEach senses before [] after = after ≡ before
-DoesEach {Link = Link} {Clock = Clock} senses before (deed ∷ deeds) after =
-    (between : Standing Link Clock) × Does senses before deed between
+DoesEach {Transport = Transport} {Clock = Clock} senses before (deed ∷ deeds) after =
+    (between : Standing Transport Clock) × Does senses before deed between
     × DoesEach senses between deeds after
 
 -- ---- what was heard, and what was given
@@ -135,16 +135,16 @@ EachMayFollow earlier (deed ∷ deeds) =
 -- What was done between two standings: these deeds and no others, each in its place, after which it
 -- looks at its clock again; and of the works but Ticks that were given none lacks, none came twice,
 -- and none came before an earlier one.
-pub record HasDone {Link Clock : Type 0} (senses : Senses Link Clock)
-    (start now : Standing Link Clock) : Type 0 where
+pub record HasDone {Transport Clock : Type 0} (senses : Senses Transport Clock)
+    (start now : Standing Transport Clock) : Type 0 where
   pub deeds : List Deed
   pub does : DoesEach senses start deeds now
   pub follows : EachMayFollow [] deeds
   pub looks_next : IsLookingAfter deeds
   pub works : given deeds ≡ map (λ bytes. Datagram senses.number bytes) (heard deeds)
 
-abbrev pub LivesAreDeedsInOrder : {Link Clock Flag : Type 0} → Senses Link Clock → Reads Flag
-    → Type 0
-LivesAreDeedsInOrder {Link = Link} {Clock = Clock} {Flag = Flag} senses reads =
-    (begun flag : Flag) (start now : Standing Link Clock) (rounds : ℕ) (ticked : Option ℕ)
+abbrev pub LivesAreDeedsInOrder : {Transport Clock Flag : Type 0} → Senses Transport Clock
+    → Reads Flag → Type 0
+LivesAreDeedsInOrder {Transport = Transport} {Clock = Clock} {Flag = Flag} senses reads =
+    (begun flag : Flag) (start now : Standing Transport Clock) (rounds : ℕ) (ticked : Option ℕ)
     → Lives senses reads begun start rounds ticked flag now → HasDone senses start now

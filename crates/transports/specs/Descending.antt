@@ -1,4 +1,4 @@
--- Descending numbers of ports and of links.
+-- Descending numbers of ports and of transports.
 use Rattle.std.specs.Prelude.{◌≡◌, ℕ, ◌+◌, List, [], ◌∷◌, length}
 
 -- the last of the numbers is this one, and each is one more than the next

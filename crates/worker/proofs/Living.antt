@@ -89,8 +89,8 @@ on_ok (Ok x) f h = f h
 on_ok (Err e) f h = h
 
 -- a turn that was tried, and whose outs were sent, if it was taken
-pub serves : {Link Clock : Type 0} (senses : Senses Link Clock) (moment : ℕ) (work : Work)
-    (before : Standing Link Clock) (ended : ℕ) (after : Standing Link Clock)
+pub serves : {Transport Clock : Type 0} (senses : Senses Transport Clock) (moment : ℕ) (work : Work)
+    (before : Standing Transport Clock) (ended : ℕ) (after : Standing Transport Clock)
     (outcome : Result Turned TurnError) → IsPrefix before.known after.known
     → IsTried senses.shows (λ m. senses.refusals before.known after.known before.events m work)
     before.clock moment after.clock ended outcome → senses.asks ended work
@@ -99,8 +99,8 @@ pub serves : {Link Clock : Type 0} (senses : Senses Link Clock) (moment : ℕ) (
     → IfErr outcome (λ error. senses.refusals before.known after.known before.events ended work
     error)
     → OnErr outcome (after.events ≡ before.events)
-    → MatchResult outcome (λ turned. IsSent senses.gives before.link turned after.link)
-    (λ _. after.link ≡ before.link)
+    → MatchResult outcome (λ turned. IsSent senses.gives before.transport turned after.transport)
+    (λ _. after.transport ≡ before.transport)
     → Serves senses moment work before ended after
 serves senses moment work before ended after (Ok turned) learnt tried asked turns why events sent =
     record {
@@ -121,16 +121,16 @@ serves senses moment work before ended after (Err error) learnt tried asked turn
 
 -- ---- a round
 
-pub ticked_then : {Link Clock : Type 0} (senses : Senses Link Clock) (ticked : Option ℕ)
-    (before : Standing Link Clock) (moment : ℕ) (shown : Clock)
+pub ticked_then : {Transport Clock : Type 0} (senses : Senses Transport Clock) (ticked : Option ℕ)
+    (before : Standing Transport Clock) (moment : ℕ) (shown : Clock)
     → senses.shows before.clock moment shown → ticked ≡ Some moment
     → Ticks senses ticked before ticked (record before { clock = shown })
 ticked_then senses ticked before moment shown is_shown same =
     record { moment = moment; shown = shown; is_shown = is_shown; turn = inl (same, refl, refl) }
 
-pub ticks_now : {Link Clock : Type 0} (senses : Senses Link Clock) (ticked : Option ℕ)
-    (before : Standing Link Clock) (moment : ℕ) (shown : Clock) (ended : ℕ)
-    (after : Standing Link Clock) → senses.shows before.clock moment shown
+pub ticks_now : {Transport Clock : Type 0} (senses : Senses Transport Clock) (ticked : Option ℕ)
+    (before : Standing Transport Clock) (moment : ℕ) (shown : Clock) (ended : ℕ)
+    (after : Standing Transport Clock) → senses.shows before.clock moment shown
     → ticked ≢ Some moment → Serves senses moment Tick (record before { clock = shown }) ended after
     → Ticks senses ticked before (Some ended) after
 ticks_now senses ticked before moment shown ended after is_shown other serves =
@@ -141,9 +141,9 @@ ticks_now senses ticked before moment shown ended after is_shown other serves =
       turn = inr (other, (ended, refl, serves));
     }
 
-pub turned_to : {Link Clock : Type 0} (senses : Senses Link Clock) (bytes : List ℕ)
-    (before : Standing Link Clock) (moment : ℕ) (shown : Clock) (ended : ℕ)
-    (after : Standing Link Clock) → senses.shows before.clock moment shown
+pub turned_to : {Transport Clock : Type 0} (senses : Senses Transport Clock) (bytes : List ℕ)
+    (before : Standing Transport Clock) (moment : ℕ) (shown : Clock) (ended : ℕ)
+    (after : Standing Transport Clock) → senses.shows before.clock moment shown
     → Serves senses moment (Datagram senses.number bytes) (record before {
       clock = shown;
     }) ended after
@@ -151,19 +151,19 @@ pub turned_to : {Link Clock : Type 0} (senses : Senses Link Clock) (bytes : List
 turned_to senses bytes before moment shown ended after is_shown serves =
     (moment, shown, ended, is_shown, serves)
 
-pub listened : {Link Clock : Type 0} (senses : Senses Link Clock)
-    (before after : Standing Link Clock) (heard : Option (List ℕ))
-    (between : Link) → senses.hears before.link heard between
-    → IsHeard senses heard (record before { link = between }) after
+pub listened : {Transport Clock : Type 0} (senses : Senses Transport Clock)
+    (before after : Standing Transport Clock) (heard : Option (List ℕ))
+    (between : Transport) → senses.hears before.transport heard between
+    → IsHeard senses heard (record before { transport = between }) after
     → Listens senses before after
 listened senses before after heard between is_heard turn =
     record { heard = heard; between = between; is_heard = is_heard; turn = turn }
 
--- the time and then the link, at a port that has its number still
-pub in_turn : {Link Clock A E : Type 0} (gives : Gives Link) (hears : Hears Link)
+-- the time and then the transport, at a port that has its number still
+pub in_turn : {Transport Clock A E : Type 0} (gives : Gives Transport) (hears : Hears Transport)
     (shows : Shows Clock) (offers : Offers) (took : Took) (refuses : Refuses)
-    (number now : ℕ) (ticked : Option ℕ) (before : Standing Link Clock) (next : Option ℕ)
-    (between after : Standing Link Clock) (result : Result A E) → now ≡ number
+    (number now : ℕ) (ticked : Option ℕ) (before : Standing Transport Clock) (next : Option ℕ)
+    (between after : Standing Transport Clock) (result : Result A E) → now ≡ number
     → Ticks (senses_of gives hears shows offers took refuses number) ticked before next between
     → OnOk result (Listens (senses_of gives hears shows offers took refuses now) between after)
     → OnOk result (Round (senses_of gives hears shows offers took refuses number) ticked before
@@ -185,22 +185,23 @@ pub found_set : {Flag : Type 0} (reads : Reads Flag) (flag told : Flag) → read
     → (earlier : Flag) × reads earlier true told
 found_set reads flag told read = (flag, read)
 
-module _ {Link Clock Flag : Type 0} (senses : Senses Link Clock) (reads : Reads Flag) (begun : Flag)
-    (start : Standing Link Clock) where
-  pub lives_on : (earlier : Option ℕ) (unset : Flag) (then : Standing Link Clock)
-      (ticked : Option ℕ) (flag : Flag) (now : Standing Link Clock)
+module _ {Transport Clock Flag : Type 0} (senses : Senses Transport Clock) (reads : Reads Flag)
+    (begun : Flag)
+    (start : Standing Transport Clock) where
+  pub lives_on : (earlier : Option ℕ) (unset : Flag) (then : Standing Transport Clock)
+      (ticked : Option ℕ) (flag : Flag) (now : Standing Transport Clock)
       → ((rounds : ℕ) × Lives senses reads begun start rounds earlier unset then)
       → reads unset false flag → Round senses earlier then ticked now
       → (rounds : ℕ) × Lives senses reads begun start rounds ticked flag now
   lives_on earlier unset then ticked flag now (rounds, lived) read round =
       (suc rounds, (earlier, unset, then, lived, read, round))
 
-  pub has_lived : (ticked : Option ℕ) (flag told : Flag) (now : Standing Link Clock)
+  pub has_lived : (ticked : Option ℕ) (flag told : Flag) (now : Standing Transport Clock)
       → ((rounds : ℕ) × Lives senses reads begun start rounds ticked flag now)
       → reads flag true told → HasLived senses reads begun start told now
   has_lived ticked flag told now (rounds, lived) read = (rounds, ticked, flag, lived, read)
 
-  pub has_lived_on : (ticked : Option ℕ) (flag untold : Flag) (then : Standing Link Clock)
+  pub has_lived_on : (ticked : Option ℕ) (flag untold : Flag) (then : Standing Transport Clock)
       → ((rounds : ℕ) × Lives senses reads begun start rounds ticked flag then)
       → reads flag false untold → HasLivedOn senses reads begun start untold
   has_lived_on ticked flag untold then (rounds, lived) read =

@@ -1,4 +1,4 @@
--- What a link hears, by what its socket gave or refused.
+-- What a transport hears, by what its socket gave or refused.
 use Rattle.std.proofs.Common.{◌≡◌, inl, inr, ℕ, zero, suc, ◌<◌, ◌≤◌, Bool, true, false, List, []}
 use Rattle.std.proofs.Common.{◌∷◌, Option, Some, None, Result, length, slice_get}
 use Rattle.std.proofs.Common.{Ok, Err, IfErr, IfNone, IfOk, IfSome, IsErr, IsFalse, IsTrue}

@@ -1,4 +1,4 @@
--- The life of a worker: what its clock showed, what its link heard, and the turns that came of
+-- The life of a worker: what its clock showed, what its transport heard, and the turns that came of
 -- both.
 use Rattle.std.specs.Prelude.{◌≡◌, ◌≢◌, ◌⊎◌, ℕ, zero, suc, ◌≤◌, List, [], ◌∷◌, ◌++◌, length}
 use Rattle.std.specs.Prelude.{Bool, true, false, Option, Some, None, MatchOption}
@@ -13,7 +13,7 @@ use Rattle.turns.specs.declared.work.Work.TheVariants.{Datagram, Tick}
 use Rattle.worker.specs.Sending.{Gives, IsGivenEach}
 use Rattle.worker.specs.Refusals.{clock_back}
 
--- ---- what is said of a worker's flag, of its clock, of its link and of its turns
+-- ---- what is said of a worker's flag, of its clock, of its transport and of its turns
 
 -- a flag before it was found set or unset, and after that
 abbrev pub Reads : (Flag : Type 0) → Type 1
@@ -23,9 +23,9 @@ Reads Flag = (before : Flag) → (is_set : Bool) → (after : Flag) → Type 0
 abbrev pub Shows : (Clock : Type 0) → Type 1
 Shows Clock = (before : Clock) → (moment : ℕ) → (after : Clock) → Type 0
 
--- a link before it heard a datagram or none, and after that
-abbrev pub Hears : (Link : Type 0) → Type 1
-Hears Link = (before : Link) → (heard : Option (List ℕ)) → (after : Link) → Type 0
+-- a transport before it heard a datagram or none, and after that
+abbrev pub Hears : (Transport : Type 0) → Type 1
+Hears Transport = (before : Transport) → (heard : Option (List ℕ)) → (after : Transport) → Type 0
 
 -- a turn at a moment, for a work, which operations its port knew before it and knows after it, and
 -- how many events that had given before and after
@@ -44,28 +44,29 @@ Refusals = (known now : List LoaderOperation) → (events : ℕ) → (moment : �
 abbrev pub Asks : Type 1
 Asks = (moment : ℕ) → Work → Type 0
 
--- all that is said of a worker: of its link, its clock and its turns; and the number of its port
-pub record Senses (Link Clock : Type 0) : Type 1 where
-  pub gives : Gives Link
-  pub hears : Hears Link
+-- all that is said of a worker: of its transport, its clock and its turns; and the number of its
+-- port
+pub record Senses (Transport Clock : Type 0) : Type 1 where
+  pub gives : Gives Transport
+  pub hears : Hears Transport
   pub shows : Shows Clock
   pub turns : Turns
   pub refusals : Refusals
   pub asks : Asks
   pub number : ℕ
 
--- its link, its clock, which operations its port knows, and how many events that has given to the
--- router
-pub record Standing (Link Clock : Type 0) : Type 0 where
-  pub link : Link
+-- its transport, its clock, which operations its port knows, and how many events that has given to
+-- the router
+pub record Standing (Transport Clock : Type 0) : Type 0 where
+  pub transport : Transport
   pub clock : Clock
   pub known : List LoaderOperation
   pub events : ℕ
 
-abbrev pub standing : {Link Clock : Type 0} → Link → Clock → (known : List LoaderOperation)
-    → (events : ℕ) → Standing Link Clock
-standing link clock known events = record {
-  link = link;
+abbrev pub standing : {Transport Clock : Type 0} → Transport → Clock
+    → (known : List LoaderOperation) → (events : ℕ) → Standing Transport Clock
+standing transport clock known events = record {
+  transport = transport;
   clock = clock;
   known = known;
   events = events;
@@ -73,9 +74,9 @@ standing link clock known events = record {
 
 -- ---- a turn
 
--- what is said of a worker at the port of this number, with such a link and such a clock
-abbrev pub senses_of : {Link Clock : Type 0} → Gives Link → Hears Link → Shows Clock → Offers → Took
-    → Refuses → (number : ℕ) → Senses Link Clock
+-- what is said of a worker at the port of this number, with such a transport and such a clock
+abbrev pub senses_of : {Transport Clock : Type 0} → Gives Transport → Hears Transport → Shows Clock
+    → Offers → Took → Refuses → (number : ℕ) → Senses Transport Clock
 senses_of gives hears shows offers took refuses number = record {
   gives = gives;
   hears = hears;
@@ -86,9 +87,9 @@ senses_of gives hears shows offers took refuses number = record {
   number = number;
 }
 
--- the link was given what it sends, and then what its refresh sends
-abbrev pub IsSent : {Link : Type 0} → Gives Link → (before : Link) → Turned → (after : Link)
-    → Type 0
+-- the transport was given what it sends, and then what its refresh sends
+abbrev pub IsSent : {Transport : Type 0} → Gives Transport → (before : Transport) → Turned
+    → (after : Transport) → Type 0
 IsSent gives before turned after =
     MatchOption turned.refreshed (IsGivenEach gives before turned.outs.items after)
     (λ outs. IsGivenEach gives before (turned.outs.items ++ outs.items) after)
@@ -124,30 +125,33 @@ pub record IsTried {Clock : Type 0} (shows : Shows Clock)
   pub at_last : last ≡ latest first again
   pub thrice : outcome ≡ Err clock_back → length again ≡ 3
 
--- A turn that asked what it has to ask, and the link was given what it sends; if it is refused,
--- nothing is sent, and the router has no event more. Its answers are by operations that begin with
--- all that the port knew before, and begin all that it knows then, which begins with the former.
-pub record Serves {Link Clock : Type 0} (senses : Senses Link Clock) (moment : ℕ) (work : Work)
-    (before : Standing Link Clock) (ended : ℕ) (after : Standing Link Clock) : Type 0 where
-  pub outcome : Result Turned TurnError
-  pub learnt : IsPrefix before.known after.known
-  pub tried : IsTried senses.shows
-      (λ m. senses.refusals before.known after.known before.events m work)
-      before.clock moment after.clock ended outcome
-  pub asked : senses.asks ended work
-  pub given : MatchResult outcome
-      (λ turned. senses.turns before.known after.known ended work before.events after.events
-      turned
-      × IsSent senses.gives before.link turned after.link)
-      (λ error. senses.refusals before.known after.known before.events ended work error
-      × (after.link ≡ before.link) × (after.events ≡ before.events))
+-- A turn that asked what it has to ask, and the transport was given what it sends; if it is
+-- refused, nothing is sent, and the router has no event more. Its answers are by operations that
+-- begin with all that the port knew before, and begin all that it knows then, which begins with the
+-- former.
+pub record Serves {Transport Clock : Type 0} (senses : Senses Transport Clock) (moment : ℕ)
+    (work : Work)
+    (before : Standing Transport Clock) (ended : ℕ) (after : Standing Transport Clock) : Type 0
+  where
+    pub outcome : Result Turned TurnError
+    pub learnt : IsPrefix before.known after.known
+    pub tried : IsTried senses.shows
+        (λ m. senses.refusals before.known after.known before.events m work)
+        before.clock moment after.clock ended outcome
+    pub asked : senses.asks ended work
+    pub given : MatchResult outcome
+        (λ turned. senses.turns before.known after.known ended work before.events after.events
+        turned
+        × IsSent senses.gives before.transport turned after.transport)
+        (λ error. senses.refusals before.known after.known before.events ended work error
+        × (after.transport ≡ before.transport) × (after.events ≡ before.events))
 
 -- ---- a round
 
 -- the clock showed a moment: that of the last Tick, or another one, and then there is a Tick's turn
-pub record Ticks {Link Clock : Type 0} (senses : Senses Link Clock) (ticked : Option ℕ)
-    (before : Standing Link Clock)
-    (next : Option ℕ) (after : Standing Link Clock) : Type 0 where
+pub record Ticks {Transport Clock : Type 0} (senses : Senses Transport Clock) (ticked : Option ℕ)
+    (before : Standing Transport Clock)
+    (next : Option ℕ) (after : Standing Transport Clock) : Type 0 where
   pub moment : ℕ
   pub shown : Clock
   pub is_shown : senses.shows before.clock moment shown
@@ -157,58 +161,61 @@ pub record Ticks {Link Clock : Type 0} (senses : Senses Link Clock) (ticked : Op
 
 -- a datagram came: there is a turn with it at the interface of the worker's port, at a moment that
 -- the clock showed then
-abbrev pub IsTurnedTo : {Link Clock : Type 0} → Senses Link Clock → (bytes : List ℕ)
-    → (before after : Standing Link Clock) → Type 0
+abbrev pub IsTurnedTo : {Transport Clock : Type 0} → Senses Transport Clock → (bytes : List ℕ)
+    → (before after : Standing Transport Clock) → Type 0
 IsTurnedTo {Clock = Clock} senses bytes before after =
     (moment : ℕ) × (shown : Clock) × (ended : ℕ) × senses.shows before.clock moment shown
     × Serves senses moment (Datagram senses.number bytes) (record before { clock = shown }) ended
     after
 
 -- what is done about what was heard
-abbrev pub IsHeard : {Link Clock : Type 0} → Senses Link Clock → Option (List ℕ)
-    → (before after : Standing Link Clock) → Type 0
+abbrev pub IsHeard : {Transport Clock : Type 0} → Senses Transport Clock → Option (List ℕ)
+    → (before after : Standing Transport Clock) → Type 0
 IsHeard senses None before after = after ≡ before
 IsHeard senses (Some bytes) before after = IsTurnedTo senses bytes before after
 
--- the link heard a datagram or none
-pub record Listens {Link Clock : Type 0} (senses : Senses Link Clock) (before after : Standing Link
+-- the transport heard a datagram or none
+pub record Listens {Transport Clock : Type 0} (senses : Senses Transport Clock)
+    (before after : Standing Transport
     Clock) : Type 0 where
   pub heard : Option (List ℕ)
-  pub between : Link
-  pub is_heard : senses.hears before.link heard between
-  pub turn : IsHeard senses heard (record before { link = between }) after
+  pub between : Transport
+  pub is_heard : senses.hears before.transport heard between
+  pub turn : IsHeard senses heard (record before { transport = between }) after
 
--- a round: first the time, and then the link
-abbrev pub Round : {Link Clock : Type 0} → Senses Link Clock → (ticked : Option ℕ)
-    → (before : Standing Link Clock)
-    → (next : Option ℕ) → (after : Standing Link Clock) → Type 0
-Round {Link = Link} {Clock = Clock} senses ticked before next after =
-    (between : Standing Link Clock) × Ticks senses ticked before next between
+-- a round: first the time, and then the transport
+abbrev pub Round : {Transport Clock : Type 0} → Senses Transport Clock → (ticked : Option ℕ)
+    → (before : Standing Transport Clock)
+    → (next : Option ℕ) → (after : Standing Transport Clock) → Type 0
+Round {Transport = Transport} {Clock = Clock} senses ticked before next after =
+    (between : Standing Transport Clock) × Ticks senses ticked before next between
     × Listens senses between after
 
 -- This many rounds, after which this is the moment of the last Tick. Before each the flag was
 -- looked at once, and found unset.
-abbrev pub Lives : {Link Clock Flag : Type 0} → Senses Link Clock → Reads Flag → (begun : Flag)
-    → (start : Standing Link Clock) → (rounds : ℕ) → (ticked : Option ℕ) → (flag : Flag)
-    → (now : Standing Link Clock) → Type 0
+abbrev pub Lives : {Transport Clock Flag : Type 0} → Senses Transport Clock → Reads Flag
+    → (begun : Flag) → (start : Standing Transport Clock) → (rounds : ℕ) → (ticked : Option ℕ)
+    → (flag : Flag) → (now : Standing Transport Clock) → Type 0
 Lives senses reads begun start zero ticked flag now =
     (ticked ≡ None) × (flag ≡ begun) × (now ≡ start)
-Lives {Link = Link} {Clock = Clock} {Flag = Flag} senses reads begun start (suc rounds) ticked flag
+Lives {Transport = Transport} {Clock = Clock} {Flag = Flag} senses reads begun start (suc rounds)
+    ticked flag
     now =
-    (earlier : Option ℕ) × (unset : Flag) × (then : Standing Link Clock)
+    (earlier : Option ℕ) × (unset : Flag) × (then : Standing Transport Clock)
     × Lives senses reads begun start rounds earlier unset then
     × reads unset false flag × Round senses earlier then ticked now
 
 -- some rounds, and then the flag was found set
-abbrev pub HasLived : {Link Clock Flag : Type 0} → Senses Link Clock → Reads Flag → (begun : Flag)
-    → (start : Standing Link Clock) → (told : Flag) → (now : Standing Link Clock) → Type 0
+abbrev pub HasLived : {Transport Clock Flag : Type 0} → Senses Transport Clock → Reads Flag
+    → (begun : Flag) → (start : Standing Transport Clock) → (told : Flag)
+    → (now : Standing Transport Clock) → Type 0
 HasLived {Flag = Flag} senses reads begun start told now =
     (rounds : ℕ) × (ticked : Option ℕ) × (flag : Flag)
     × Lives senses reads begun start rounds ticked flag now × reads flag true told
 
 -- some rounds, and then the flag was found unset, and one more round began
-abbrev pub HasLivedOn : {Link Clock Flag : Type 0} → Senses Link Clock → Reads Flag
-    → (begun : Flag) → (start : Standing Link Clock) → (untold : Flag) → Type 0
-HasLivedOn {Link = Link} {Clock = Clock} {Flag = Flag} senses reads begun start untold =
-    (rounds : ℕ) × (ticked : Option ℕ) × (flag : Flag) × (then : Standing Link Clock)
+abbrev pub HasLivedOn : {Transport Clock Flag : Type 0} → Senses Transport Clock → Reads Flag
+    → (begun : Flag) → (start : Standing Transport Clock) → (untold : Flag) → Type 0
+HasLivedOn {Transport = Transport} {Clock = Clock} {Flag = Flag} senses reads begun start untold =
+    (rounds : ℕ) × (ticked : Option ℕ) × (flag : Flag) × (then : Standing Transport Clock)
     × Lives senses reads begun start rounds ticked flag then × reads flag false untold

@@ -19,7 +19,7 @@ pub use sockets::clock::{ReadsSeconds, SystemSeconds};
 pub use sockets::error::SocketError;
 pub use sockets::refusals::{came, sent};
 pub use sockets::socket::DatagramSocket;
-pub use sockets::socket_links::{LinkEnd, Sockets, listening, listening_with};
+pub use sockets::socket_transports::{Sockets, TransportEnd, listening, listening_with};
 pub use sockets::waiting::{Ear, ListensAt, SystemPoller, Waits};
 pub use sockets::wire::{BindsSockets, SystemSockets, Wire, bind_each, bind_each_with};
 pub use turns::{

@@ -24,12 +24,12 @@ use words::Second;
 pub enum Ended {
     /// It was told to end.
     Quit,
-    /// Its link failed.
+    /// Its transport failed.
     Fault,
 }
 
 impl Ended {
-    /// The status of the program: 0, or 3 if a link failed.
+    /// The status of the program: 0, or 3 if a transport failed.
     pub fn status(self) -> u8
         ensures quit { self ≡ Quit → result ≡ 0 }
         ensures fault { self ≡ Fault → result ≡ 3 }
@@ -42,9 +42,9 @@ impl Ended {
 }
 
 /// Runs a worker. In each round it takes a Tick's turn if the second has changed, and a turn with
-/// the datagram that its link gave, if one came, and sends what these turns send. Once before each
-/// round it looks at `quit`, and ends with `Quit` if that is set. With `Fault` it ends if its link
-/// failed, and only then.
+/// the datagram that its transport gave, if one came, and sends what these turns send. Once before
+/// each round it looks at `quit`, and ends with `Quit` if that is set. With `Fault` it ends if its
+/// transport failed, and only then.
 ///
 /// A refused turn sends nothing. After a fault in the midst of a turn's outs the event stands, and
 /// the later outs aren't sent.
@@ -55,21 +55,22 @@ pub fn run<L: Site, B: Taker<L>, G: Gate, K: Transport, S: Seconds, F: Flag, R: 
     hub: &Hub<L, B>,
     port: &mut Port<L>,
     gate: &mut G,
-    link: &mut K,
+    transport: &mut K,
     clock: &mut S,
     quit: &mut F,
 ) -> Ended
     ensures told { result ≡ Quit → (flag : F) × F.reads flag true quit.new }
-    ensures ended { (result ≡ Fault) ↔ (K.faults link.old < K.faults link.new) }
+    ensures ended { (result ≡ Fault) ↔ (K.faults transport.old < K.faults transport.new) }
     ensures lived { result ≡ Quit → HasLived
         (senses_of K.gives K.hears S.shows B.offers B.took B.refuses port.old.number)
         F.reads quit.old
-        (standing link.old clock.old (known_to port.old.asker) port.old.share.amount) quit.new
-        (standing link.new clock.new (known_to port.new.asker) port.new.share.amount) }
+        (standing transport.old clock.old (known_to port.old.asker) port.old.share.amount) quit.new
+        (standing transport.new clock.new (known_to port.new.asker) port.new.share.amount) }
     ensures lived_on { result ≡ Fault → HasLivedOn
         (senses_of K.gives K.hears S.shows B.offers B.took B.refuses port.old.number)
         F.reads quit.old
-        (standing link.old clock.old (known_to port.old.asker) port.old.share.amount) quit.new }
+        (standing transport.old clock.old (known_to port.old.asker) port.old.share.amount)
+        quit.new }
     ensures number { port.new.number ≡ port.old.number }
     ensures known { IsPrefix (known_to port.old.asker) (known_to port.new.asker) }
 {
@@ -86,7 +87,7 @@ pub fn run<L: Site, B: Taker<L>, G: Gate, K: Transport, S: Seconds, F: Flag, R: 
             hub,
             port,
             gate,
-            link,
+            transport,
             clock,
             &mut ticked,
             &mut buffer,
@@ -97,7 +98,7 @@ pub fn run<L: Site, B: Taker<L>, G: Gate, K: Transport, S: Seconds, F: Flag, R: 
     Ended::Quit
 }
 
-// A round: first the time, and then the link. `ticked` is the moment of the last Tick.
+// A round: first the time, and then the transport. `ticked` is the moment of the last Tick.
 #[tactic(auto, using(crate::proofs::Tries::known_still))]
 fn round<L: Site, B: Taker<L>, G: Gate, K: Transport, S: Seconds, R: Wait>(
     rt: &R,
@@ -105,7 +106,7 @@ fn round<L: Site, B: Taker<L>, G: Gate, K: Transport, S: Seconds, R: Wait>(
     hub: &Hub<L, B>,
     port: &mut Port<L>,
     gate: &mut G,
-    link: &mut K,
+    transport: &mut K,
     clock: &mut S,
     ticked: &mut Option<Second>,
     buffer: &mut [u8; 8193],
@@ -113,15 +114,16 @@ fn round<L: Site, B: Taker<L>, G: Gate, K: Transport, S: Seconds, R: Wait>(
     ensures round { OnOk result (Round
         (senses_of K.gives K.hears S.shows B.offers B.took B.refuses port.old.number)
         ticked.old
-        (standing link.old clock.old (known_to port.old.asker) port.old.share.amount) ticked.new
-        (standing link.new clock.new (known_to port.new.asker) port.new.share.amount)) }
+        (standing transport.old clock.old (known_to port.old.asker) port.old.share.amount)
+        ticked.new
+        (standing transport.new clock.new (known_to port.new.asker) port.new.share.amount)) }
     ensures number { port.new.number ≡ port.old.number }
     ensures known { IsPrefix (known_to port.old.asker) (known_to port.new.asker) }
-    ensures fine { OnOk result (K.faults link.new ≡ K.faults link.old) }
-    ensures fault { OnErr result (K.faults link.old < K.faults link.new) }
+    ensures fine { OnOk result (K.faults transport.new ≡ K.faults transport.old) }
+    ensures fault { OnErr result (K.faults transport.old < K.faults transport.new) }
 {
-    tick(rt, hub, port, gate, link, clock, ticked)?;
-    listen(rt, alloc, hub, port, gate, link, clock, buffer)
+    tick(rt, hub, port, gate, transport, clock, ticked)?;
+    listen(rt, alloc, hub, port, gate, transport, clock, buffer)
 }
 
 // Whether this was the moment of the last Tick.
@@ -140,31 +142,32 @@ fn tick<L: Site, B: Taker<L>, G: Gate, K: Transport, S: Seconds, R: Wait>(
     hub: &Hub<L, B>,
     port: &mut Port<L>,
     gate: &mut G,
-    link: &mut K,
+    transport: &mut K,
     clock: &mut S,
     ticked: &mut Option<Second>,
 ) -> Result<(), SocketFault>
     ensures ticks { OnOk result (Ticks
         (senses_of K.gives K.hears S.shows B.offers B.took B.refuses port.old.number)
         ticked.old
-        (standing link.old clock.old (known_to port.old.asker) port.old.share.amount) ticked.new
-        (standing link.new clock.new (known_to port.new.asker) port.new.share.amount)) }
+        (standing transport.old clock.old (known_to port.old.asker) port.old.share.amount)
+        ticked.new
+        (standing transport.new clock.new (known_to port.new.asker) port.new.share.amount)) }
     ensures number { port.new.number ≡ port.old.number }
     ensures known { IsPrefix (known_to port.old.asker) (known_to port.new.asker) }
-    ensures fine { OnOk result (K.faults link.new ≡ K.faults link.old) }
-    ensures fault { OnErr result (K.faults link.old < K.faults link.new) }
+    ensures fine { OnOk result (K.faults transport.new ≡ K.faults transport.old) }
+    ensures fault { OnErr result (K.faults transport.old < K.faults transport.new) }
 {
     let mut now = clock.second();
     if has_ticked(*ticked, now) {
         return Ok(());
     }
     let turned = tried(rt, hub, port, gate, clock, &mut now, &Work::Tick);
-    send_turned(link, &turned)?;
+    send_turned(transport, &turned)?;
     *ticked = Some(now);
     Ok(())
 }
 
-// A turn with the datagram that the link gives, if it gives one, and what that sends.
+// A turn with the datagram that the transport gives, if it gives one, and what that sends.
 #[tactic(auto, using(crate::proofs::Living::listened, crate::proofs::Tries::known_first))]
 fn listen<L: Site, B: Taker<L>, G: Gate, K: Transport, S: Seconds, R: Wait>(
     rt: &R,
@@ -172,27 +175,27 @@ fn listen<L: Site, B: Taker<L>, G: Gate, K: Transport, S: Seconds, R: Wait>(
     hub: &Hub<L, B>,
     port: &mut Port<L>,
     gate: &mut G,
-    link: &mut K,
+    transport: &mut K,
     clock: &mut S,
     buffer: &mut [u8; 8193],
 ) -> Result<(), SocketFault>
     ensures listens { OnOk result (Listens
         (senses_of K.gives K.hears S.shows B.offers B.took B.refuses port.old.number)
-        (standing link.old clock.old (known_to port.old.asker) port.old.share.amount)
-        (standing link.new clock.new (known_to port.new.asker) port.new.share.amount)) }
+        (standing transport.old clock.old (known_to port.old.asker) port.old.share.amount)
+        (standing transport.new clock.new (known_to port.new.asker) port.new.share.amount)) }
     ensures number { port.new.number ≡ port.old.number }
     ensures known { IsPrefix (known_to port.old.asker) (known_to port.new.asker) }
-    ensures fine { OnOk result (K.faults link.new ≡ K.faults link.old) }
-    ensures fault { OnErr result (K.faults link.old < K.faults link.new) }
+    ensures fine { OnOk result (K.faults transport.new ≡ K.faults transport.old) }
+    ensures fault { OnErr result (K.faults transport.old < K.faults transport.new) }
 {
-    let heard = link.receive(alloc, buffer)?;
+    let heard = transport.receive(alloc, buffer)?;
     let Some(bytes) = heard else {
         return Ok(());
     };
     let work = Work::Datagram(port.number(), bytes);
     let mut now = clock.second();
     let turned = tried(rt, hub, port, gate, clock, &mut now, &work);
-    send_turned(link, &turned)
+    send_turned(transport, &turned)
 }
 
 // Whether the turn was refused since the router's clock is ahead.
@@ -254,43 +257,45 @@ pub fn tried<L: Site, B: Taker<L>, G: Gate, S: Seconds, R: Wait>(
 /// # Errors
 /// `SocketFault` if a send fails: the later outs aren't sent.
 #[tactic(auto, using(crate::proofs::Sending::given_both))]
-pub fn send_all<K: Transport>(link: &mut K, turned: &Turned) -> Result<(), SocketFault>
+pub fn send_all<K: Transport>(transport: &mut K, turned: &Turned) -> Result<(), SocketFault>
     ensures each { OnOk result (MatchOption turned.now.refreshed
-        (IsGivenEach K.gives link.old turned.now.outs.items link.new)
-        (λ outs. IsGivenEach K.gives link.old (turned.now.outs.items ++ outs.items) link.new)) }
-    ensures fine { OnOk result (K.faults link.new ≡ K.faults link.old) }
-    ensures fault { OnErr result (K.faults link.old < K.faults link.new) }
+        (IsGivenEach K.gives transport.old turned.now.outs.items transport.new)
+        (λ outs. IsGivenEach K.gives transport.old (turned.now.outs.items ++ outs.items)
+        transport.new)) }
+    ensures fine { OnOk result (K.faults transport.new ≡ K.faults transport.old) }
+    ensures fault { OnErr result (K.faults transport.old < K.faults transport.new) }
 {
-    send_each(link, &turned.outs)?;
+    send_each(transport, &turned.outs)?;
     match &turned.refreshed {
-        Some(outs) => send_each(link, outs),
+        Some(outs) => send_each(transport, outs),
         None => Ok(()),
     }
 }
 
 // Sends what a turn sends; a refused one sends nothing.
 fn send_turned<K: Transport>(
-    link: &mut K,
+    transport: &mut K,
     turned: &Result<Turned, TurnError>,
 ) -> Result<(), SocketFault>
     ensures sent { OnOk result (MatchResult turned.now
-        (λ turned. IsSent K.gives link.old turned link.new) (λ _. link.new ≡ link.old)) }
-    ensures fine { OnOk result (K.faults link.new ≡ K.faults link.old) }
-    ensures fault { OnErr result (K.faults link.old < K.faults link.new) }
+        (λ turned. IsSent K.gives transport.old turned transport.new)
+        (λ _. transport.new ≡ transport.old)) }
+    ensures fine { OnOk result (K.faults transport.new ≡ K.faults transport.old) }
+    ensures fault { OnErr result (K.faults transport.old < K.faults transport.new) }
 {
     match turned {
-        Ok(turned) => send_all(link, turned),
+        Ok(turned) => send_all(transport, turned),
         Err(_) => Ok(()),
     }
 }
 
-fn send_each<K: Transport>(link: &mut K, outs: &Vec<Out>) -> Result<(), SocketFault>
-    ensures each { OnOk result (IsGivenEach K.gives link.old outs.now.items link.new) }
-    ensures fine { OnOk result (K.faults link.new ≡ K.faults link.old) }
-    ensures fault { OnErr result (K.faults link.old < K.faults link.new) }
+fn send_each<K: Transport>(transport: &mut K, outs: &Vec<Out>) -> Result<(), SocketFault>
+    ensures each { OnOk result (IsGivenEach K.gives transport.old outs.now.items transport.new) }
+    ensures fine { OnOk result (K.faults transport.new ≡ K.faults transport.old) }
+    ensures fault { OnErr result (K.faults transport.old < K.faults transport.new) }
 {
     for out in outs {
-        let _ = link.send(out.interface, out.bytes.as_slice())?;
+        let _ = transport.send(out.interface, out.bytes.as_slice())?;
     }
     Ok(())
 }

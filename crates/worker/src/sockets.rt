@@ -1,4 +1,5 @@
-//! A worker's links and clock at the machine: UDP sockets of 127.0.0.1, and the system's seconds.
+//! A worker's transports and clock at the machine: UDP sockets of 127.0.0.1, and the system's
+//! seconds.
 //!
 //! No contract says what a socket or a clock gives or takes. Which socket is handed an interface's
 //! bytes, and what a call that the system refused says, is proved for any socket.
@@ -7,6 +8,6 @@ pub mod clock;
 pub mod error;
 pub mod refusals;
 pub mod socket;
-pub mod socket_links;
+pub mod socket_transports;
 pub mod waiting;
 pub mod wire;

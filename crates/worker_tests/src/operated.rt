@@ -66,7 +66,7 @@ pub fn operate<L: Site, B: Taker<L>, R: Wait, Q: Wait + Drop>(
         loader,
         interfaces: 2,
         outlet: Outlet {
-            link: Script::new(Vec::new(alloc), &quit),
+            transport: Script::new(Vec::new(alloc), &quit),
             clock: Times::new(moments),
             failed: false,
         },

@@ -23,13 +23,13 @@ use worker::{Book, Core, Hub, Port, Setup, Site, Taker, open_hub};
 pub enum Scene<'a> {
     /// One step after the other.
     Steps(&'a [StageStep]),
-    /// The worker at interface 1 runs over a link of which it hears this, by a clock that shows
-    /// these moments, one a round, and then the last one.
+    /// The worker at interface 1 runs over a transport of which it hears this, by a clock that
+    /// shows these moments, one a round, and then the last one.
     Serves(Heard, &'a [u64]),
     /// Port 1 makes a Tick's turn at each moment below this.
     Ticks(u64),
-    /// After a Tick at moment 6 a turn is tried that does this, by a clock that shows these moments,
-    /// and then the last one.
+    /// After a Tick at moment 6 a turn is tried that does this, by a clock that shows these
+    /// moments, and then the last one.
     Tries(Deed, &'a [u64], u64),
     /// A turn of port 1 at moment 5 that does this is held at its gate, until port 2 has ticked at
     /// each moment from 5 to below this.

@@ -1,4 +1,4 @@
-//! A worker over a link that plays back what it hears, and may fail.
+//! A worker over a transport that plays back what it hears, and may fail.
 use crate::samples::HELLO;
 use std::alloc::{AllocError, Global};
 use std::sync::Wait;
@@ -7,7 +7,7 @@ use transports::{Answer, Script, Times};
 use words::Sequence;
 use worker::{Hub, Open, Port, Signal, Site, Taker, run};
 
-/// What the calls of a link are answered.
+/// What the calls of a transport are answered.
 #[derive(Clone, Copy)]
 pub enum Heard {
     /// Of forty calls the one of this number fails, counted from 0: the others send, or receive the
@@ -43,9 +43,9 @@ fn answers(alloc: Global, heard: Heard) -> Vec<Answer> {
     answers
 }
 
-/// A worker runs at this port, whose link is answered so, by a clock that shows these moments, one a
-/// round, and stays at the last one, or at 0 without any: its status, and how many datagrams it
-/// sent.
+/// A worker runs at this port, whose transport is answered so, by a clock that shows these moments,
+/// one a round, and stays at the last one, or at 0 without any: its status, and how many datagrams
+/// it sent.
 pub fn serve<L: Site, B: Taker<L>, R: Wait>(
     rt: &R,
     alloc: Global,
@@ -55,7 +55,7 @@ pub fn serve<L: Site, B: Taker<L>, R: Wait>(
     moments: &[u64],
 ) -> (u8, usize) {
     let quit = AtomicBool::new(false);
-    let mut link = Script::new(answers(alloc, heard), &quit);
+    let mut transport = Script::new(answers(alloc, heard), &quit);
     let moments = Vec::from_slice(alloc, moments).unwrap_or(Vec::new(alloc));
     let mut clock = Times::new(moments);
     let mut flag = Signal { word: &quit };
@@ -65,9 +65,9 @@ pub fn serve<L: Site, B: Taker<L>, R: Wait>(
         hub,
         port,
         &mut Open {},
-        &mut link,
+        &mut transport,
         &mut clock,
         &mut flag,
     );
-    (ended.status(), link.sent)
+    (ended.status(), transport.sent)
 }

@@ -296,7 +296,7 @@ fn scenes_end_as_told(rt: HostRuntime) {
     }
 }
 
-// A name, what is played, and how it ends: links that fail at each call, and many Ticks.
+// A name, what is played, and how it ends: transports that fail at each call, and many Ticks.
 fn long_row(number: usize) -> (&'static str, Scene<'static>, End) {
     if number > 40 {
         // the first Tick is followed by a refresh; the journal of a router with one LSA starts anew
@@ -310,7 +310,7 @@ fn long_row(number: usize) -> (&'static str, Scene<'static>, End) {
     let (events, status) = (number.max(2), if number < 40 { 3 } else { 0 });
     let end = (status, number.min(2), events, events as u64);
     let scene = Scene::Serves(Heard::Hellos(number), &[]);
-    ("a link that fails", scene, end)
+    ("a transport that fails", scene, end)
 }
 
 #[test]

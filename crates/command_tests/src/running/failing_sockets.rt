@@ -25,7 +25,7 @@ struct Row {
     status: u8,
 }
 
-// Of the rows with a worker the console's own link never fails, so a fault is the worker's.
+// Of the rows with a worker the console's own transport never fails, so a fault is the worker's.
 const ROWS: &[Row] = &[
     Row {
         name: "a worker whose sends go out",
@@ -145,7 +145,7 @@ fn run<R: Net + Threads + Wait + Clock + Log + Files + AllocGlobal + Sync + Drop
     own: &[Wire],
 ) -> Result<u8, RouteError> {
     let config = config(rt.alloc(), row.has_interface)?;
-    let links = listening(rt, rt.alloc(), wires)?;
+    let transports = listening(rt, rt.alloc(), wires)?;
     let mut input = Cursor::new(b"neighbors\nquit\n".as_slice());
     let mut output = Slow {
         rt,
@@ -153,7 +153,7 @@ fn run<R: Net + Threads + Wait + Clock + Log + Files + AllocGlobal + Sync + Drop
         written: 0,
     };
     let own = Sockets::of_console(own);
-    match operate(rt, &config, links, own, &mut input, &mut output) {
+    match operate(rt, &config, transports, own, &mut input, &mut output) {
         Ok(ran) => Ok(if output.written == 4 { ran.status() } else { 9 }),
         Err(RouteError::Configuration(1)) => Ok(if output.written == 0 { 1 } else { 9 }),
         Err(fault) => Err(fault),

@@ -1,4 +1,4 @@
-//! A link whose socket refuses sends, as by a rule of a firewall, for some calls.
+//! A transport whose socket refuses sends, as by a rule of a firewall, for some calls.
 use std::io;
 use std::process::Abort;
 use std::sync::atomic::{AtomicUsize, Ordering};
@@ -54,7 +54,8 @@ impl<'a> DatagramSocket for Refusing<'a> {
     }
 }
 
-// A send at an interface: whether the packet is sent (else it is lost); `None` if the link fails.
+// A send at an interface: whether the packet is sent (else it is lost); `None` if the transport
+// fails.
 type Send<'a> = (u16, &'a [u8], Option<bool>);
 
 const LOST: Send<'_> = (2, b"lost", Some(false));
@@ -87,8 +88,8 @@ const ROWS: &[Row<'_>] = &[
         ],
         4,
     ),
-    // EBADF, EFAULT, ENOTSOCK, EOPNOTSUPP and EAFNOSUPPORT: the socket is of no use, and the link
-    // sends nothing more
+    // EBADF, EFAULT, ENOTSOCK, EOPNOTSUPP and EAFNOSUPPORT: the socket is of no use, and the
+    // transport sends nothing more
     (&[9], &[FAULT, NONE], 0),
     (&[14], &[FAULT, NONE], 0),
     (&[88], &[FAULT, NONE], 0),
@@ -96,10 +97,10 @@ const ROWS: &[Row<'_>] = &[
     (&[97], &[FAULT, NONE], 0),
 ];
 
-fn goes<L: Transport>(link: &mut L, sends: &[Send<'_>]) -> bool {
+fn goes<L: Transport>(transport: &mut L, sends: &[Send<'_>]) -> bool {
     for send in sends {
         let (interface, bytes, wanted) = *send;
-        if link.send(interface, bytes).ok() != wanted {
+        if transport.send(interface, bytes).ok() != wanted {
             return false;
         }
     }
@@ -111,8 +112,8 @@ fn plays(numbers: &[i32], sends: &[Send<'_>], handed: usize) -> bool {
         Wire::new(Refusing::new(&[]), 7001),
         Wire::new(Refusing::new(numbers), 7002),
     ];
-    let mut link = Sockets::of_console(&wires);
-    goes(&mut link, sends) && wires[1].socket().handed.load(Ordering::SeqCst) == handed
+    let mut transport = Sockets::of_console(&wires);
+    goes(&mut transport, sends) && wires[1].socket().handed.load(Ordering::SeqCst) == handed
 }
 
 #[test]

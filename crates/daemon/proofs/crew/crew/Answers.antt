@@ -5,6 +5,6 @@ use Rattle.daemon.proofs.crew.crew.Goals as goal
 pub started-requires-after_bounds : goal.started-requires-after_bounds
 started-requires-after_bounds g c κs within =
     paired (λ p. p.number) (λ l. l.own) c.args.ports.items c.pop.new.self.items c.in-Some.first
-    c.args.links.items
+    c.args.transports.items
     c.in-Some.ensures.items c.requires.numbers c.requires.interfaces
-    (omega (arith, c.requires.links, c.args.ports.ok.0, c.args.links.ok.0))
+    (omega (arith, c.requires.transports, c.args.ports.ok.0, c.args.transports.ok.0))

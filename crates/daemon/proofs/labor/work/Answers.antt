@@ -4,7 +4,7 @@ use Rattle.daemon.proofs.labor.work.Goals as goal
 pub returns-clause-lived : goal.returns-clause-lived
 returns-clause-lived g c fine = (
   c.run-ended.new.quit,
-  c.run-ended.new.link,
+  c.run-ended.new.transport,
   c.run-ended.new.clock,
   until_told c.run-ended.result _ _ c.end-end.result c.run-ended.ensures.lived
       c.run-ended.ensures.ended c.end-end.ensures fine,

@@ -32,9 +32,9 @@ returns-then-wants-clause-served g c =
     (senses_of g.K.Transport.gives g.K.Transport.hears g.C.Seconds.shows
     g.B.Taker.offers g.B.Taker.took g.B.Taker.refuses c.args.port.now.number)
     (work.Add c.args.external)
-    (standing c.args.outlet.now.link c.args.outlet.now.clock (known_to c.args.port.now.asker)
+    (standing c.args.outlet.now.transport c.args.outlet.now.clock (known_to c.args.port.now.asker)
     c.args.port.now.share.amount)
-    c.take.new.self.link c.take.new.self.clock (known_to c.take.new.port.asker)
+    c.take.new.self.transport c.take.new.self.clock (known_to c.take.new.port.asker)
     (known_to c.wants.new.port.asker) c.take.new.port.share.amount c.wants.new.port.share.amount
     c.wants.ensures.known c.wants.ensures.share c.take.ensures.faults c.take.ensures.served
 
@@ -44,8 +44,8 @@ returns-in-Ok-clause-served g c =
     (senses_of g.K.Transport.gives g.K.Transport.hears g.C.Seconds.shows
     g.B.Taker.offers g.B.Taker.took g.B.Taker.refuses c.args.port.now.number)
     (work.Add c.args.external)
-    (standing c.args.outlet.now.link c.args.outlet.now.clock (known_to c.args.port.now.asker)
+    (standing c.args.outlet.now.transport c.args.outlet.now.clock (known_to c.args.port.now.asker)
     c.args.port.now.share.amount)
-    c.take.new.self.link c.take.new.self.clock (known_to c.take.new.port.asker)
+    c.take.new.self.transport c.take.new.self.clock (known_to c.take.new.port.asker)
     (known_to c.wants.new.port.asker) c.take.new.port.share.amount c.wants.new.port.share.amount
     c.wants.ensures.known c.wants.ensures.share c.take.ensures.faults c.take.ensures.served

@@ -9,7 +9,7 @@ pub returns-in_default-clause-listens : goal.returns-in_default-clause-listens
 returns-in_default-clause-listens g c =
     let senses = senses_of g.K.Transport.gives g.K.Transport.hears g.S.Seconds.shows
     g.B.Taker.offers g.B.Taker.took g.B.Taker.refuses c.args.port.now.number in
-    let before = standing c.args.link.now c.args.clock.now (known_to c.args.port.now.asker)
+    let before = standing c.args.transport.now c.args.clock.now (known_to c.args.port.now.asker)
     c.args.port.now.share.amount in
     let after = standing c.receive.new.self c.args.clock.now (known_to c.args.port.now.asker)
     c.args.port.now.share.amount in
@@ -22,9 +22,9 @@ pub returns-clause-listens : goal.returns-clause-listens
 returns-clause-listens g c =
     let senses = senses_of g.K.Transport.gives g.K.Transport.hears g.S.Seconds.shows
     g.B.Taker.offers g.B.Taker.took g.B.Taker.refuses c.args.port.now.number in
-    let before = standing c.args.link.now c.args.clock.now (known_to c.args.port.now.asker)
+    let before = standing c.args.transport.now c.args.clock.now (known_to c.args.port.now.asker)
     c.args.port.now.share.amount in
-    let after = standing c.send_turned.new.link c.tried-turned.new.clock
+    let after = standing c.send_turned.new.transport c.tried-turned.new.clock
     (known_to c.tried-turned.new.port.asker) c.tried-turned.new.port.share.amount in
     let heard = standing c.receive.new.self c.args.clock.now (known_to c.args.port.now.asker)
     c.args.port.now.share.amount in

@@ -9,9 +9,9 @@ pub loop-preserved : goal.loop-preserved
 loop-preserved g c =
     let senses = senses_of g.K.Transport.gives g.K.Transport.hears g.S.Seconds.shows
     g.B.Taker.offers g.B.Taker.took g.B.Taker.refuses in
-    let now = standing c.loop.link c.loop.clock (known_to c.loop.port.asker)
+    let now = standing c.loop.transport c.loop.clock (known_to c.loop.port.asker)
     c.loop.port.share.amount in
-    let then = standing c.round.new.link c.round.new.clock (known_to c.round.new.port.asker)
+    let then = standing c.round.new.transport c.round.new.clock (known_to c.round.new.port.asker)
     c.round.new.port.share.amount in
     record {
       fine = search rules;
@@ -20,7 +20,7 @@ loop-preserved g c =
           (known_to c.round.new.port.asker)
           c.loop.invariant.known c.round.ensures.known;
       lived = lives_on (senses c.args.port.now.number) g.F.Flag.reads c.args.quit.now
-          (standing c.args.link.now c.args.clock.now (known_to c.args.port.now.asker)
+          (standing c.args.transport.now c.args.clock.now (known_to c.args.port.now.asker)
           c.args.port.now.share.amount)
           c.loop.ticked c.loop.quit now c.round.new.ticked c.is_set.new.self then
           c.loop.invariant.lived
@@ -35,10 +35,10 @@ returns-in_default-clause-lived_on g c fault =
     has_lived_on (senses_of g.K.Transport.gives g.K.Transport.hears g.S.Seconds.shows
     g.B.Taker.offers g.B.Taker.took g.B.Taker.refuses c.args.port.now.number)
     g.F.Flag.reads c.args.quit.now
-    (standing c.args.link.now c.args.clock.now (known_to c.args.port.now.asker)
+    (standing c.args.transport.now c.args.clock.now (known_to c.args.port.now.asker)
     c.args.port.now.share.amount)
     c.loop.ticked c.loop.quit c.is_set.new.self
-    (standing c.loop.link c.loop.clock (known_to c.loop.port.asker) c.loop.port.share.amount)
+    (standing c.loop.transport c.loop.clock (known_to c.loop.port.asker) c.loop.port.share.amount)
     c.loop.invariant.lived
     (subst (λ b. g.F.Flag.reads c.loop.quit b c.is_set.new.self) c.if-is_set.false
     c.is_set.ensures)

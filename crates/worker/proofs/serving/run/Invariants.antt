@@ -6,14 +6,14 @@ use Rattle.worker.proofs.serving.run.Given as goal
 
 abbrev pub invariant-loop : goal.invariant-loop
 invariant-loop g l = record {
-  fine : ◌≡◌ {A = ℕ} (g.K.Transport.faults l.link) (g.K.Transport.faults l.initial.link);
+  fine : ◌≡◌ {A = ℕ} (g.K.Transport.faults l.transport) (g.K.Transport.faults l.initial.transport);
   number : l.port.number ≡ l.initial.port.number;
   known : IsPrefix (known_to l.initial.port.asker) (known_to l.port.asker);
   lived : (rounds : ℕ) × Lives (senses_of g.K.Transport.gives g.K.Transport.hears g.S.Seconds.shows
       g.B.Taker.offers g.B.Taker.took g.B.Taker.refuses l.initial.port.number) g.F.Flag.reads
       l.initial.quit
-      (standing l.initial.link l.initial.clock (known_to l.initial.port.asker)
+      (standing l.initial.transport l.initial.clock (known_to l.initial.port.asker)
       l.initial.port.share.amount)
       rounds l.ticked l.quit
-      (standing l.link l.clock (known_to l.port.asker) l.port.share.amount);
+      (standing l.transport l.clock (known_to l.port.asker) l.port.share.amount);
 }

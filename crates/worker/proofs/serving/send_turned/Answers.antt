@@ -11,8 +11,8 @@ returns-in-Ok-clause-sent g c =
     on_ok c.send_all.result
     (λ each. subst
     (λ (o : Result Turned TurnError). MatchResult o
-    (λ (t : Turned). IsSent g.K.Transport.gives c.args.link.now t c.send_all.new.link)
-    (λ _. c.send_all.new.link ≡ c.args.link.now))
+    (λ (t : Turned). IsSent g.K.Transport.gives c.args.transport.now t c.send_all.new.transport)
+    (λ _. c.send_all.new.transport ≡ c.args.transport.now))
     (sym c.in-Ok.is) each)
     c.send_all.ensures.each
 
@@ -20,6 +20,6 @@ pub returns-in-Err-clause-sent : goal.returns-in-Err-clause-sent
 returns-in-Err-clause-sent g c =
     subst
     (λ (o : Result Turned TurnError). MatchResult o
-    (λ (t : Turned). IsSent g.K.Transport.gives c.args.link.now t c.args.link.now)
-    (λ _. c.args.link.now ≡ c.args.link.now))
+    (λ (t : Turned). IsSent g.K.Transport.gives c.args.transport.now t c.args.transport.now)
+    (λ _. c.args.transport.now ≡ c.args.transport.now))
     (sym c.in-Err.is) refl

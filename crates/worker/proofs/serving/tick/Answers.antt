@@ -8,7 +8,7 @@ pub returns-then-has_ticked-clause-ticks : goal.returns-then-has_ticked-clause-t
 returns-then-has_ticked-clause-ticks g c =
     let senses = senses_of g.K.Transport.gives g.K.Transport.hears g.S.Seconds.shows
     g.B.Taker.offers g.B.Taker.took g.B.Taker.refuses c.args.port.now.number in
-    let before = standing c.args.link.now c.args.clock.now (known_to c.args.port.now.asker)
+    let before = standing c.args.transport.now c.args.clock.now (known_to c.args.port.now.asker)
     c.args.port.now.share.amount in
     ticked_then senses c.args.ticked.now before c.second-now.result c.second-now.new.self
     c.second-now.ensures (c.has_ticked.ensures.same c.if-has_ticked.true)
@@ -17,15 +17,15 @@ pub returns-clause-ticks : goal.returns-clause-ticks
 returns-clause-ticks g c =
     let senses = senses_of g.K.Transport.gives g.K.Transport.hears g.S.Seconds.shows
     g.B.Taker.offers g.B.Taker.took g.B.Taker.refuses c.args.port.now.number in
-    let before = standing c.args.link.now c.args.clock.now (known_to c.args.port.now.asker)
+    let before = standing c.args.transport.now c.args.clock.now (known_to c.args.port.now.asker)
     c.args.port.now.share.amount in
-    let after = standing c.send_turned.new.link c.tried-turned.new.clock
+    let after = standing c.send_turned.new.transport c.tried-turned.new.clock
     (known_to c.tried-turned.new.port.asker) c.tried-turned.new.port.share.amount in
     ticks_now senses c.args.ticked.now before c.second-now.result c.second-now.new.self
     c.tried-turned.new.moment after c.second-now.ensures
     (c.has_ticked.ensures.other c.if-has_ticked.false)
     (serves senses c.second-now.result Tick
-    (standing c.args.link.now c.second-now.new.self (known_to c.args.port.now.asker)
+    (standing c.args.transport.now c.second-now.new.self (known_to c.args.port.now.asker)
     c.args.port.now.share.amount)
     c.tried-turned.new.moment after c.tried-turned.result c.tried-turned.ensures.known
     c.tried-turned.ensures.tried c.tried-turned.ensures.asked c.tried-turned.ensures.turned

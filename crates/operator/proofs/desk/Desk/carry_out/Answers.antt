@@ -105,11 +105,11 @@ returns-clause-served g c =
     let senses = senses_of g.K.Transport.gives g.K.Transport.hears g.C.Seconds.shows
     g.B.Taker.offers g.B.Taker.took g.B.Taker.refuses c.args.port.now.number in
     let own = c.args.self.now.outlet in
-    let now = standing own.link own.clock (known_to c.args.port.now.asker)
+    let now = standing own.transport own.clock (known_to c.args.port.now.asker)
     c.args.port.now.share.amount in
     let desk = c.match-command.self in
     let port = c.match-command.port in
-    let after = standing desk.outlet.link desk.outlet.clock (known_to port.asker)
+    let after = standing desk.outlet.transport desk.outlet.clock (known_to port.asker)
     port.share.amount in
     let command = c.args.command.now in
     let answer = c.match-command.result in
@@ -117,66 +117,68 @@ returns-clause-served g c =
       | in-Attach w ↦
           served_moved faults senses command (commands.Attach w.in-Attach.path) answer
           w.attach.result now after
-          (standing w.attach.new.self.outlet.link w.attach.new.self.outlet.clock (known_to
+          (standing w.attach.new.self.outlet.transport w.attach.new.self.outlet.clock (known_to
           w.attach.new.port.asker) w.attach.new.port.share.amount)
-          (λ i. standing (w.self-is i).outlet.link (w.self-is i).outlet.clock
+          (λ i. standing (w.self-is i).outlet.transport (w.self-is i).outlet.clock
           (known_to (w.port-is i).asker) (w.port-is i).share.amount)
           w.in-Attach.is w.result-is w.attach.ensures.served
       | in-Detach w ↦
           served_moved faults senses command (commands.Detach w.in-Detach.hook) answer
           w.detach.result now after
-          (standing w.detach.new.self.outlet.link w.detach.new.self.outlet.clock (known_to
+          (standing w.detach.new.self.outlet.transport w.detach.new.self.outlet.clock (known_to
           w.detach.new.port.asker) w.detach.new.port.share.amount)
-          (λ i. standing (w.self-is i).outlet.link (w.self-is i).outlet.clock
+          (λ i. standing (w.self-is i).outlet.transport (w.self-is i).outlet.clock
           (known_to (w.port-is i).asker) (w.port-is i).share.amount)
           w.in-Detach.is w.result-is w.detach.ensures.served
       | in-Add w ↦
           served_moved faults senses command (commands.Add w.in-Add.external) answer w.add.result
           now after
-          (standing w.add.new.outlet.link w.add.new.outlet.clock (known_to w.add.new.port.asker)
+          (standing w.add.new.outlet.transport w.add.new.outlet.clock
+          (known_to w.add.new.port.asker)
           w.add.new.port.share.amount)
-          (λ i. standing (w.self-is i).outlet.link (w.self-is i).outlet.clock
+          (λ i. standing (w.self-is i).outlet.transport (w.self-is i).outlet.clock
           (known_to (w.port-is i).asker) (w.port-is i).share.amount)
           w.in-Add.is w.result-is
           (as_known faults senses (work.Add w.in-Add.external) now
-          (standing w.add.new.outlet.link w.add.new.outlet.clock (known_to w.add.new.port.asker)
+          (standing w.add.new.outlet.transport w.add.new.outlet.clock
+          (known_to w.add.new.port.asker)
           w.add.new.port.share.amount)
           w.add.ensures.served)
       | in-Withdraw w ↦
           served_moved faults senses command (commands.Withdraw w.in-Withdraw.prefix) answer
           w.withdraw.result now after
-          (standing w.withdraw.new.outlet.link w.withdraw.new.outlet.clock (known_to
+          (standing w.withdraw.new.outlet.transport w.withdraw.new.outlet.clock (known_to
           w.withdraw.new.port.asker) w.withdraw.new.port.share.amount)
-          (λ i. standing (w.self-is i).outlet.link (w.self-is i).outlet.clock
+          (λ i. standing (w.self-is i).outlet.transport (w.self-is i).outlet.clock
           (known_to (w.port-is i).asker) (w.port-is i).share.amount)
           w.in-Withdraw.is w.result-is
           (as_known faults senses (work.Withdraw w.in-Withdraw.prefix) now
-          (standing w.withdraw.new.outlet.link w.withdraw.new.outlet.clock (known_to
+          (standing w.withdraw.new.outlet.transport w.withdraw.new.outlet.clock (known_to
           w.withdraw.new.port.asker) w.withdraw.new.port.share.amount)
           w.withdraw.ensures.served)
       | in-Table w ↦
           served_moved faults senses command (commands.Table) answer w.lines.result now after
           now
-          (λ i. standing (w.self-is i).outlet.link (w.self-is i).outlet.clock
+          (λ i. standing (w.self-is i).outlet.transport (w.self-is i).outlet.clock
           (known_to (w.port-is i).asker) (w.port-is i).share.amount)
           w.in-Table.is w.result-is (unserved_still faults senses now now refl)
       | in-Neighbors w ↦
           served_moved faults senses command (commands.Neighbors) answer
           w.lines-in-Neighbors.result now after
           now
-          (λ i. standing (w.self-is i).outlet.link (w.self-is i).outlet.clock
+          (λ i. standing (w.self-is i).outlet.transport (w.self-is i).outlet.clock
           (known_to (w.port-is i).asker) (w.port-is i).share.amount)
           w.in-Neighbors.is w.result-is (unserved_still faults senses now now refl)
       | in-Counters w ↦
           served_moved faults senses command (commands.Counters) answer w.lines-in-Counters.result
           now after
-          (standing own.link own.clock (known_to w.counters.new.port.asker)
+          (standing own.transport own.clock (known_to w.counters.new.port.asker)
           w.counters.new.port.share.amount)
-          (λ i. standing (w.self-is i).outlet.link (w.self-is i).outlet.clock
+          (λ i. standing (w.self-is i).outlet.transport (w.self-is i).outlet.clock
           (known_to (w.port-is i).asker) (w.port-is i).share.amount)
           w.in-Counters.is w.result-is
-          (unserved_still faults senses now (standing own.link own.clock (known_to
+          (unserved_still faults senses now (standing own.transport own.clock (known_to
           w.counters.new.port.asker) w.counters.new.port.share.amount)
-          (λ i. standing own.link own.clock (w.counters.ensures.known i)
+          (λ i. standing own.transport own.clock (w.counters.ensures.known i)
           ((w.counters.ensures.share i).amount)))
     ]

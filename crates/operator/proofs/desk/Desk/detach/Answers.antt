@@ -9,7 +9,7 @@ returns-then-is_err-clause-served g c =
     let senses = senses_of g.K.Transport.gives g.K.Transport.hears g.C.Seconds.shows
     g.B.Taker.offers g.B.Taker.took g.B.Taker.refuses c.args.port.now.number in
     let own = c.args.self.now.outlet in
-    let now = standing own.link own.clock (known_to c.args.port.now.asker)
+    let now = standing own.transport own.clock (known_to c.args.port.now.asker)
     c.args.port.now.share.amount in
     unserved_still g.K.Transport.faults senses now now refl
 

@@ -22,13 +22,13 @@ pub returns-clause-served : goal.returns-clause-served
 returns-clause-served g c =
     let faults = g.K.Transport.faults in
     let own = c.args.self.now.outlet in
-    let then = standing own.link own.clock (known_to c.learn.new.self.asker)
+    let then = standing own.transport own.clock (known_to c.learn.new.self.asker)
     c.learn.new.self.share.amount in
-    let after = standing c.refresh.new.self.outlet.link c.refresh.new.self.outlet.clock
+    let after = standing c.refresh.new.self.outlet.transport c.refresh.new.self.outlet.clock
     (known_to c.refresh.new.port.asker) c.refresh.new.port.share.amount in
     served_then faults (senses_of g.K.Transport.gives g.K.Transport.hears g.C.Seconds.shows
     g.B.Taker.offers g.B.Taker.took g.B.Taker.refuses c.args.port.now.number)
-    work.Refresh own.link own.clock after
+    work.Refresh own.transport own.clock after
     (known_to c.args.port.now.asker) (known_to c.learn.new.self.asker)
     c.learn.new.self.share.amount c.args.port.now.share.amount c.learn.ensures.saw
     (λ i. (c.learn.ensures.share i).amount)

@@ -41,13 +41,13 @@ pub returns-clause-served : goal.returns-clause-served
 returns-clause-served g c =
     let faults = g.K.Transport.faults in
     let own = c.args.self.now.outlet in
-    let now = standing own.link own.clock (known_to c.args.port.now.asker)
+    let now = standing own.transport own.clock (known_to c.args.port.now.asker)
     c.args.port.now.share.amount in
     let first = c.make_up.new.self.outlet in
-    let between = standing first.link first.clock (known_to c.make_up.new.port.asker)
+    let between = standing first.transport first.clock (known_to c.make_up.new.port.asker)
     c.make_up.new.port.share.amount in
     let last = c.answer.new.self.outlet in
-    let after = standing last.link last.clock (known_to c.answer.new.port.asker)
+    let after = standing last.transport last.clock (known_to c.answer.new.port.asker)
     c.answer.new.port.share.amount in
     let line = c.args.line.now in
     both_served faults (senses_of g.K.Transport.gives g.K.Transport.hears g.C.Seconds.shows

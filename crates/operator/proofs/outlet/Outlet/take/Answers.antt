@@ -16,9 +16,9 @@ returns-in_err-turned-clause-served g c fine =
     let senses = senses_of g.K.Transport.gives g.K.Transport.hears g.C.Seconds.shows
     g.B.Taker.offers g.B.Taker.took g.B.Taker.refuses c.args.port.now.number in
     unserved senses c.args.work.now
-    (standing c.args.self.now.link c.args.self.now.clock (known_to c.args.port.now.asker)
+    (standing c.args.self.now.transport c.args.self.now.clock (known_to c.args.port.now.asker)
     c.args.port.now.share.amount)
-    (standing c.args.self.now.link c.tried.new.clock (known_to c.tried.new.port.asker)
+    (standing c.args.self.now.transport c.tried.new.clock (known_to c.tried.new.port.asker)
     c.tried.new.port.share.amount)
     c.second-moment.result c.second-moment.new.self c.tried.new.moment c.tried.result _
     c.second-moment.ensures c.in_err-turned.was c.tried.ensures.known c.tried.ensures.tried
@@ -30,9 +30,9 @@ returns-clause-served g c fine =
     let senses = senses_of g.K.Transport.gives g.K.Transport.hears g.C.Seconds.shows
     g.B.Taker.offers g.B.Taker.took g.B.Taker.refuses c.args.port.now.number in
     served senses c.args.work.now
-    (standing c.args.self.now.link c.args.self.now.clock (known_to c.args.port.now.asker)
+    (standing c.args.self.now.transport c.args.self.now.clock (known_to c.args.port.now.asker)
     c.args.port.now.share.amount)
-    (standing c.send.new.link c.tried.new.clock (known_to c.tried.new.port.asker)
+    (standing c.send.new.transport c.tried.new.clock (known_to c.tried.new.port.asker)
     c.tried.new.port.share.amount)
     c.second-moment.result c.second-moment.new.self c.tried.new.moment c.tried.result
     c.in_ok-turned.turned c.second-moment.ensures c.in_ok-turned.was c.tried.ensures.known

@@ -1,5 +1,5 @@
-//! A worker's link over the sockets of all interfaces: any worker sends at each of them, its own
-//! worker alone receives.
+//! A worker's transport over the sockets of all interfaces: any worker sends at each of them, its
+//! own worker alone receives.
 ghost use Rattle.std.specs.Prelude.{◌≡◌, ◌<◌, ◌≤◌, All, IfErr, IfNone, IfOk, IfSome, OnOk};
 ghost use Rattle.std.specs.Prelude.{length, map, take};
 ghost use Rattle.std.specs.Prelude.{nat_lt, vec_len, ⊤};
@@ -20,26 +20,27 @@ use std::net::Net;
 use transports::{SocketFault, Transport, datagram};
 use words::Sequence;
 
-/// A worker's link: it sends at each interface, and receives at its own, if it has one. After its
-/// first fault it sends and receives nothing more: each send answers `false`, each receive `None`.
+/// A worker's transport: it sends at each interface, and receives at its own, if it has one. After
+/// its first fault it sends and receives nothing more: each send answers `false`, each receive
+/// `None`.
 #[derive(Drop)]
 pub struct Sockets<'a, S = UdpSocket, E = Ear> {
     wires: &'a [Wire<S>],
-    /// The number of its own interface, and 0 for the console's link, which only sends.
+    /// The number of its own interface, and 0 for the console's transport, which only sends.
     own: u16,
     ear: Option<E>,
     /// How many calls failed, 0 or 1: after the first failure none is made.
     faults: u8,
 }
 
-/// How a link ended. Only closing a link makes one.
+/// How a transport ended. Only closing a transport makes one.
 #[derive(Drop)]
-pub struct LinkEnd {
+pub struct TransportEnd {
     faults: u8,
 }
 
-impl LinkEnd {
-    /// Whether a call of the link failed.
+impl TransportEnd {
+    /// Whether a call of the transport failed.
     pub fn has_failed(&self) -> bool
         ensures { result ≡ has_failed self.now }
     {
@@ -48,7 +49,7 @@ impl LinkEnd {
 }
 
 impl<'a, S, E> Sockets<'a, S, E> {
-    /// The link of the worker at the interface of this number, which waits at that interface's
+    /// The transport of the worker at the interface of this number, which waits at that interface's
     /// socket.
     ///
     /// # Errors
@@ -61,9 +62,11 @@ impl<'a, S, E> Sockets<'a, S, E> {
         wires: &'a [Wire<S>],
         interface: u16,
     ) -> Result<Sockets<'a, S, E>, SocketError>
-        ensures own { IfOk result (λ link. link.own ≡ interface) }
-        ensures wires { IfOk result (λ link. (link.wires.now ≡ wires.now) × (link.faults ≡ 0)) }
-        ensures ear { IfOk result (λ link. IsListening P.listens wires.now interface link.ear) }
+        ensures own { IfOk result (λ transport. transport.own ≡ interface) }
+        ensures wires { IfOk result (λ transport. (transport.wires.now ≡ wires.now) ×
+            (transport.faults ≡ 0)) }
+        ensures ear { IfOk result (λ transport. IsListening P.listens wires.now interface
+            transport.ear) }
         ensures refused { IfErr result (IsWhyNoneWaitsAt P.fails wires.now interface) }
     {
         let Some(wire) = wire_at(wires, interface) else {
@@ -85,18 +88,18 @@ impl<'a, S, E> Sockets<'a, S, E> {
 }
 
 impl<'a, S, E: Drop> Sockets<'a, S, E> {
-    /// The end of the link.
-    pub fn end(self) -> LinkEnd
+    /// The end of the transport.
+    pub fn end(self) -> TransportEnd
         ensures { has_failed result ≡ nat_lt 0 self.entry.faults }
     {
-        LinkEnd {
+        TransportEnd {
             faults: self.faults,
         }
     }
 }
 
 impl<'a, S> Sockets<'a, S> {
-    /// The console's link, which only sends.
+    /// The console's transport, which only sends.
     pub fn of_console(wires: &'a [Wire<S>]) -> Sockets<'a, S>
         ensures { (result.own ≡ 0) × (result.faults ≡ 0) × (result.wires.now ≡ wires.now) }
     {
@@ -116,7 +119,7 @@ impl<'a, S> Sockets<'a, S> {
     }
 }
 
-/// The links of the workers, that of the first interface last. Each sends at these sockets and
+/// The transports of the workers, that of the first interface last. Each sends at these sockets and
 /// receives at its own interface's, at which it waits; no call of it has failed.
 ///
 /// # Errors
@@ -128,26 +131,27 @@ pub fn listening_with<'x, S, E: Drop, P: ListensAt<S, E>>(
     alloc: Global,
     wires: &'x [Wire<S>],
 ) -> Result<Vec<Sockets<'x, S, E>>, SocketError>
-    ensures each { IfOk result (λ links. vec_len links ≡ length wires.now) }
-    ensures interfaces { IfOk result (λ links. CountDownTo 1 (map (λ l. l.own) links.items)) }
-    ensures wires { IfOk result (λ links.
-        All (λ l. (l.wires.now ≡ wires.now) × (l.faults ≡ 0)) links.items) }
-    ensures ears { IfOk result (λ links.
-        All (λ l. IsListening P.listens wires.now l.own l.ear) links.items) }
+    ensures each { IfOk result (λ transports. vec_len transports ≡ length wires.now) }
+    ensures interfaces { IfOk result (λ transports. CountDownTo 1
+        (map (λ l. l.own) transports.items)) }
+    ensures wires { IfOk result (λ transports.
+        All (λ l. (l.wires.now ≡ wires.now) × (l.faults ≡ 0)) transports.items) }
+    ensures ears { IfOk result (λ transports.
+        All (λ l. IsListening P.listens wires.now l.own l.ear) transports.items) }
     ensures refused { IfErr result (IsWhyNoneWaits P.fails wires.now) }
 {
-    let mut links = Vec::with_capacity(alloc, wires.len())?;
+    let mut transports = Vec::with_capacity(alloc, wires.len())?;
     for before in 0..wires.len() {
         let Ok(interface) = u16::try_from(wires.len() - before) else {
             return Err(SocketError::Wait);
         };
-        let link = Sockets::of_interface_with(poller, alloc, wires, interface)?;
-        links.push(link)?;
+        let transport = Sockets::of_interface_with(poller, alloc, wires, interface)?;
+        transports.push(transport)?;
     }
-    Ok(links)
+    Ok(transports)
 }
 
-/// The links of the workers, which wait by the system.
+/// The transports of the workers, which wait by the system.
 ///
 /// # Errors
 /// As [`listening_with`].
@@ -156,10 +160,11 @@ pub fn listening<'x, R: Net>(
     alloc: Global,
     wires: &'x [Wire],
 ) -> Result<Vec<Sockets<'x>>, SocketError>
-    ensures each { IfOk result (λ links. vec_len links ≡ length wires.now) }
-    ensures interfaces { IfOk result (λ links. CountDownTo 1 (map (λ l. l.own) links.items)) }
-    ensures wires { IfOk result (λ links.
-        All (λ l. (l.wires.now ≡ wires.now) × (l.faults ≡ 0)) links.items) }
+    ensures each { IfOk result (λ transports. vec_len transports ≡ length wires.now) }
+    ensures interfaces { IfOk result (λ transports. CountDownTo 1
+        (map (λ l. l.own) transports.items)) }
+    ensures wires { IfOk result (λ transports.
+        All (λ l. (l.wires.now ≡ wires.now) × (l.faults ≡ 0)) transports.items) }
     ensures refused { IfErr result (IsWhyNoneWaits (λ _. ⊤) wires.now) }
 {
     listening_with(&SystemPoller { rt }, alloc, wires)
@@ -179,8 +184,8 @@ fn take<S: DatagramSocket>(
     came(wire.socket.receive(buffer))
 }
 
-/// Waits until a datagram may be there, at most a second. A link without an ear, as the console's,
-/// doesn't wait.
+/// Waits until a datagram may be there, at most a second. A transport without an ear, as the
+/// console's, doesn't wait.
 fn wait<E: Waits>(ear: &mut Option<E>) -> Result<(), SocketFault>
     ensures { OnOk result (HasWaited E.waited ear.old ear.new) }
 {
