@@ -31,7 +31,7 @@ use words::{External, Route, Second, Sequence, TableRow};
 /// # Errors
 /// `Away` if `tag`, `price` or `veto` got no reading of the published programs; `Memory` if an
 /// allocation is refused.
-pub fn asked<L: Site, B: Taker<L>, R: Wait>(
+pub fn make_event<L: Site, B: Taker<L>, R: Wait>(
     rt: &R,
     hub: &Hub<L, B>,
     asker: &mut Asker,
@@ -57,16 +57,16 @@ pub fn asked<L: Site, B: Taker<L>, R: Wait>(
             Ok(Event::Packet(*number, B::copied(bytes)?))
         }
         Work::Tick => Ok(Event::Tick),
-        Work::Add(external) => redistribution(rt, hub, asker, seat, moment, external),
+        Work::Add(external) => make_redistribute(rt, hub, asker, seat, moment, external),
         Work::Withdraw(prefix) => Ok(Event::Withdraw(*prefix)),
         Work::Down(number) => Ok(Event::LinkDown(*number)),
-        Work::Refresh => installation(rt, hub, asker, seat, moment),
+        Work::Refresh => make_install(rt, hub, asker, seat, moment),
     }
 }
 
 // A destination to announce, with its tag and its metric. If neither hook has a program the table
 // isn't made, which would take as long as the router's candidates do.
-fn redistribution<L: Site, B: Taker<L>, R: Wait>(
+fn make_redistribute<L: Site, B: Taker<L>, R: Wait>(
     rt: &R,
     hub: &Hub<L, B>,
     asker: &mut Asker,
@@ -85,13 +85,13 @@ fn redistribution<L: Site, B: Taker<L>, R: Wait>(
 {
     match asker.configured(external, moment) {
         Some((tagged, priced)) => Ok(Event::Redistribute(tagged, priced)),
-        None => beside_table(rt, hub, asker, seat, moment, external),
+        None => ask_about_external(rt, hub, asker, seat, moment, external),
     }
 }
 
 // Asks both hooks about the destination beside the rows of the table, which a program at `tag` or
 // `price` may look up.
-fn beside_table<L: Site, B: Taker<L>, R: Wait>(
+fn ask_about_external<L: Site, B: Taker<L>, R: Wait>(
     rt: &R,
     hub: &Hub<L, B>,
     asker: &mut Asker,
@@ -109,12 +109,19 @@ fn beside_table<L: Site, B: Taker<L>, R: Wait>(
     ensures known { IsPrefix (known_to asker.old) (known_to asker.new) }
 {
     let offered = hub.offered(rt)?;
-    let (tagged, priced) = answers::<L, B>(&hub.shared, asker, seat, moment, external, &offered)?;
+    let (tagged, priced) = ask_tag_and_price::<L, B>(
+        &hub.shared,
+        asker,
+        seat,
+        moment,
+        external,
+        &offered,
+    )?;
     Ok(Event::Redistribute(tagged, priced))
 }
 
 // The tag and the metric that a destination is announced with, beside the rows of the table.
-fn answers<L: Site, B: Taker<L>>(
+fn ask_tag_and_price<L: Site, B: Taker<L>>(
     shared: &Shared,
     asker: &mut Asker,
     seat: &mut Seat,
@@ -186,12 +193,12 @@ fn price<L: Site, B: Taker<L>>(
     }
 }
 
-/// An installation: of each candidate now, whether it is kept out of the table. If `veto` has no
+/// An `Install`: of each candidate now, whether it is kept out of the table. If `veto` has no
 /// program, one reading of the programs answers for all of them, and the table isn't made.
 ///
 /// # Errors
 /// `Away` if `veto` got no reading of the published programs; `Memory` if an allocation is refused.
-pub fn installation<L: Site, B: Taker<L>, R: Wait>(
+pub fn make_install<L: Site, B: Taker<L>, R: Wait>(
     rt: &R,
     hub: &Hub<L, B>,
     asker: &mut Asker,
@@ -211,13 +218,13 @@ pub fn installation<L: Site, B: Taker<L>, R: Wait>(
     let all = B::all_let_in(asker, *candidates.allocator(), routes, moment)?;
     match all {
         Some(answers) => Ok(Event::Install(Sequence::from_vec(answers))),
-        None => vetoed(rt, hub, asker, seat, moment),
+        None => ask_about_candidates(rt, hub, asker, seat, moment),
     }
 }
 
 // The installation if `veto` may have a program: it is asked about each candidate beside the rows
 // of the table, which it may look up.
-fn vetoed<L: Site, B: Taker<L>, R: Wait>(
+fn ask_about_candidates<L: Site, B: Taker<L>, R: Wait>(
     rt: &R,
     hub: &Hub<L, B>,
     asker: &mut Asker,
@@ -233,12 +240,12 @@ fn vetoed<L: Site, B: Taker<L>, R: Wait>(
     ensures known { IsPrefix (known_to asker.old) (known_to asker.new) }
 {
     let offered = hub.offered(rt)?;
-    let answers = vetoes::<L, B>(&hub.shared, asker, seat, moment, &offered)?;
+    let answers = ask_vetoes::<L, B>(&hub.shared, asker, seat, moment, &offered)?;
     Ok(Event::Install(Sequence::from_vec(answers)))
 }
 
 // The answers on the candidates, in their order, each by a question of its own.
-fn vetoes<L: Site, B: Taker<L>>(
+fn ask_vetoes<L: Site, B: Taker<L>>(
     shared: &Shared,
     asker: &mut Asker,
     seat: &mut Seat,

@@ -19,7 +19,7 @@ ghost use Rattle.turns.specs.Turns.{
 use crate::gate::Gate;
 use crate::hub::Hub;
 use crate::port::Port;
-use crate::questions::{asked, installation};
+use crate::questions::{make_event, make_install};
 use crate::site::Site;
 use crate::taker::Taker;
 use crate::turned::{TurnError, Turned};
@@ -82,7 +82,7 @@ pub fn turn<L: Site, B: Taker<L>, G: Gate, R: Wait>(
     ensures known { IsPrefix (known_to port.old.asker) (known_to port.new.asker) }
 {
     let changes = B::changes(&hub.changes, &port.share);
-    let event = asked(rt, hub, &mut port.asker, &mut port.seat, moment, work)?;
+    let event = make_event(rt, hub, &mut port.asker, &mut port.seat, moment, work)?;
     gate.pass(port.number);
     let taken = hub.take(rt, &mut port.share, moment, event)?;
     let refreshed = follow(rt, hub, port, moment, changes, taken.stale);
@@ -157,7 +157,7 @@ fn refresh<L: Site, B: Taker<L>, R: Wait>(
     ensures number { port.new.number ≡ port.old.number }
     ensures known { IsPrefix (known_to port.old.asker) (known_to port.new.asker) }
 {
-    let event = installation(rt, hub, &mut port.asker, &mut port.seat, moment)?;
+    let event = make_install(rt, hub, &mut port.asker, &mut port.seat, moment)?;
     let share = &mut port.share;
     let taken = hub.take_unless_changed(rt, share, moment, event, changes)?;
     Ok(taken.outs)

@@ -25,24 +25,24 @@ returns-clause-turned g c = record {
 
 pub returns-in_err-event-clause-counted : goal.returns-in_err-event-clause-counted
 returns-in_err-event-clause-counted g c = (
-  known_to c.asked.new.asker,
-  c.asked.new.seat,
-  c.asked.ensures.counted,
+  known_to c.make_event.new.asker,
+  c.make_event.new.seat,
+  c.make_event.ensures.counted,
   prefix_self _,
 )
 
 pub returns-in_err-taken-clause-counted : goal.returns-in_err-taken-clause-counted
 returns-in_err-taken-clause-counted g c = (
-  known_to c.asked.new.asker,
-  c.asked.new.seat,
-  c.asked.ensures.counted,
+  known_to c.make_event.new.asker,
+  c.make_event.new.seat,
+  c.make_event.ensures.counted,
   prefix_self _,
 )
 
 pub returns-clause-counted : goal.returns-clause-counted
 returns-clause-counted g c = (
-  known_to c.asked.new.asker,
-  c.asked.new.seat,
-  c.asked.ensures.counted,
+  known_to c.make_event.new.asker,
+  c.make_event.new.seat,
+  c.make_event.ensures.counted,
   c.follow-refreshed.ensures.known,
 )

@@ -4,7 +4,7 @@ use Rattle.hooks.specs.Known.{known_to}
 use Rattle.hooks.proofs.Fronts.{prefix_self}
 use Rattle.turns.specs.Turns.{IsPriceOn, IsTagOn}
 use Rattle.turns.proofs.Longer.{price_longer, tag_longer}
-use Rattle.turns.proofs.questions.answers.Goals as goal
+use Rattle.turns.proofs.questions.ask_tag_and_price.Goals as goal
 
 pub returns-in-Ok-clause-price : goal.returns-in-Ok-clause-price
 returns-in-Ok-clause-price g c =

@@ -3,7 +3,7 @@ use mathlib.Core.List.{IsPrefix}
 use Rattle.maps.specs.Words.{IsOf}
 use Rattle.hooks.specs.Known.{asks_of, known_to}
 use Rattle.turns.specs.Turns.{AreVetoes}
-use Rattle.turns.proofs.questions.vetoes.Given as goal
+use Rattle.turns.proofs.questions.ask_vetoes.Given as goal
 
 abbrev pub invariant-loop-route : goal.invariant-loop-route
 invariant-loop-route g l = record {

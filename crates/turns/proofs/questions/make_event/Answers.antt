@@ -1,5 +1,5 @@
 use Rattle.turns.proofs.Counted.{asks, counts}
-use Rattle.turns.proofs.questions.asked.Goals as goal
+use Rattle.turns.proofs.questions.make_event.Goals as goal
 
 pub returns-in_err-copied-in-Datagram-clause-counted :
     goal.returns-in_err-copied-in-Datagram-clause-counted

@@ -10,7 +10,7 @@ use Rattle.hooks.proofs.Fronts.{prefix_self}
 use Rattle.flood.specs.declared.event.Event.TheVariants as event
 use Rattle.turns.proofs.LetIn.{all_let_in}
 use Rattle.turns.proofs.Longer.{install_longer}
-use Rattle.turns.proofs.questions.installation.Goals as goal
+use Rattle.turns.proofs.questions.make_install.Goals as goal
 
 pub returns-in-Some-clause-event : goal.returns-in-Some-clause-event
 returns-in-Some-clause-event g c =
@@ -38,7 +38,7 @@ returns-in-Some-clause-event g c =
 
 pub returns-clause-event : goal.returns-clause-event
 returns-clause-event g c =
-    IfOk-weaker c.vetoed.result _ _
+    IfOk-weaker c.ask_about_candidates.result _ _
     (λ e. install_longer (known_to c.args.asker.now) _ _ _ c.in_ok-all.ensures.known
-    (prefix_self (known_to c.vetoed.new.asker)) g.B.Taker.offers c.args.moment e)
-    c.vetoed.ensures.event
+    (prefix_self (known_to c.ask_about_candidates.new.asker)) g.B.Taker.offers c.args.moment e)
+    c.ask_about_candidates.ensures.event

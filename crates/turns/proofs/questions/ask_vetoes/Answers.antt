@@ -3,7 +3,7 @@ use Rattle.hooks.specs.Known.{known_to}
 use Rattle.hooks.proofs.Fronts.{prefix_self, prefix_trans}
 use Rattle.turns.proofs.Longer.{veto_longer, vetoes_longer}
 use Rattle.turns.proofs.Vetoes.{one_more}
-use Rattle.turns.proofs.questions.vetoes.Goals as goal
+use Rattle.turns.proofs.questions.ask_vetoes.Goals as goal
 
 pub loop-route-preserved : goal.loop-route-preserved
 loop-route-preserved g c =

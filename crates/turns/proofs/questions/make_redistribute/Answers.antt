@@ -3,7 +3,7 @@ use Rattle.hooks.specs.Known.{known_to}
 use Rattle.hooks.proofs.Fronts.{prefix_self}
 use Rattle.turns.proofs.Configured.{configured}
 use Rattle.turns.proofs.Longer.{redistribute_longer}
-use Rattle.turns.proofs.questions.redistribution.Goals as goal
+use Rattle.turns.proofs.questions.make_redistribute.Goals as goal
 
 pub returns-in-Some-clause-event : goal.returns-in-Some-clause-event
 returns-in-Some-clause-event g c =
@@ -13,8 +13,8 @@ returns-in-Some-clause-event g c =
 
 pub returns-in-None-clause-event : goal.returns-in-None-clause-event
 returns-in-None-clause-event g c =
-    IfOk-weaker c.beside_table.result _ _
+    IfOk-weaker c.ask_about_external.result _ _
     (λ e. redistribute_longer (known_to c.args.asker.now) _ _ _ c.configured.ensures.known
-    (prefix_self (known_to c.beside_table.new.asker)) g.B.Taker.offers c.args.external.now
+    (prefix_self (known_to c.ask_about_external.new.asker)) g.B.Taker.offers c.args.external.now
     c.args.moment e)
-    c.beside_table.ensures.event
+    c.ask_about_external.ensures.event
