@@ -146,16 +146,16 @@ fn crew<
     let Some(first) = ports.pop() else {
         unreachable!()
     };
-    let running = started(scope, hub, workers, transports, ports)?;
+    let running = start_workers(scope, hub, workers, transports, ports)?;
     let (first, parted) = talk(hub, first, desk, console);
     workers.quit.store(true, Ordering::SeqCst);
-    let (back, ends) = joined(rt, running, first, back, ends)?;
+    let (back, ends) = join_workers(rt, running, first, back, ends)?;
     Ok((back, ends, parted))
 }
 
 // A thread for each port, each with the transport that receives at the interface of its number. If
 // one can't be started, the others are told to end.
-fn started<'s, E, L: Site + Send + Sync, R: Threads + Wait + Clock + Log + Sync>(
+fn start_workers<'s, E, L: Site + Send + Sync, R: Threads + Wait + Clock + Log + Sync>(
     scope: &Scope<'s, E>,
     hub: &'s Hub<L, Book<L>>,
     workers: &'s Workers<'_, R>,
@@ -196,7 +196,7 @@ fn started<'s, E, L: Site + Send + Sync, R: Threads + Wait + Clock + Log + Sync>
 }
 
 // All ports, once the threads that have them are done, and how the threads' transports ended.
-fn joined<L: Site, R: Threads>(
+fn join_workers<L: Site, R: Threads>(
     rt: &R,
     running: Vec<JoinHandle<(Port<L>, Worked)>>,
     first: Port<L>,

@@ -7,7 +7,7 @@ ghost use Rattle.operator.specs.Answers.{IsDone, IsRefusedOnce, IsServed};
 
 use std::sync::Wait;
 use transports::{Seconds, Transport};
-use worker::{Hub, Open, Port, Site, Taker, TurnError, Turned, Work, send_all, tried};
+use worker::{Hub, Open, Port, Site, Taker, TurnError, Turned, Work, send_all, turn_with_retries};
 
 /// The transport and the clock of port 0.
 #[derive(Drop)]
@@ -67,7 +67,7 @@ impl<K: Transport + Drop, C: Seconds + Drop> Outlet<K, C> {
             self.new.transport)) }
     {
         let mut moment = self.clock.second();
-        let turned = tried(
+        let turned = turn_with_retries(
             rt,
             hub,
             port,

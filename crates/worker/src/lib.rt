@@ -12,7 +12,7 @@ mod sockets;
 
 pub use flag::{Flag, Signal};
 pub use opening::open_hub;
-pub use serving::{Ended, run, send_all, tried};
+pub use serving::{Ended, run, send_all, turn_with_retries};
 pub use settling::{Closed, Settled, close_hub, settle};
 pub use setup::Setup;
 pub use sockets::clock::{ReadsSeconds, SystemSeconds};

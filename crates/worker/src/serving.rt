@@ -161,7 +161,7 @@ fn tick<L: Site, B: Taker<L>, G: Gate, K: Transport, S: Seconds, R: Wait>(
     if has_ticked(*ticked, now) {
         return Ok(());
     }
-    let turned = tried(rt, hub, port, gate, clock, &mut now, &Work::Tick);
+    let turned = turn_with_retries(rt, hub, port, gate, clock, &mut now, &Work::Tick);
     send_turned(transport, &turned)?;
     *ticked = Some(now);
     Ok(())
@@ -194,7 +194,7 @@ fn listen<L: Site, B: Taker<L>, G: Gate, K: Transport, S: Seconds, R: Wait>(
     };
     let work = Work::Datagram(port.number(), bytes);
     let mut now = clock.second();
-    let turned = tried(rt, hub, port, gate, clock, &mut now, &work);
+    let turned = turn_with_retries(rt, hub, port, gate, clock, &mut now, &work);
     send_turned(transport, &turned)
 }
 
@@ -216,7 +216,7 @@ fn is_clock_back(turned: &Result<Turned, TurnError>) -> bool
 /// # Errors
 /// As the last try's [`turn`].
 #[tactic(auto, using(crate::proofs::Living::not_again, crate::proofs::Living::once_more, crate::proofs::Living::at_last, crate::proofs::Tries::turned_first, crate::proofs::Tries::known_still, crate::proofs::Tries::known_first))]
-pub fn tried<L: Site, B: Taker<L>, G: Gate, S: Seconds, R: Wait>(
+pub fn turn_with_retries<L: Site, B: Taker<L>, G: Gate, S: Seconds, R: Wait>(
     rt: &R,
     hub: &Hub<L, B>,
     port: &mut Port<L>,

@@ -7,7 +7,9 @@ use std::thread::{Threads, join, sleep};
 use std::time::{Clock, Duration};
 use transports::{Seconds, Times};
 use words::Second;
-use worker::{Gate, Hub, Open, Port, Site, Taker, TurnError, Turned, Work, tried, turn};
+use worker::{
+    Gate, Hub, Open, Port, Site, Taker, TurnError, Turned, Work, turn, turn_with_retries,
+};
 
 /// The number of a turn's refusal, or 0.
 pub fn number_of(turned: Result<Turned, TurnError>) -> u8 {
@@ -46,7 +48,7 @@ fn tried_by<L: Site, B: Taker<L>, R: Wait>(
 ) -> u8 {
     let mut clock = clock;
     let mut moment = clock.second();
-    let turned = tried(rt, hub, port, &mut Open {}, &mut clock, &mut moment, work);
+    let turned = turn_with_retries(rt, hub, port, &mut Open {}, &mut clock, &mut moment, work);
     let number = number_of(turned);
     if clock.second().count() == next {
         number

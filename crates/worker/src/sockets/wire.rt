@@ -66,7 +66,7 @@ impl<'a, R: Net> BindsSockets<UdpSocket> for SystemSockets<'a, R> {
 }
 
 // Binds the socket of an interface.
-fn bound<S: Drop, B: BindsSockets<S>>(
+fn bind_one<S: Drop, B: BindsSockets<S>>(
     binder: &B,
     configured: &ConfiguredInterface,
 ) -> Result<Wire<S>, SocketError>
@@ -96,7 +96,7 @@ pub fn bind_each_with<S: Drop, B: BindsSockets<S>>(
 {
     let mut wires = Vec::with_capacity(alloc, interfaces.len())?;
     for configured in interfaces {
-        let wire = bound(binder, configured)?;
+        let wire = bind_one(binder, configured)?;
         wires.push(wire)?;
     }
     Ok(wires)

@@ -24,8 +24,9 @@ returns-clause-listens g c =
     g.B.Taker.offers g.B.Taker.took g.B.Taker.refuses c.args.port.now.number in
     let before = standing c.args.transport.now c.args.clock.now (known_to c.args.port.now.asker)
     c.args.port.now.share.amount in
-    let after = standing c.send_turned.new.transport c.tried-turned.new.clock
-    (known_to c.tried-turned.new.port.asker) c.tried-turned.new.port.share.amount in
+    let after = standing c.send_turned.new.transport c.turn_with_retries-turned.new.clock
+    (known_to c.turn_with_retries-turned.new.port.asker)
+    c.turn_with_retries-turned.new.port.share.amount in
     let heard = standing c.receive.new.self c.args.clock.now (known_to c.args.port.now.asker)
     c.args.port.now.share.amount in
     let shown = standing c.receive.new.self c.second-now.new.self
@@ -35,11 +36,13 @@ returns-clause-listens g c =
     c.in_ok-heard.ensures.heard
     (subst (λ (h : Option (List ℕ)). IsHeard senses h heard after) (sym c.in-Some.is)
     (turned_to senses c.in-Some.bytes heard c.second-now.result c.second-now.new.self
-    c.tried-turned.new.moment after c.second-now.ensures
+    c.turn_with_retries-turned.new.moment after c.second-now.ensures
     (subst (λ (n : ℕ). Serves senses c.second-now.result (Datagram n c.in-Some.bytes) shown
-    c.tried-turned.new.moment after) c.number.ensures
+    c.turn_with_retries-turned.new.moment after) c.number.ensures
     (serves senses c.second-now.result (Datagram c.number.result c.in-Some.bytes) shown
-    c.tried-turned.new.moment after c.tried-turned.result c.tried-turned.ensures.known
-    c.tried-turned.ensures.tried c.tried-turned.ensures.asked c.tried-turned.ensures.turned
-    c.tried-turned.ensures.refused c.tried-turned.ensures.err sent)))))
+    c.turn_with_retries-turned.new.moment after c.turn_with_retries-turned.result
+    c.turn_with_retries-turned.ensures.known
+    c.turn_with_retries-turned.ensures.tried c.turn_with_retries-turned.ensures.asked
+    c.turn_with_retries-turned.ensures.turned
+    c.turn_with_retries-turned.ensures.refused c.turn_with_retries-turned.ensures.err sent)))))
     c.send_turned.ensures.sent

@@ -19,14 +19,18 @@ returns-clause-ticks g c =
     g.B.Taker.offers g.B.Taker.took g.B.Taker.refuses c.args.port.now.number in
     let before = standing c.args.transport.now c.args.clock.now (known_to c.args.port.now.asker)
     c.args.port.now.share.amount in
-    let after = standing c.send_turned.new.transport c.tried-turned.new.clock
-    (known_to c.tried-turned.new.port.asker) c.tried-turned.new.port.share.amount in
+    let after = standing c.send_turned.new.transport c.turn_with_retries-turned.new.clock
+    (known_to c.turn_with_retries-turned.new.port.asker)
+    c.turn_with_retries-turned.new.port.share.amount in
     ticks_now senses c.args.ticked.now before c.second-now.result c.second-now.new.self
-    c.tried-turned.new.moment after c.second-now.ensures
+    c.turn_with_retries-turned.new.moment after c.second-now.ensures
     (c.has_ticked.ensures.other c.if-has_ticked.false)
     (serves senses c.second-now.result Tick
     (standing c.args.transport.now c.second-now.new.self (known_to c.args.port.now.asker)
     c.args.port.now.share.amount)
-    c.tried-turned.new.moment after c.tried-turned.result c.tried-turned.ensures.known
-    c.tried-turned.ensures.tried c.tried-turned.ensures.asked c.tried-turned.ensures.turned
-    c.tried-turned.ensures.refused c.tried-turned.ensures.err c.in_ok-send_turned.ensures.sent)
+    c.turn_with_retries-turned.new.moment after c.turn_with_retries-turned.result
+    c.turn_with_retries-turned.ensures.known
+    c.turn_with_retries-turned.ensures.tried c.turn_with_retries-turned.ensures.asked
+    c.turn_with_retries-turned.ensures.turned
+    c.turn_with_retries-turned.ensures.refused c.turn_with_retries-turned.ensures.err
+    c.in_ok-send_turned.ensures.sent)

@@ -6,7 +6,7 @@ use Rattle.operator.proofs.outlet.Outlet.take.Goals as goal
 
 pub returns-clause-taken : goal.returns-clause-taken
 returns-clause-taken g c = (
-  c.tried.new.moment,
+  c.turn_with_retries.new.moment,
   c.in_ok-turned.turned,
   c.in_ok-turned.ensures.turned,
 )
@@ -18,11 +18,14 @@ returns-in_err-turned-clause-served g c fine =
     unserved senses c.args.work.now
     (standing c.args.self.now.transport c.args.self.now.clock (known_to c.args.port.now.asker)
     c.args.port.now.share.amount)
-    (standing c.args.self.now.transport c.tried.new.clock (known_to c.tried.new.port.asker)
-    c.tried.new.port.share.amount)
-    c.second-moment.result c.second-moment.new.self c.tried.new.moment c.tried.result _
-    c.second-moment.ensures c.in_err-turned.was c.tried.ensures.known c.tried.ensures.tried
-    c.tried.ensures.asked
+    (standing c.args.self.now.transport c.turn_with_retries.new.clock
+    (known_to c.turn_with_retries.new.port.asker)
+    c.turn_with_retries.new.port.share.amount)
+    c.second-moment.result c.second-moment.new.self c.turn_with_retries.new.moment
+    c.turn_with_retries.result _
+    c.second-moment.ensures c.in_err-turned.was c.turn_with_retries.ensures.known
+    c.turn_with_retries.ensures.tried
+    c.turn_with_retries.ensures.asked
     c.in_err-turned.ensures.refused refl c.in_err-turned.ensures.err
 
 pub returns-clause-served : goal.returns-clause-served
@@ -32,9 +35,12 @@ returns-clause-served g c fine =
     served senses c.args.work.now
     (standing c.args.self.now.transport c.args.self.now.clock (known_to c.args.port.now.asker)
     c.args.port.now.share.amount)
-    (standing c.send.new.transport c.tried.new.clock (known_to c.tried.new.port.asker)
-    c.tried.new.port.share.amount)
-    c.second-moment.result c.second-moment.new.self c.tried.new.moment c.tried.result
-    c.in_ok-turned.turned c.second-moment.ensures c.in_ok-turned.was c.tried.ensures.known
-    c.tried.ensures.tried
-    c.tried.ensures.asked c.in_ok-turned.ensures.turned (c.send.ensures.sent fine)
+    (standing c.send.new.transport c.turn_with_retries.new.clock
+    (known_to c.turn_with_retries.new.port.asker)
+    c.turn_with_retries.new.port.share.amount)
+    c.second-moment.result c.second-moment.new.self c.turn_with_retries.new.moment
+    c.turn_with_retries.result
+    c.in_ok-turned.turned c.second-moment.ensures c.in_ok-turned.was
+    c.turn_with_retries.ensures.known
+    c.turn_with_retries.ensures.tried
+    c.turn_with_retries.ensures.asked c.in_ok-turned.ensures.turned (c.send.ensures.sent fine)

@@ -1,5 +1,5 @@
 use Rattle.std.specs.Prelude.{◌≡◌, ◌+◌, map, vec_len}
-use Rattle.daemon.proofs.crew.started.Given as goal
+use Rattle.daemon.proofs.crew.start_workers.Given as goal
 
 abbrev pub invariant-loop-port : goal.invariant-loop-port
 invariant-loop-port g l =

@@ -5,7 +5,7 @@ use Rattle.turns.specs.Turns.{RefusesFor}
 use Rattle.worker.specs.Refusals.{clock_back}
 use Rattle.worker.proofs.Living.{at_last, once_more, tried_so}
 use Rattle.worker.proofs.Tries.{answered_first, refused_first, refused_so, refused_still}
-use Rattle.worker.proofs.serving.tried.Goals as goal
+use Rattle.worker.proofs.serving.turn_with_retries.Goals as goal
 
 pub loop-tries-preserved : goal.loop-tries-preserved
 loop-tries-preserved g c =

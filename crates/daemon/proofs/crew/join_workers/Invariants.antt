@@ -1,5 +1,5 @@
 use Rattle.std.specs.Prelude.{◌≡◌, ◌+◌, vec_len}
-use Rattle.daemon.proofs.crew.joined.Given as goal
+use Rattle.daemon.proofs.crew.join_workers.Given as goal
 
 abbrev pub invariant-loop-thread : goal.invariant-loop-thread
 invariant-loop-thread g l =

@@ -3,7 +3,7 @@ use mathlib.Core.List.{IsPrefix}
 use Rattle.hooks.specs.Known.{known_to}
 use Rattle.turns.specs.Turns.{RefusesFor}
 use Rattle.worker.proofs.Living.{IsTriedSo}
-use Rattle.worker.proofs.serving.tried.Given as goal
+use Rattle.worker.proofs.serving.turn_with_retries.Given as goal
 
 abbrev pub invariant-loop-tries : goal.invariant-loop-tries
 invariant-loop-tries g l = record {
