@@ -8,7 +8,7 @@ use Rattle.std.specs.Prelude.{◌==◌, nat_lt}
 use Rattle.std.specs.FinMap as finite
 use Rattle.std.specs.List.{Contains, fold}
 use Rattle.std.proofs.lemmas.List.Elements.{Contains-append_right}
-use Rattle.words.specs.Constants.{most_headers_described}
+use Rattle.words.specs.Constants.{max_headers_described}
 use Rattle.words.specs.declared.key.Key.{Key}
 use Rattle.lsdb.specs.Copies.{Database, DatabaseCopy, copy_header, copy_now, is_aged_out}
 use Rattle.lsdb.specs.Copies.{list_entry_of}
@@ -118,7 +118,7 @@ module _ (key : Key) (now : ℕ) (Of : ℕ → Type 0) (Said : Saying) where
       by_copy None h = tt
       by_copy (Some i) (inl listed) = inl listed
       by_copy (Some i) (inr (inl k)) =
-          by_place k.0 i k.2 k.3 (left_or_taken key now k.0 most_headers_described m.summary k.1)
+          by_place k.0 i k.2 k.3 (left_or_taken key now k.0 max_headers_described m.summary k.1)
       by_copy (Some i) (inr (inr k)) = inr (inr (k.0, inl k.1, k.2))
 
   repeat_of : (x : Option Instance) (o : Option Description) (m : Neighbor)

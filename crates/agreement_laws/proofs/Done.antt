@@ -7,7 +7,7 @@ use Rattle.std.specs.Prelude.{◌==◌, nat_lt}
 use Rattle.std.specs.FinMap as finite
 use Rattle.std.specs.List.{fold}
 use Rattle.std.proofs.lemmas.Bool.{ltb-false}
-use Rattle.words.specs.Constants.{most_headers_described}
+use Rattle.words.specs.Constants.{max_headers_described}
 use Rattle.words.specs.declared.key.Key.{Key}
 use Rattle.lsdb.specs.Copies.{Database, DatabaseCopy, age_prematurely, has_just_aged_out}
 use Rattle.lsdb.specs.Copies.{install_flooded}
@@ -122,7 +122,7 @@ Exchanging m = Done Exchange m.described m.exchanged m.summary
 
 described : (moment : ℕ) (m : Neighbor) → m.exchanged ≡ None
     → Exchanging (send_description moment m).neighbor
-described moment m at = (at, λ e. left_empty most_headers_described m.summary e)
+described moment m at = (at, λ e. left_empty max_headers_described m.summary e)
 
 over_by : (b : Bool) (d : Option Description) (at : Option ℕ) (s : ByKey ListEntry) → s
     ≡ finite.empty → Done (cond b Full Loading) d at s

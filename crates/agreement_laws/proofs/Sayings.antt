@@ -6,7 +6,7 @@ use Rattle.std.proofs.Common.{◌⊎◌, inl, inr, List, [], ◌∷◌, map, tak
 use Rattle.std.specs.Prelude.{nat_lt}
 use Rattle.std.specs.FinMap as finite
 use Rattle.std.specs.List.{AllByRecursion, filter}
-use Rattle.words.specs.Constants.{most_headers_described}
+use Rattle.words.specs.Constants.{max_headers_described}
 use Rattle.words.specs.declared.key.Key.{Key}
 use Rattle.lsdb.specs.Copies.{Database, DatabaseCopy, is_aged_out, list_entry_of}
 use Rattle.lsdb.specs.Headers.{Header, Lsa, key_of, lsa_key}
@@ -232,14 +232,14 @@ module _ (old : Router) where
     described moment n h =
         let entries : AllByRecursion (OfEntry (OfListed T number)) (finite.entries n.summary) =
         entries_in (OfListed T number) n.summary h.summary in
-        let headers = headers_so moment (take most_headers_described (finite.entries n.summary))
-        (taken_all (OfEntry (OfListed T number)) most_headers_described
+        let headers = headers_so moment (take max_headers_described (finite.entries n.summary))
+        (taken_all (OfEntry (OfListed T number)) max_headers_described
         (finite.entries n.summary) entries) in
         record {
           neighbor = record {
             summary = made_in (OfListed T number)
-                (drop most_headers_described (finite.entries n.summary))
-                (dropped_all (OfEntry (OfListed T number)) most_headers_described
+                (drop max_headers_described (finite.entries n.summary))
+                (dropped_all (OfEntry (OfListed T number)) max_headers_described
                 (finite.entries n.summary) entries);
             last = headers;
           };

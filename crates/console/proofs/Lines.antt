@@ -12,7 +12,7 @@ use Rattle.console.specs.declared.configuration.ConfigurationError.{Configuratio
 use Rattle.console.specs.declared.configuration.ConfigurationError.TheVariants as errors
 use Rattle.std.proofs.lemmas.List.{take_more}
 use denote.Ref.{Bor}
-use Rattle.words.specs.Constants.{most_interfaces}
+use Rattle.words.specs.Constants.{max_interfaces}
 use Rattle.words.specs.Text.{prefix_text}
 use Rattle.console.specs.Configurations.{Line, SayInterfaces, SaysInterface, AreApart, IsFirstWrong}
 use Rattle.console.specs.Configurations.{MayFollow, interface_of, without_last_feed}
@@ -137,7 +137,7 @@ got (w ∷ ws) d zero lt = refl
 got (w ∷ ws) d (suc i) lt = got ws d i (omega arith)
 
 pub first_wrong : (ws : List (Bor Word)) (d : Bor Word) (i : ℕ) (before : List ConfiguredInterface)
-    → i < length ws → SayInterfaces 1 (take i (views ws)) before → length before ≤ most_interfaces
+    → i < length ws → SayInterfaces 1 (take i (views ws)) before → length before ≤ max_interfaces
     → AreApart before → length before ≡ i
     → ((c : ConfiguredInterface) → SaysInterface (length before + 1) (get_or ws i d).now c
     → MayFollow before c → ⊥) → IsFirstWrong (views ws) i

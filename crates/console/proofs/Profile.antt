@@ -4,7 +4,7 @@ use Rattle.std.proofs.Common.{refl, sym, subst, arith}
 use Rattle.std.proofs.lemmas.Bool.{le-leb, lt-ltb, ne_eqb}
 use Rattle.std.proofs.lemmas.List.{length-map}
 use Rattle.std.specs.List.{list_all}
-use Rattle.words.specs.Constants.{clock_end, max_age, most_interfaces}
+use Rattle.words.specs.Constants.{clock_end, max_age, max_interfaces}
 use Rattle.words.specs.Numbers.{InterfaceNumber, Moment}
 use Rattle.event_rules.specs.Routers.{in_profile, is_lawful}
 use Rattle.console.specs.Configurations.{IsInterface, Line, SayInterfaces, Says, interface_of}
@@ -41,5 +41,5 @@ in_the_profile text c start before says =
     not (ne_eqb c.router 0 (some c.router says.router.lawful.0) i) && lt-ltb start clock_end
     before i
     && le-leb 1 count (subst (λ n. 1 ≤ n) same is.some) i
-    && le-leb count most_interfaces (subst (λ n. n ≤ most_interfaces) same is.few) i
+    && le-leb count max_interfaces (subst (λ n. n ≤ max_interfaces) same is.few) i
     && all_lawful 1 says.others cs is.said i && is.apart i

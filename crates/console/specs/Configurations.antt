@@ -3,7 +3,7 @@
 use Rattle.std.specs.Prelude.{◌≡◌, ℕ, ◌+◌, ◌<◌, ◌≤◌, ◌^◌, ◌==◌, true, false, List, [], ◌∷◌, codes}
 use Rattle.std.specs.Prelude.{decimal, length, map, slice_get, Some, take, ◌⊎◌, if◌then◌else◌}
 use Rattle.std.specs.List.{list_any, slice_split}
-use Rattle.words.specs.Constants.{max_age, most_interfaces}
+use Rattle.words.specs.Constants.{max_age, max_interfaces}
 use Rattle.words.specs.Numbers.{InterfaceNumber, RouterNumber}
 use Rattle.words.specs.Text.{dotted_address, prefix_text}
 use Rattle.adjacency.specs.declared.interface.Interface.{Interface}
@@ -82,14 +82,14 @@ AreApart cs = are_distinct (map interface_of cs) ≡ true
 
 -- the interface may follow these: there aren't too many, and none of them has its address
 pub record MayFollow (before : List ConfiguredInterface) (c : ConfiguredInterface) : Type 0 where
-  pub room : length before < most_interfaces
+  pub room : length before < max_interfaces
   pub apart : list_any (λ other. other.interface.address == c.interface.address) before ≡ false
 
 -- the lines after the router's spell these interfaces, at least one
 pub record AreInterfaces (lines : List Line) (cs : List ConfiguredInterface) : Type 0 where
   pub said : SayInterfaces 1 lines cs
   pub some : 1 ≤ length cs
-  pub few : length cs ≤ most_interfaces
+  pub few : length cs ≤ max_interfaces
   pub apart : AreApart cs
 
 -- Of the lines after the router's, the one at this index is the first wrong one: those before it
@@ -97,7 +97,7 @@ pub record AreInterfaces (lines : List Line) (cs : List ConfiguredInterface) : T
 pub record IsFirstWrong (lines : List Line) (index : ℕ) : Type 0 where
   pub before : List ConfiguredInterface
   pub said : SayInterfaces 1 (take index lines) before
-  pub few : length before ≤ most_interfaces
+  pub few : length before ≤ max_interfaces
   pub apart : AreApart before
   pub line : Line
   pub there : slice_get lines index ≡ Some line

@@ -4,7 +4,7 @@ use Rattle.std.specs.Prelude.{map, Option}
 use Rattle.std.specs.List.{list_all, list_any}
 use Rattle.std.specs.FinMap as finite
 use Rattle.std.specs.FinSet as set
-use Rattle.words.specs.Constants.{clock_end, max_age, most_interfaces}
+use Rattle.words.specs.Constants.{clock_end, max_age, max_interfaces}
 use Rattle.words.specs.Numbers.{InterfaceNumber, Moment, RouterNumber}
 use Rattle.words.specs.Prefixes.{Network}
 use Rattle.words.specs.declared.route.External.{External}
@@ -65,7 +65,7 @@ are_distinct (i ∷ others) =
 abbrev pub in_profile : Config → Bool
 in_profile c =
     not (c.router == 0) && nat_lt c.start clock_end && nat_le 1 (length c.interfaces)
-    && nat_le (length c.interfaces) most_interfaces
+    && nat_le (length c.interfaces) max_interfaces
     && list_all is_lawful c.interfaces && are_distinct c.interfaces
 
 -- ---- the start

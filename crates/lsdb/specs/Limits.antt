@@ -2,7 +2,7 @@
 use Rattle.std.specs.Prelude.{ℕ, ◌==◌, Bool, not, ◌&&◌, ◌||◌, nat_lt, length}
 use Rattle.std.specs.List.{filter}
 use Rattle.std.specs.FinMap as finite
-use Rattle.words.specs.Constants.{most_lsas, most_own_externals}
+use Rattle.words.specs.Constants.{max_lsas, max_own_externals}
 use Rattle.words.specs.Numbers.{RouterNumber}
 use Rattle.words.specs.declared.key.Key.{Key}
 use Rattle.lsdb.specs.Copies.{Database}
@@ -21,13 +21,13 @@ own_externals router d = length (filter (is_own_external router) (finite.keys d)
 abbrev pub has_room : RouterNumber → Key → Database → Bool
 has_room router key d =
     finite.contains_key d key
-    || (nat_lt (finite.len d) most_lsas
-    && (not (is_own_external router key) || nat_lt (own_externals router d) most_own_externals))
+    || (nat_lt (finite.len d) max_lsas
+    && (not (is_own_external router key) || nat_lt (own_externals router d) max_own_externals))
 
 -- more than 16,384 LSAs, or more than 4,096 self-originated AS-external-LSAs among them
 abbrev pub exceeds : RouterNumber → Database → Bool
 exceeds router d =
-    nat_lt most_lsas (finite.len d) || nat_lt most_own_externals (own_externals router d)
+    nat_lt max_lsas (finite.len d) || nat_lt max_own_externals (own_externals router d)
 
 -- the number of the keys that are those of self-originated AS-external-LSAs
 abbrev pub count_own_externals : {X : Type 0} → RouterNumber → ByKey X → ℕ

@@ -19,7 +19,7 @@ mod others;
 use crate::ages::{Ages, foresee, foresee_again};
 use crate::database_copy::DatabaseCopy;
 use crate::keyed_bodies::{KeyedBody, bodies_of};
-use crate::limits::{MOST_LSAS, MOST_OWN_EXTERNALS, holds_own, is_own_external, recount};
+use crate::limits::{MAX_LSAS, MAX_OWN_EXTERNALS, holds_own, is_own_external, recount};
 use crate::sameness::contents_agree;
 use crate::stored::StoredLsa;
 use crate::times::CopyTimes;
@@ -264,8 +264,8 @@ impl Lsdb {
         ensures { result ≡ has_room self.now.router key.now self.now.present }
     {
         self.copies.contains(key)
-            || self.copies.len() < MOST_LSAS
-                && (!is_own_external(self.router, key) || self.externals < MOST_OWN_EXTERNALS)
+            || self.copies.len() < MAX_LSAS
+                && (!is_own_external(self.router, key) || self.externals < MAX_OWN_EXTERNALS)
     }
 
     /// Whether there are more than 16,384 LSAs, or more than 4,096 AS-external-LSAs of the router
@@ -273,7 +273,7 @@ impl Lsdb {
     pub fn exceeds(&self) -> bool
         ensures { result ≡ exceeds self.now.router self.now.present }
     {
-        self.copies.len() > MOST_LSAS || self.externals > MOST_OWN_EXTERNALS
+        self.copies.len() > MAX_LSAS || self.externals > MAX_OWN_EXTERNALS
     }
 
     /// The first `count` keys, in their order, or all if there are fewer.

@@ -9,10 +9,10 @@ use keyed_map::KeyedMap;
 use words::{Key, RouterId};
 
 /// The most LSAs in the database, whoever originated them (a limit of this project).
-pub const MOST_LSAS: usize = 16_384;
+pub const MAX_LSAS: usize = 16_384;
 
 /// The most AS-external-LSAs of the router itself among them (a limit of this project).
-pub const MOST_OWN_EXTERNALS: usize = 4_096;
+pub const MAX_OWN_EXTERNALS: usize = 4_096;
 
 /// Whether this is the key of an AS-external-LSA of the router (RFC 2328, section 12.4.4).
 pub fn is_own_external(router: RouterId, key: &Key) -> bool

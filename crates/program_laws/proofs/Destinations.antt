@@ -12,7 +12,7 @@ use Rattle.words.specs.declared.key.Key.{Key}
 use Rattle.lsa.specs.declared.body.LsaBody.{LsaBody}
 use Rattle.lsa.specs.declared.body.LsaBody.TheVariants as says
 use Rattle.lsdb.specs.Limits.{is_own_external, own_externals}
-use Rattle.words.specs.Constants.{max_age, most_lsas, most_own_externals}
+use Rattle.words.specs.Constants.{max_age, max_lsas, max_own_externals}
 use Rattle.lsdb.specs.Copies.{Database, DatabaseCopy, age_prematurely, install_originated}
 use Rattle.lsdb.specs.Copies.{is_aged_out}
 use Rattle.lsdb.specs.Headers.{Lsa, lsa_aged, lsa_key}
@@ -388,9 +388,9 @@ module _ (key : Key) where
         let r : Router = p.router in
         let k : Key = router_key r.id in
         let room : has_room k r ≡ true =
-        ap (λ b. b || (nat_lt (finite.len r.area.database) most_lsas &&
+        ap (λ b. b || (nat_lt (finite.len r.area.database) max_lsas &&
         (not (is_own_external r.id k) || nat_lt (own_externals r.id r.area.database)
-        most_own_externals))) there in
+        max_own_externals))) there in
         let wanted : wanted_body r k ≡ Some (router_body r.area.links) =
         ap (λ b. cond b (Some (router_body r.area.links))
         (announced_body (finite.get r.announced k))) (itself k) in

@@ -39,7 +39,7 @@ pub struct Topology {
 }
 
 // A router has no more interfaces.
-const MOST_INTERFACES: usize = 63;
+const MAX_INTERFACES: usize = 63;
 
 impl Topology {
     /// The topology of this kind with `routers` routers, a fat tree with at most that many. A
@@ -112,7 +112,7 @@ impl Topology {
     // Whether the router has an interface left, and none that leads to the other one.
     fn may_join(&self, place: usize, other: usize) -> bool {
         let ends = self.ends_of(place);
-        place < self.ends.len() && ends.len() < MOST_INTERFACES && !lead_to(ends, other)
+        place < self.ends.len() && ends.len() < MAX_INTERFACES && !lead_to(ends, other)
     }
 
     // The number of the router's next interface.

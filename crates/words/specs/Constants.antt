@@ -39,25 +39,25 @@ largest_packet = 8192
 
 -- the most LSA headers in one Database Description: 20 bytes each, after the packet header's 24
 -- bytes and 8 of its own (RFC 2328, section A.3.3)
-abbrev pub most_headers_described : ℕ
-most_headers_described = 408
+abbrev pub max_headers_described : ℕ
+max_headers_described = 408
 
 -- the most keys in one Link State Request: 12 bytes each, after the packet header's 24 bytes
 -- (section A.3.4)
-abbrev pub most_keys_requested : ℕ
-most_keys_requested = 680
+abbrev pub max_keys_requested : ℕ
+max_keys_requested = 680
 
 -- the most LSAs in a database (own limit)
-abbrev pub most_lsas : ℕ
-most_lsas = 16384
+abbrev pub max_lsas : ℕ
+max_lsas = 16384
 
 -- the most self-originated AS-external-LSAs among them (own limit)
-abbrev pub most_own_externals : ℕ
-most_own_externals = 4096
+abbrev pub max_own_externals : ℕ
+max_own_externals = 4096
 
 -- the most interfaces of a router (own limit)
-abbrev pub most_interfaces : ℕ
-most_interfaces = 63
+abbrev pub max_interfaces : ℕ
+max_interfaces = 63
 
 -- every moment is below this (own limit)
 abbrev pub clock_end : ℕ

@@ -19,7 +19,7 @@ ghost use Rattle.adjacency.specs.Descriptions.{
 ghost use Rattle.adjacency.specs.Exchanges.{accept_description, entry_header};
 ghost use Rattle.adjacency.specs.Exchanges.{proceeding, verdict_of};
 ghost use Rattle.neighbors.specs.Doing.{ListDoes, NeighborSends};
-ghost use Rattle.words.specs.Constants.{most_headers_described};
+ghost use Rattle.words.specs.Constants.{max_headers_described};
 
 use super::Neighbor;
 use super::negotiation::remove_keys;
@@ -33,7 +33,7 @@ use std::alloc::{AllocError, Global};
 use words::{E_BIT, Key, LARGEST_PACKET, Second, Sequence};
 
 /// The most headers in one Database Description.
-const MOST_HEADERS_DESCRIBED: usize = 408;
+const MAX_HEADERS_DESCRIBED: usize = 408;
 
 /// A second value of the Database Description, as `Clone::clone` would make one.
 ///
@@ -209,12 +209,12 @@ impl Neighbor {
         moment: Second,
         keys: &[Key],
     ) -> Result<Description, AllocError>
-        requires { keys.now ≡ take most_headers_described (finite.keys self.now.present.summary) }
+        requires { keys.now ≡ take max_headers_described (finite.keys self.now.present.summary) }
         ensures { IfOk result (λ next. next ≡ next_description moment self.now.present) }
     {
         let headers = headers_of(alloc, moment, &self.summary, keys)?;
         let count = self.summary.len();
-        let more = count > MOST_HEADERS_DESCRIBED;
+        let more = count > MAX_HEADERS_DESCRIBED;
         let headers = Sequence::from_vec(headers);
         Ok(Description {
             mtu: LARGEST_PACKET,
@@ -238,7 +238,7 @@ impl Neighbor {
         ensures { NeighborSends (send_description moment) self.old self.new draft.old draft.new
             result }
     {
-        let keys = self.summary.first(alloc, MOST_HEADERS_DESCRIBED)?;
+        let keys = self.summary.first(alloc, MAX_HEADERS_DESCRIBED)?;
         let next = self.next_description(alloc, moment, &keys)?;
         remove_keys(&mut self.summary, &keys)?;
         let kept = copy(&next)?;

@@ -14,7 +14,7 @@ use std::alloc::{AllocError, Global};
 use words::{Key, Second, Sequence};
 
 /// The most keys in one Link State Request.
-const MOST_KEYS_REQUESTED: usize = 680;
+const MAX_KEYS_REQUESTED: usize = 680;
 
 // Adds the keys to an empty set.
 fn put_keys(keys_set: &mut KeyedMap<()>, keys: &[Key]) -> Result<(), AllocError>
@@ -59,7 +59,7 @@ impl Neighbor {
           requested_at = moment;
         }) (λ n. Requests (next_request n) ∷ []) self.old self.new draft.old draft.new result }
     {
-        let keys = self.requests.first(alloc, MOST_KEYS_REQUESTED)?;
+        let keys = self.requests.first(alloc, MAX_KEYS_REQUESTED)?;
         put_keys(&mut self.outstanding, &keys)?;
         self.standing.requested_at = moment;
         draft.add_request(Sequence::from_vec(keys))

@@ -1,5 +1,5 @@
 use Rattle.std.proofs.Common.{◌≡◌, ◌≤◌, length, take}
-use Rattle.words.specs.Constants.{most_interfaces}
+use Rattle.words.specs.Constants.{max_interfaces}
 use Rattle.console.specs.Configurations.{AreApart, SayInterfaces}
 use Rattle.console.specs.Views.{views}
 use Rattle.console.proofs.configuration.interfaces_of.Given as goal
@@ -10,5 +10,5 @@ invariant-loop-line l = record {
   said : SayInterfaces 1 (take l.line-index (views l.lines)) l.interfaces.items;
   apart : AreApart l.interfaces.items;
   many : length l.interfaces.items ≡ l.line-index;
-  few : length l.interfaces.items ≤ most_interfaces;
+  few : length l.interfaces.items ≤ max_interfaces;
 }

@@ -25,7 +25,7 @@ returns-then-not-is_own_external c =
     let all = room_counted router copies c.len.result c.self.inside.externals c.len.ensures
     c.self.invariant.counted key c.contains.result own c.contains.ensures
     c.is_own_external.ensures in
-    let free : nat_lt c.len.result 16384 ≡ true = grind (arith, c.if-len-lt-MOST_LSAS.true) in
+    let free : nat_lt c.len.result 16384 ≡ true = grind (arith, c.if-len-lt-MAX_LSAS.true) in
     room_free c.contains.result (nat_lt c.len.result 16384) (not own)
     (nat_lt c.self.inside.externals 4096) c.if-contains.false free
     (ap not c.if-not-is_own_external.true)
@@ -40,21 +40,21 @@ returns-else-not-is_own_external c =
     let all = room_counted router copies c.len.result c.self.inside.externals c.len.ensures
     c.self.invariant.counted key c.contains.result own c.contains.ensures
     c.is_own_external.ensures in
-    let free : nat_lt c.len.result 16384 ≡ true = grind (arith, c.if-len-lt-MOST_LSAS.true) in
+    let free : nat_lt c.len.result 16384 ≡ true = grind (arith, c.if-len-lt-MAX_LSAS.true) in
     room_own c.contains.result (nat_lt c.len.result 16384) (not own)
     (nat_lt c.self.inside.externals 4096) c.if-contains.false free
     (ap not c.if-not-is_own_external.false)
     ∙ all ∙ ap (λ h. has_room h.router key h.present) c.self.view_is
 
-pub returns-else-len-lt-MOST_LSAS : goal.returns-else-len-lt-MOST_LSAS
-returns-else-len-lt-MOST_LSAS c =
+pub returns-else-len-lt-MAX_LSAS : goal.returns-else-len-lt-MAX_LSAS
+returns-else-len-lt-MAX_LSAS c =
     let router = c.self.inside.router in
     let copies = c.self.inside.copies.present in
     let key = c.args.key.now in
     let own = is_own_external router key in
     let all = room_counted router copies c.len.result c.self.inside.externals c.len.ensures
     c.self.invariant.counted key c.contains.result own c.contains.ensures refl in
-    let full : nat_lt c.len.result 16384 ≡ false = grind (arith, c.if-len-lt-MOST_LSAS.false) in
+    let full : nat_lt c.len.result 16384 ≡ false = grind (arith, c.if-len-lt-MAX_LSAS.false) in
     room_full c.contains.result (nat_lt c.len.result 16384) (not own)
     (nat_lt c.self.inside.externals 4096) c.if-contains.false full
     ∙ all ∙ ap (λ h. has_room h.router key h.present) c.self.view_is
