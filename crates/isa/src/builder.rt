@@ -3,7 +3,7 @@ ghost use Rattle.std.specs.Prelude.{◌≡◌, ◌+◌, ◌≤◌, ◌<◌, ◌+
 ghost use Rattle.std.specs.Prelude.{IsTrue, OnOk, OnErr, Err};
 ghost use Rattle.isa.specs.Code.{slots_of};
 
-use crate::code::{Code, MOST_SLOTS, Slot};
+use crate::code::{Code, MAX_SLOTS, Slot};
 use crate::instruction::Instruction;
 use std::alloc::{AllocError, Global};
 use std::marker::Model;
@@ -78,7 +78,7 @@ impl CodeBuilder {
         instruction.check_ranges();
         let is_wide = instruction.is_wide();
         let taken = if is_wide { 2 } else { 1 };
-        if self.slots.len() + taken > MOST_SLOTS {
+        if self.slots.len() + taken > MAX_SLOTS {
             return Err(BuildError::TooLong);
         }
         match push_slots(&mut self.slots, instruction) {

@@ -3,7 +3,7 @@ use crate::instruction::Instruction;
 use std::marker::Model;
 
 /// The greatest number of slots that code may have.
-pub const MOST_SLOTS: usize = 4096;
+pub const MAX_SLOTS: usize = 4096;
 
 /// Eight bytes of the code.
 #[derive(Clone, Copy, PartialEq, Eq)]

@@ -13,7 +13,7 @@ ghost use Rattle.isa.specs.Refusals.{Fails, Refuses, AreSlots};
 ghost use Rattle.isa.specs.Shapes.{MayBe};
 
 use crate::builder::push_slots;
-use crate::code::{Code, MOST_SLOTS, Slot};
+use crate::code::{Code, MAX_SLOTS, Slot};
 use crate::fields::Fields;
 use crate::instruction::Instruction;
 use crate::register::Register;
@@ -176,7 +176,7 @@ pub fn decode(alloc: Global, bytes: &[u8]) -> Result<Code, DecodeError>
             kind: DecodeFault::Length,
         });
     }
-    if bytes.len() / 8 > MOST_SLOTS {
+    if bytes.len() / 8 > MAX_SLOTS {
         return Err(DecodeError {
             slot: 0,
             kind: DecodeFault::TooLong,

@@ -16,7 +16,7 @@ mod shape;
 mod slot;
 
 pub use builder::{BuildError, CodeBuilder};
-pub use code::{Code, MOST_SLOTS, Slot};
+pub use code::{Code, MAX_SLOTS, Slot};
 pub use decoding::{DecodeError, DecodeFault, decode};
 pub use encoding::encode;
 pub use hook::Hook;

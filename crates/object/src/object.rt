@@ -3,7 +3,7 @@ ghost use Rattle.std.specs.Prelude.{◌≡◌, ◌↔◌, ◌^◌, ◌<◌, ◌�
 ghost use Rattle.object.specs.Objects.{AreStatements, IsObject, ObjectParts, slots_of};
 
 use crate::statement::Statement;
-use isa::{Hook, MOST_SLOTS};
+use isa::{Hook, MAX_SLOTS};
 use std::marker::Model;
 
 /// A program as a file has it: 1 to 4096 slots of code, not decoded here, and statements at some of
@@ -79,7 +79,7 @@ impl Object {
         }) }
     {
         let slots = code.len() / 8;
-        if code.len() % 8 != 0 || slots == 0 || slots > MOST_SLOTS {
+        if code.len() % 8 != 0 || slots == 0 || slots > MAX_SLOTS {
             return None;
         }
         if !are_in_order(&statements, slots) {

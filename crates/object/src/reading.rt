@@ -18,7 +18,7 @@ use crate::lawful::{kind_of, rank_of};
 use crate::object::Object;
 use crate::stack::StackBytes;
 use crate::statement::Statement;
-use isa::{Hook, MOST_SLOTS};
+use isa::{Hook, MAX_SLOTS};
 use std::alloc::Global;
 
 /// What the 40 bytes of a register state of it; `None` if they are invalid.
@@ -179,7 +179,7 @@ fn header(bytes: &[u8]) -> Result<(Hook, HeaderFields), ObjectError>
     let Some(hook) = Hook::from_number(fields.hook) else {
         return Err(ObjectError::Hook);
     };
-    if fields.slots == 0 || fields.slots as usize > MOST_SLOTS {
+    if fields.slots == 0 || fields.slots as usize > MAX_SLOTS {
         return Err(ObjectError::Field);
     }
     Ok((hook, fields))

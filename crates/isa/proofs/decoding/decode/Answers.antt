@@ -20,7 +20,7 @@ returns-then-is_empty-clause-only c code h =
           (omega (arith, long, w.if-bytes-ne0.true))
     ]
 
-pub returns-then-bytes-gt-MOST_SLOTS-clause-only : goal.returns-then-bytes-gt-MOST_SLOTS-clause-only
-returns-then-bytes-gt-MOST_SLOTS-clause-only c code h =
+pub returns-then-bytes-gt-MAX_SLOTS-clause-only : goal.returns-then-bytes-gt-MAX_SLOTS-clause-only
+returns-then-bytes-gt-MAX_SLOTS-clause-only c code h =
     let long = spells_long c.args.bytes.now code h in let most = h.code_is.most in
-    absurd (omega (arith, long, most, c.if-bytes-gt-MOST_SLOTS.true))
+    absurd (omega (arith, long, most, c.if-bytes-gt-MAX_SLOTS.true))
