@@ -5,7 +5,7 @@ use thiserror::Error;
 /// Why [`programs`](crate::programs) made no loader and no askers.
 #[derive(Debug, Clone, Copy, Error)]
 pub enum HookError {
-    /// The number of askers is 0, or more than [`ASKERS`](crate::ASKERS).
+    /// The number of askers is 0, or more than [`MAX_ASKERS`](crate::MAX_ASKERS).
     #[error("a loader has 1 to 64 askers")]
     Count,
     /// An allocation was refused.

@@ -34,4 +34,4 @@ pub use operation::LoaderOperation;
 pub use start::programs;
 
 /// The maximum number of askers of one loader.
-pub const ASKERS: usize = 64;
+pub const MAX_ASKERS: usize = 64;

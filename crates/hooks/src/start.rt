@@ -3,7 +3,7 @@ ghost use Rattle.std.specs.Prelude.{◌≡◌, ◌<◌, ◌⊎◌, ◌↔◌, []
 ghost use Rattle.hooks.specs.declared.error.HookError.TheVariants.{Count};
 ghost use Rattle.hooks.specs.Known.{operations_of, history_of, IsNew};
 
-use crate::ASKERS;
+use crate::MAX_ASKERS;
 use crate::asker::Asker;
 use crate::error::HookError;
 use crate::loader::Loader;
@@ -26,7 +26,7 @@ pub fn programs<R: Wait + Drop>(
         × All (IsNew (history_of t.0)) t.1.items) }
     ensures count { (result ≡ Err Count) ↔ ((askers ≡ 0) ⊎ (64 < askers)) }
 {
-    if askers == 0 || askers > ASKERS {
+    if askers == 0 || askers > MAX_ASKERS {
         return Err(HookError::Count);
     }
     let mut loader = Loader::new(alloc, rt, askers)?;

@@ -5,7 +5,7 @@ use thiserror::Error;
 /// Why [`Shared::new`](crate::Shared::new) made no table.
 #[derive(Debug, Clone, Copy, Error)]
 pub enum MapsError {
-    /// The number of seats is 0, or more than [`SEATS`](crate::SEATS).
+    /// The number of seats is 0, or more than [`MAX_SEATS`](crate::MAX_SEATS).
     #[error("a table has 1 to 64 seats")]
     Seats,
     /// An allocation was refused.

@@ -32,7 +32,7 @@ pub const COUNTERS: usize = 256;
 pub const CELLS: usize = 64;
 
 /// The maximum number of seats of one table.
-pub const SEATS: usize = 64;
+pub const MAX_SEATS: usize = 64;
 
 /// The maximum number of adds of one seat.
-pub const ADDS: u64 = 1 << 31;
+pub const MAX_ADDS: u64 = 1 << 31;

@@ -15,7 +15,7 @@ use crate::error::MapsError;
 use crate::rule::{Adds, Beside, Front, Loads, Place, Reads, Stores, Top, WordsRule};
 use crate::seat::Seat;
 use crate::totals::Totals;
-use crate::{ADDS, CELLS, COUNTERS, SEATS};
+use crate::{CELLS, COUNTERS, MAX_ADDS, MAX_SEATS};
 use atomic_table::{Closed, Table};
 use std::alloc::{AllocError, Global};
 use std::marker::Model;
@@ -54,7 +54,7 @@ impl Shared {
         ensures fresh { IfOk result (λ r. r.1.items ≡ map (fresh r.0.table)
             (range_with_len 0 count)) }
     {
-        if count == 0 || count > SEATS {
+        if count == 0 || count > MAX_SEATS {
             return Err(MapsError::Seats);
         }
         let words = vec![in alloc; 0u64; COUNTERS + CELLS * count]?;
@@ -94,7 +94,7 @@ impl Shared {
         ensures spent { 2 ^ 31 ≤ adds_made seat.old.accesses → (result ≡ 1)
             × (seat.new ≡ seat.old) }
     {
-        if seat.adds >= ADDS {
+        if seat.adds >= MAX_ADDS {
             return 1;
         }
         let words = &self.table.shared;

@@ -5,7 +5,7 @@ ghost use Rattle.hooks.specs.declared.error.HookError.TheVariants.{Count};
 ghost use Rattle.hooks.specs.Known.{IsNew, asks_of, history_of, operations_of};
 
 use hooks::{Asker, HookError, Loader, programs};
-use maps::{SEATS, Seat, Shared};
+use maps::{MAX_SEATS, Seat, Shared};
 use std::alloc::{AllocError, Global};
 use std::sync::Wait;
 use std::sync::ledger::Blank;
@@ -44,7 +44,7 @@ impl Setup {
             × All (IsNew (history_of r.0)) r.1.askers.items) }
         ensures count { (result ≡ Err Count) ↔ ((ports ≡ 0) ⊎ (64 < ports)) }
     {
-        if ports == 0 || ports > SEATS {
+        if ports == 0 || ports > MAX_SEATS {
             return Err(HookError::Count);
         }
         let (shared, seats) = table(alloc, ports)?;

@@ -4,7 +4,7 @@ ghost use Rattle.maps.specs.Words.{IsOf};
 ghost use Rattle.hooks.specs.Known.{IsNew, asks_of, history_of};
 
 use crate::trials::{accepted_in, file_of, one_seat, row};
-use hooks::{ASKERS, Asker, HookError, Loader, programs};
+use hooks::{Asker, HookError, Loader, MAX_ASKERS, programs};
 use machine::Hook;
 use maps::{Seat, Shared};
 use std::alloc::Global;
@@ -85,7 +85,7 @@ fn loader_and_askers<R: Wait + Drop>(
 ) -> Result<(Loader<R>, Vec<Asker>), HookError>
     ensures { IfOk result (λ t. All (IsNew (history_of t.0)) t.1.items) }
 {
-    programs(alloc, rt, ASKERS)
+    programs(alloc, rt, MAX_ASKERS)
 }
 
 // A loader with the last of its askers.
