@@ -36,10 +36,10 @@ use std::sync::ledger::{Blank, Share};
 use words::Second;
 
 /// The most events in a journal.
-pub const JOURNAL: usize = 65_536;
+pub const MAX_JOURNAL: usize = 65_536;
 
 /// The most events that a book takes in all, 2^63.
-pub const TAKEN: u64 = 1 << 63;
+pub const MAX_TAKEN: u64 = 1 << 63;
 
 /// A router as it is now; and, for contracts and tests alone, its past: the router at the start and
 /// the events since.
@@ -195,7 +195,7 @@ impl<L: Origin> Book<L> {
         ensures room { result ≡ false → length self.now.journal < 65536 }
         ensures few { result ≡ false → self.now.taken < 2 ^ 63 }
     {
-        self.journal.len() == JOURNAL || self.taken == TAKEN
+        self.journal.len() == MAX_JOURNAL || self.taken == MAX_TAKEN
     }
 
     // As `apply`, if neither the journal nor the clock nor the interface is refused. A refusal
@@ -278,7 +278,7 @@ impl<L: Origin> Book<L> {
         ensures light { result ≡ false → IsDue self.now → ⊥ }
         ensures room { result ≡ false → length self.now.journal < 65536 }
     {
-        self.journal.len() == JOURNAL || self.noted > allowance(self.current.database().len())
+        self.journal.len() == MAX_JOURNAL || self.noted > allowance(self.current.database().len())
     }
 
     // Marks the book if that is due.
@@ -343,7 +343,7 @@ impl<L: Origin> Book<L> {
             ((IsRefusedEarly self.old moment event ⊎ IsSameOrAnew self.old self.new)
             × (mine.new.amount ≡ mine.old.amount)) }
     {
-        if self.taken() == TAKEN {
+        if self.taken() == MAX_TAKEN {
             return Err(BookError::Journal);
         }
         // `ClockBack` and `NoInterface` come before any mark.

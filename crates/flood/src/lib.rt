@@ -30,7 +30,7 @@ pub use area_routes::Offered;
 pub use book::entry::JournalEntry;
 pub use book::error::BookError;
 pub use book::origin::Origin;
-pub use book::{Book, JOURNAL, TAKEN};
+pub use book::{Book, MAX_JOURNAL, MAX_TAKEN};
 pub use event::Event;
 pub use event_rules::{Config, ConfigError, CoreError, Out};
 pub use router_core::Core;

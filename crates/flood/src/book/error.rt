@@ -13,8 +13,8 @@ pub enum BookError {
     /// The router refused it, or an allocation was refused (`CoreError::Memory`).
     #[error("{0}")]
     Core(CoreError),
-    /// The book has taken [`TAKEN`](crate::TAKEN) events; or, from `apply` alone, its journal holds
-    /// [`JOURNAL`](crate::JOURNAL) events. It is tried first.
+    /// The book has taken [`MAX_TAKEN`](crate::MAX_TAKEN) events; or, from `apply` alone, its
+    /// journal holds [`MAX_JOURNAL`](crate::MAX_JOURNAL) events. It is tried first.
     #[error("the journal is full")]
     Journal,
 }
