@@ -16,10 +16,10 @@ use segments::places::jump_of;
 use std::alloc::Global;
 
 /// A program may take fewer turns than this number.
-const MOST_TURNS: u32 = 1_000_000;
+const MAX_TURNS: u32 = 1_000_000;
 
 /// The greatest number that an instruction moves into a register as it is.
-const MOST_ANSWER: u32 = 0x7fff_ffff;
+const MAX_ANSWER: u32 = 0x7fff_ffff;
 
 /// The register becomes the number, or that much more.
 fn with_number(operation: Operation, target: Register, number: i32) -> Instruction
@@ -248,10 +248,10 @@ pub fn counted(
     let Some(counter) = unnamed(code) else {
         return Err(CountError::NoRegister);
     };
-    if turns >= MOST_TURNS {
+    if turns >= MAX_TURNS {
         return Err(CountError::TooMany);
     }
-    if answer > MOST_ANSWER {
+    if answer > MAX_ANSWER {
         return Err(CountError::TooGreat);
     }
     if heads.len() > code.len() {

@@ -12,7 +12,7 @@ use crate::counted_code::counted;
 use crate::inside::stays_inside;
 use crate::shortfall::Shortfall;
 use crate::verdict::{Annotated, AnnotatedObject, EndlessLoop, Rejected};
-use inference::most_turns;
+use inference::max_turns;
 use isa::{Code, encode};
 use object::Statement;
 use ranking_functions::{Unranked, kinds_of};
@@ -20,10 +20,10 @@ use std::alloc::{AllocError, Global};
 use verifier::BUDGET;
 
 /// The greatest number of turns that are followed.
-const MOST_FOLLOWED: u64 = 20_000;
+const MAX_FOLLOWED: u64 = 20_000;
 
 /// How often more loops are counted at most.
-const MOST_ROUNDS: u32 = 8;
+const MAX_ROUNDS: u32 = 8;
 
 /// The heads of the loops whose turns are counted, in the order in which they were found.
 #[derive(Drop)]
@@ -146,7 +146,7 @@ fn annotate_loops(
         result }
 {
     let is_inside = stays_inside(code);
-    for _ in 0..MOST_ROUNDS {
+    for _ in 0..MAX_ROUNDS {
         let outcome = try_heads(task, code, heads, turns, unranked);
         if !is_inside || !adds_more(heads, &outcome, unranked) {
             return outcome;
@@ -191,8 +191,8 @@ fn try_bounded(
     ensures { IsCountedOutcome task.now.hook task.now.answer task.now.bytes.now result }
 {
     // With more turns the code would exceed its budget, or take more than a second to follow.
-    let most = (BUDGET / code.len() as u64).min(MOST_FOLLOWED) as u32;
-    let turns = match most_turns(task.alloc, code, task.hook, &heads.slots, most) {
+    let most = (BUDGET / code.len() as u64).min(MAX_FOLLOWED) as u32;
+    let turns = match max_turns(task.alloc, code, task.hook, &heads.slots, most) {
         Ok(Some(turns)) => turns,
         Ok(None) => return Ok(None),
         Err(_) => return Err(Shortfall::Memory),
@@ -227,7 +227,7 @@ fn count_bounded(
         slots: Vec::new(task.alloc),
         lacks_memory: false,
     };
-    for _ in 0..MOST_ROUNDS {
+    for _ in 0..MAX_ROUNDS {
         if !adds_unranked(&mut heads, unranked) {
             return Ok(None);
         }

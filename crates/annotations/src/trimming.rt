@@ -11,7 +11,7 @@ use ranking_functions::kinds_of;
 use std::alloc::{AllocError, Global};
 
 /// The greatest number of statements that are trimmed one by one.
-const MOST_TRIES: usize = 64;
+const MAX_TRIES: usize = 64;
 
 /// The numbers of the range, whatever their bits.
 fn any_bits(numbers: StatedNumber) -> StatedNumber {
@@ -101,7 +101,7 @@ pub fn trim(task: &Task<'_>, mut annotated: Annotated) -> Result<Annotated, Shor
     ensures { IsOutcome task.now.hook task.now.bytes.now result }
 {
     let count = annotated.object.statements().len();
-    let tries = if count <= MOST_TRIES { count + 1 } else { 1 };
+    let tries = if count <= MAX_TRIES { count + 1 } else { 1 };
     for place in 0..tries {
         let (from, to) = if place == 0 {
             (0, count)

@@ -8,7 +8,7 @@ use std::io::{BufRead, ErrorKind};
 use std::sync::Wait;
 
 /// A line of more bytes than this is no command, and isn't kept.
-const MOST_BYTES: usize = 4_096;
+const MAX_BYTES: usize = 4_096;
 
 /// The input can't be read.
 #[derive(Clone, Copy)]
@@ -93,7 +93,7 @@ fn keep(bytes: &mut Vec<u8>, byte: u8) -> bool
     ensures { IsTrue result → (line : List ℕ) → IsKeptOf bytes.old.items line
         → IsKeptOf bytes.new.items (line ++ byte ∷ []) }
 {
-    if bytes.len() > MOST_BYTES {
+    if bytes.len() > MAX_BYTES {
         return true;
     }
     bytes.push(byte).is_ok()
@@ -107,7 +107,7 @@ fn whole(alloc: Global, bytes: Vec<u8>, is_lost: bool) -> Given
     if is_lost {
         return Given::Memory;
     }
-    if bytes.len() > MOST_BYTES {
+    if bytes.len() > MAX_BYTES {
         return Given::Line(String::new(alloc));
     }
     match String::from_utf8(bytes) {

@@ -69,9 +69,9 @@ fn allowed_kinds(instruction: &Instruction) -> &'static str {
 }
 
 /// The greatest number that may be passed in r1, a counter, and in r2, the amount to add.
-const MOST_COUNTER: u64 = 255;
+const MAX_COUNTER: u64 = 255;
 
-const MOST_ADDED: u64 = 16_777_215;
+const MAX_ADDED: u64 = 16_777_215;
 
 /// Whether a register of this kind breaks the rule when it is read.
 fn is_wrong(rule: Rule, register: usize, kind: Kind<Value>) -> bool {
@@ -79,9 +79,9 @@ fn is_wrong(rule: Rule, register: usize, kind: Kind<Value>) -> bool {
         (Rule::Kind | Rule::ExitKind, _) | (Rule::Empty, Kind::Empty) => true,
         (Rule::Argument, Kind::Number(value)) => {
             let most = if register == 1 {
-                MOST_COUNTER
+                MAX_COUNTER
             } else {
-                MOST_ADDED
+                MAX_ADDED
             };
             value.range().1 > most
         }

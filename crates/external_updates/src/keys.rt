@@ -13,7 +13,7 @@ use words::{Address, Key, LinkStateId, Prefix, RouterId};
 const FEW: usize = 4;
 
 // The maximum number of keys that are fetched for one network.
-const MOST: usize = 64;
+const MAX_KEYS: usize = 64;
 
 fn first_key(prefix: Prefix) -> Key
     ensures { result ≡ first_key prefix }
@@ -77,6 +77,6 @@ pub fn keys_under(alloc: Global, db: &Lsdb, prefix: Prefix) -> Result<Option<Vec
     let few = first_under(alloc, db, prefix, FEW)?;
     match few {
         Some(keys) => Ok(Some(keys)),
-        None => first_under(alloc, db, prefix, MOST),
+        None => first_under(alloc, db, prefix, MAX_KEYS),
     }
 }

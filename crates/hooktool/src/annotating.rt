@@ -40,7 +40,7 @@ pub(crate) struct Telling {
 const COUNTING: usize = 5;
 
 /// How great a rank may be at the entry of a program of this number of slots.
-fn most_rank(slots: usize) -> u64 {
+fn max_rank(slots: usize) -> u64 {
     match slots {
         0 => 0,
         slots => (BUDGET / slots as u64).saturating_sub(1),
@@ -49,14 +49,14 @@ fn most_rank(slots: usize) -> u64 {
 
 /// The greatest N of `--fuel` that code of this number of slots may have: with one loop that is
 /// counted.
-fn most_fuel(slots: usize) -> u64 {
-    most_rank(slots.saturating_add(COUNTING)).saturating_sub(1)
+fn max_fuel(slots: usize) -> u64 {
+    max_rank(slots.saturating_add(COUNTING)).saturating_sub(1)
 }
 
 /// Which `--fuel` is too much for code of this number of slots.
 fn push_fuel(out: &mut Text, slots: usize) {
     let counted = slots.saturating_add(COUNTING);
-    let most = most_fuel(slots);
+    let most = max_fuel(slots);
     out.fill(
         "  --fuel N makes B N + 1, and L {} with one loop that is counted, so N is at most {}\n",
         &[counted as u128, u128::from(most)],
@@ -69,7 +69,7 @@ fn push_remedies(out: &mut Text, endless: &EndlessLoop, slots: usize) {
         "  either let a register fall with each turn (DOWN and EACH of examples/c/leafrunt.h \
             do)\n",
     );
-    let most = most_fuel(slots);
+    let most = max_fuel(slots);
     out.numbered(
         "  or count the turns: --fuel N, with N at most ",
         most,
@@ -118,7 +118,7 @@ fn push_endless(out: &mut Text, endless: &EndlessLoop, slots: usize, telling: Te
             u128::from(from),
             u128::from(BUDGET),
             slots as u128,
-            u128::from(most_rank(slots)),
+            u128::from(max_rank(slots)),
         ],
     );
     match telling.slots {

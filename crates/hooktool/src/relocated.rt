@@ -16,7 +16,7 @@ use std::alloc::{AllocError, Global};
 const CALL: u32 = 10;
 
 // How many places of a section are told one by one.
-const MOST_TOLD: usize = 16;
+const MAX_TOLD: usize = 16;
 
 /// A section's name, and its bytes.
 #[derive(Clone, Copy)]
@@ -204,13 +204,13 @@ pub(crate) fn relocation_report<'a>(
     ensures fault { IfErr result (λ fault. fault ≡ HooktoolFault.Memory) }
 {
     let mut text = Text::new(alloc);
-    for relocation in relocations.iter().take(MOST_TOLD) {
+    for relocation in relocations.iter().take(MAX_TOLD) {
         push_relocation(&mut text, file, section, functions, relocation)
     }
-    if relocations.len() > MOST_TOLD {
+    if relocations.len() > MAX_TOLD {
         text.push("section ");
         text.push(shown(section.name));
-        let others = (relocations.len() - MOST_TOLD) as u64;
+        let others = (relocations.len() - MAX_TOLD) as u64;
         text.numbered(": and ", others, " places more that are like these\n")
     }
     text.push(built.text.as_str());

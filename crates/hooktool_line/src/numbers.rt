@@ -22,7 +22,7 @@ pub(crate) struct Numbers {
     pub next_hops: u8,
 }
 
-const MOST: u64 = 4_294_967_295;
+const MAX_U32: u64 = 4_294_967_295;
 
 const LATEST: u64 = 4_611_686_018_427_387_903;
 
@@ -30,16 +30,16 @@ const LATEST: u64 = 4_611_686_018_427_387_903;
 pub(crate) fn numbers_of(matches: &ArgMatches<'_>) -> Result<Numbers, WrongWord>
     ensures { ReadsOrTells (HasNumbers (rows_of (found_of matches.now))) result }
 {
-    let Some(metric) = number_of(matches, "metric", 0, 0, MOST) else {
+    let Some(metric) = number_of(matches, "metric", 0, 0, MAX_U32) else {
         return Err(WrongWord::Metric);
     };
-    let Some(tag) = number_of(matches, "tag", 0, 0, MOST) else {
+    let Some(tag) = number_of(matches, "tag", 0, 0, MAX_U32) else {
         return Err(WrongWord::Tag);
     };
-    let Some(cost) = number_of(matches, "cost", 0, 0, MOST) else {
+    let Some(cost) = number_of(matches, "cost", 0, 0, MAX_U32) else {
         return Err(WrongWord::Cost);
     };
-    let Some(distance) = number_of(matches, "distance", 0, 0, MOST) else {
+    let Some(distance) = number_of(matches, "distance", 0, 0, MAX_U32) else {
         return Err(WrongWord::Distance);
     };
     let Some(moment) = number_of(matches, "moment", 0, 0, LATEST) else {

@@ -62,7 +62,7 @@ pub struct StatementDraft {
     /// The number of backward jumps that count, up to the start of the segment that is followed.
     pub turns: u32,
     /// The maximum of these numbers.
-    pub most_turns: u32,
+    pub max_turns: u32,
 }
 
 /// An edge to a site: the site and its slot; the site that the edge comes from, or the number of
@@ -96,7 +96,7 @@ impl StatementDraft {
             sites: memory.filled(NOTHING, size),
             edges: Vec::new(memory.alloc),
             turns: 0,
-            most_turns: 0,
+            max_turns: 0,
         }
     }
 
@@ -190,7 +190,7 @@ impl StatementDraft {
             draft.turns = draft.turns.max(turns);
             draft.found = self.grown(draft.found, draft.changes, arrival, state);
             put(&mut self.sites, arrival.site, draft);
-            self.most_turns = self.most_turns.max(turns);
+            self.max_turns = self.max_turns.max(turns);
         }
     }
 

@@ -21,10 +21,10 @@ pub struct Inference {
 }
 
 /// The maximum number of narrowing passes.
-const MOST_FALLS: usize = 12;
+const MAX_FALLS: usize = 12;
 
 /// An upper bound of the changes of one statement, before and after its bounds are given up.
-const MOST_CHANGES: usize = 64;
+const MAX_CHANGES: usize = 64;
 
 /// Passes over the code once.
 fn pass(passes: &mut Passes<'_>, purpose: Purpose) {
@@ -55,10 +55,10 @@ fn widen_and_narrow(passes: &mut Passes<'_>, is_lenient: bool) {
         put(&mut passes.draft.sites, site, draft)
     }
     passes.draft.is_lenient = is_lenient;
-    let most = passes.draft.sites.len().saturating_mul(MOST_CHANGES);
+    let most = passes.draft.sites.len().saturating_mul(MAX_CHANGES);
     repeat(passes, Purpose::Rise, most.saturating_add(1));
     passes.draft.is_lenient = false;
-    repeat(passes, Purpose::Collect, MOST_FALLS)
+    repeat(passes, Purpose::Collect, MAX_FALLS)
 }
 
 /// Fixes these statements, whatever reaches them.

@@ -19,4 +19,4 @@ pub use fixpoint::{Inference, infer_statements};
 pub use flow::entry_state;
 pub use joining::Value;
 pub use sites::Sites;
-pub use unrolling::most_turns;
+pub use unrolling::max_turns;

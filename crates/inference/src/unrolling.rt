@@ -11,7 +11,7 @@ use segments::places::jump_of;
 use std::alloc::{AllocError, Global};
 
 /// The maximum number of instructions that are followed.
-const MOST_STEPS: usize = 400_000;
+const MAX_STEPS: usize = 400_000;
 
 /// The state at a site that was followed when nothing else was left to follow. All that follows
 /// depends on it alone, so once it comes back it comes back for ever.
@@ -80,8 +80,8 @@ impl<'a> Unrolling<'a> {
     }
 
     /// Whether a state comes back and nothing else is left to follow, so that the loops don't end.
-    /// The mark moves on at each step whose number is a power of two, so that a circle of any length
-    /// is found.
+    /// The mark moves on at each step whose number is a power of two, so that a circle of any
+    /// length is found.
     fn comes_back(&mut self, site: usize, step: usize) -> bool {
         let sites = self.passes.program.sites.slots.len();
         if self.first_pending(0, site).is_some()
@@ -122,7 +122,7 @@ impl<'a> Unrolling<'a> {
     /// count. Returns whether there is none.
     fn ends(&mut self, most: u32) -> bool {
         let mut steps = 0usize;
-        for step in 0..MOST_STEPS {
+        for step in 0..MAX_STEPS {
             let Some(site) = self.next() else {
                 return true;
             };
@@ -131,7 +131,7 @@ impl<'a> Unrolling<'a> {
             }
             let more = self.follow(site).max(1);
             steps = steps.saturating_add(more);
-            if (steps > MOST_STEPS) | (self.passes.draft.most_turns > most) {
+            if (steps > MAX_STEPS) | (self.passes.draft.max_turns > most) {
                 break;
             }
         }
@@ -170,7 +170,7 @@ fn loops_of<'a>(memory: &'a Memory, code: &'a Code, hook: Hook, heads: &[usize])
 ///
 /// # Errors
 /// `AllocError` if an allocation is refused.
-pub fn most_turns(
+pub fn max_turns(
     alloc: Global,
     code: &Code,
     hook: Hook,
@@ -182,6 +182,6 @@ pub fn most_turns(
     unrolling.passes.begin_at_entry(true);
     unrolling.passes.follow_segment(0);
     let ends = unrolling.ends(most);
-    let turns = unrolling.passes.draft.most_turns;
+    let turns = unrolling.passes.draft.max_turns;
     memory.enough(if ends { Some(turns) } else { None })
 }

@@ -39,12 +39,12 @@ fn trouble_with(graph: &Graph<'_>, circle: &Circle, head: usize, register: u8) -
 }
 
 /// Larger loops aren't tried without a budget, since that takes as many rounds as there are sites.
-const MOST_SITES: usize = 32;
+const MAX_SITES: usize = 32;
 
 /// The loop if any number of iterations were within the budget: the register that then falls with
 /// each iteration, possibly with a second one for loops within it.
 fn too_long(graph: &Graph<'_>, circle: &Circle, head: usize) -> Option<Trouble> {
-    if circle.sites.len() > MOST_SITES {
+    if circle.sites.len() > MAX_SITES {
         return None;
     }
     let mut without_budget = *graph;

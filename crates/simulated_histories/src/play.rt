@@ -9,7 +9,7 @@ use simulated_networks::{
 use words::Route;
 
 // In a second there are fewer packets.
-const MOST_PACKETS: u32 = 20_000;
+const MAX_PACKETS: u32 = 20_000;
 
 /// A network whose packets come one by one. It has no `Drop`: its owner closes it. If memory is
 /// refused for something, that is left out, and `fault` reports it from then on.
@@ -148,7 +148,7 @@ impl<'a> Play<'a> {
     }
 
     fn delivers(&mut self) {
-        for _packet in 0..MOST_PACKETS {
+        for _packet in 0..MAX_PACKETS {
             if self.mail.is_quiet() {
                 return;
             }

@@ -11,7 +11,7 @@ use flood::Event;
 use std::alloc::Global;
 
 // In a second there are fewer rounds.
-const MOST_ROUNDS: u32 = 100_000;
+const MAX_ROUNDS: u32 = 100_000;
 
 /// A network. It has no `Drop`: its owner closes it. If memory is refused for something, that is
 /// left out, and `fault` reports it from then on.
@@ -102,7 +102,7 @@ impl<'a> Network<'a> {
 
     /// All that is under way comes, and what is sent then, until nothing is.
     pub fn delivers(&mut self) {
-        for _round in 0..MOST_ROUNDS {
+        for _round in 0..MAX_ROUNDS {
             if !self.round() {
                 return;
             }

@@ -39,7 +39,7 @@ impl SimulationRequest {
     }
 }
 
-const MOST: u64 = 4_611_686_018_427_387_903;
+const MAX_NUMBER: u64 = 4_611_686_018_427_387_903;
 
 // The network that words name.
 #[derive(Clone, Copy)]
@@ -61,8 +61,8 @@ fn shape_in(words: &mut Reader<'_, '_>) -> NetworkWords {
 
 // The first seed, and how many there are.
 fn seeds_in(words: &mut Reader<'_, '_>) -> (u64, u64) {
-    let first = words.number("seed", 1, 0, MOST);
-    let count = words.number("seeds", 1, 1, MOST);
+    let first = words.number("seed", 1, 0, MAX_NUMBER);
+    let count = words.number("seeds", 1, 1, MAX_NUMBER);
     (first, count)
 }
 
@@ -76,9 +76,9 @@ fn run(words: &mut Reader<'_, '_>) -> SimulationRequest {
         externals: shape.externals,
         spread: shape.spread,
         seed,
-        seconds: words.number("seconds", 300, 1, MOST),
-        stay: words.number("stay", 12, 0, MOST),
-        calm: words.number("calm", 60, 0, MOST),
+        seconds: words.number("seconds", 300, 1, MAX_NUMBER),
+        stay: words.number("stay", 12, 0, MAX_NUMBER),
+        calm: words.number("calm", 60, 0, MAX_NUMBER),
         announcers: words.small("announcers", usual, 0, 10_000),
         times: words.times(),
         faults: words.faults(),

@@ -6,7 +6,7 @@ use std::io::{ErrorKind, Read};
 use std::rt::Files;
 
 /// The size limit, in bytes, above which a file isn't read: no code, object or text is larger.
-const MOST_BYTES: u64 = 16_777_216;
+const MAX_BYTES: u64 = 16_777_216;
 
 /// Why a file wasn't read.
 #[derive(Clone, Copy)]
@@ -41,8 +41,8 @@ pub fn read<R: Files + AllocGlobal>(rt: &R, path: &str) -> Result<Vec<u8>, ReadF
         return Err(ReadFault::Unreadable);
     };
     let mut bytes = Vec::new(rt.alloc());
-    match file.take(MOST_BYTES + 1).read_to_end(&mut bytes) {
-        Ok(_) if bytes.len() as u64 <= MOST_BYTES => Ok(bytes),
+    match file.take(MAX_BYTES + 1).read_to_end(&mut bytes) {
+        Ok(_) if bytes.len() as u64 <= MAX_BYTES => Ok(bytes),
         Ok(_) => Err(ReadFault::Unreadable),
         Err(error) if matches!(error.kind(), ErrorKind::OutOfMemory) => Err(ReadFault::Memory),
         Err(_) => Err(ReadFault::Unreadable),
