@@ -178,7 +178,7 @@ fn start_workers<'s, E, L: Site + Send + Sync, R: Threads + Wait + Clock + Log +
                 memory,
                 transport,
                 SystemSeconds::new(clock),
-                Signal { word: quit },
+                Signal { flag: quit },
                 hub,
                 port,
             )

@@ -19,13 +19,13 @@ pub trait Flag {
 /// The flag of `routerd`: a shared atomic word. Whoever ends the workers sets it.
 #[derive(Drop)]
 pub struct Signal<'a> {
-    pub word: &'a AtomicBool,
+    pub flag: &'a AtomicBool,
 }
 
 impl<'a> Flag for Signal<'a> {
     ghost reads = { λ before is_set after. Unit {0} };
 
     fn is_set(&mut self) -> bool {
-        self.word.load(Ordering::SeqCst)
+        self.flag.load(Ordering::SeqCst)
     }
 }
