@@ -384,7 +384,7 @@ impl<L: Origin> Book<L> {
     }
 
     /// Whether some candidate of the router as it is now stands in none of the answers of its last
-    /// installation, as [`Core::stale`] does. What clauses see of the book stays.
+    /// `Install`, as [`Core::stale`] does. What clauses see of the book stays.
     ///
     /// # Errors
     /// `AllocError` if an allocation is refused.

@@ -88,7 +88,7 @@ is_counted refuses = refuses.counted
 abbrev pub Offers : Type 1
 Offers = List Route → List TableRow → Type 0
 
--- When a book takes an event that it is given at a moment: an installation at the moment of the
+-- When a book takes an event that it is given at a moment: an `Install` at the moment of the
 -- router's last event, if this is later; everything else at the moment itself.
 abbrev pub taken_at : Event → Moment → (last : Moment) → Moment
 taken_at (event.Packet number bytes) moment last = moment
@@ -99,7 +99,7 @@ taken_at (event.Install answers) moment last = max moment last
 taken_at (event.LinkDown number) moment last = moment
 
 -- The clock has come to its end: the later of this moment and that of the last event of a book, of
--- which `own` is so, is past all moments. An installation, which is taken at the later of the two,
+-- which `own` is so, is past all moments. An `Install`, which is taken at the later of the two,
 -- is refused for its moment only then.
 abbrev pub IsAtTheEndOfTheClock : {B : Type 0} → (own : B → Type 0) → (moment_of : B → Moment)
     → Moment → Type 0
@@ -304,7 +304,7 @@ TakesFor offers took known now events moment w outs stale =
 
 -- ---- refusals
 
--- an installation
+-- an `Install`
 abbrev pub IsInstalling : Event → Type 0
 IsInstalling e = (answers : List RouteAnswer) × (e ≡ event.Install answers)
 
@@ -377,7 +377,7 @@ IsUnchanged refuses events =
 
 -- What comes of a turn at a port that knew the first of these operations before it and knows the
 -- others after it: the outs of the work's event, and, if a refresh followed, those of its
--- installation. It followed if the event left the router stale and only then, unless one wasn't
+-- `Install`. It followed if the event left the router stale and only then, unless one wasn't
 -- taken, and only if the programs weren't changed meanwhile. The events count in the port's share,
 -- which grew from one number to the other: the work's event is among those that count when the
 -- refresh is given.

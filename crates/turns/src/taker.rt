@@ -51,7 +51,7 @@ use std::sync::ledger::Share;
 use words::{External, Prefix, Route, RouterId, Second, Sequence, TableRow};
 
 /// What an event sends, and whether it left the router stale: some candidate stands in no answer of
-/// the last installation then. None if that isn't known, for want of memory.
+/// the last `Install` then. None if that isn't known, for want of memory.
 #[derive(Drop)]
 pub struct Taken {
     pub outs: Vec<Out>,
@@ -83,7 +83,7 @@ pub trait Taker<L: Origin> {
 
     /// Takes an event, which counts once in the share.
     ///
-    /// An installation comes after programs were asked, which takes its time: it isn't refused if
+    /// An `Install` comes after programs were asked, which takes its time: it isn't refused if
     /// another event came at a later moment meanwhile.
     ///
     /// # Errors
@@ -267,7 +267,7 @@ pub trait Taker<L: Origin> {
         ensures { is_counted refuses mine.now.amount result };
 }
 
-// When an event that is given at a moment is taken, after one that came last: an installation isn't
+// When an event that is given at a moment is taken, after one that came last: an `Install` isn't
 // taken before that one.
 fn taken_at(event: &Event, moment: Second, last: Second) -> Second
     ensures { result ≡ taken_at event.now moment last }
@@ -292,7 +292,7 @@ fn known(told: Result<bool, AllocError>) -> Option<bool>
     }
 }
 
-/// A book takes an event by [`Book::apply_anew`], an installation at the moment of its last event
+/// A book takes an event by [`Book::apply_anew`], an `Install` at the moment of its last event
 /// if this is later. What is sent is what the event makes of its own router, which is then the one
 /// that the event leaves; and all that it says is of a router to which the events that it took lead
 /// from the one that it began with.

@@ -34,7 +34,7 @@ use words::Second;
 ///
 /// At a [`Book`](flood::Book) the outs are those that the event gives, by the rules of a whole
 /// event, at a router that took at least as many events as the port had given; which router it was,
-/// only the book knows. An installation happens at the moment of the router's last event, if that
+/// only the book knows. An `Install` happens at the moment of the router's last event, if that
 /// is later than the turn's: it may have passed while the programs were asked. All else happens at
 /// the turn's moment.
 ///
