@@ -9,5 +9,5 @@ mod slot;
 
 pub use entries_in_order::EntriesInOrder;
 pub use keys_in_order::KeysInOrder;
-pub use map::{ChangeTest, Copied, KeyTest, KeyedMap};
+pub use map::{ChangeTest, KeyTest, KeyedMap, TryCopy};
 pub use slot::{Edit, KeySlot};

@@ -172,7 +172,7 @@ fn is_first<X>(edits: &[Edit<X>], place: usize, key: &Key) -> bool
 }
 
 /// A value that can be copied unless an allocation is refused.
-pub trait Copied: Drop + Sized {
+pub trait TryCopy: Drop + Sized {
     /// An equal value of its own, as `Clone::clone` makes one.
     ///
     /// # Errors
@@ -249,7 +249,7 @@ fn is_kept<X, T: ChangeTest<X>>(
     Ok(same || !is_first(edits, place, &edit.key))
 }
 
-impl<X: Copied> KeyedMap<X> {
+impl<X: TryCopy> KeyedMap<X> {
     /// A copy of the map, committed.
     ///
     /// # Errors

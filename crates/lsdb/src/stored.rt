@@ -9,7 +9,7 @@ ghost use Rattle.lsdb.specs.Headers.{lsa_aged};
 use crate::database_copy::DatabaseCopy;
 use crate::order::age_at;
 use crate::times::CopyTimes;
-use keyed_map::Copied;
+use keyed_map::TryCopy;
 use lsa::{Lsa, LsaBody};
 use std::alloc::{AllocError, Global};
 use std::marker::Model;
@@ -129,7 +129,7 @@ impl StoredLsa {
     }
 }
 
-impl Copied for StoredLsa {
+impl TryCopy for StoredLsa {
     fn copy(&self, _alloc: Global) -> Result<Self, AllocError> {
         let lsa = Arc::try_clone(&self.lsa)?;
         let times: CopyTimes = self.times;
