@@ -58,13 +58,13 @@ pub(crate) fn push_place(out: &mut Text, place: PointerPlace<Value>) {
 
 /// What is known of the register.
 pub(crate) fn known_at(kinds: &[Kind<Value>], register: usize) -> Kind<Value> {
-    element_or(kinds, register, Kind::Empty)
+    element_or(kinds, register, Kind::Unknown)
 }
 
 /// What is known of a register.
 pub(crate) fn push_kind(out: &mut Text, kind: Kind<Value>) {
     match kind {
-        Kind::Empty => out.push("may be empty"),
+        Kind::Unknown => out.push("may be empty"),
         Kind::Number(value) => push_number(out, value),
         Kind::Pointer(place) => push_place(out, place),
     }

@@ -76,7 +76,7 @@ const MAX_ADDED: u64 = 16_777_215;
 /// Whether a register of this kind breaks the rule when it is read.
 fn is_wrong(rule: Rule, register: usize, kind: Kind<Value>) -> bool {
     match (rule, kind) {
-        (Rule::Kind | Rule::ExitKind, _) | (Rule::Empty, Kind::Empty) => true,
+        (Rule::Kind | Rule::ExitKind, _) | (Rule::Empty, Kind::Unknown) => true,
         (Rule::Argument, Kind::Number(value)) => {
             let most = if register == 1 {
                 MAX_COUNTER

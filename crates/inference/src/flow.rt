@@ -62,7 +62,7 @@ struct Branch {
 /// What is known at the start of a run: r1 points to the context. `depth` bytes of the stack are
 /// tracked.
 pub fn entry_state(memory: &Memory, depth: usize) -> AbstractState<Value> {
-    let mut kinds = memory.filled(Kind::Empty, 10);
+    let mut kinds = memory.filled(Kind::Unknown, 10);
     put(&mut kinds, 1, Kind::Pointer(PointerPlace::Context(0)));
     AbstractState {
         kinds,
@@ -283,7 +283,8 @@ fn put_known(state: &mut AbstractState<Value>, register: usize, kind: Kind<Value
 }
 
 /// Moves on past an instruction that the verifier refuses: it fills its target with any number that
-/// it may load, and a call empties the registers that any call empties, and fills r0 with any number.
+/// it may load, and a call empties the registers that any call empties, and fills r0 with any
+/// number.
 fn excuse(state: &mut AbstractState<Value>, instruction: &Instruction) {
     if let Some(target) = target_of(instruction) {
         let filled = match *instruction {
@@ -294,7 +295,7 @@ fn excuse(state: &mut AbstractState<Value>, instruction: &Instruction) {
     }
     if matches!(instruction, Instruction::Call { .. }) {
         for register in 0..6usize {
-            put_known(state, register, Kind::Empty)
+            put_known(state, register, Kind::Unknown)
         }
         put_known(state, 0, any_number())
     }

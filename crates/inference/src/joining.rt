@@ -62,7 +62,7 @@ fn placed(map: Map, numbers: Option<StatedNumber>) -> StatedKind {
 /// The statement of what is known of a register: `Empty` if an object can't express it.
 fn told(known: Known<Value>) -> StatedKind {
     match known {
-        Known::Empty => StatedKind::Empty,
+        Known::Unknown => StatedKind::Empty,
         Known::Number(value) => numbered(stated_of(value)),
         Known::Pointer(PointerPlace::Context(at)) => match ContextOffset::new(at.min(65) as u32) {
             Some(offset) => StatedKind::Context(offset),
@@ -144,7 +144,7 @@ fn kinds_of(live: Registers, known: &[Known<Value>]) -> [StatedKind; 10] {
     let mut kinds = [StatedKind::Empty; 10];
     for register in 0..10 {
         if has(live, register) {
-            kinds[register] = told(element_or(known, register, Known::Empty));
+            kinds[register] = told(element_or(known, register, Known::Unknown));
         }
     }
     kinds

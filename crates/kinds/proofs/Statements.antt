@@ -6,7 +6,7 @@ use Rattle.object.specs.Statements.{StatementParts}
 use Rattle.machine.specs.declared.state.Content.{Content}
 use Rattle.machine.specs.declared.state.State.{State as Machine}
 use Rattle.kinds.specs.declared.state.Kind.{Kind}
-use Rattle.kinds.specs.declared.state.Kind.TheVariants.{Empty}
+use Rattle.kinds.specs.declared.state.Kind.TheVariants.{Unknown}
 use Rattle.kinds.specs.declared.statement.SegmentStart.{SegmentStart}
 use Rattle.kinds.specs.Meaning.{KindHolds, TargetHolds}
 use Rattle.kinds.specs.Stated.{GivesStated, HoldsStatement, IsAsStated, IsRead, MeetsStated}
@@ -25,7 +25,7 @@ abbrev pub AreKindsOf : {D : Type 0} → (D → ℕ → Type 0) → GivesStated 
     → SegmentStart D → Type 0
 AreKindsOf contains gives statement target =
     (r : ℕ) → r < 10 → IsKindOf contains gives (get_or statement.kinds r said.Empty)
-    (get_or target.kinds.items r Empty)
+    (get_or target.kinds.items r Unknown)
 
 module _ {D : Type 0} (contains : D → ℕ → Type 0) (gives : GivesStated D)
     (statement : StatementParts) (target : SegmentStart D) (same : target.statement.now ≡ statement)

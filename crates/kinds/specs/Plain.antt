@@ -14,7 +14,7 @@ IsNumber other = ⊥
 
 -- what is known of the register in a list of kinds
 abbrev pub kind_in : {D : Type 0} → List (Kind D) → ℕ → Kind D
-kind_in known r = slice_index_or known r kinds.Empty
+kind_in known r = slice_index_or known r kinds.Unknown
 
 -- the register is one of r0 to r9 and is known to hold a number
 pub record IsFilled {D : Type 0} (state : AbstractState D) (r : ℕ) : Type 0 where

@@ -28,8 +28,8 @@ use Rattle.segments.specs.Plain.{AsksAtMost, IsFilledBehind, IsPlainHere, KeepsN
 
 admits_kind : {D : Type 0} (contains : D → ℕ → Type 0) (kind other : Kind D) → IsNumber kind
     → HasEveryNumber contains other → Admits contains kind other
-admits_kind contains kinds.Empty other number every = absurd number
-admits_kind contains (kinds.Number value) kinds.Empty number every = absurd every
+admits_kind contains kinds.Unknown other number every = absurd number
+admits_kind contains (kinds.Number value) kinds.Unknown number every = absurd every
 admits_kind contains (kinds.Number value) (kinds.Number wider) number every = every
 admits_kind contains (kinds.Number value) (kinds.Pointer place) number every = absurd every
 admits_kind contains (kinds.Pointer place) other number every = absurd number
@@ -37,14 +37,14 @@ admits_kind contains (kinds.Pointer place) other number every = absurd number
 pub asks_admits : {D : Type 0} (contains : D → ℕ → Type 0) (state : AbstractState D) (r : ℕ)
     (other : Kind D) → AsksAtMost contains (IsFilled state r) other
     → Admits contains (kind_in state.kinds.items r) other
-asks_admits contains state r kinds.Empty asks = tt
+asks_admits contains state r kinds.Unknown asks = tt
 asks_admits contains state r (kinds.Number wider) asks =
     admits_kind contains (kind_in state.kinds.items r) (kinds.Number wider) asks.1.number asks.0
 asks_admits contains state r (kinds.Pointer place) asks = absurd asks
 
 asks_more : {D : Type 0} (contains : D → ℕ → Type 0) (filled more : Type 0) (kind : Kind D)
     → (filled → more) → AsksAtMost contains filled kind → AsksAtMost contains more kind
-asks_more contains filled more kinds.Empty grows asks = tt
+asks_more contains filled more kinds.Unknown grows asks = tt
 asks_more contains filled more (kinds.Number value) grows asks = (asks.0, grows asks.1)
 asks_more contains filled more (kinds.Pointer place) grows asks = absurd asks
 

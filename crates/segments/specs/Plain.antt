@@ -26,7 +26,7 @@ IsFilledBehind i state r = IsFilled state r ⊎ (register_written i ≡ Some r)
 
 -- Nothing is required of a register, or that it is any number, and then it is filled.
 abbrev pub AsksAtMost : {D : Type 0} → (D → ℕ → Type 0) → Type 0 → Kind D → Type 0
-AsksAtMost contains filled kinds.Empty = Unit {0}
+AsksAtMost contains filled kinds.Unknown = Unit {0}
 AsksAtMost contains filled (kinds.Number value) =
     HasEveryNumber contains (kinds.Number value) × filled
 AsksAtMost contains filled other = ⊥

@@ -22,7 +22,7 @@ pub record IsTargetOf {D : Type 0} (contains : D → ℕ → Type 0) (statement 
   pub ten : length target.kinds.items ≡ 10
   pub read : (r : ℕ) → r < 10
       → IsRead contains (slice_index_or statement.kinds r said.Empty)
-      (slice_index_or target.kinds.items r kinds.Empty)
+      (slice_index_or target.kinds.items r kinds.Unknown)
 
 abbrev pub Agrees : {D : Type 0} → (D → ℕ → Type 0) → Option StatementParts
     → Option (SegmentStart D) → Type 0

@@ -10,7 +10,7 @@ use Rattle.isa.specs.declared.instruction.Operation.{Operation}
 use Rattle.isa.specs.declared.instruction.Operation.TheVariants as operations
 use Rattle.isa.specs.declared.instruction.Source.{Source}
 use Rattle.kinds.specs.declared.state.Kind.{Kind}
-use Rattle.kinds.specs.declared.state.Kind.TheVariants.{Empty}
+use Rattle.kinds.specs.declared.state.Kind.TheVariants.{Unknown}
 use Rattle.kinds.specs.declared.state.AbstractState.{AbstractState}
 use Rattle.kinds.specs.Plain.{IsNumber, IsFilled}
 use Rattle.isa.specs.Flow.{register_written, operation_registers, source_registers}
@@ -18,24 +18,25 @@ use Rattle.transfer.specs.Plain.{FillsNumber, KeepsFilled}
 
 -- after a number is put into a list, numbers remain numbers
 pub number_set : {D : Type 0} (xs : List (Kind D)) (i : ℕ) (kind : Kind D) → IsNumber kind → (r : ℕ)
-    → IsNumber (get_or xs r Empty) → IsNumber (get_or (slice_set xs i kind) r Empty)
+    → IsNumber (get_or xs r Unknown) → IsNumber (get_or (slice_set xs i kind) r Unknown)
 number_set xs i kind new r old =
     ⊎_elim (λ (low : r < i). apart (λ (same : r ≡ i). omega arith))
     (λ (high : i ≤ r).
     ⊎_elim (λ (above : i < r). apart (λ (same : r ≡ i). omega arith))
     (λ (most : r ≤ i).
     let same : r ≡ i = omega arith in
-    ⊎_elim (λ (within : i < length xs). subst (λ k. IsNumber (get_or (slice_set xs i kind) k Empty))
-    (sym same) (rw (get_or-set_same xs i kind Empty within) new))
+    ⊎_elim (λ (within : i < length xs). subst
+    (λ k. IsNumber (get_or (slice_set xs i kind) k Unknown))
+    (sym same) (rw (get_or-set_same xs i kind Unknown within) new))
     (λ (past : length xs ≤ i).
     let long : length xs ≤ r = omega arith in
-    absurd (rw (get_or-eq_default xs Empty long) at old))
+    absurd (rw (get_or-eq_default xs Unknown long) at old))
     (cases_lt i (length xs)))
     (cases_lt i r))
     (cases_lt r i)
   where
-    apart : r ≢ i → IsNumber (get_or (slice_set xs i kind) r Empty)
-    apart other = rw (get_or-set_other xs i r kind Empty other) old
+    apart : r ≢ i → IsNumber (get_or (slice_set xs i kind) r Unknown)
+    apart other = rw (get_or-set_other xs i r kind Unknown other) old
 
 pub filled_set : {D : Type 0} (state after : AbstractState D) (i : ℕ) (kind : Kind D)
     → IsNumber kind → after.kinds.items ≡ slice_set state.kinds.items i kind → (r : ℕ)
@@ -54,8 +55,8 @@ pub keeps : {D : Type 0} (instruction : Instruction) (state after : AbstractStat
     → length state.kinds.items ≡ 10 → KeepsFilled instruction state after
 keeps instruction state after target names fills ten =
     let within : target < length state.kinds.items = omega (arith, fills.low, ten) in
-    let here : IsNumber (get_or after.kinds.items target Empty) =
-    rw (fills.items, get_or-set_same state.kinds.items target fills.kind Empty within)
+    let here : IsNumber (get_or after.kinds.items target Unknown) =
+    rw (fills.items, get_or-set_same state.kinds.items target fills.kind Unknown within)
     fills.number in
     record {
       ten = rw fills.items (length-set state.kinds.items target fills.kind ∙ ten);

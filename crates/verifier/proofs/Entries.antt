@@ -10,7 +10,7 @@ use Rattle.machine.specs.declared.state.StackByte.TheVariants as stack_bytes
 use Rattle.machine.specs.declared.state.State.{State as Machine}
 use Rattle.machine.specs.State.{start, held}
 use Rattle.kinds.specs.declared.state.Kind.{Kind}
-use Rattle.kinds.specs.declared.state.Kind.TheVariants.{Empty, Pointer}
+use Rattle.kinds.specs.declared.state.Kind.TheVariants.{Pointer, Unknown}
 use Rattle.kinds.specs.declared.state.PointerPlace.TheVariants.{Context}
 use Rattle.kinds.specs.declared.statement.SegmentStart.{SegmentStart}
 use Rattle.kinds.specs.Meaning.{KindHolds, TargetHolds}
@@ -19,10 +19,10 @@ use Rattle.segments.specs.Segments.{Enters}
 
 -- r1 points to the context, and nothing else is known
 abbrev pub entry_kinds : {D : Type 0} → List (Kind D)
-entry_kinds = Empty ∷ Pointer (Context 0) ∷ []
+entry_kinds = Unknown ∷ Pointer (Context 0) ∷ []
 
 entry_kind : {D : Type 0} (contains : D → ℕ → Type 0) (r : ℕ)
-    → KindHolds contains (get_or (entry_kinds {D = D}) r Empty) (held start r)
+    → KindHolds contains (get_or (entry_kinds {D = D}) r Unknown) (held start r)
 entry_kind contains zero = tt
 entry_kind contains (suc zero) = (pointers.Context 0, refl, refl)
 entry_kind contains (suc (suc r)) = tt
@@ -42,7 +42,7 @@ none_stated at stated =
 
 pub entry_holds : {D : Type 0} (contains : D → ℕ → Type 0) (entry : SegmentStart D)
     → entry.statement.now.stack ≡ no_bytes
-    → ((r : ℕ) → get_or entry.kinds.items r Empty ≡ get_or entry_kinds r Empty)
+    → ((r : ℕ) → get_or entry.kinds.items r Unknown ≡ get_or entry_kinds r Unknown)
     → TargetHolds contains entry start
 entry_holds contains entry stack kinds = record {
   eleven = refl;

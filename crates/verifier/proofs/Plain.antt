@@ -69,18 +69,18 @@ none_stated at =
 
 number_of_every : {D : Type 0} (contains : D → ℕ → Type 0) (kind : Kind D)
     → HasEveryNumber contains kind → IsNumber kind
-number_of_every contains kinds.Empty every = absurd every
+number_of_every contains kinds.Unknown every = absurd every
 number_of_every contains (kinds.Number value) every = tt
 number_of_every contains (kinds.Pointer place) every = absurd every
 
 asks_number : {D : Type 0} (contains : D → ℕ → Type 0) (kind : Kind D) (filled : Type 0)
     → HasEveryNumber contains kind → filled → AsksAtMost contains filled kind
-asks_number contains kinds.Empty filled every is = absurd every
+asks_number contains kinds.Unknown filled every is = absurd every
 asks_number contains (kinds.Number value) filled every is = (every, is)
 asks_number contains (kinds.Pointer place) filled every is = absurd every
 
 asks_nothing : {D : Type 0} (contains : D → ℕ → Type 0) (kind : Kind D) (filled : Type 0)
-    → kind ≡ kinds.Empty → AsksAtMost contains filled kind
+    → kind ≡ kinds.Unknown → AsksAtMost contains filled kind
 asks_nothing contains kind filled empty = rw empty tt
 
 asks_of : {D : Type 0} (contains : D → ℕ → Type 0) (says : Stated) (kind : Kind D) (filled : Type 0)
@@ -166,7 +166,7 @@ module _ {D : Type 0} (contains : D → ℕ → Type 0) (code : List Slot) (entr
       (plain.registers r low)
       (λ numbers says. gives r (record { low = low; numbers = numbers; says = says })))
       (λ (high : 10 ≤ r). asks_nothing contains (kind_in target.kinds.items r) (filled r)
-      (get_or-eq_default target.kinds.items kinds.Empty (omega (arith, high, is.ten))))
+      (get_or-eq_default target.kinds.items kinds.Unknown (omega (arith, high, is.ten))))
       (cases_lt r 10)
 
   edge_of : (s : StatementParts) (segment target : SegmentStart D) → IsTargetOf contains s target

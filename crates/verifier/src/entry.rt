@@ -51,10 +51,10 @@ pub fn entry_of<'a, D: Domain>(
     ensures holds { IfOk result (λ entry. TargetHolds D.contains entry start) }
 {
     let mut kinds = Vec::new(alloc);
-    kinds.push(Kind::Empty)?;
+    kinds.push(Kind::Unknown)?;
     kinds.push(Kind::Pointer(PointerPlace::Context(0)))?;
     for register in 2..10usize {
-        kinds.push(Kind::Empty)?;
+        kinds.push(Kind::Unknown)?;
     }
     Ok(SegmentStart { statement, kinds })
 }
@@ -69,7 +69,7 @@ pub fn unknown<D: Domain>(alloc: Global) -> Result<AbstractState<D>, AllocError>
     let mut kinds = Vec::new(alloc);
     let mut facts = Vec::new(alloc);
     for register in 0..10usize {
-        kinds.push(Kind::Empty)?;
+        kinds.push(Kind::Unknown)?;
         facts.push(None)?;
     }
     let mut entries = Vec::new(alloc);
