@@ -251,83 +251,84 @@ module _ (entries : List AdvertisedLink) (router : ℕ) (entry : AdvertisedLink)
 
 -- ---- to the networks of all entries that list the router
 
-module _ (root : Root) (entries : List AdvertisedLink) (router : ℕ) (told_links : List RouterLink) where
-  abbrev To : AdvertisedLink → VertexLink → Type 0
-  To = IsToNetwork root entries router told_links
+module _ (root : Root) (entries : List AdvertisedLink) (router : ℕ) (told_links : List RouterLink)
+  where
+    abbrev To : AdvertisedLink → VertexLink → Type 0
+    To = IsToNetwork root entries router told_links
 
-  abbrev ToSome : VertexLink → Type 0
-  ToSome = IsToSomeNetwork root entries router told_links
+    abbrev ToSome : VertexLink → Type 0
+    ToSome = IsToSomeNetwork root entries router told_links
 
-  abbrev pub WalkedTo : ℕ → VertexLink → Type 0
-  WalkedTo at link = (k : ℕ) × (entry : AdvertisedLink) × (slice_get entries k ≡ Some entry)
-      × (entry.router ≡ router) × (entry.kind ≡ Attached) × (k < at) × To entry link
+    abbrev pub WalkedTo : ℕ → VertexLink → Type 0
+    WalkedTo at link = (k : ℕ) × (entry : AdvertisedLink) × (slice_get entries k ≡ Some entry)
+        × (entry.router ≡ router) × (entry.kind ≡ Attached) × (k < at) × To entry link
 
-  pub walk_none : (first : ℕ) (xs : List VertexLink)
-      → ((k : ℕ) (other : AdvertisedLink) → slice_get entries k ≡ Some other → k < first
-      → entry_cmp other (attached_entry 0 0 router) ≡ Less) → Adds (WalkedTo first) xs xs
-  walk_none first xs before =
-      adds_none (WalkedTo first) xs
-      (λ x o. not_before (attached_entry 0 0 router) o.1 o.3 o.4 (omega arith) (omega arith)
-      (omega arith) (before o.0 o.1 o.2 o.5))
+    pub walk_none : (first : ℕ) (xs : List VertexLink)
+        → ((k : ℕ) (other : AdvertisedLink) → slice_get entries k ≡ Some other → k < first
+        → entry_cmp other (attached_entry 0 0 router) ≡ Less) → Adds (WalkedTo first) xs xs
+    walk_none first xs before =
+        adds_none (WalkedTo first) xs
+        (λ x o. not_before (attached_entry 0 0 router) o.1 o.3 o.4 (omega arith) (omega arith)
+        (omega arith) (before o.0 o.1 o.2 o.5))
 
-  pub walk_more : (at : ℕ) (entry : AdvertisedLink) (xs ys zs : List VertexLink)
-      → slice_get entries at ≡ Some entry → entry.router ≡ router → entry.kind ≡ Attached
-      → Adds (WalkedTo at) xs ys → Adds (To entry) ys zs → Adds (WalkedTo (at + 1)) xs zs
-  walk_more at entry xs ys zs here is_router is_kind a b =
-      adds_both (WalkedTo at) (To entry) (WalkedTo (at + 1)) xs ys zs a b
-      (λ x o. elim (cases_lt o.0 at) [
-        | inl lt ↦ inl (o.0, o.1, o.2, o.3, o.4, lt, o.6)
-        | inr past ↦
-            let same : o.0 ≡ at = omega (arith, o.5, past) in
-            let P : ℕ → Type 0 = λ k. slice_get entries k ≡ Some o.1 in
-            let Q : AdvertisedLink → Type 0 = λ e. To e x in
-            inr (subst Q (same_Some o.1 entry (sym (subst P same o.2) ∙ here)) o.6)
-      ])
-      (λ x o. (o.0, o.1, o.2, o.3, o.4, omega (arith, o.5), o.6))
-      (λ x t. (at, entry, here, is_router, is_kind, omega arith, t))
+    pub walk_more : (at : ℕ) (entry : AdvertisedLink) (xs ys zs : List VertexLink)
+        → slice_get entries at ≡ Some entry → entry.router ≡ router → entry.kind ≡ Attached
+        → Adds (WalkedTo at) xs ys → Adds (To entry) ys zs → Adds (WalkedTo (at + 1)) xs zs
+    walk_more at entry xs ys zs here is_router is_kind a b =
+        adds_both (WalkedTo at) (To entry) (WalkedTo (at + 1)) xs ys zs a b
+        (λ x o. elim (cases_lt o.0 at) [
+          | inl lt ↦ inl (o.0, o.1, o.2, o.3, o.4, lt, o.6)
+          | inr past ↦
+              let same : o.0 ≡ at = omega (arith, o.5, past) in
+              let P : ℕ → Type 0 = λ k. slice_get entries k ≡ Some o.1 in
+              let Q : AdvertisedLink → Type 0 = λ e. To e x in
+              inr (subst Q (same_Some o.1 entry (sym (subst P same o.2) ∙ here)) o.6)
+        ])
+        (λ x o. (o.0, o.1, o.2, o.3, o.4, omega (arith, o.5), o.6))
+        (λ x t. (at, entry, here, is_router, is_kind, omega arith, t))
 
-  walked : (at : ℕ) (x : VertexLink) → WalkedTo at x → ToSome x
-  walked at x o = record {
-    entry = o.1;
-    among = contained entries o.0 o.1 o.2;
-    is_router = o.3;
-    is_kind = o.4;
-    leads = o.6;
-  }
+    walked : (at : ℕ) (x : VertexLink) → WalkedTo at x → ToSome x
+    walked at x o = record {
+      entry = o.1;
+      among = contained entries o.0 o.1 o.2;
+      is_router = o.3;
+      is_kind = o.4;
+      leads = o.6;
+    }
 
-  pub walk_end : (at : ℕ) (xs ys : List VertexLink) → length entries ≤ at → Adds (WalkedTo at) xs ys
-      → Adds ToSome xs ys
-  walk_end at xs ys done a =
-      adds_same (WalkedTo at) ToSome xs ys (walked at)
-      (λ x s. let stands = placed entries s.entry s.among in (
-        stands.0,
-        s.entry,
-        stands.1,
-        s.is_router,
-        s.is_kind,
-        omega (arith, done, slice_get_within entries stands.0 s.entry stands.1),
-        s.leads,
-      )) a
+    pub walk_end : (at : ℕ) (xs ys : List VertexLink) → length entries ≤ at
+        → Adds (WalkedTo at) xs ys → Adds ToSome xs ys
+    walk_end at xs ys done a =
+        adds_same (WalkedTo at) ToSome xs ys (walked at)
+        (λ x s. let stands = placed entries s.entry s.among in (
+          stands.0,
+          s.entry,
+          stands.1,
+          s.is_router,
+          s.is_kind,
+          omega (arith, done, slice_get_within entries stands.0 s.entry stands.1),
+          s.leads,
+        )) a
 
-  pub walk_stop : (first at : ℕ) (entry : AdvertisedLink) (xs ys : List VertexLink)
-      → IsSorted entry_cmp entries → ((k : ℕ) (other : AdvertisedLink)
-      → slice_get entries k ≡ Some other → first ≤ k
-      → entry_cmp other (attached_entry 0 0 router) ≡ Less → ⊥) → first ≤ at
-      → slice_get entries at ≡ Some entry
-      → (entry.router ≡ router → entry.kind ≡ Attached → ⊥)
-      → Adds (WalkedTo at) xs ys → Adds ToSome xs ys
-  walk_stop first at entry xs ys sorted beyond low here never a =
-      adds_same (WalkedTo at) ToSome xs ys (walked at)
-      (λ x s.
-      let stands = placed entries s.entry s.among in
-      elim (cases_lt stands.0 at) [
-        | inl lt ↦ (stands.0, s.entry, stands.1, s.is_router, s.is_kind, lt, s.leads)
-        | inr past ↦
-            let o = of_kind (attached_entry 0 0 router) entry s.entry s.is_router s.is_kind
-            (beyond at entry here low) (in_order entries sorted at stands.0 entry s.entry here
-            stands.1 past) in
-            absurd (never o.router o.kind)
-      ]) a
+    pub walk_stop : (first at : ℕ) (entry : AdvertisedLink) (xs ys : List VertexLink)
+        → IsSorted entry_cmp entries → ((k : ℕ) (other : AdvertisedLink)
+        → slice_get entries k ≡ Some other → first ≤ k
+        → entry_cmp other (attached_entry 0 0 router) ≡ Less → ⊥) → first ≤ at
+        → slice_get entries at ≡ Some entry
+        → (entry.router ≡ router → entry.kind ≡ Attached → ⊥)
+        → Adds (WalkedTo at) xs ys → Adds ToSome xs ys
+    walk_stop first at entry xs ys sorted beyond low here never a =
+        adds_same (WalkedTo at) ToSome xs ys (walked at)
+        (λ x s.
+        let stands = placed entries s.entry s.among in
+        elim (cases_lt stands.0 at) [
+          | inl lt ↦ (stands.0, s.entry, stands.1, s.is_router, s.is_kind, lt, s.leads)
+          | inr past ↦
+              let o = of_kind (attached_entry 0 0 router) entry s.entry s.is_router s.is_kind
+              (beyond at entry here low) (in_order entries sorted at stands.0 entry s.entry here
+              stands.1 past) in
+              absurd (never o.router o.kind)
+        ]) a
 
 -- ---- from a network
 

@@ -50,7 +50,8 @@ pub record IsToRouter (root : Root) (nodes : List Node) (entries : List Advertis
   pub leads : IsExitTo root router link.to advertised.metric advertised.link_data link
 
 -- the root's link to a network with this Link State ID, for a transit link of its LSA
-pub record IsOwnTransit (root : Root) (id to : ℕ) (advertised : RouterLink) (link : VertexLink) : Type 0 where
+pub record IsOwnTransit (root : Root) (id to : ℕ) (advertised : RouterLink) (link : VertexLink) :
+    Type 0 where
   pub is_kind : advertised.kind ≡ kinds.Transit
   pub is_id : advertised.link_id ≡ id
   pub counts : 0 < advertised.metric

@@ -12,8 +12,8 @@ use Rattle.candidates.specs.declared.graph.AreaGraph.{AreaGraph}
 use Rattle.area_routes.specs.Kept.{AreOffersOf, ExternalsSayTheSame, KeptRoutes, KnowsExternals}
 
 -- it is unchanged while they say the same
-externals_stay : (old new : Said) (advertised : List ExternalAdvertisement) → ExternalsSayTheSame old new
-    → AreExternals old advertised → AreExternals new advertised
+externals_stay : (old new : Said) (advertised : List ExternalAdvertisement)
+    → ExternalsSayTheSame old new → AreExternals old advertised → AreExternals new advertised
 externals_stay old new advertised same are e = (
   (λ t. let p = (are e).0 t in (p.0, sym (same p.0.0 p.2.is_type) ∙ p.1, p.2)),
   (λ p. (are e).1 (p.0, same p.0.0 p.2.is_type ∙ p.1, p.2)),

@@ -83,135 +83,146 @@ one_network nodes id by other place p q =
     let same : ANetwork id by ≡ ANetwork id other =
     same_Some (ANetwork id by) (ANetwork id other) (sym p ∙ q) in cc
 
-pub is_no_transit : (advertised : RouterLink) → advertised.kind ≡ PointToPoint → advertised.kind ≡ Transit → ⊥
+pub is_no_transit : (advertised : RouterLink) → advertised.kind ≡ PointToPoint
+    → advertised.kind ≡ Transit → ⊥
 is_no_transit advertised p q = let same : PointToPoint ≡ Transit = sym p ∙ q in cc
 
-pub is_no_point : (advertised : RouterLink) → advertised.kind ≡ Transit → advertised.kind ≡ PointToPoint → ⊥
+pub is_no_point : (advertised : RouterLink) → advertised.kind ≡ Transit
+    → advertised.kind ≡ PointToPoint → ⊥
 is_no_point advertised p q = is_no_transit advertised q p
 
 -- ---- one link to a router
 
-module _ (said : Said) (root : Root) (nodes : List Node) (router : ℕ) (advertised : RouterLink) where
-  pub no_neighbor : (xs : List VertexLink)
-      → IsNeighbor said nodes advertised.link_id PointToPoint router None
-      → Adds (IsToNeighbor said root nodes router advertised) xs xs
-  no_neighbor xs none = adds_none (IsToNeighbor said root nodes router advertised) xs (λ x t. none t.back)
+module _ (said : Said) (root : Root) (nodes : List Node) (router : ℕ) (advertised : RouterLink)
+  where
+    pub no_neighbor : (xs : List VertexLink)
+        → IsNeighbor said nodes advertised.link_id PointToPoint router None
+        → Adds (IsToNeighbor said root nodes router advertised) xs xs
+    no_neighbor xs none = adds_none (IsToNeighbor said root nodes router advertised) xs
+        (λ x t. none t.back)
 
-  pub to_neighbor : (to : ℕ) (xs ys : List VertexLink) → Ascend nodes → advertised.kind ≡ PointToPoint
-      → 0 < advertised.metric → IsNeighbor said nodes advertised.link_id PointToPoint router (Some to)
-      → Adds (IsExitTo root router to advertised.metric advertised.link_data) xs ys
-      → Adds (IsToNeighbor said root nodes router advertised) xs ys
-  to_neighbor to xs ys ascend kind counts at a =
-      adds_same (IsExitTo root router to advertised.metric advertised.link_data)
-      (IsToNeighbor said root nodes router advertised) xs ys
-      (λ x e.
-      let P : ℕ → Type 0 = λ k. StandsAt nodes (ARouter advertised.link_id) k in
-      record {
-        is_kind = kind;
-        counts = counts;
-        stands = subst P (sym e.0) at.0;
-        back = at.1;
-        leads = (refl, e.1, e.2);
-      })
-      (λ x t. (
-        one_place nodes ascend (ARouter advertised.link_id) x.to to t.stands at.0,
-        t.leads.1,
-        t.leads.2,
-      )) a
+    pub to_neighbor : (to : ℕ) (xs ys : List VertexLink) → Ascend nodes
+        → advertised.kind ≡ PointToPoint → 0 < advertised.metric
+        → IsNeighbor said nodes advertised.link_id PointToPoint router (Some to)
+        → Adds (IsExitTo root router to advertised.metric advertised.link_data) xs ys
+        → Adds (IsToNeighbor said root nodes router advertised) xs ys
+    to_neighbor to xs ys ascend kind counts at a =
+        adds_same (IsExitTo root router to advertised.metric advertised.link_data)
+        (IsToNeighbor said root nodes router advertised) xs ys
+        (λ x e.
+        let P : ℕ → Type 0 = λ k. StandsAt nodes (ARouter advertised.link_id) k in
+        record {
+          is_kind = kind;
+          counts = counts;
+          stands = subst P (sym e.0) at.0;
+          back = at.1;
+          leads = (refl, e.1, e.2);
+        })
+        (λ x t. (
+          one_place nodes ascend (ARouter advertised.link_id) x.to to t.stands at.0,
+          t.leads.1,
+          t.leads.2,
+        )) a
 
-  -- ---- or to networks
+    -- ---- or to networks
 
-  module _ (place : ℕ) where
-    pub no_network : (xs : List VertexLink) → (IsListedAt said nodes router advertised.link_id place → ⊥)
-        → Adds (IsToNetworkAt said root nodes router advertised place) xs xs
-    no_network xs none =
-        adds_none (IsToNetworkAt said root nodes router advertised place) xs
-        (λ x t. none (subst (IsListedAt said nodes router advertised.link_id) t.0 t.1.listed))
+    module _ (place : ℕ) where
+      pub no_network : (xs : List VertexLink)
+          → (IsListedAt said nodes router advertised.link_id place → ⊥)
+          → Adds (IsToNetworkAt said root nodes router advertised place) xs xs
+      no_network xs none =
+          adds_none (IsToNetworkAt said root nodes router advertised place) xs
+          (λ x t. none (subst (IsListedAt said nodes router advertised.link_id) t.0 t.1.listed))
 
-    pub to_network : (xs ys : List VertexLink) → advertised.kind ≡ Transit → 0 < advertised.metric
-        → IsListedAt said nodes router advertised.link_id place
-        → Adds (IsExitTo root router place advertised.metric advertised.link_data) xs ys
-        → Adds (IsToNetworkAt said root nodes router advertised place) xs ys
-    to_network xs ys kind counts listed a =
-        adds_same (IsExitTo root router place advertised.metric advertised.link_data)
-        (IsToNetworkAt said root nodes router advertised place) xs ys
-        (λ x e. (
-          e.0,
-          record {
-            is_kind = kind;
-            counts = counts;
-            listed = subst (IsListedAt said nodes router advertised.link_id) (sym e.0) listed;
-            leads = (refl, e.1, e.2);
-          },
-        ))
-        (λ x t. (t.0, t.1.leads.1, t.1.leads.2)) a
+      pub to_network : (xs ys : List VertexLink) → advertised.kind ≡ Transit → 0 < advertised.metric
+          → IsListedAt said nodes router advertised.link_id place
+          → Adds (IsExitTo root router place advertised.metric advertised.link_data) xs ys
+          → Adds (IsToNetworkAt said root nodes router advertised place) xs ys
+      to_network xs ys kind counts listed a =
+          adds_same (IsExitTo root router place advertised.metric advertised.link_data)
+          (IsToNetworkAt said root nodes router advertised place) xs ys
+          (λ x e. (
+            e.0,
+            record {
+              is_kind = kind;
+              counts = counts;
+              listed = subst (IsListedAt said nodes router advertised.link_id) (sym e.0) listed;
+              leads = (refl, e.1, e.2);
+            },
+          ))
+          (λ x t. (t.0, t.1.leads.1, t.1.leads.2)) a
 
-  -- to a network below this index
-  abbrev pub IsToNetworkBelow : ℕ → VertexLink → Type 0
-  IsToNetworkBelow place link = (link.to < place) × IsToNetwork said root nodes router advertised link
+    -- to a network below this index
+    abbrev pub IsToNetworkBelow : ℕ → VertexLink → Type 0
+    IsToNetworkBelow place link = (link.to < place)
+        × IsToNetwork said root nodes router advertised link
 
-  pub none_below : (first : ℕ) (xs : List VertexLink) → ((by place : ℕ)
-      → StandsAt nodes (ANetwork advertised.link_id by) place → first ≤ place)
-      → Adds (IsToNetworkBelow first) xs xs
-  none_below first xs earliest =
-      adds_none (IsToNetworkBelow first) xs
-      (λ x t. omega (arith, t.0, earliest t.1.listed.0 x.to t.1.listed.1))
+    pub none_below : (first : ℕ) (xs : List VertexLink) → ((by place : ℕ)
+        → StandsAt nodes (ANetwork advertised.link_id by) place → first ≤ place)
+        → Adds (IsToNetworkBelow first) xs xs
+    none_below first xs earliest =
+        adds_none (IsToNetworkBelow first) xs
+        (λ x t. omega (arith, t.0, earliest t.1.listed.0 x.to t.1.listed.1))
 
-  pub one_more : (place : ℕ) (xs ys zs : List VertexLink) → Adds (IsToNetworkBelow place) xs ys
-      → Adds (IsToNetworkAt said root nodes router advertised place) ys zs
-      → Adds (IsToNetworkBelow (place + 1)) xs zs
-  one_more place xs ys zs a b =
-      adds_both (IsToNetworkBelow place) (IsToNetworkAt said root nodes router advertised place)
-      (IsToNetworkBelow (place + 1)) xs ys zs a b
-      (λ x t. elim (cases_lt x.to place) [
-        | inl lt ↦ inl (lt, t.1)
-        | inr past ↦ inr (omega (arith, t.0, past), t.1)
-      ])
-      (λ x t. (omega (arith, t.0), t.1))
-      (λ x t. (omega (arith, t.0), t.1))
+    pub one_more : (place : ℕ) (xs ys zs : List VertexLink) → Adds (IsToNetworkBelow place) xs ys
+        → Adds (IsToNetworkAt said root nodes router advertised place) ys zs
+        → Adds (IsToNetworkBelow (place + 1)) xs zs
+    one_more place xs ys zs a b =
+        adds_both (IsToNetworkBelow place) (IsToNetworkAt said root nodes router advertised place)
+        (IsToNetworkBelow (place + 1)) xs ys zs a b
+        (λ x t. elim (cases_lt x.to place) [
+          | inl lt ↦ inl (lt, t.1)
+          | inr past ↦ inr (omega (arith, t.0, past), t.1)
+        ])
+        (λ x t. (omega (arith, t.0), t.1))
+        (λ x t. (omega (arith, t.0), t.1))
 
-  pub all_below : (place end : ℕ) (xs ys : List VertexLink) → ((by place : ℕ)
-      → StandsAt nodes (ANetwork advertised.link_id by) place → place < end) → end ≤ place
-      → Adds (IsToNetworkBelow place) xs ys → Adds (IsToNetwork said root nodes router advertised) xs ys
-  all_below place end xs ys last done a =
-      adds_same (IsToNetworkBelow place) (IsToNetwork said root nodes router advertised) xs ys
-      (λ x t. t.1)
-      (λ x t. (omega (arith, last t.listed.0 x.to t.listed.1, done), t)) a
+    pub all_below : (place end : ℕ) (xs ys : List VertexLink)
+        → ((by place : ℕ) → StandsAt nodes (ANetwork advertised.link_id by) place → place < end)
+        → end ≤ place → Adds (IsToNetworkBelow place) xs ys
+        → Adds (IsToNetwork said root nodes router advertised) xs ys
+    all_below place end xs ys last done a =
+        adds_same (IsToNetworkBelow place) (IsToNetwork said root nodes router advertised) xs ys
+        (λ x t. t.1)
+        (λ x t. (omega (arith, last t.listed.0 x.to t.listed.1, done), t)) a
 
-  -- ---- what the link leads to
+    -- ---- what the link leads to
 
-  pub no_end : (xs : List VertexLink) → (0 < advertised.metric → ⊥)
-      → Adds (IsToEnd said root nodes router advertised) xs xs
-  no_end xs never =
-      adds_none (IsToEnd said root nodes router advertised) xs
-      (λ x t. elim t [ inl n ↦ never n.counts | inr n ↦ never n.counts ])
+    pub no_end : (xs : List VertexLink) → (0 < advertised.metric → ⊥)
+        → Adds (IsToEnd said root nodes router advertised) xs xs
+    no_end xs never =
+        adds_none (IsToEnd said root nodes router advertised) xs
+        (λ x t. elim t [ inl n ↦ never n.counts | inr n ↦ never n.counts ])
 
-  pub other_end : (xs : List VertexLink) → (advertised.kind ≡ PointToPoint → ⊥)
-      → (advertised.kind ≡ Transit → ⊥) → Adds (IsToEnd said root nodes router advertised) xs xs
-  other_end xs point transit =
-      adds_none (IsToEnd said root nodes router advertised) xs
-      (λ x t. elim t [ inl n ↦ point n.is_kind | inr n ↦ transit n.is_kind ])
+    pub other_end : (xs : List VertexLink) → (advertised.kind ≡ PointToPoint → ⊥)
+        → (advertised.kind ≡ Transit → ⊥) → Adds (IsToEnd said root nodes router advertised) xs xs
+    other_end xs point transit =
+        adds_none (IsToEnd said root nodes router advertised) xs
+        (λ x t. elim t [ inl n ↦ point n.is_kind | inr n ↦ transit n.is_kind ])
 
-  pub router_end : (xs ys : List VertexLink) → (advertised.kind ≡ Transit → ⊥)
-      → Adds (IsToNeighbor said root nodes router advertised) xs ys
-      → Adds (IsToEnd said root nodes router advertised) xs ys
-  router_end xs ys other a =
-      adds_same (IsToNeighbor said root nodes router advertised) (IsToEnd said root nodes router advertised) xs
-      ys (λ x n. inl n) (λ x t. elim t [ inl n ↦ n | inr n ↦ absurd (other n.is_kind) ]) a
+    pub router_end : (xs ys : List VertexLink) → (advertised.kind ≡ Transit → ⊥)
+        → Adds (IsToNeighbor said root nodes router advertised) xs ys
+        → Adds (IsToEnd said root nodes router advertised) xs ys
+    router_end xs ys other a =
+        adds_same (IsToNeighbor said root nodes router advertised)
+        (IsToEnd said root nodes router advertised) xs
+        ys (λ x n. inl n) (λ x t. elim t [ inl n ↦ n | inr n ↦ absurd (other n.is_kind) ]) a
 
-  pub network_end : (xs ys : List VertexLink) → (advertised.kind ≡ PointToPoint → ⊥)
-      → Adds (IsToNetwork said root nodes router advertised) xs ys
-      → Adds (IsToEnd said root nodes router advertised) xs ys
-  network_end xs ys other a =
-      adds_same (IsToNetwork said root nodes router advertised) (IsToEnd said root nodes router advertised) xs
-      ys (λ x n. inr n) (λ x t. elim t [ inl n ↦ absurd (other n.is_kind) | inr n ↦ n ]) a
+    pub network_end : (xs ys : List VertexLink) → (advertised.kind ≡ PointToPoint → ⊥)
+        → Adds (IsToNetwork said root nodes router advertised) xs ys
+        → Adds (IsToEnd said root nodes router advertised) xs ys
+    network_end xs ys other a =
+        adds_same (IsToNetwork said root nodes router advertised)
+        (IsToEnd said root nodes router advertised) xs
+        ys (λ x n. inr n) (λ x t. elim t [ inl n ↦ absurd (other n.is_kind) | inr n ↦ n ]) a
 
 -- ---- all links of a router
 
 module _ (said : Said) (root : Root) (nodes : List Node) (router : ℕ) (lsa : RouterLsa)
     (is : router_lsa said router ≡ Some lsa) where
-  counted : (advertised : RouterLink) → Contains lsa.links advertised → (kind : LinkKind) → advertised.kind ≡ kind
-      → 0 < advertised.metric → (x : VertexLink) → IsExitTo root router x.to advertised.metric advertised.link_data x
+  counted : (advertised : RouterLink) → Contains lsa.links advertised → (kind : LinkKind)
+      → advertised.kind ≡ kind → 0 < advertised.metric → (x : VertexLink)
+      → IsExitTo root router x.to advertised.metric advertised.link_data x
       → Counts said root router kind advertised.link_id x.cost x.interface
   counted advertised among kind is_kind counts x leads = record {
     link = advertised;

@@ -51,15 +51,16 @@ pub record IsToNetwork (said : Said) (root : Root) (nodes : List Node) (router :
   pub leads : IsExitTo root router link.to advertised.metric advertised.link_data link
 
 -- to the network at this index
-abbrev pub IsToNetworkAt : Said → Root → List Node → RouterNumber → RouterLink → (place : ℕ) → VertexLink
-    → Type 0
+abbrev pub IsToNetworkAt : Said → Root → List Node → RouterNumber → RouterLink → (place : ℕ)
+    → VertexLink → Type 0
 IsToNetworkAt said root nodes router advertised place link =
     (link.to ≡ place) × IsToNetwork said root nodes router advertised link
 
 -- to a node that the link of the router's LSA leads to
 abbrev pub IsToEnd : Said → Root → List Node → RouterNumber → RouterLink → VertexLink → Type 0
 IsToEnd said root nodes router advertised link =
-    IsToNeighbor said root nodes router advertised link ⊎ IsToNetwork said root nodes router advertised link
+    IsToNeighbor said root nodes router advertised link
+    ⊎ IsToNetwork said root nodes router advertised link
 
 -- from a network with this Link State ID to a router that it lists and that has a link back, at
 -- cost 0

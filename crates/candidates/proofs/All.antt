@@ -43,7 +43,8 @@ module _ (said : Said) (root : Root) (ways : Ways) (are : AreWays said root ways
               (inner_back said root ways are routers flagged o k))),
         )
 
-    pub of_told : (advertised : List Route) → AreRoutesAmong (OfEach (Tells root routers) bodies) advertised
+    pub of_told : (advertised : List Route)
+        → AreRoutesAmong (OfEach (Tells root routers) bodies) advertised
         → AreRoutesAmong (OfSaid (Tells root routers) said) advertised
     of_told advertised all = let Q = Tells root routers in
         routes_among (OfEach Q bodies) (OfSaid Q said) advertised (of_said 4 said bodies have Q)
@@ -60,13 +61,15 @@ module _ (said : Said) (root : Root) (ways : Ways) (are : AreWays said root ways
   -- ---- with external destinations
 
   module _ (externals : List ExternalTold) (tell : AreExternals said externals)
-      (advertised networks : List Route) (all_told : AreRoutesAmong (OfSaid (Tells root routers) said)
+      (advertised networks : List Route)
+      (all_told : AreRoutesAmong (OfSaid (Tells root routers) said)
       advertised) (inside : AreRoutesAmong (OffersInside said root) networks) where
     of_external : (o : Offer) → OfEach (OfAdvertised root routers advertised networks) externals o
         → Offers said root o
     of_external o (e, among, k) =
         let one = (tell e).0 among in
-        External (external_forth said root ways are routers flagged advertised all_told networks inside o
+        External (external_forth said root ways are routers flagged advertised all_told networks
+        inside o
         (one.0, one.1, of_told_one root routers advertised networks one.0 e one.2 o k))
 
     of_inner : (o : Offer) → OffersInside said root o → Offers said root o
@@ -96,6 +99,7 @@ module _ (said : Said) (root : Root) (ways : Ways) (are : AreWays said root ways
           | Within w ↦ put o (inl w)
           | Between b ↦ put o (inr b)
           | External e ↦ (more o).1 (inr (by_external o
-              (external_back said root ways are routers flagged advertised all_told networks inside o e)))
+              (external_back said root ways are routers flagged advertised all_told networks inside
+              o e)))
         ])
         best

@@ -51,8 +51,9 @@ up_to_bodies last said bodies are = record {
 
 -- what the LSAs of a list advertise about external destinations is what those of the database
 -- advertise
-pub all_external : (said : Said) (bodies : List (Key × LsaBody)) (advertised : List ExternalAdvertisement)
-    → AreBodies None said bodies → AreAdvertisedBy bodies advertised → AreExternals said advertised
+pub all_external : (said : Said) (bodies : List (Key × LsaBody))
+    (advertised : List ExternalAdvertisement) → AreBodies None said bodies
+    → AreAdvertisedBy bodies advertised → AreExternals said advertised
 all_external said bodies advertised are by e = (
   (λ t. let p = (by e).0 t in ((p.0.0, p.0.1), ((are.each p.0.0 p.0.1).0 p.1).1, p.2)),
   (λ p. (by e).1 ((p.0.0, p.0.1), (are.each p.0.0 p.0.1).1 (tt, p.1), p.2)),

@@ -12,9 +12,9 @@ module _ (routers : List Flagged) (advertised inner : List Route) (originator fo
       → IsJust (IsOutwardBy routers advertised inner originator forwarding) None
   no_originator none = λ w k. none k.boundary k.reaches
 
-  pub by_originator : (boundary : Way) → IsJust (IsBoundary routers advertised originator) (Some boundary)
-      → forwarding ≡ 0 → IsJust (IsOutwardBy routers advertised inner originator forwarding)
-      (Some boundary)
+  pub by_originator : (boundary : Way)
+      → IsJust (IsBoundary routers advertised originator) (Some boundary) → forwarding ≡ 0
+      → IsJust (IsOutwardBy routers advertised inner originator forwarding) (Some boundary)
   by_originator boundary just zero = λ w. (
     λ k. k.direct zero ∙ (just k.boundary).0 k.reaches,
     λ e. record {

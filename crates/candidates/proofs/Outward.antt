@@ -84,7 +84,8 @@ module _ (said : Said) (root : Root) (ways : Ways) (are : AreWays said root ways
         tag = ap (λ (x : Offer). x.tag) k.is;
       }
 
-  offer_of : (router distance : ℕ) (border : WalkWay) → IsAdvertised said root router distance border
+  offer_of : (router distance : ℕ) (border : WalkWay)
+      → IsAdvertised said root router distance border
       → Told (inter (host router) distance border.hops)
   offer_of router distance border t =
       let c = counted_back said root ways are routers flagged t.originator t.lsa border t.counts in
@@ -116,7 +117,8 @@ module _ (said : Said) (root : Root) (ways : Ways) (are : AreWays said root ways
         told_of router k.first k.is_best.offered (k.is_best.is_for ∙ f.is_for) in
         record {
           border = first.border;
-          advertised = subst (λ d. IsAdvertised said root router d first.border) (sym k.cost) first.advertised;
+          advertised = subst (λ d. IsAdvertised said root router d first.border) (sym k.cost)
+              first.advertised;
           least = λ distance other t.
               let o : Offer = inter (host router) distance other.hops in
               let no_worse : IsNoWorse k.first o =

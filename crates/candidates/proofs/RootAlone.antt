@@ -116,7 +116,8 @@ module _ (root : Root) (ways : Ways)
       its None j is = absurd (cc)
       its (Some it) j is = let same : r ≡ it = cc in (j r).1 same
 
-  module _ (said : Said) (advertised : Option LsaBody) (own : advertised ≡ said (router_key root.router)) where
+  module _ (said : Said) (advertised : Option LsaBody)
+      (own : advertised ≡ said (router_key root.router)) where
     abbrev its_key : Key
     its_key = router_key root.router
 

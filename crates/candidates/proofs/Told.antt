@@ -137,7 +137,8 @@ module _ (root : Root) (routers : List Flagged) (advertised inner : List Route) 
 
   module _ (one : Key × LsaBody) where
     pub told_of : (o : Offer) → OfExternal root routers advertised inner one o
-        → (e : ExternalAdvertisement) × TellsExternal one e × OfAdvertised root routers advertised inner e o
+        → (e : ExternalAdvertisement) × TellsExternal one e
+        × OfAdvertised root routers advertised inner e o
     told_of o k =
         let e : ExternalAdvertisement = record {
           prefix = k.prefix;
@@ -170,7 +171,8 @@ module _ (root : Root) (routers : List Flagged) (advertised inner : List Route) 
         )
 
     pub of_told_one : (e : ExternalAdvertisement) → TellsExternal one e → (o : Offer)
-        → OfAdvertised root routers advertised inner e o → OfExternal root routers advertised inner one o
+        → OfAdvertised root routers advertised inner e o
+        → OfExternal root routers advertised inner one o
     of_told_one e t o k =
         let by = one.0.advertising_router in
         let named : offer_by e k.way ≡ external_offer t.lsa.kind e.prefix (lsa_by e) by
@@ -202,7 +204,8 @@ module _ (root : Root) (routers : List Flagged) (advertised inner : List Route) 
         → IsJust (OfExternal root routers advertised inner one) given
     by_told e just None none = λ o k.
         let t = told_of o k in
-        none o (subst (λ (x : ExternalAdvertisement). OfAdvertised root routers advertised inner x o)
+        none o (subst (λ (x : ExternalAdvertisement). OfAdvertised root routers advertised inner x
+        o)
         ((just t.0).0 t.1) t.2)
     by_told e just (Some it) its = λ o. (
       λ k. let t = told_of o k in (its o).0
@@ -217,8 +220,10 @@ abbrev IsTold : List (Key × LsaBody) → ExternalAdvertisement → Type 0
 IsTold bodies e = (one : Key × LsaBody) × Contains bodies one × TellsExternal one e
 
 pub all_told : (bodies : List (Key × LsaBody)) (i : ℕ) (advertised : List ExternalAdvertisement)
-    → length bodies ≤ i → AreAdvertisedBy (take i bodies) advertised → AreAdvertisedBy bodies advertised
-all_told bodies i advertised past are = let P : List (Key × LsaBody) → Type 0 = λ xs. AreAdvertisedBy xs advertised in
+    → length bodies ≤ i → AreAdvertisedBy (take i bodies) advertised
+    → AreAdvertisedBy bodies advertised
+all_told bodies i advertised past are = let P : List (Key × LsaBody) → Type 0 =
+    λ xs. AreAdvertisedBy xs advertised in
     subst P (take_all i bodies past) are
 
 module _ (bodies : List (Key × LsaBody)) (i : ℕ) (one : Key × LsaBody)

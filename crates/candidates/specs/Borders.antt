@@ -115,7 +115,8 @@ pub data IsBoundary (routers : List Flagged) (advertised : List Route) (router :
     (way : Way) : Type 0 where
   Inside : IsListed routers router 2 way → IsBoundary routers advertised router way
   Outside : ((other : Way) → IsListed routers router 2 other → ⊥) → (route : Route)
-      → IsFound advertised (host router) route → way ≡ way_by route → IsBoundary routers advertised router way
+      → IsFound advertised (host router) route → way ≡ way_by route
+      → IsBoundary routers advertised router way
 
 -- ---- forwarding addresses
 
@@ -148,6 +149,7 @@ pub record IsOutwardBy (routers : List Flagged) (advertised inner : List Route) 
       → (route : Route) × IsLongest inner forwarding route × (way ≡ way_by route)
 
 -- the same for what an LSA says
-abbrev pub IsOutward : List Flagged → (advertised inner : List Route) → ℕ → ExternalLsa → Way → Type 0
+abbrev pub IsOutward : List Flagged → (advertised inner : List Route) → ℕ → ExternalLsa → Way
+    → Type 0
 IsOutward routers advertised inner originator lsa way =
     IsOutwardBy routers advertised inner originator lsa.forwarding way

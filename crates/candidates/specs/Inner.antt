@@ -23,6 +23,7 @@ pub record AreSearchable (inner : InnerRoutes) : Type 0 where
 -- the results from what the LSAs say, given the ways by their links
 pub record AreInner (said : Said) (root : Root) (ways : Ways) (inner : InnerRoutes) : Type 0 where
   pub flagged : AreFlagged said ways inner.flagged.items
-  pub advertised : AreRoutesAmong (OfSaid (Tells root inner.flagged.items) said) inner.advertised.items
+  pub advertised : AreRoutesAmong (OfSaid (Tells root inner.flagged.items) said)
+      inner.advertised.items
   pub networks : AreRoutesAmong (OffersInside said root) inner.networks.items
   pub offers : (o : Offer) → Contains inner.offers.items o ↔ OffersInside said root o

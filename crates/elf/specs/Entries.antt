@@ -66,8 +66,8 @@ symbol_at table k = record {
   size = xword table (24 * k + 16);
 }
 
--- Relocation k of a section of relocations: 16 bytes each. The lower half of r_info is the type, the
--- upper one the symbol (ELF64_R_TYPE, ELF64_R_SYM).
+-- Relocation k of a section of relocations: 16 bytes each. The lower half of r_info is the type,
+-- the upper one the symbol (ELF64_R_TYPE, ELF64_R_SYM).
 unfoldable pub relocation_at : List ℕ → ℕ → Relocation
 relocation_at table k = record {
   offset = xword table (16 * k);

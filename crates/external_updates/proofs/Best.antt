@@ -92,7 +92,8 @@ module _ (moment : ℕ) (db : Database) (root : Root) (inner : InnerRoutes) (pre
         → Offers said root o × (o.prefix ≡ prefix)
     from_external o (key, among, k) = (
       External (external_forth said root knows.ways knows.are_ways inner.flagged.items
-          knows.are_inner.flagged inner.advertised.items knows.are_inner.advertised inner.networks.items
+          knows.are_inner.flagged inner.advertised.items knows.are_inner.advertised
+          inner.networks.items
           knows.are_inner.networks o ((key, k.says), k.its, k.offers.0)),
       k.offers.1,
     )
@@ -109,8 +110,8 @@ module _ (moment : ℕ) (db : Database) (root : Root) (inner : InnerRoutes) (pre
         ]
 
     put_external : (o : Offer) → o.prefix ≡ prefix
-        → OfSaid (OfExternal root inner.flagged.items inner.advertised.items inner.networks.items) said o
-        → Contains second o
+        → OfSaid (OfExternal root inner.flagged.items inner.advertised.items inner.networks.items)
+        said o → Contains second o
     put_external o e ((key, says), its, q) =
         let there : finite.contains_key db key ≡ true =
         has_copy moment (finite.get db key) says its in
@@ -129,7 +130,8 @@ module _ (moment : ℕ) (db : Database) (root : Root) (inner : InnerRoutes) (pre
     back o (Between b) e = put o e (inr b)
     back o (External k) e =
         put_external o e (external_back said root knows.ways knows.are_ways inner.flagged.items
-        knows.are_inner.flagged inner.advertised.items knows.are_inner.advertised inner.networks.items
+        knows.are_inner.flagged inner.advertised.items knows.are_inner.advertised
+        inner.networks.items
         knows.are_inner.networks o k)
 
     module _ (routes : List Route) (all : AreRoutesAmong (λ o. Contains second o) routes) where

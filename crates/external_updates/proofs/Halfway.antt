@@ -122,25 +122,26 @@ module _ (old new : Said) (root : Root) where
       (r, (half.each r).1 (inl (among, k)), none)
 
   module _ (same : SayTheSame (Some 4) old new) (keys : List Key) (prefixes : List Network)
-      (others : OthersSayTheSame keys old new) (advertised : AreAllAdvertised old new keys prefixes) where
-    stays : (prefix : Network) → (Contains prefixes prefix → ⊥) → IsUntouched old new prefix
-    stays prefix none key t = others key (λ among. none (advertised key prefix among t))
+      (others : OthersSayTheSame keys old new) (advertised : AreAllAdvertised old new keys prefixes)
+    where
+      stays : (prefix : Network) → (Contains prefixes prefix → ⊥) → IsUntouched old new prefix
+      stays prefix none key t = others key (λ among. none (advertised key prefix among t))
 
-    pub all_done : (routes : List Route) → AreHalfway old new root prefixes routes
-        → AreCandidates new root routes
-    all_done routes half = record {
-      each = λ r. (
-        (λ t.
-            elim ((half.each r).0 t) [
-              | inl p ↦ p.1
-              | inr p ↦ (untouched_kept old new root r same (stays r.prefix p.0)).0 p.1
-            ]),
-        (λ k.
-            elim (among_or_not prefixes r.prefix) [
-              | inl t ↦ (half.each r).1 (inl (t, k))
-              | inr none ↦ (half.each r).1 (inr
-                  (none, (untouched_kept old new root r same (stays r.prefix none)).1 k))
-            ]),
-      );
-      ascending = half.ascending;
-    }
+      pub all_done : (routes : List Route) → AreHalfway old new root prefixes routes
+          → AreCandidates new root routes
+      all_done routes half = record {
+        each = λ r. (
+          (λ t.
+              elim ((half.each r).0 t) [
+                | inl p ↦ p.1
+                | inr p ↦ (untouched_kept old new root r same (stays r.prefix p.0)).0 p.1
+              ]),
+          (λ k.
+              elim (among_or_not prefixes r.prefix) [
+                | inl t ↦ (half.each r).1 (inl (t, k))
+                | inr none ↦ (half.each r).1 (inr
+                    (none, (untouched_kept old new root r same (stays r.prefix none)).1 k))
+              ]),
+        );
+        ascending = half.ascending;
+      }

@@ -37,9 +37,10 @@ module _ (old new : Said) (same : AgreeInside old new) where
     reached = k.reached;
   }
 
-  advertised : (root : Root) (routers : List Flagged) (o : Offer) → OfSaid (Tells root routers) old o
-      → OfSaid (Tells root routers) new o
-  advertised root routers o (one, says, k) = (one, sym (same one.0 (omega (arith, k.is_type))) ∙ says, k)
+  advertised : (root : Root) (routers : List Flagged) (o : Offer)
+      → OfSaid (Tells root routers) old o → OfSaid (Tells root routers) new o
+  advertised root routers o (one, says, k) =
+      (one, sym (same one.0 (omega (arith, k.is_type))) ∙ says, k)
 
 pub inner_kept : InnerRoutesAreKept
 inner_kept old new root ways inner same are =
@@ -51,7 +52,8 @@ inner_kept old new root ways inner same are =
         (λ k. flagged old new same ways router flag way ((are.flagged router flag way is).1 k)),
       );
       advertised = routes_among (OfSaid (Tells root routers) old) (OfSaid (Tells root routers) new)
-          inner.advertised.items (advertised old new same root routers) (advertised new old back root routers)
+          inner.advertised.items (advertised old new same root routers)
+          (advertised new old back root routers)
           are.advertised;
       networks = routes_among (OffersInside old root) (OffersInside new root) inner.networks.items
           (inside old new same root) (inside new old back root) are.networks;

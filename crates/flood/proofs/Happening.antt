@@ -43,8 +43,8 @@ module _ (old : Router) (moment : ℕ) (event : Occurrence) (p : Part) (is : IsP
       events_keep_what_is_known old moment event outs new (made_happens outs new made_state) address
       order holds texts
 
-  pub made_order : (outs : List Out) (new : Router) → PartHappens old moment p outs new → IsInOrder old
-      → IsInOrder new
+  pub made_order : (outs : List Out) (new : Router) → PartHappens old moment p outs new
+      → IsInOrder old → IsInOrder new
   made_order outs new made_state order =
       routers_stay_in_order.event old moment event outs new (made_happens outs new made_state) order
 

@@ -17,7 +17,8 @@ use Rattle.flood.specs.Occurrences.{brings_answers, occurrence_of}
 use Rattle.flood.specs.declared.book.entry.JournalEntry.{JournalEntry}
 use Rattle.flood.specs.declared.book.error.BookError.{BookError}
 use Rattle.flood.specs.declared.book.error.BookError.TheVariants as refusing
-use Rattle.flood.specs.Refusals.{RefusesByRules, RefusesAnewByRules, IsFull, IsRefusedEarly, IsSpent}
+use Rattle.flood.specs.Refusals.{RefusesByRules, RefusesAnewByRules, IsFull, IsRefusedEarly}
+use Rattle.flood.specs.Refusals.{IsSpent}
 use Rattle.flood.specs.Replay.{BookView, EndsWith, IsLightened, IsNotedIn, IsSameOrAnew}
 use Rattle.flood.specs.Replay.{IsSameOrMarked, forgotten_at, marked_book}
 
@@ -83,16 +84,18 @@ happens_at a b moment e back outs new same router happens =
 
 -- a refusal looks at the router as it is now, and at how many events were taken
 pub answered_at : {X : Type 0} (a b : BookView) (moment : Moment) (e : Event)
-    (r : Result X BookError) → b.current ≡ a.current → b.taken ≡ a.taken → RefusesAnewByRules b moment e r
-    → RefusesAnewByRules a moment e r
+    (r : Result X BookError) → b.current ≡ a.current → b.taken ≡ a.taken
+    → RefusesAnewByRules b moment e r → RefusesAnewByRules a moment e r
 answered_at {X = X} a b moment e (Ok x) current taken (fresh, answers) = (
   (λ spent. fresh (taken ∙ spent)),
-  subst (λ (r : Router). router.RefusesByRules {X = X} r moment (occurrence_of e) (Ok x)) current answers,
+  subst (λ (r : Router). router.RefusesByRules {X = X} r moment (occurrence_of e) (Ok x)) current
+      answers,
 )
 answered_at a b moment e (Err refusing.Journal) current taken spent = sym taken ∙ spent
 answered_at a b moment e (Err (refusing.Core x)) current taken (fresh, answers) = (
   (λ spent. fresh (taken ∙ spent)),
-  subst (λ (r : Router). router.RefusesByRules {X = Unit {0}} r moment (occurrence_of e) (Err x)) current
+  subst (λ (r : Router). router.RefusesByRules {X = Unit {0}} r moment (occurrence_of e) (Err x))
+      current
       answers,
 )
 

@@ -31,14 +31,16 @@ RefusesWhere IsRefused b moment e (Ok x) =
     (IsRefused b → ⊥) × router.RefusesByRules b.current moment (occurrence_of e) (Ok x)
 RefusesWhere IsRefused b moment e (Err refusing.Journal) = IsRefused b
 RefusesWhere IsRefused b moment e (Err (refusing.Core x)) =
-    (IsRefused b → ⊥) × router.RefusesByRules {X = Unit {0}} b.current moment (occurrence_of e) (Err x)
+    (IsRefused b → ⊥) × router.RefusesByRules {X = Unit {0}} b.current moment (occurrence_of e)
+    (Err x)
 
 -- a full book says so
 abbrev pub RefusesByRules : {X : Type 0} → BookView → Moment → Event → Result X BookError → Type 0
 RefusesByRules b moment e r = RefusesWhere IsFull b moment e r
 
 -- a book that starts anew if its journal is full
-abbrev pub RefusesAnewByRules : {X : Type 0} → BookView → Moment → Event → Result X BookError → Type 0
+abbrev pub RefusesAnewByRules : {X : Type 0} → BookView → Moment → Event → Result X BookError
+    → Type 0
 RefusesAnewByRules b moment e r = RefusesWhere IsSpent b moment e r
 
 -- the answer, of which a refusal gives the event back, without the event

@@ -3,8 +3,8 @@ use Rattle.std.specs.Prelude.{ℕ, ◌==◌, ◌%◌, List, codes, if◌then◌e
 use Rattle.isa.specs.declared.hook.Hook.{Hook}
 use Rattle.isa.specs.declared.hook.Hook.TheVariants as hooks
 
--- At price LSInfinity, 16777215, and greater ones withhold the destination; at veto 0 alone installs
--- the route.
+-- At price LSInfinity, 16777215, and greater ones withhold the destination; at veto 0 alone
+-- installs the route.
 abbrev pub answer_words : Hook → (answer : ℕ) → List ℕ
 answer_words hooks.Count answer = codes "answer {}, which isn't used"
 answer_words hooks.Tag answer = codes "tag {}"

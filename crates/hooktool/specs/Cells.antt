@@ -1,5 +1,6 @@
 -- What is told of a program that uses cells where any worker may ask.
-use Rattle.std.specs.Prelude.{ℕ, ◌&&◌, ◌∷◌, ◌++◌, List, [], Bool, true, false, pos, codes, if◌then◌else◌}
+use Rattle.std.specs.Prelude.{ℕ, ◌&&◌, ◌∷◌, ◌++◌, List, [], Bool, true, false, pos, codes}
+use Rattle.std.specs.Prelude.{if◌then◌else◌}
 use Rattle.std.specs.List.{list_any}
 use Rattle.std.specs.Ordering.{int_eq}
 use Rattle.isa.specs.declared.code.Slot.{Slot}
@@ -24,7 +25,8 @@ has_cells_of_many program = may_any_ask program.hook && list_any loads_cells pro
 
 abbrev pub note : List ℕ
 note = codes "  note: it uses cells: at tag, price and veto any worker may ask, each has cells of "
-    ++ (codes "its own, and they stay over programs" ++ (10 ∷ codes "  keep in counters what all are "
+    ++ (codes "its own, and they stay over programs"
+    ++ (10 ∷ codes "  keep in counters what all are "
     ++ (codes "to see (docs/use/OPERATING.md, What programs keep)" ++ 10 ∷ [])))
 
 abbrev pub cells_note : Program → List ℕ

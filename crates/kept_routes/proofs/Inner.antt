@@ -134,7 +134,11 @@ module _ (old new : Said) (same : AgreeInside old new) (root : Root) where
     least = λ distance other t. k.least distance other
         (advertised new old back root router distance other t);
     hops = λ i. (
-      (λ t. let h = (k.hops i).0 t in (h.0, advertised old new same root router w.distance h.0 h.1, h.2)),
+      (λ t. let h = (k.hops i).0 t in (
+        h.0,
+        advertised old new same root router w.distance h.0 h.1,
+        h.2,
+      )),
       (λ h. (k.hops i).1 (h.0, advertised new old back root router w.distance h.0 h.1, h.2)),
     );
   }

@@ -243,7 +243,8 @@ module _ {X : Type 0} where
     front found [] is = absurd (cc)
     front found (k ∷ ks) is = let same : k ≡ found = cc in (ks, ap (λ x. x ∷ ks) same)
 
-    pub first_names : (found : Key) → Some found ≡ slice_get from_it 0 → NamesIt router found ↔ Named
+    pub first_names : (found : Key) → Some found ≡ slice_get from_it 0
+        → NamesIt router found ↔ Named
     first_names found some =
         let it = front found from_it some in (
           (λ names. (

@@ -68,12 +68,13 @@ OffersInside said root o = OffersWithin said root o ⊎ OffersBetween said root 
 -- ---- AS boundary routers (section 16.4)
 
 -- an area border router advertises a way with this cost to the router
-pub record IsAdvertised (said : Said) (root : Root) (router distance : ℕ) (border : Way) : Type 0 where
-  pub originator : ℕ
-  pub lsa : SummaryLsa
-  pub its : Says said (summary_key 4 router originator) (body.RouterSummary lsa)
-  pub counts : CountsAsSummary said root originator lsa border
-  pub is : distance ≡ border.distance + lsa.metric
+pub record IsAdvertised (said : Said) (root : Root) (router distance : ℕ) (border : Way) : Type 0
+  where
+    pub originator : ℕ
+    pub lsa : SummaryLsa
+    pub its : Says said (summary_key 4 router originator) (body.RouterSummary lsa)
+    pub counts : CountsAsSummary said root originator lsa border
+    pub is : distance ≡ border.distance + lsa.metric
 
 -- the least cost among those ways, with the next hops of all of that cost
 pub record IsWayBetween (said : Said) (root : Root) (router : ℕ) (way : Way) : Type 0 where

@@ -18,13 +18,15 @@ loop-at-preserved c =
     let here : StandsAt nodes c.index-nodes-at.result c.loop-at.at =
     slice_get_read nodes (length nodes) c.loop-at.at c.index-nodes-at.result refl (omega arith)
     c.index-nodes-at.is in
-    below_more (said_at c.args.advertised.now.moment c.args.advertised.now.db.now.present) nodes c.loop-at.at
+    below_more (said_at c.args.advertised.now.moment c.args.advertised.now.db.now.present) nodes
+    c.loop-at.at
     c.index-nodes-at.result [] c.loop-at.entries.items c.add_in_order.new.entries.items here
     c.loop-at.invariant c.in_ok-add_in_order.ensures
 
 pub returns : goal.returns
 returns c =
-    are_entries (said_at c.args.advertised.now.moment c.args.advertised.now.db.now.present) c.args.nodes.now
+    are_entries (said_at c.args.advertised.now.moment c.args.advertised.now.db.now.present)
+    c.args.nodes.now
     c.requires.nodes c.loop-at.at c.loop-at.entries.items c.sort.new.entries.items
     (omega (arith, c.loop-at-test.false)) c.loop-at.invariant c.in_ok-sort.ensures.same
     c.in_ok-sort.ensures.sorted

@@ -5,5 +5,6 @@ use Rattle.area_graph.proofs.Told.{FromBelow}
 use Rattle.area_graph.proofs.entries.entries_of.Given as goal
 
 abbrev pub invariant-loop-at : goal.invariant-loop-at
-invariant-loop-at l = Adds (FromBelow (said_at l.advertised.moment l.advertised.db.now.present) l.nodes l.at) []
+invariant-loop-at l = Adds (FromBelow (said_at l.advertised.moment l.advertised.db.now.present)
+    l.nodes l.at) []
     l.entries.items

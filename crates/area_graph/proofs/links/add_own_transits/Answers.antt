@@ -30,9 +30,11 @@ loop-advertised-preserved c =
             let is = c.is_transit_to.ensures.0 w.if-is_transit_to.true in
             let new = w.add_own.new.links.items in
             rw w.links-is
-            (each_more Q items i advertised first old new c.loop-advertised-test.true c.advertised-item.is
+            (each_more Q items i advertised first old new c.loop-advertised-test.true
+            c.advertised-item.is
             c.loop-advertised.invariant.adds
-            (adds_same (IsOwnTo c.args.root.now c.args.to advertised.metric advertised.link_data) (Q advertised) old
+            (adds_same (IsOwnTo c.args.root.now c.args.to advertised.metric advertised.link_data)
+            (Q advertised) old
             new (λ x o. record {
               is_kind = is.0;
               is_id = is.1;
@@ -41,7 +43,8 @@ loop-advertised-preserved c =
             }) (λ x t. t.leads) w.in_ok-add_own.ensures.adds))
         | else-is_transit_to w ↦
             rw w.links-is
-            (each_skip Q items i advertised first old c.loop-advertised-test.true c.advertised-item.is
+            (each_skip Q items i advertised first old c.loop-advertised-test.true
+            c.advertised-item.is
             (λ x t. false≢true (sym w.if-is_transit_to.false
             ∙ c.is_transit_to.ensures.1 (t.is_kind, t.is_id, t.counts)))
             c.loop-advertised.invariant.adds)
@@ -56,8 +59,10 @@ loop-advertised-preserved c =
 pub returns-clause-adds : goal.returns-clause-adds
 returns-clause-adds c =
     let Q : RouterLink → VertexLink → Type 0 = IsOwnTransit c.args.root.now c.args.id c.args.to in
-    let P : List RouterLink → Type 0 = λ told_links. Adds (OfEach Q told_links) c.args.links.now.items
+    let P : List RouterLink → Type 0 =
+    λ told_links. Adds (OfEach Q told_links) c.args.links.now.items
     c.loop-advertised.links.items in
     subst P c.as_slice-advertised-items.ensures
-    (each_all Q c.as_slice-advertised-items.result.now c.loop-advertised.advertised-index c.args.links.now.items
+    (each_all Q c.as_slice-advertised-items.result.now c.loop-advertised.advertised-index
+    c.args.links.now.items
     c.loop-advertised.links.items c.loop-advertised-test.false c.loop-advertised.invariant.adds)

@@ -6,7 +6,8 @@ use Rattle.area_graph.proofs.links.add_own_transits.Given as goal
 
 abbrev pub invariant-loop-advertised : goal.invariant-loop-advertised
 invariant-loop-advertised l = record {
-  adds : Adds (OfFront (IsOwnTransit l.root l.id l.to) l.advertised-items l.advertised-index) l.fn.links.items
+  adds : Adds (OfFront (IsOwnTransit l.root l.id l.to) l.advertised-items l.advertised-index)
+      l.fn.links.items
       l.links.items;
   fits : All CostFits l.fn.links.items → All CostFits l.links.items;
 }

@@ -27,10 +27,12 @@ returns-in-Some-clause-adds c =
     let old = c.args.links.now.items in
     let new = c.add_exits.new.links.items in
     let at : IsNeighborAt nodes entries advertised.link_id PointToPoint router (Some to) =
-    same_neighbor nodes entries PointToPoint c.new-far.result advertised.link_id c.number.result router
+    same_neighbor nodes entries PointToPoint c.new-far.result advertised.link_id c.number.result
+    router
     c.neighbor_at.result (Some to) c.new-far.ensures c.number.ensures c.in-Some.is
     c.neighbor_at.ensures in
-    on_ok c.add_exits.result (Adds (IsExitTo root router to advertised.metric advertised.link_data) old new)
+    on_ok c.add_exits.result (Adds (IsExitTo root router to advertised.metric advertised.link_data)
+    old new)
     (Adds (IsToRouter root nodes entries router advertised) old new)
     (to_neighbor root nodes entries router advertised to old new c.requires.ordered.ascend
     c.requires.is_kind c.requires.counts at) c.add_exits.ensures.adds

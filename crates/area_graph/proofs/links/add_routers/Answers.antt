@@ -33,7 +33,8 @@ loop-advertised-preserved c =
             w.in_ok-add_router.ensures.adds)
         | else-is_to_router w ↦
             rw w.links-is
-            (each_skip Q items i advertised first old c.loop-advertised-test.true c.advertised-item.is
+            (each_skip Q items i advertised first old c.loop-advertised-test.true
+            c.advertised-item.is
             (λ x t. false≢true (sym w.if-is_to_router.false
             ∙ c.is_to_router.ensures.1 (t.is_kind, t.counts))) c.loop-advertised.invariant.adds)
       ];
@@ -48,8 +49,10 @@ pub returns-clause-adds : goal.returns-clause-adds
 returns-clause-adds c =
     let Q : RouterLink → VertexLink → Type 0 = IsToRouter c.args.root.now c.args.area.now.nodes.now
     c.args.area.now.entries.now c.args.router in
-    let P : List RouterLink → Type 0 = λ told_links. Adds (OfEach Q told_links) c.args.links.now.items
+    let P : List RouterLink → Type 0 =
+    λ told_links. Adds (OfEach Q told_links) c.args.links.now.items
     c.loop-advertised.links.items in
     subst P c.as_slice-advertised-items.ensures
-    (each_all Q c.as_slice-advertised-items.result.now c.loop-advertised.advertised-index c.args.links.now.items
+    (each_all Q c.as_slice-advertised-items.result.now c.loop-advertised.advertised-index
+    c.args.links.now.items
     c.loop-advertised.links.items c.loop-advertised-test.false c.loop-advertised.invariant.adds)

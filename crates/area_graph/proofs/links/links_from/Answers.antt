@@ -75,7 +75,8 @@ add_routers-requires-clause-ordered c =
     c.requires.area.are_nodes
 
 pub add_listed-requires : goal.add_listed-requires
-add_listed-requires c = ordered (said_at c.args.advertised.now.moment c.args.advertised.now.db.now.present)
+add_listed-requires c = ordered (said_at c.args.advertised.now.moment
+    c.args.advertised.now.db.now.present)
     c.args.area.now.nodes.now c.args.area.now.entries.now c.requires.area.are_entries
     c.requires.area.are_nodes
 

@@ -12,6 +12,7 @@ invariant-loop-at l = record {
   count : length l.graph.items ≡ l.at;
   each : (at : ℕ) (node : Node) (vertex : Vertex) → StandsAt l.area.nodes.now node at
       → slice_get l.graph.items at ≡ Some vertex
-      → IsVertexOf (said_at l.advertised.moment l.advertised.db.now.present) l.root l.area.nodes.now node
+      → IsVertexOf (said_at l.advertised.moment l.advertised.db.now.present) l.root
+      l.area.nodes.now node
       vertex;
 }

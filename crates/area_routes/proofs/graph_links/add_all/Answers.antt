@@ -35,8 +35,10 @@ returns-clause-adds c =
     let Q : RouterLink → VertexLink → Type 0 = IsToEnd
     (said_at c.args.at.now.moment c.args.at.now.db.now.present) c.args.root.now
     c.args.at.now.nodes.now c.args.router in
-    let P : List RouterLink → Type 0 = λ told_links. Adds (OfEach Q told_links) c.args.links.now.items
+    let P : List RouterLink → Type 0 =
+    λ told_links. Adds (OfEach Q told_links) c.args.links.now.items
     c.loop-advertised.links.items in
     subst P c.as_slice-advertised-items.ensures
-    (each_all Q c.as_slice-advertised-items.result.now c.loop-advertised.advertised-index c.args.links.now.items
+    (each_all Q c.as_slice-advertised-items.result.now c.loop-advertised.advertised-index
+    c.args.links.now.items
     c.loop-advertised.links.items c.loop-advertised-test.false c.loop-advertised.invariant.adds)

@@ -27,7 +27,8 @@ returns-in-PointToPoint-clause-adds c =
     let new = c.add_neighbor.new.links.items in
     on_ok c.add_neighbor.result (Adds (IsToNeighbor said root nodes router advertised) old new)
     (Adds (IsToEnd said root nodes router advertised) old new)
-    (router_end said root nodes router advertised old new (is_no_transit advertised c.in-PointToPoint.is))
+    (router_end said root nodes router advertised old new
+    (is_no_transit advertised c.in-PointToPoint.is))
     c.add_neighbor.ensures.adds
 
 pub returns-in-Transit-clause-adds : goal.returns-in-Transit-clause-adds

@@ -23,7 +23,9 @@ returns-in-Some-clause-adds c =
     subst (λ far. F far router (Some to)) c.new-far.ensures
     (subst (λ id. F c.new-far.result id (Some to)) c.number.ensures
     (subst (F c.new-far.result c.number.result) c.in-Some.is c.neighbor_at.ensures)) in
-    on_ok c.add_exits.result (Adds (IsExitTo root router to advertised.metric advertised.link_data) old new)
+    on_ok c.add_exits.result (Adds (IsExitTo root router to advertised.metric advertised.link_data)
+    old new)
     (Adds (IsToNeighbor said root nodes router advertised) old new)
-    (to_neighbor said root nodes router advertised to old new c.requires.nodes.ascend c.requires.is_kind
+    (to_neighbor said root nodes router advertised to old new c.requires.nodes.ascend
+    c.requires.is_kind
     c.requires.counts at) c.add_exits.ensures.adds

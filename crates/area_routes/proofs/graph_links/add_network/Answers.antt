@@ -32,7 +32,8 @@ returns-clause-adds c =
     let new = c.add_exits.new.links.items in
     let L : ℕ → Type 0 = λ id. IsListedAt said nodes router id place in
     let here : c.lists_at.result ≡ true = grind (arith, common_steps) in
-    on_ok c.add_exits.result (Adds (IsExitTo root router place advertised.metric advertised.link_data) old new)
+    on_ok c.add_exits.result (Adds (IsExitTo root router place advertised.metric
+    advertised.link_data) old new)
     (Adds (IsToNetworkAt said root nodes router advertised place) old new)
     (to_network said root nodes router advertised place old new c.requires.is_kind c.requires.counts
     (subst L c.new.ensures (c.lists_at.ensures.0 here))) c.add_exits.ensures.adds

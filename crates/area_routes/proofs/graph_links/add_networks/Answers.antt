@@ -22,7 +22,8 @@ pub loop-place-preserved : goal.loop-place-preserved
 loop-place-preserved c =
     let said = said_at c.args.at.now.moment c.args.at.now.db.now.present in
     record {
-      adds = one_more said c.args.root.now c.args.at.now.nodes.now c.args.router c.args.advertised.now
+      adds = one_more said c.args.root.now c.args.at.now.nodes.now c.args.router
+          c.args.advertised.now
           c.loop-place.place c.args.links.now.items c.loop-place.links.items
           c.add_network.new.links.items c.loop-place.invariant.adds
           c.in_ok-add_network.ensures.adds;
@@ -38,5 +39,6 @@ returns-clause-adds c =
     → place < end in
     all_below said c.args.root.now nodes c.args.router c.args.advertised.now c.loop-place.place end
     c.args.links.now.items c.loop-place.links.items
-    (subst L c.new.ensures c.index_range_of-first.ensures.end) (omega (arith, c.loop-place-test.false))
+    (subst L c.new.ensures c.index_range_of-first.ensures.end)
+    (omega (arith, c.loop-place-test.false))
     c.loop-place.invariant.adds

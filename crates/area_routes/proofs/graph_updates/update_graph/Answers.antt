@@ -15,7 +15,8 @@ returns-then-branch-clause-graph c =
     let old : Said = said_at c.args.before c.args.db.now.committed in
     let new : Said = said_at c.args.moment c.args.db.now.present in
     let graph = c.args.graph in
-    let same : SayTheSame (Some 2) old new = c.in_ok-lsas_are_unchanged.ensures.same c.if-branch.true in
+    let same : SayTheSame (Some 2) old new =
+    c.in_ok-lsas_are_unchanged.ensures.same c.if-branch.true in
     record {
       nodes = nodes_stay old new graph.nodes.items [] (same_covered old new graph.nodes.items same)
           c.requires.graph.nodes;

@@ -21,6 +21,7 @@ returns-in_ok-route-in-None-clause-just c =
 
 pub returns-in_ok-route-in-None-clause-near : goal.returns-in_ok-route-in-None-clause-near
 returns-in_ok-route-in-None-clause-near c =
-    let low = below_found c.args.advertised.now c.host.result c.in_ok-route-in-None.route c.requires.few
+    let low = below_found c.args.advertised.now c.host.result c.in_ok-route-in-None.route
+    c.requires.few
     c.in_ok-route-in-None.ensures in
     omega (arith, low, ap (λ (w : Way). w.distance) c.way_by.ensures)

@@ -47,7 +47,8 @@ returns c said ways are inner tell =
     ∙ c.deref-5.ensures.value in
     let Q : List Flagged → List Route → List Route → Type 0 =
     λ routers advertised networks. Adds c.extend_from_slice.new.self.items
-    c.push_externals.new.offers.items (OfEach (OfAdvertised root routers advertised networks) externals)
+    c.push_externals.new.offers.items
+    (OfEach (OfAdvertised root routers advertised networks) externals)
     in
     let first : Q it.flagged.items c.deref-2.result.now c.deref-4.result.now =
     subst (λ (rs : List Flagged). Q rs c.deref-2.result.now c.deref-4.result.now)
@@ -61,7 +62,8 @@ returns c said ways are inner tell =
     let offered : (o : Offer) → Contains c.extend_from_slice.new.self.items o ↔ OffersInside said
     root o = subst (λ (xs : List Offer). (o : Offer) → Contains xs o ↔ OffersInside said root o)
     (sym copied) inner.offers in
-    are_candidates said root ways are it.flagged.items inner.flagged externals tell it.advertised.items
+    are_candidates said root ways are it.flagged.items inner.flagged externals tell
+    it.advertised.items
     it.networks.items inner.advertised inner.networks
     c.extend_from_slice.new.self.items c.push_externals.new.offers.items c.in_ok-routes.routes.items
     offered third c.in_ok-routes.ensures.routes
@@ -96,5 +98,9 @@ returns-then-is_empty c said ways are inner tell =
     (are_candidates said root ways are it.flagged.items inner.flagged c.args.externals.now tell
     it.advertised.items networks inner.advertised inner.networks
     offers offers networks inner.offers
-    (λ o. ((λ t. inl t), (λ s. elim s [ inl t ↦ t | inr advertised ↦ absurd (none advertised.0 advertised.1) ])))
+    (λ o. (
+      (λ t. inl t),
+      (λ s. elim s
+          [ inl t ↦ t | inr advertised ↦ absurd (none advertised.0 advertised.1) ]),
+    ))
     among)

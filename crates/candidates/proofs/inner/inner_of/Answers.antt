@@ -45,7 +45,8 @@ returns-clause-inner g c said are have =
     c.in_ok-offers.offers.items added in
     record {
       flagged = flagged;
-      advertised = of_told said root ways are routers flagged bodies have c.in_ok-advertised.advertised.items advertised;
+      advertised = of_told said root ways are routers flagged bodies have
+          c.in_ok-advertised.advertised.items advertised;
       networks = of_networks said root ways are routers flagged bodies have
           c.in_ok-offers.offers.items c.in_ok-networks.networks.items added
           c.in_ok-networks.ensures.routes;

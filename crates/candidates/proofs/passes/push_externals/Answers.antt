@@ -8,9 +8,11 @@ loop-advertised-preserved c =
     let Q = OfAdvertised c.args.root.now c.args.inner.now.flagged.now c.args.inner.now.routers.now
     c.args.inner.now.networks.now in
     one_more Q c.args.offers.now.items c.loop-advertised.offers.items c.push_offer.new.offers.items
-    c.args.externals.now c.loop-advertised.advertised-index c.advertised-item.result c.advertised-item.is
+    c.args.externals.now c.loop-advertised.advertised-index c.advertised-item.result
+    c.advertised-item.is
     c.loop-advertised-test.true c.loop-advertised.invariant
-    (adds_just c.loop-advertised.offers.items c.push_offer.new.offers.items (Q c.advertised-item.result)
+    (adds_just c.loop-advertised.offers.items c.push_offer.new.offers.items
+    (Q c.advertised-item.result)
     c.offer_advertised.result c.offer_advertised.ensures c.in_ok-push_offer.ensures)
 
 pub returns : goal.returns
@@ -18,4 +20,5 @@ returns c =
     let Q = OfAdvertised c.args.root.now c.args.inner.now.flagged.now c.args.inner.now.routers.now
     c.args.inner.now.networks.now in
     all_of_them Q c.args.offers.now.items c.loop-advertised.offers.items c.args.externals.now
-    c.loop-advertised.advertised-index (omega (arith, c.loop-advertised-test.false)) c.loop-advertised.invariant
+    c.loop-advertised.advertised-index (omega (arith, c.loop-advertised-test.false))
+    c.loop-advertised.invariant

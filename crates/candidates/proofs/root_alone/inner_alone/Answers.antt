@@ -80,16 +80,19 @@ returns-clause-inner g c =
     subst (λ (k : Key). Adds c.new-offers.result.items offers
     (OfOne (IsInner root ways routers) k advertised)) c.own_key-key.ensures by_list in
     let adds : Adds [] offers (OfOne (IsInner root ways routers) own_key advertised) =
-    subst (λ (xs : List Offer). Adds xs offers (OfOne (IsInner root ways routers) own_key advertised))
+    subst (λ (xs : List Offer). Adds xs offers
+    (OfOne (IsInner root ways routers) own_key advertised))
     c.new-offers.ensures.items by_key in
     let inside : (o : Offer) → Contains offers o ↔ OffersInside said root o =
     own_inside root ways c.requires.alone said advertised own c.requires.ways routers flagged offers
     adds in
     record {
       flagged = flagged;
-      advertised = none_told root ways c.requires.alone said advertised own c.requires.ways routers flagged
+      advertised = none_told root ways c.requires.alone said advertised own c.requires.ways routers
+          flagged
           c.in_ok-advertised.advertised.items
-          (subst (λ (xs : List Offer). AreRoutesAmong (λ o. Contains xs o) c.in_ok-advertised.advertised.items)
+          (subst (λ (xs : List Offer). AreRoutesAmong (λ o. Contains xs o)
+          c.in_ok-advertised.advertised.items)
           c.new-none.ensures.items c.in_ok-advertised.ensures.routes);
       networks = own_networks root ways c.requires.alone said advertised own c.requires.ways routers
           flagged offers c.in_ok-networks.networks.items adds c.in_ok-networks.ensures.routes;

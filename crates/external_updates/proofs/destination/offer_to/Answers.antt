@@ -43,7 +43,8 @@ returns-in-None c =
     c.deref.ensures.value first in
     let third = subst (λ (rs : List Route). Q it.flagged.items it.advertised.items rs)
     c.deref-3.ensures.value second in
-    let none = subst (λ x. IsJust (OfExternal root it.flagged.items it.advertised.items it.networks.items
+    let none = subst (λ x. IsJust (OfExternal root it.flagged.items it.advertised.items
+    it.networks.items
     one) x) c.in-None.is third in
     λ x p. none x p.0
 

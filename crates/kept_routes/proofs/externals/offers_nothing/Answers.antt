@@ -12,7 +12,10 @@ returns-then-is_own c = (
 
 pub returns : goal.returns
 returns c = (
-  (λ t. record { external = omega (arith, c.if-key-lt5.false); of_no_account = inr (c.is_unreached.ensures.0 t) }),
+  (λ t. record {
+    external = omega (arith, c.if-key-lt5.false);
+    of_no_account = inr (c.is_unreached.ensures.0 t);
+  }),
   (λ it.
       elim it.of_no_account [
         | inl own ↦ absurd (let on = c.is_own.ensures.1 own in cc)

@@ -31,7 +31,8 @@ returns-clause-routes c =
     subst (λ (k : KeptRoutes). AreOffersOf router area c.args.moment k) (sym same)
     (same_but router area c.args.moment next last.externals last.graph
     c.in_ok-update_routes.ensures.routes) in
-    let advertised = externals_after old new c.externals_stay-stay.result c.args.self.now next middle
+    let advertised = externals_after old new c.externals_stay-stay.result c.args.self.now next
+    middle
     c.externals_stay-stay.ensures c.update_routes.ensures.externals
     c.keep_externals.ensures.kept c.keep_externals.ensures.forgotten
     c.requires.routes.externals in

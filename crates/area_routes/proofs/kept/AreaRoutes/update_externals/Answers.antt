@@ -76,7 +76,8 @@ returns-clause-none_new c brings =
     c.followed-next.ensures.another in
     let another : next.none_new ≡ false → HasAnother brings.before.items brings.now.items = λ off.
     subst (λ (v : Vec Route Global). HasAnother brings.before.items v.items) are
-    (subst (λ (o : Option (Vec Route Global)). HaveAnother o next.candidates.items) were (advertised off))
+    (subst (λ (o : Option (Vec Route Global)). HaveAnother o next.candidates.items) were
+    (advertised off))
     in
     and_true c.self.inside.answered next.none_new
     (none_another next.none_new brings.before.items brings.now.items another brings.among)

@@ -106,7 +106,8 @@ returns-then-branch-clause-routes c =
     let is = root_by c.args.router c.args.area.now.present.links in
     let on = ap (λ (k : KeptRoutes). k.behind) (sym c.self.view_is) ∙ c.if-self.false in
     let walks = c.walks_are_kept.ensures old new c.args.self.now.walk
-    (c.in_ok-area_lsas_are_unchanged.ensures.same c.if-branch.true) (c.requires.routes.walk.walk on) in
+    (c.in_ok-area_lsas_are_unchanged.ensures.same c.if-branch.true) (c.requires.routes.walk.walk on)
+    in
     let next = c.update_offers.new.self in
     let same : next.walk ≡ c.args.self.now.walk = c.update_offers.ensures.walk in
     let begins : c.args.self.now.walk.root ≡ is =
