@@ -1,9 +1,10 @@
 //! The answers to questions.
-use crate::questions::trial::{HookTrial, SEVEN, Subjects, moment, samples};
+use crate::questions::trial::{HookTrial, MOMENT, SEVEN, Subjects, samples};
 use machine::Hook;
 use std::alloc::Global;
 use std::process::Abort;
 use std::sync::Wait;
+use words::Second;
 
 // A Hello of 44 bytes.
 const HELLO: &[u8] = &[
@@ -78,7 +79,7 @@ fn is_silent<R: Wait + Drop>(trial: HookTrial<R>, of: &Subjects) -> bool {
     let (mut asker, mut seat) = (asker, seat);
     drop(loader);
     asker
-        .price(&of.external, moment(), &[], &shared, &mut seat)
+        .price(&of.external, Second::new(MOMENT), &[], &shared, &mut seat)
         .is_none()
 }
 

@@ -3,7 +3,7 @@ ghost use Rattle.std.specs.Prelude.{◌≡◌};
 ghost use Rattle.maps.specs.Words.{IsOf};
 ghost use Rattle.hooks.specs.Known.{asks_of, history_of};
 
-use crate::questions::trial::{HookTrial, SEVEN, accepted, moment, samples};
+use crate::questions::trial::{HookTrial, MOMENT, SEVEN, accepted, samples};
 use hooks::{Asker, Loader};
 use machine::Hook;
 use maps::{Seat, Shared};
@@ -11,7 +11,7 @@ use std::alloc::Global;
 use std::process::Abort;
 use std::sync::Wait;
 use std::thread::{Threads, join};
-use words::External;
+use words::{External, Second};
 
 /// An asker with its seat.
 #[derive(Drop)]
@@ -28,7 +28,7 @@ impl Worker {
     {
         let answer = self
             .asker
-            .price(external, moment(), &[], shared, &mut self.seat)?;
+            .price(external, Second::new(MOMENT), &[], shared, &mut self.seat)?;
         Some(answer.word())
     }
 

@@ -12,10 +12,8 @@ use std::sync::Wait;
 use verifier::Accepted;
 use words::{Address, External, ExternalType, Hops, Prefix, Route, RouteKind, Second, TableRow};
 
-/// The moment of every question.
-pub fn moment() -> Second {
-    Second::new(5)
-}
+/// The moment of every question, in seconds.
+pub const MOMENT: u64 = 5;
 
 /// Answers 7 at `price`.
 pub const SEVEN: &str = "hook price\nrank 0\nr0 = 7\nexit";
@@ -133,9 +131,13 @@ impl<R: Wait + Drop> HookTrial<R> {
 
     /// The word of `count` on the packet.
     pub fn count(&mut self, packet: &[u8]) -> Option<u64> {
-        let answer = self
-            .asker
-            .count(1, moment(), packet, &self.shared, &mut self.seat)?;
+        let answer = self.asker.count(
+            1,
+            Second::new(MOMENT),
+            packet,
+            &self.shared,
+            &mut self.seat,
+        )?;
         Some(answer.word())
     }
 
@@ -144,34 +146,41 @@ impl<R: Wait + Drop> HookTrial<R> {
         let (shared, seat) = (&self.shared, &mut self.seat);
         let answer = self
             .asker
-            .tag(&of.external, moment(), &of.rows, shared, seat)?;
+            .tag(&of.external, Second::new(MOMENT), &of.rows, shared, seat)?;
         Some((answer.word(), answer.tag()))
     }
 
     /// The word of `price`.
     pub fn price(&mut self, of: &Subjects) -> Option<u64> {
         let (shared, seat) = (&self.shared, &mut self.seat);
-        let priced = self.asker.price(&of.external, moment(), &[], shared, seat)?;
+        let priced = self
+            .asker
+            .price(&of.external, Second::new(MOMENT), &[], shared, seat)?;
         Some(priced.word())
     }
 
     /// The word of `veto`.
     pub fn veto(&mut self, of: &Subjects) -> Option<u64> {
         let (shared, seat) = (&self.shared, &mut self.seat);
-        let vetoed = self.asker.veto(&of.routes[0], moment(), &[], shared, seat)?;
+        let vetoed = self
+            .asker
+            .veto(&of.routes[0], Second::new(MOMENT), &[], shared, seat)?;
         Some(vetoed.word())
     }
 
     /// The words of `tag` and `price`, if neither hook has a program.
     pub fn configured(&mut self, of: &Subjects) -> Option<(u64, u64)> {
-        let (tag, price) = self.asker.configured(&of.external, moment())?;
+        let (tag, price) = self.asker.configured(&of.external, Second::new(MOMENT))?;
         Some((tag.word(), price.word()))
     }
 
     /// How many of two routes are accepted, if `veto` has no program; none that there are if memory
     /// was refused.
     pub fn let_in(&mut self, alloc: Global, of: &Subjects) -> Option<usize> {
-        match self.asker.all_let_in(alloc, &of.routes, moment()) {
+        match self
+            .asker
+            .all_let_in(alloc, &of.routes, Second::new(MOMENT))
+        {
             Ok(Some(answers)) => Some(answers.len()),
             Ok(None) => None,
             Err(_) => Some(usize::MAX),
