@@ -26,6 +26,7 @@ impl<X> Model for Revertible<X> {
 }
 
 impl<X: Drop> Revertible<X> {
+    /// This value, committed.
     pub fn new(value: X) -> Self
         ensures { result ≡ record { present = value; committed = value } }
     {
@@ -35,6 +36,7 @@ impl<X: Drop> Revertible<X> {
         }
     }
 
+    /// The value as it is now.
     pub fn get(&self) -> &X
         ensures { result.now ≡ self.now.present }
     {

@@ -29,7 +29,7 @@ pub enum Command<'a> {
     Neighbors,
     /// Print the counters.
     Counters,
-    /// End the program.
+    /// End the router.
     Quit,
 }
 

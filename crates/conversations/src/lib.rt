@@ -106,8 +106,9 @@ pub fn some_hellos_are_discarded()
     ensures { HellosAreDiscarded }
 {}
 
-/// A worked event: a Link State Update with a new LSA is received twice from a Full neighbor. The
-/// first is acknowledged at a Tick, the second directly, and the second doesn't change the router.
+/// A worked event: a Link State Update with a new LSA is received twice from a Full neighbor. After
+/// the first the LSA is held and its acknowledgment is delayed. The second is acknowledged
+/// directly, nothing else is sent, and the router stays as it is.
 pub fn a_new_lsa_comes_twice()
     ensures { ANewLsaComesTwice }
 {}

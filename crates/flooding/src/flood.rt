@@ -200,6 +200,8 @@ impl Area {
     }
 }
 
+/// Makes what is present at each link what a later refusal rolls back to; what was drafted is
+/// gone.
 pub fn commit_links(links: &mut [Link])
     ensures present { map present links.new ≡ map present links.old }
     ensures committed { map committed_link links.new ≡ map present links.old }
@@ -210,6 +212,7 @@ pub fn commit_links(links: &mut [Link])
     }
 }
 
+/// Makes each link what it was at the last commit; what was drafted is gone.
 pub fn roll_back_links(links: &mut [Link])
     ensures present { map present links.new ≡ map committed_link links.old }
     ensures committed { map committed_link links.new ≡ map committed_link links.old }

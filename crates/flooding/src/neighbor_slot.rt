@@ -44,6 +44,7 @@ impl Model for NeighborSlot {
 }
 
 impl NeighborSlot {
+    /// The slot without a neighbor: its state is Down.
     pub fn down() -> Self
         ensures { result ≡ record { present = None; committed = None } }
     {
@@ -85,7 +86,8 @@ impl NeighborSlot {
         self.neighbor = neighbor;
     }
 
-    /// A neighbor in Init receives a Hello, which lists this router or doesn't.
+    /// Begins anew, whatever the neighbor was: it is in Init or, if its Hello lists this router
+    /// (`names`), in ExStart (RFC 2328, sections 10.3 and 10.5).
     ///
     /// # Errors
     /// `AllocError` if an allocation is refused; the caller then rolls back.
@@ -156,6 +158,7 @@ impl NeighborSlot {
         }
     }
 
+    /// Makes what is present what a later refusal rolls back to.
     pub fn commit(&mut self)
         ensures { self.new ≡ record { present = self.old.present; committed = self.old.present } }
     {
@@ -165,6 +168,7 @@ impl NeighborSlot {
         }
     }
 
+    /// Makes the neighbor what it was at the last commit.
     pub fn roll_back(&mut self)
         ensures { self.new
             ≡ record { present = self.old.committed; committed = self.old.committed } }

@@ -60,7 +60,7 @@ impl Area {
     /// Processes an LSA of a Link State Update that was received at the interface with this number,
     /// if it isn't newer than the copy (RFC 2328, section 13); `case` is what `case_at` tells of
     /// it. One of the case `Newer` isn't handled here: `router_state` gives it to
-    /// [`install`](Area::install), which floods it, and then looks whether it is self-originated
+    /// [`flood_and_install`](Area::flood_and_install), and then looks whether it is self-originated
     /// (section 13.4).
     ///
     /// A duplicate is acknowledged directly, and so is an LSA at MaxAge if there is nothing to
@@ -89,7 +89,7 @@ impl Area {
         match case {
             Case::NothingToFlush => draft_direct_acknowledgment(number, header, &mut self.links),
             Case::TooSoon => Ok(()),
-            // Excluded by what is required: `install` takes it.
+            // Excluded by what is required: `flood_and_install` takes it.
             Case::Newer => Ok(()),
             Case::BadRequest => bad_request(alloc, moment, number, &mut self.links),
             Case::ImpliedAcknowledgment => remove_retransmission(number, &header, &mut self.links),

@@ -131,8 +131,8 @@ fn later(first: bool, moment: Second, before: Second) -> Second
     if first { moment } else { before }
 }
 
-// The DD sequence number of the next attempt: 1 more than the one with which the last attempt
-// began. RFC 2328, section 10.3, has 1 more than the present one: docs/reference/DEPARTURES.md.
+/// The DD sequence number of the next attempt: 1 more than the one with which the last attempt
+/// began. RFC 2328, section 10.3, has 1 more than the present one: docs/reference/DEPARTURES.md.
 pub fn next_dd_sequence_start(moment: Second, dd_sequence_start: Option<u32>) -> u32
     ensures { result ≡ next_dd_sequence_start moment dd_sequence_start }
 {
@@ -142,9 +142,9 @@ pub fn next_dd_sequence_start(moment: Second, dd_sequence_start: Option<u32>) ->
     }
 }
 
-// The empty Database Description with the I, M and MS bits set, which starts the negotiation. Its
-// MTU is the length of the largest packet; the box writes the interface's (docs/use/HOST.md). It
-// doesn't allocate.
+/// The empty Database Description with the I, M and MS bits set, which starts the negotiation. Its
+/// MTU is the length of the largest packet; the host program writes the interface's into what it
+/// sends on (docs/use/HOST.md). It doesn't allocate.
 pub fn initial_description(alloc: Global, sequence: u32) -> Description
     ensures { result ≡ initial_description sequence }
 {

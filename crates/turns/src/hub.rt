@@ -222,7 +222,8 @@ impl<L: Site, B: Taker<L>> Hub<L, B> {
         neighbors_of::<L, B>(alloc, book, interfaces)
     }
 
-    /// Whether this destination is announced, after the port's events so far.
+    /// Whether this destination is announced, or will be as soon as its LSA may be originated,
+    /// after the port's events so far.
     pub fn wants<R: Wait>(&self, rt: &R, port: &mut Port<L>, prefix: Prefix) -> bool
         ensures wanted { B.wanted port.old.share.amount prefix result }
         ensures share { port.new.share.amount ≡ port.old.share.amount }
@@ -237,8 +238,8 @@ impl<L: Site, B: Taker<L>> Hub<L, B> {
 }
 
 impl<L: Site> Hub<L, Book<L>> {
-    /// How many events the book has taken, for whoever brings every share: just as many as they
-    /// count.
+    /// How many events the book has taken. It requires the merged share of all workers, which
+    /// proves that they took just as many.
     pub fn taken<R: Wait>(&self, rt: &R, all: &mut Share<L>) -> u64
         requires { all.old.parts ≡ L.parts }
         ensures taken { result ≡ all.old.amount }

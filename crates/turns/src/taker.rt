@@ -123,7 +123,8 @@ pub trait Taker<L: Origin> {
         ensures offered { IfOk result (λ c. (rows : List TableRow) × offers c.items rows) }
         ensures short { OnErr result (IsLacking refuses Lack.Memory) };
 
-    /// Whether this destination is announced now, if the port that has this share asks.
+    /// Whether this destination is announced now, or will be as soon as its LSA may be originated,
+    /// if the port that has this share asks.
     fn wants(&mut self, mine: &mut Share<L>, prefix: Prefix) -> bool
         ensures wanted { wanted mine.old.amount prefix result }
         ensures share { (mine.new.amount ≡ mine.old.amount) × (mine.new.parts ≡ mine.old.parts) };

@@ -22,8 +22,8 @@ pub enum TurnError {
     /// The book refused the event, or an allocation was refused (`CoreError::Memory`).
     #[error("{0}")]
     Book(BookError),
-    /// `tag`, `price` or `veto` got no reading of the published programs; or, of the refresh that
-    /// follows a turn, the programs were changed since the turn began.
+    /// The published programs couldn't be read for `tag`, `price` or `veto`; or, of the refresh
+    /// that follows a turn, they were changed since the turn began.
     #[error("no reading of the programs")]
     Away,
 }
