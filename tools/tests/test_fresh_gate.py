@@ -1,9 +1,10 @@
-"""Tests of tools/fresh-gate: what a check used is counted once, two runs are compared, a run that is
-stopped leaves nothing, wrong words are refused."""
+"""Tests of tools/fresh-gate: what a check used is counted once, two runs are compared and have networks of their own,
+a run that is stopped leaves nothing, wrong words are refused."""
 import os
 import pathlib
 import signal
 import subprocess
+import sys
 import tempfile
 import time
 import unittest
@@ -47,6 +48,27 @@ class Compares(unittest.TestCase):
     def test_there_are_none_if_a_run_proved_too_little(self) -> None:
         one, other = self.LAST.format("3.0", "no ratio: isa not proved in this run"), self.LAST.format("244.3", "16.7 times the 873 s of isa")
         self.assertIsNone(tool("fresh-gate").ratios_of(one, other))
+
+
+class OwnNetwork(unittest.TestCase):
+    HOLDS = (
+        "import socket, sys; it = socket.socket(socket.AF_INET, socket.SOCK_DGRAM); it.bind(('127.0.0.1', 27105)); "
+        "it.connect(('127.0.0.1', 27106)); print('bound', flush=True); sys.stdin.read()"
+    )
+
+    @unittest.skipIf(os.geteuid(), "takes root")
+    def test_two_gates_bind_the_same_port(self) -> None:
+        command = [*tool("fresh-gate").own_network(), sys.executable, "-c", self.HOLDS]
+        how = {"stdin": subprocess.PIPE, "stdout": subprocess.PIPE, "text": True}
+        with subprocess.Popen(command, **how) as one, subprocess.Popen(command, **how) as other:
+            said = [it.stdout.readline() for it in (one, other)]
+            for it in (one, other):
+                it.stdin.close()
+        self.assertEqual((said, one.returncode, other.returncode), (["bound\n", "bound\n"], 0, 0))
+
+    def test_without_root_there_is_none(self) -> None:
+        with unittest.mock.patch("os.geteuid", return_value=1000):
+            self.assertEqual(tool("fresh-gate").own_network(), [])
 
 
 class KitAnew(unittest.TestCase):
