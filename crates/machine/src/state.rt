@@ -17,7 +17,7 @@ pub enum Pointer {
 #[derive(Clone, Copy)]
 pub enum Content {
     /// Empty: not written yet, or cleared by a call. It is a content as any other, known to be
-    /// none: the verifier's `Kind::Empty` is another thing, that nothing is known.
+    /// none: the verifier's `Kind::Unknown` is another thing, that nothing is known.
     Nothing,
     /// A number of 64 bits.
     Number(u64),
