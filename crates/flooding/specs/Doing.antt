@@ -1,12 +1,10 @@
 -- What a call does in an event to a neighbor that may be Down, to a link, to several links, and to
--- links and database.
+-- links and database (to the database alone: `DatabaseDoes` of `lsdb`).
 --
 -- It errors only if an allocation is refused, and may have done a part of its work then: the caller
 -- rolls the router back, which drops what was drafted, too. Whatever it answers, what was committed
 -- stays the same.
 use Rattle.std.specs.Prelude.{◌≡◌, ℕ, List, map, Option, OnOk, Result}
-use Rattle.adjacency.specs.lsdb.Copies.{Database}
-use Rattle.adjacency.specs.lsdb.Kept.{RouterDatabase}
 use Rattle.adjacency.specs.Contents.{Content, Step, sent_on, step_on}
 use Rattle.adjacency.specs.Drafts.{Drafted, drafting}
 use Rattle.adjacency.specs.Kept.{Kept}
@@ -44,13 +42,6 @@ pub record LinksDo {X E : Type 0} (after : List Link → List Link) (sends : Lis
   pub drafts : OnOk result (map draft_of new
       ≡ drafts_with (sends (map present old)) (map present old) (map draft_of old))
   pub committed : map committed_link new ≡ map committed_link old
-
--- the database becomes what `after` says
-pub record DatabaseDoes {X E : Type 0} (after : Database → Database) (old new : RouterDatabase)
-    (result : Result X E) : Type 0 where
-  pub ok : OnOk result (new.present ≡ after old.present)
-  pub committed : new.committed ≡ old.committed
-  pub router : new.router ≡ old.router
 
 -- links and database become what `f` says of the area, and what that sends is drafted
 pub record AreaDoes {X E : Type 0} (f : Area → Outcome) (old new : RouterArea)

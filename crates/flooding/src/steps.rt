@@ -2,7 +2,8 @@
 ghost use Rattle.std.specs.Prelude.{◌≡◌, ◌≤◌, IfOk, drop, length, map};
 ghost use Rattle.received.specs.Links.{change_link, taken_down};
 ghost use Rattle.received.specs.Outcomes.{sends_of};
-ghost use Rattle.flooding.specs.Doing.{AreaDoes, DatabaseDoes, LinksDo};
+ghost use Rattle.adjacency.specs.lsdb.Doing.{DatabaseDoes};
+ghost use Rattle.flooding.specs.Doing.{AreaDoes, LinksDo};
 ghost use Rattle.flooding.specs.Links.{draft_of, start, without_acknowledged};
 ghost use Rattle.flooding.specs.Steps.{all_links, key_of_update, keys_behind, mark_each, one_link};
 ghost use Rattle.flooding.specs.Steps.{update_count_on};

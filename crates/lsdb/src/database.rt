@@ -1,5 +1,5 @@
 //! The link-state database of a router.
-ghost use Rattle.std.specs.Prelude.{◌≡◌, ◌≤◌, ◌↔◌, length, take, IfOk, IsTrue, OnOk, option_copied};
+ghost use Rattle.std.specs.Prelude.{◌≡◌, ◌≤◌, ◌↔◌, length, take, IfOk, IsTrue, option_copied};
 ghost use Rattle.std.specs.FinMap as finite;
 ghost use Rattle.lsdb.specs.Copies.{
   age_prematurely,
@@ -9,6 +9,7 @@ ghost use Rattle.lsdb.specs.Copies.{
   said_by,
 };
 ghost use Rattle.lsdb.specs.Bodies.{AreBodies};
+ghost use Rattle.lsdb.specs.Doing.{DatabaseDoes};
 ghost use Rattle.lsdb.specs.Changes.{IsUpTo, ContentsAgree};
 ghost use Rattle.words.specs.declared.key.Key.{Key as KeyValue};
 ghost use Rattle.lsdb.specs.Limits.{exceeds, has_room, own_externals};
@@ -341,10 +342,7 @@ impl Lsdb {
         lsa: Lsa,
         installed: Option<Second>,
     ) -> Result<(), AllocError>
-        ensures ok { OnOk result (self.new.present ≡ put_copy moment lsa installed
-            self.old.present) }
-        ensures committed { self.new.committed ≡ self.old.committed }
-        ensures router { self.new.router ≡ self.old.router }
+        ensures { DatabaseDoes (put_copy moment lsa installed) self.old self.new result }
     {
         let header = lsa.header();
         let times = CopyTimes {
@@ -370,9 +368,7 @@ impl Lsdb {
     /// # Errors
     /// `AllocError` if an allocation is refused; the caller then rolls back.
     pub fn mark_sent(&mut self, moment: Second, key: &Key) -> Result<(), AllocError>
-        ensures ok { OnOk result (self.new.present ≡ mark_sent moment key.now self.old.present) }
-        ensures committed { self.new.committed ≡ self.old.committed }
-        ensures router { self.new.router ≡ self.old.router }
+        ensures { DatabaseDoes (mark_sent moment key.now) self.old self.new result }
     {
         let Some(copy) = self.copies.get(key) else {
             return Ok(());
@@ -387,10 +383,7 @@ impl Lsdb {
     /// # Errors
     /// `AllocError` if an allocation is refused; the caller then rolls back.
     pub fn age_prematurely(&mut self, moment: Second, key: &Key) -> Result<(), AllocError>
-        ensures ok { OnOk result (self.new.present ≡ age_prematurely moment key.now
-            self.old.present) }
-        ensures committed { self.new.committed ≡ self.old.committed }
-        ensures router { self.new.router ≡ self.old.router }
+        ensures { DatabaseDoes (age_prematurely moment key.now) self.old self.new result }
     {
         let Some(copy) = self.copies.get(key) else {
             return Ok(());
@@ -405,9 +398,7 @@ impl Lsdb {
     /// # Errors
     /// `AllocError` if an allocation is refused; the caller then rolls back.
     pub fn remove(&mut self, key: &Key) -> Result<(), AllocError>
-        ensures ok { OnOk result (self.new.present ≡ finite.remove self.old.present key.now) }
-        ensures committed { self.new.committed ≡ self.old.committed }
-        ensures router { self.new.router ≡ self.old.router }
+        ensures { DatabaseDoes (λ d. finite.remove d key.now) self.old self.new result }
     {
         let held = holds_own(self.router, &self.copies, key);
         self.past = one_more_past(&self.ages, key, self.past);

@@ -1,4 +1,4 @@
-use Rattle.std.proofs.Common.{◌≡◌, Some, ap, sym, subst, ◌∙◌}
+use Rattle.std.proofs.Common.{◌≡◌, Some, ap, refl, sym, subst, ◌∙◌}
 use Rattle.std.specs.Prelude.{is_some}
 use Rattle.std.specs.FinMap as finite
 use Rattle.keyed_map.proofs.Helds.{after}
@@ -10,12 +10,16 @@ use Rattle.lsdb.proofs.Foresight.{foresees_put}
 use Rattle.lsdb.proofs.Owned.{count_change}
 use Rattle.lsdb.proofs.database.Lsdb.mark_sent.Goals as goal
 
-pub returns-in_default-clause-ok : goal.returns-in_default-clause-ok
-returns-in_default-clause-ok c =
-    ap (λ h. h.present) (sym c.self.view_is)
-    ∙ marks_none c.args.moment c.args.key.now c.self.inside.copies.present
-    (sym c.in_default.ensures)
-    ∙ ap (λ h. mark_sent c.args.moment c.args.key.now h.present) c.self.view_is
+pub returns-in_default : goal.returns-in_default
+returns-in_default c = record {
+  ok =
+      ap (λ h. h.present) (sym c.self.view_is)
+      ∙ marks_none c.args.moment c.args.key.now c.self.inside.copies.present
+      (sym c.in_default.ensures)
+      ∙ ap (λ h. mark_sent c.args.moment c.args.key.now h.present) c.self.view_is;
+  committed = refl;
+  router = refl;
+}
 
 -- the age of a copy stays when it is sent
 pub invariant_of-self : goal.invariant_of-self
