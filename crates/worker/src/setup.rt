@@ -28,8 +28,8 @@ pub struct Setup {
 }
 
 impl Setup {
-    /// All for this number of ports, and the loader whose programs they will run, which has none
-    /// yet.
+    /// All for this number of ports, and the loader whose programs they will run; no program is
+    /// attached yet.
     ///
     /// # Errors
     /// `Count` if `ports` is 0 or above 64, which is tried first; `Memory` if an allocation is

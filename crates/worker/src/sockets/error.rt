@@ -8,7 +8,7 @@ use thiserror::Error;
 /// Why there are no sockets. Its `Display` is the line that is printed.
 #[derive(Debug, Drop, Error)]
 pub enum SocketError {
-    /// The UDP port of 127.0.0.1 can't be had.
+    /// The UDP port of 127.0.0.1 can't be bound.
     #[error("cannot bind {0}")]
     Bind(u16),
     /// A socket can't be waited at.

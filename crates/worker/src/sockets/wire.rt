@@ -36,14 +36,14 @@ impl<S> Wire<S> {
 
 /// Binds sockets to ports of 127.0.0.1.
 ///
-/// `bound` (a socket and its port) and `refused` (a port that can't be had) are relations that each
+/// `bound` (a socket and its port) and `refused` (a port that can't be bound) are relations that each
 /// implementation defines: code that is generic over it can establish them only by the call.
 pub trait BindsSockets<S> {
     ghost bound: { S → (port : ℕ) → Type 0 };
 
     ghost refused: { (port : ℕ) → Type 0 };
 
-    /// A socket at this port; `None` if that can't be had.
+    /// A socket at this port; `None` if that can't be bound.
     fn bind(&self, port: u16) -> Option<S>
         ensures bound { IfSome result (λ socket. bound socket port) }
         ensures refused { IfNone result (refused port) };
@@ -84,7 +84,7 @@ fn bind_one<S: Drop, B: BindsSockets<S>>(
 /// is sent at interface n goes to the port of its peer.
 ///
 /// # Errors
-/// `Bind` with the first port that can't be had; `Memory` if an allocation was refused.
+/// `Bind` with the first port that can't be bound; `Memory` if an allocation was refused.
 #[tactic(auto, using(crate::proofs::Refused::refused_at, crate::proofs::Binding::all_bound))]
 pub fn bind_each_with<S: Drop, B: BindsSockets<S>>(
     binder: &B,
