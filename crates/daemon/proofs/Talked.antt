@@ -2,9 +2,9 @@
 use Rattle.std.proofs.Common.{◌≡◌, ◌⊎◌, inl, inr, ℕ, true, false, List, [], ◌∷◌, Option, None, Some}
 use Rattle.std.proofs.Common.{Result, Ok, Err, refl, subst}
 use Rattle.operator.specs.Answers.{Sources}
-use Rattle.operator.specs.Texts.{told_text}
-use Rattle.operator.specs.declared.told.Told.{Told}
-use Rattle.operator.specs.declared.told.Told.TheVariants as told
+use Rattle.operator.specs.Texts.{reply_text}
+use Rattle.operator.specs.declared.reply.Reply.{Reply}
+use Rattle.operator.specs.declared.reply.Reply.TheVariants as reply
 use Rattle.daemon.specs.Lines.{Fails, Gives, IsGiven}
 use Rattle.daemon.specs.Talks.{HasAnswered, HasTalked, IsOver, IsReplied, IsReply, Place}
 use Rattle.daemon.specs.Talks.{reply_of, was_mute}
@@ -16,7 +16,7 @@ use Rattle.daemon.specs.declared.talk.Parting.TheVariants.{Done, Deaf, Mute}
 
 -- what was found is what was given
 pub replied : {Input : Type 0} (gives : Gives Input) (fails : Fails Input) (s : Sources)
-    (interfaces : ℕ) (before : Place Input) (reply : Result Told Parting) (after : Place Input)
+    (interfaces : ℕ) (before : Place Input) (reply : Result Reply Parting) (after : Place Input)
     (gave found : Given) → gave ≡ found → IsGiven gives fails before.input gave after.input
     → IsReply s interfaces found before reply after
     → IsReplied gives fails s interfaces before reply after
@@ -32,7 +32,7 @@ replied gives fails s interfaces before reply after gave found is given replies 
 pub record Talking {Input Output : Type 0} (gives : Gives Input) (fails : Fails Input)
     (takes : Takes Output) (s : Sources) (interfaces : ℕ) (start : Place Input) (old : Output)
     (now : Place Input) (new : Output) : Type 0 where
-  pub answers : List Told
+  pub answers : List Reply
   pub answered : HasAnswered gives fails s interfaces start answers now
   pub taken : TakesEach takes old answers new
 
@@ -47,10 +47,10 @@ not_talked gives fails takes s interfaces start old = record {
 
 pub talked_on : {Input Output : Type 0} (gives : Gives Input) (fails : Fails Input)
     (takes : Takes Output) (s : Sources) (interfaces many : ℕ) (start : Place Input) (old : Output)
-    (between : Place Input) (printed : Output) (answer : Told) (now : Place Input) (new : Output)
+    (between : Place Input) (printed : Output) (answer : Reply) (now : Place Input) (new : Output)
     → Talking gives fails takes s interfaces start old between printed → many ≡ interfaces
     → IsReplied gives fails s many between (Ok answer) now
-    → takes printed (told_text answer) new
+    → takes printed (reply_text answer) new
     → Talking gives fails takes s interfaces start old now new
 talked_on gives fails takes s interfaces many start old between printed answer now new so same
     replies took = record {
@@ -85,7 +85,7 @@ talked gives fails takes unwritable s interfaces many start old between printed 
 
 pub over_unread : {Input Output : Type 0} (gives : Gives Input) (fails : Fails Input)
     (unwritable : Fails Output) (s : Sources) (interfaces : ℕ) (before : Place Input) (old : Output)
-    (parting : Parting) (after : Place Input) (new : Output) (reply : Result Told Parting)
+    (parting : Parting) (after : Place Input) (new : Output) (reply : Result Reply Parting)
     → reply ≡ Err parting → IsReplied gives fails s interfaces before reply after
     → new ≡ old → IsOver gives fails unwritable s interfaces before old parting after new
 over_unread gives fails unwritable s interfaces before old parting after new reply is replies same =
@@ -96,8 +96,8 @@ over_unread gives fails unwritable s interfaces before old parting after new rep
 -- the answer was to be printed when the output was as it was before it
 pub over_unprinted : {Input Output : Type 0} (gives : Gives Input) (fails : Fails Input)
     (unwritable : Fails Output) (s : Sources) (interfaces : ℕ) (before : Place Input)
-    (old printed : Output) (after : Place Input) (new : Output) (answer : Told)
-    (reply : Result Told Parting) → reply ≡ Ok answer
+    (old printed : Output) (after : Place Input) (new : Output) (answer : Reply)
+    (reply : Result Reply Parting) → reply ≡ Ok answer
     → IsReplied gives fails s interfaces before reply after → printed ≡ old
     → unwritable printed new → IsOver gives fails unwritable s interfaces before old Mute after new
 over_unprinted gives fails unwritable s interfaces before old printed after new answer reply is
@@ -114,7 +114,7 @@ over_unprinted gives fails unwritable s interfaces before old printed after new 
     }
 
 -- no reply makes the console mute
-is_no_reply : (answer : Option Told) → Err Mute ≡ reply_of answer → ⊥
+is_no_reply : (answer : Option Reply) → Err Mute ≡ reply_of answer → ⊥
 is_no_reply None is = let e : Err Mute ≡ Err Done = is in cc
 is_no_reply (Some answer) is = let e : Err Mute ≡ Ok answer = is in cc
 
@@ -122,7 +122,7 @@ never_mute : {Input : Type 0} (s : Sources) (interfaces : ℕ) (gave : Given)
     (before after : Place Input) → IsReply s interfaces gave before (Err Mute) after → ⊥
 never_mute s interfaces (given.Line line) before after is = is_no_reply is.0 is.2
 never_mute s interfaces given.Memory before after is =
-    let e : Err Mute ≡ Ok told.Memory = is.0 in cc
+    let e : Err Mute ≡ Ok reply.Memory = is.0 in cc
 never_mute s interfaces given.End before after is = let e : Err Mute ≡ Err Done = is.0 in cc
 never_mute s interfaces given.Failed before after is = let e : Err Mute ≡ Err Deaf = is.0 in cc
 
@@ -131,7 +131,7 @@ over_mute : {Input Output : Type 0} (gives : Gives Input) (fails : Fails Input)
     (after : Place Input) (new : Output)
     → ((IsReplied gives fails s interfaces before (Err Mute) after × (new ≡ old))
     ⊎ ((Mute ≡ Mute) × unwritable old new
-    × ((answer : Told) × IsReplied gives fails s interfaces before (Ok answer) after)))
+    × ((answer : Reply) × IsReplied gives fails s interfaces before (Ok answer) after)))
     → HasFailed unwritable
 over_mute gives fails unwritable s interfaces before old after new (inl replied) =
     absurd (never_mute s interfaces replied.0.gave before after replied.0.is_reply)

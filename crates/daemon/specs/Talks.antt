@@ -8,8 +8,8 @@ use Rattle.worker.specs.TurnError.{TurnError}
 use Rattle.worker.specs.Turns.{Offers, Refuses, Took}
 use Rattle.worker.specs.Work.TheVariants.{Tick}
 use Rattle.operator.specs.Answers.{IsDone, IsMadeUp, IsObeyed, IsRefusedOnce, Sources, change}
-use Rattle.operator.specs.declared.told.Told.{Told}
-use Rattle.operator.specs.declared.told.Told.TheVariants as told
+use Rattle.operator.specs.declared.reply.Reply.{Reply}
+use Rattle.operator.specs.declared.reply.Reply.TheVariants as reply
 use Rattle.daemon.specs.Lines.{Fails, Gives, IsGiven}
 use Rattle.daemon.specs.Texts.{Takes, TakesEach}
 use Rattle.daemon.specs.declared.lines.Given.{Given}
@@ -43,7 +43,7 @@ place input operations known due events seat = record {
 
 -- what the operator's desk answers to a line: a refresh that is due is tried before
 abbrev pub IsObeyedFrom : {Input : Type 0} → Sources → (interfaces : ℕ) → (before : Place Input)
-    → (line : List ℕ) → Option Told → (after : Place Input) → Type 0
+    → (line : List ℕ) → Option Reply → (after : Place Input) → Type 0
 IsObeyedFrom s interfaces before line answer after =
     (still : Bool) × (knew : List LoaderOperation) × (counted : ℕ) × (seat : SeatView)
     × IsMadeUp s.offers s.took s.refuses before.due still before.known knew before.events counted
@@ -57,25 +57,25 @@ abbrev pub HasRead : {Input : Type 0} → (before after : Place Input) → Type 
 HasRead before after = after ≡ record before { input = after.input }
 
 -- the console is done if a line has no answer
-abbrev pub reply_of : Option Told → Result Told Parting
+abbrev pub reply_of : Option Reply → Result Reply Parting
 reply_of None = Err Done
 reply_of (Some answer) = Ok answer
 
 -- What was given is answered so: a line as the desk does, or that there was no memory for it; at
 -- the end the console is done, and if the input can't be read, it is deaf.
 abbrev pub IsReply : {Input : Type 0} → Sources → (interfaces : ℕ) → Given
-    → (before : Place Input) → Result Told Parting → (after : Place Input) → Type 0
+    → (before : Place Input) → Result Reply Parting → (after : Place Input) → Type 0
 IsReply s interfaces (given.Line line) before reply after =
-    (answer : Option Told) × IsObeyedFrom s interfaces before (string_bytes line) answer after
+    (answer : Option Reply) × IsObeyedFrom s interfaces before (string_bytes line) answer after
     × (reply ≡ reply_of answer)
 IsReply s interfaces given.Memory before reply after =
-    (reply ≡ Ok told.Memory) × HasRead before after
+    (reply ≡ Ok reply.Memory) × HasRead before after
 IsReply s interfaces given.End before reply after = (reply ≡ Err Done) × HasRead before after
 IsReply s interfaces given.Failed before reply after = (reply ≡ Err Deaf) × HasRead before after
 
 -- the input gave something, and that is answered so
 pub record IsReplied {Input : Type 0} (gives : Gives Input) (fails : Fails Input) (s : Sources)
-    (interfaces : ℕ) (before : Place Input) (reply : Result Told Parting) (after : Place Input)
+    (interfaces : ℕ) (before : Place Input) (reply : Result Reply Parting) (after : Place Input)
     : Type 0 where
   pub gave : Given
   pub is_given : IsGiven gives fails before.input gave after.input
@@ -85,7 +85,7 @@ pub record IsReplied {Input : Type 0} (gives : Gives Input) (fails : Fails Input
 
 -- these are the answers to all that the input gave meanwhile, the latest first
 abbrev pub HasAnswered : {Input : Type 0} → Gives Input → Fails Input → Sources → (interfaces : ℕ)
-    → (start : Place Input) → List Told → (now : Place Input) → Type 0
+    → (start : Place Input) → List Reply → (now : Place Input) → Type 0
 HasAnswered gives fails s interfaces start [] now = now ≡ start
 HasAnswered {Input = Input} gives fails s interfaces start (answer ∷ earlier) now =
     (between : Place Input) × HasAnswered gives fails s interfaces start earlier between
@@ -98,7 +98,7 @@ pub record IsOver {Input Output : Type 0} (gives : Gives Input) (fails : Fails I
     (parting : Parting) (after : Place Input) (new : Output) : Type 0 where
   pub how : (IsReplied gives fails s interfaces before (Err parting) after × (new ≡ old))
       ⊎ ((parting ≡ Mute) × unwritable old new
-      × ((answer : Told) × IsReplied gives fails s interfaces before (Ok answer) after))
+      × ((answer : Reply) × IsReplied gives fails s interfaces before (Ok answer) after))
 
 -- All that the input gave was answered in its order, until the console ended so. The output took
 -- the answers' texts, in their order, and nothing else.
@@ -106,7 +106,7 @@ pub record HasTalked {Input Output : Type 0} (gives : Gives Input) (fails : Fail
     (takes : Takes Output) (unwritable : Fails Output) (s : Sources) (interfaces : ℕ)
     (start : Place Input) (old : Output) (parting : Parting) (now : Place Input) (new : Output)
     : Type 0 where
-  pub answers : List Told
+  pub answers : List Reply
   pub between : Place Input
   pub printed : Output
   pub answered : HasAnswered gives fails s interfaces start answers between

@@ -342,7 +342,7 @@ pub fn run_router<
 
 // The status after a router ran. If none did, a line on `output` says why.
 #[tactic(auto, using(crate::proofs::Ended::failed_once))]
-fn told<O: WritesTexts>(outcome: Result<Ran, RouteError>, output: &mut O) -> u8
+fn report<O: WritesTexts>(outcome: Result<Ran, RouteError>, output: &mut O) -> u8
     ensures ran { IfOk outcome (λ ran. result ≡ status_of_ran ran) }
     ensures refused { IfErr outcome (λ error.
         (result ≡ status_of error) ⊎ ((result ≡ 3) × HasFailed O.fails)) }
@@ -369,5 +369,5 @@ pub fn route<
     ensures ends { EndsSo (HasFailed O.fails) text.now result }
 {
     let outcome = run_router(rt, text, input, output);
-    told(outcome, output)
+    report(outcome, output)
 }

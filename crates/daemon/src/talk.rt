@@ -4,8 +4,8 @@ ghost use mathlib.Core.List.{IsPrefix};
 ghost use Rattle.hooks.specs.Known.{known_to, operations_of};
 ghost use Rattle.worker.specs.Turns.{IsListed};
 ghost use Rattle.operator.specs.Answers.{IsAnyFile, IsAnyPath, sources};
-ghost use Rattle.operator.specs.Texts.{told_text};
-ghost use Rattle.operator.specs.declared.told.Told.{Told as Answer};
+ghost use Rattle.operator.specs.Texts.{reply_text};
+ghost use Rattle.operator.specs.declared.reply.Reply.{Reply as Answer};
 ghost use Rattle.daemon.specs.Talks.{
   Converses,
   HasTalked,
@@ -21,7 +21,7 @@ ghost use Rattle.daemon.specs.Texts.{HasFailed};
 
 use crate::lines::{Given, ReadsBytes, next_line};
 use crate::texts::WritesTexts;
-use operator::{Desk, Outlet, Told};
+use operator::{Desk, Outlet, Reply};
 use std::rt::Files;
 use std::sync::Wait;
 use transports::{Seconds, Transport};
@@ -88,11 +88,11 @@ fn tick<L: Site, B: Taker<L>, R: Wait, K: Transport + Drop, C: Seconds + Drop>(
 }
 
 // The console is done if a line has no answer.
-fn reply_of(answer: Option<Told>) -> Result<Told, Parting>
+fn reply_of(answer: Option<Reply>) -> Result<Reply, Parting>
     ensures { result ≡ reply_of answer }
 {
     match answer {
-        Some(told) => Ok(told),
+        Some(reply) => Ok(reply),
         None => Err(Parting::Done),
     }
 }
@@ -113,7 +113,7 @@ fn answer_next<
     port: &mut Port<L>,
     desk: &mut Desk<L, Q, K, C>,
     console: &mut Console<'_, S, I, O>,
-) -> Result<Told, Parting>
+) -> Result<Reply, Parting>
     ensures replied { IsReplied I.gives I.fails
         (sources B.offers B.took B.refuses B.wanted (IsListed B.own B.neighbor_at)
         IsAnyFile IsAnyPath) desk.old.interfaces
@@ -126,7 +126,7 @@ fn answer_next<
 {
     match next_line(console.rt, desk.alloc, console.input) {
         Given::Line(line) => reply_of(desk.obey(console.rt, hub, port, line.as_str())),
-        Given::Memory => Ok(Told::Memory),
+        Given::Memory => Ok(Reply::Memory),
         Given::End => Err(Parting::Done),
         Given::Failed => Err(Parting::Deaf),
     }
@@ -156,7 +156,7 @@ fn obey_next<
         desk.old.unrefreshed port.old.share.amount port.old.seat) (Ok answer)
         (place console.new.input.now (operations_of desk.new.loader) (known_to port.new.asker)
         desk.new.unrefreshed port.new.share.amount port.new.seat)
-        × O.takes console.old.output.now (told_text answer) console.new.output.now) }
+        × O.takes console.old.output.now (reply_text answer) console.new.output.now) }
     ensures over { IfErr result (λ parting. IsOver I.gives I.fails O.fails
         (sources B.offers B.took B.refuses B.wanted (IsListed B.own B.neighbor_at)
         IsAnyFile IsAnyPath) desk.old.interfaces
@@ -169,7 +169,7 @@ fn obey_next<
     ensures interfaces { desk.new.interfaces ≡ desk.old.interfaces }
 {
     match answer_next(hub, port, desk, console) {
-        Ok(told) => match console.output.write_text(&told) {
+        Ok(reply) => match console.output.write_text(&reply) {
             Ok(()) => Ok(()),
             Err(_) => Err(Parting::Mute),
         },

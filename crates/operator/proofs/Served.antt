@@ -14,8 +14,8 @@ use Rattle.console.specs.declared.command.Command.TheVariants as commands
 use Rattle.operator.specs.Answers.{IsAnswerTo, IsCarriedOut, IsServed, Change, Sources}
 use Rattle.operator.specs.Served.{AreServed, IsCommandServed, IsLineServed, IsServedThen}
 use Rattle.operator.specs.Served.{IsTurnServed, IsUnlessFault, turn_after, turn_due, turn_of}
-use Rattle.operator.specs.declared.told.Told.{Told}
-use Rattle.operator.specs.declared.told.Told.TheVariants as told
+use Rattle.operator.specs.declared.reply.Reply.{Reply}
+use Rattle.operator.specs.declared.reply.Reply.TheVariants as reply
 use Rattle.operator.proofs.Answered.{never_unknown}
 
 -- whether it failed or not, a transport counts no fewer faults
@@ -55,9 +55,9 @@ module _ {Transport Clock : Type 0} (faults : Transport → ℕ) (senses : Sense
       (omega arith, λ fine. refl)
 
   -- nor if lines were made of an answer, or there was no memory for them
-  pub lines_served : {E : Type 0} (lines : Result (String Global) E) (answer : Told)
+  pub lines_served : {E : Type 0} (lines : Result (String Global) E) (answer : Reply)
       (now : Standing Transport Clock)
-      → MatchResult lines (λ text. answer ≡ told.Lines text) (λ _. answer ≡ told.Memory)
+      → MatchResult lines (λ text. answer ≡ reply.Lines text) (λ _. answer ≡ reply.Memory)
       → IsUnlessFault faults (IsTurnServed senses (turn_after answer)) now now
   lines_served (Ok text) answer now is =
       subst (λ t. IsUnlessFault faults (IsTurnServed senses (turn_after t)) now now) (sym is)
@@ -67,7 +67,7 @@ module _ {Transport Clock : Type 0} (faults : Transport → ℕ) (senses : Sense
       (unserved_still now now refl)
 
   -- the turn of a command by other names
-  pub served_moved : (command same : Command) (answer told : Told)
+  pub served_moved : (command same : Command) (answer told : Reply)
       (before after other : Standing Transport Clock) → after ≡ other → command ≡ same
       → answer ≡ told
       → IsUnlessFault faults (IsTurnServed senses (turn_of same told)) before other
@@ -96,8 +96,8 @@ module _ {Transport Clock : Type 0} (faults : Transport → ℕ) (senses : Sense
 
   -- what is answered out of memory had no turn
   no_turn : (s : Sources) (n : ℕ) (c : Change) (command : Command)
-      (before after : Standing Transport Clock) → IsAnswerTo s n c command told.Memory
-      → IsTurnServed senses (turn_of command told.Memory) before after → after ≡ before
+      (before after : Standing Transport Clock) → IsAnswerTo s n c command reply.Memory
+      → IsTurnServed senses (turn_of command reply.Memory) before after → after ≡ before
   no_turn s n c (commands.Attach path) before after is served = served
   no_turn s n c (commands.Detach hook) before after is served = served
   no_turn s n c (commands.Add external) before after is served = absurd is.1
@@ -109,31 +109,31 @@ module _ {Transport Clock : Type 0} (faults : Transport → ℕ) (senses : Sense
 
   -- the turn of a command that a line asks for is the line's
   line_turn : (s : Sources) (n : ℕ) (c : Change) (line : List ℕ) (command : Command)
-      (answer : Option Told) (before after : Standing Transport Clock) → LineAsks line command
+      (answer : Option Reply) (before after : Standing Transport Clock) → LineAsks line command
       → IsCarriedOut s n c command answer → IsCommandServed senses command answer before after
       → IsLineServed senses line answer before after
   line_turn s n c line command None before after asks is served = served
-  line_turn s n c line command (Some told.Unknown) before after asks is served =
+  line_turn s n c line command (Some reply.Unknown) before after asks is served =
       absurd (never_unknown s n c command is)
-  line_turn s n c line command (Some told.Memory) before after asks is served =
+  line_turn s n c line command (Some reply.Memory) before after asks is served =
       no_turn s n c command before after is served
-  line_turn s n c line command (Some (told.Attached hook bound)) before after asks is served =
+  line_turn s n c line command (Some (reply.Attached hook bound)) before after asks is served =
       (command, asks, served)
-  line_turn s n c line command (Some (told.Detached hook)) before after asks is served =
+  line_turn s n c line command (Some (reply.Detached hook)) before after asks is served =
       (command, asks, served)
-  line_turn s n c line command (Some told.Originated) before after asks is served =
+  line_turn s n c line command (Some reply.Originated) before after asks is served =
       (command, asks, served)
-  line_turn s n c line command (Some told.Withheld) before after asks is served =
+  line_turn s n c line command (Some reply.Withheld) before after asks is served =
       (command, asks, served)
-  line_turn s n c line command (Some told.Withdrawn) before after asks is served =
+  line_turn s n c line command (Some reply.Withdrawn) before after asks is served =
       (command, asks, served)
-  line_turn s n c line command (Some (told.Refused number)) before after asks is served =
+  line_turn s n c line command (Some (reply.Refused number)) before after asks is served =
       (command, asks, served)
-  line_turn s n c line command (Some (told.Lines lines)) before after asks is served =
+  line_turn s n c line command (Some (reply.Lines lines)) before after asks is served =
       (command, asks, served)
 
   pub line_served : (s : Sources) (n : ℕ) (c : Change) (line : List ℕ) (command : Command)
-      (answer : Option Told) (before after : Standing Transport Clock) → LineAsks line command
+      (answer : Option Reply) (before after : Standing Transport Clock) → LineAsks line command
       → IsCarriedOut s n c command answer
       → IsUnlessFault faults (IsCommandServed senses command answer) before after
       → IsUnlessFault faults (IsLineServed senses line answer) before after
@@ -143,7 +143,7 @@ module _ {Transport Clock : Type 0} (faults : Transport → ℕ) (senses : Sense
   )
 
   -- first what was due, and then the line
-  pub both_served : (due : Bool) (line : List ℕ) (answer : Option Told)
+  pub both_served : (due : Bool) (line : List ℕ) (answer : Option Reply)
       (before between after : Standing Transport Clock)
       → IsUnlessFault faults (IsTurnServed senses (turn_due due)) before between
       → IsUnlessFault faults (IsLineServed senses line answer) between after

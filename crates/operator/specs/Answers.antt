@@ -23,8 +23,8 @@ use Rattle.worker.specs.Work.TheVariants as work
 use Rattle.console.specs.Commands.{LineAsks}
 use Rattle.console.specs.declared.command.Command.{Command}
 use Rattle.console.specs.declared.command.Command.TheVariants as commands
-use Rattle.operator.specs.declared.told.Told.{Told}
-use Rattle.operator.specs.declared.told.Told.TheVariants as told
+use Rattle.operator.specs.declared.reply.Reply.{Reply}
+use Rattle.operator.specs.declared.reply.Reply.TheVariants as reply
 use Rattle.operator.specs.Reasons.{Holds, IsReasonText, Unreadable}
 use Rattle.operator.specs.Shown.{HasReadSome, IsCountersText, ShowsNeighbors, ShowsTable}
 
@@ -184,11 +184,11 @@ IsFollowedUp offers took refuses c =
     IsFollowed offers took refuses c.now c.known c.due c.counted c.counts
 
 -- the program was published at its hook, with its bound; or memory was refused, and nothing changed
-abbrev pub IsPublished : Offers → Took → Refuses → Change → Program → Told → Type 0
-IsPublished offers took refuses c program (told.Attached hook bound) =
+abbrev pub IsPublished : Offers → Took → Refuses → Change → Program → Reply → Type 0
+IsPublished offers took refuses c program (reply.Attached hook bound) =
     (c.now ≡ c.before ++ Attach program ∷ []) × IsFollowedUp offers took refuses c
     × (program.hook ≡ hook) × (program.bound ≡ bound)
-IsPublished offers took refuses c program told.Memory = IsUntouched c
+IsPublished offers took refuses c program reply.Memory = IsUntouched c
 IsPublished offers took refuses c program other = ⊥
 
 -- a program of this hook was published, the one that the file at the path holds, which is accepted
@@ -205,59 +205,59 @@ pub record IsAttached (s : Sources) (c : Change) (path : List ℕ) (hook : Hook)
   pub of_bound : program.bound ≡ bound
 
 -- a program was published, or lines say why none was; or memory was refused, and nothing changed
-abbrev pub IsAnswerToAttach : Sources → Change → (path : List ℕ) → Told → Type 0
-IsAnswerToAttach s c path (told.Attached hook bound) = IsAttached s c path hook bound
-IsAnswerToAttach s c path (told.Lines reason) =
+abbrev pub IsAnswerToAttach : Sources → Change → (path : List ℕ) → Reply → Type 0
+IsAnswerToAttach s c path (reply.Attached hook bound) = IsAttached s c path hook bound
+IsAnswerToAttach s c path (reply.Lines reason) =
     IsUntouched c × IsReasonText s.holds s.unreadable path (string_bytes reason)
-IsAnswerToAttach s c path told.Memory = IsUntouched c
+IsAnswerToAttach s c path reply.Memory = IsUntouched c
 IsAnswerToAttach s c path other = ⊥
 
 -- that hook has no program; or memory was refused, and nothing changed
-abbrev pub IsAnswerToDetach : Offers → Took → Refuses → Change → Hook → Told → Type 0
-IsAnswerToDetach offers took refuses c hook (told.Detached of) =
+abbrev pub IsAnswerToDetach : Offers → Took → Refuses → Change → Hook → Reply → Type 0
+IsAnswerToDetach offers took refuses c hook (reply.Detached of) =
     (of ≡ hook) × (c.now ≡ c.before ++ Detach hook ∷ []) × IsFollowedUp offers took refuses c
-IsAnswerToDetach offers took refuses c hook told.Memory = IsUntouched c
+IsAnswerToDetach offers took refuses c hook reply.Memory = IsUntouched c
 IsAnswerToDetach offers took refuses c hook other = ⊥
 
 -- the router took the announcement, and after that announces the destination or doesn't; or the
 -- turn was refused
 abbrev pub IsAnswerToAdd : Offers → Took → Refuses → Wanted → (knew known : List LoaderOperation)
-    → External → (counted counts : ℕ) → Told → Type 0
-IsAnswerToAdd offers took refuses wanted knew known external counted counts told.Originated =
+    → External → (counted counts : ℕ) → Reply → Type 0
+IsAnswerToAdd offers took refuses wanted knew known external counted counts reply.Originated =
     IsDone offers took refuses knew known (work.Add external) counted counts
     × wanted counts external.prefix true
-IsAnswerToAdd offers took refuses wanted knew known external counted counts told.Withheld =
+IsAnswerToAdd offers took refuses wanted knew known external counted counts reply.Withheld =
     IsDone offers took refuses knew known (work.Add external) counted counts
     × wanted counts external.prefix false
-IsAnswerToAdd offers took refuses wanted knew known external counted counts (told.Refused number) =
+IsAnswerToAdd offers took refuses wanted knew known external counted counts (reply.Refused number) =
     IsRefusal offers refuses knew known (work.Add external) counted counts number
 IsAnswerToAdd offers took refuses wanted knew known external counted counts other = ⊥
 
 -- the router took the withdrawal, or the turn was refused
 abbrev pub IsAnswerToWithdraw : Offers → Took → Refuses → (knew known : List LoaderOperation)
-    → Network → (counted counts : ℕ) → Told → Type 0
-IsAnswerToWithdraw offers took refuses knew known prefix counted counts told.Withdrawn =
+    → Network → (counted counts : ℕ) → Reply → Type 0
+IsAnswerToWithdraw offers took refuses knew known prefix counted counts reply.Withdrawn =
     IsDone offers took refuses knew known (work.Withdraw prefix) counted counts
-IsAnswerToWithdraw offers took refuses knew known prefix counted counts (told.Refused number) =
+IsAnswerToWithdraw offers took refuses knew known prefix counted counts (reply.Refused number) =
     IsRefusal offers refuses knew known (work.Withdraw prefix) counted counts number
 IsAnswerToWithdraw offers took refuses knew known prefix counted counts other = ⊥
 
 -- lines, of this text, or memory was refused
-abbrev pub AreLines : (IsText : List ℕ → Type 0) → Told → Type 0
-AreLines IsText (told.Lines lines) = IsText (string_bytes lines)
-AreLines IsText told.Memory = Unit {0}
+abbrev pub AreLines : (IsText : List ℕ → Type 0) → Reply → Type 0
+AreLines IsText (reply.Lines lines) = IsText (string_bytes lines)
+AreLines IsText reply.Memory = Unit {0}
 AreLines IsText other = ⊥
 
 -- the counters' lines, as the seat read them; or memory was refused, when it had read some
-abbrev pub IsAnswerToCounters : Change → Told → Type 0
-IsAnswerToCounters c (told.Lines lines) = IsCountersText c.seat c.seated (string_bytes lines)
-IsAnswerToCounters c told.Memory = HasReadSome c.seat c.seated
+abbrev pub IsAnswerToCounters : Change → Reply → Type 0
+IsAnswerToCounters c (reply.Lines lines) = IsCountersText c.seat c.seated (string_bytes lines)
+IsAnswerToCounters c reply.Memory = HasReadSome c.seat c.seated
 IsAnswerToCounters c other = ⊥
 
 -- What each command is answered at a router of this number of interfaces. What is shown changes
 -- nothing, but for the seat that reads the counters, and no announcement or withdrawal changes the
 -- programs.
-abbrev pub IsAnswerTo : Sources → (interfaces : ℕ) → Change → Command → Told → Type 0
+abbrev pub IsAnswerTo : Sources → (interfaces : ℕ) → Change → Command → Reply → Type 0
 IsAnswerTo s interfaces c (commands.Attach path) answer =
     IsAnswerToAttach s c path.now answer
 IsAnswerTo s interfaces c (commands.Detach hook) answer =
@@ -278,18 +278,18 @@ IsAnswerTo s interfaces c commands.Counters answer =
 IsAnswerTo s interfaces c commands.Quit answer = ⊥
 
 -- a command that is answered; there is no answer if the console ends, and then nothing changed
-abbrev pub IsCarriedOut : Sources → (interfaces : ℕ) → Change → Command → Option Told → Type 0
+abbrev pub IsCarriedOut : Sources → (interfaces : ℕ) → Change → Command → Option Reply → Type 0
 IsCarriedOut s interfaces c command None = (command ≡ commands.Quit) × IsUntouched c
 IsCarriedOut s interfaces c command (Some answer) = IsAnswerTo s interfaces c command answer
 
 -- A line is unknown only if it is no command, and then nothing changed, nor if memory was refused
 -- to read it; else it is answered as its command is, and there is no answer only if it is `quit`.
-abbrev pub IsObeyed : Sources → (interfaces : ℕ) → Change → (line : List ℕ) → Option Told → Type 0
-IsObeyed s interfaces c line (Some told.Unknown) =
+abbrev pub IsObeyed : Sources → (interfaces : ℕ) → Change → (line : List ℕ) → Option Reply → Type 0
+IsObeyed s interfaces c line (Some reply.Unknown) =
     IsUntouched c × ((command : Command) → LineAsks line command → ⊥)
-IsObeyed s interfaces c line (Some told.Memory) =
+IsObeyed s interfaces c line (Some reply.Memory) =
     IsUntouched c
     ⊎ ((command : Command) × LineAsks line command
-    × IsAnswerTo s interfaces c command told.Memory)
+    × IsAnswerTo s interfaces c command reply.Memory)
 IsObeyed s interfaces c line answer =
     (command : Command) × LineAsks line command × IsCarriedOut s interfaces c command answer

@@ -9,19 +9,19 @@ use Rattle.console.specs.Commands.{LineAsks}
 use Rattle.console.specs.declared.command.Command.{Command}
 use Rattle.console.specs.declared.command.Command.TheVariants as commands
 use Rattle.operator.specs.Answers.{IsServed}
-use Rattle.operator.specs.declared.told.Told.{Told}
-use Rattle.operator.specs.declared.told.Told.TheVariants as told
+use Rattle.operator.specs.declared.reply.Reply.{Reply}
+use Rattle.operator.specs.declared.reply.Reply.TheVariants as reply
 
 -- ---- of which work there is a turn
 
 -- once the programs were changed, of a refresh
-abbrev pub turn_after : Told → Option Work
-turn_after (told.Attached hook bound) = Some work.Refresh
-turn_after (told.Detached hook) = Some work.Refresh
+abbrev pub turn_after : Reply → Option Work
+turn_after (reply.Attached hook bound) = Some work.Refresh
+turn_after (reply.Detached hook) = Some work.Refresh
 turn_after other = None
 
 -- an announcement and a withdrawal have a turn of their own; what is shown has none
-abbrev pub turn_of : Command → Told → Option Work
+abbrev pub turn_of : Command → Reply → Option Work
 turn_of (commands.Attach path) answer = turn_after answer
 turn_of (commands.Detach hook) answer = turn_after answer
 turn_of (commands.Add external) answer = Some (work.Add external)
@@ -55,7 +55,7 @@ IsTurnServed senses turn before after =
 
 -- the turn of a command was; that which is answered by nothing has none
 abbrev pub IsCommandServed : {Transport Clock : Type 0} → Senses Transport Clock → Command
-    → Option Told → (before after : Standing Transport Clock) → Type 0
+    → Option Reply → (before after : Standing Transport Clock) → Type 0
 IsCommandServed senses command None before after = after ≡ before
 IsCommandServed senses command (Some answer) before after =
     IsTurnServed senses (turn_of command answer) before after
@@ -63,17 +63,17 @@ IsCommandServed senses command (Some answer) before after =
 -- the turn of the command that a line asks for was; a line that is no command, that there was no
 -- memory for, or that ends the console, has none
 abbrev pub IsLineServed : {Transport Clock : Type 0} → Senses Transport Clock → (line : List ℕ)
-    → Option Told → (before after : Standing Transport Clock) → Type 0
+    → Option Reply → (before after : Standing Transport Clock) → Type 0
 IsLineServed senses line None before after = after ≡ before
-IsLineServed senses line (Some told.Unknown) before after = after ≡ before
-IsLineServed senses line (Some told.Memory) before after = after ≡ before
+IsLineServed senses line (Some reply.Unknown) before after = after ≡ before
+IsLineServed senses line (Some reply.Memory) before after = after ≡ before
 IsLineServed senses line (Some answer) before after =
     (command : Command) × LineAsks line command
     × IsTurnServed senses (turn_of command answer) before after
 
 -- first the turn of a refresh that was due, and then that of the line
 abbrev pub AreServed : {Transport Clock : Type 0} → Senses Transport Clock → (due : Bool)
-    → (line : List ℕ) → Option Told → (before after : Standing Transport Clock) → Type 0
+    → (line : List ℕ) → Option Reply → (before after : Standing Transport Clock) → Type 0
 AreServed {Transport = Transport} {Clock = Clock} senses due line answer before after =
     (between : Standing Transport Clock) × IsTurnServed senses (turn_due due) before between
     × IsLineServed senses line answer between after

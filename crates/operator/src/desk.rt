@@ -38,7 +38,7 @@ ghost use Rattle.operator.specs.Served.{
 use crate::lists::{counters, lines, neighbors, table};
 use crate::outlet::Outlet;
 use crate::programs::{ReadsFiles, SystemFiles, read_program, reason};
-use crate::told::Told;
+use crate::reply::Reply;
 use console::{Command, read_command};
 use hooks::Loader;
 use isa::Hook;
@@ -72,7 +72,7 @@ fn add<L: Site, B: Taker<L>, R: Wait, K: Transport + Drop, C: Seconds + Drop>(
     port: &mut Port<L>,
     outlet: &mut Outlet<K, C>,
     external: External,
-) -> Told
+) -> Reply
     ensures told { IsAnswerToAdd B.offers B.took B.refuses B.wanted
         (known_to port.old.asker) (known_to port.new.asker) external
         port.old.share.amount port.new.share.amount result }
@@ -88,12 +88,12 @@ fn add<L: Site, B: Taker<L>, R: Wait, K: Transport + Drop, C: Seconds + Drop>(
     match outlet.take(rt, hub, port, &Work::Add(external)) {
         Ok(()) => {
             if hub.wants(rt, port, prefix) {
-                Told::Originated
+                Reply::Originated
             } else {
-                Told::Withheld
+                Reply::Withheld
             }
         }
-        Err(error) => Told::refused(error),
+        Err(error) => Reply::refused(error),
     }
 }
 
@@ -104,7 +104,7 @@ fn withdraw<L: Site, B: Taker<L>, R: Wait, K: Transport + Drop, C: Seconds + Dro
     port: &mut Port<L>,
     outlet: &mut Outlet<K, C>,
     prefix: Prefix,
-) -> Told
+) -> Reply
     ensures told { IsAnswerToWithdraw B.offers B.took B.refuses
         (known_to port.old.asker) (known_to port.new.asker) prefix
         port.old.share.amount port.new.share.amount result }
@@ -117,8 +117,8 @@ fn withdraw<L: Site, B: Taker<L>, R: Wait, K: Transport + Drop, C: Seconds + Dro
         port.new.share.amount) }
 {
     match outlet.take(rt, hub, port, &Work::Withdraw(prefix)) {
-        Ok(()) => Told::Withdrawn,
-        Err(error) => Told::refused(error),
+        Ok(()) => Reply::Withdrawn,
+        Err(error) => Reply::refused(error),
     }
 }
 
@@ -175,7 +175,7 @@ impl<L: Site, Q: Wait + Drop, K: Transport + Drop, C: Seconds + Drop> Desk<L, Q,
         hub: &Hub<L, B>,
         port: &mut Port<L>,
         program: Accepted,
-    ) -> Told
+    ) -> Reply
         ensures told { IsPublished B.offers B.took B.refuses
             (change (operations_of self.old.loader) (operations_of self.new.loader)
             (known_to port.old.asker) (known_to port.new.asker)
@@ -194,10 +194,10 @@ impl<L: Site, Q: Wait + Drop, K: Transport + Drop, C: Seconds + Drop> Desk<L, Q,
         let hook = program.hook();
         let bound = program.bound();
         if self.loader.attach(program).is_err() {
-            return Told::Memory;
+            return Reply::Memory;
         }
         self.follow(rt, hub, port);
-        Told::Attached(hook, bound)
+        Reply::Attached(hook, bound)
     }
 
     fn attach<B: Taker<L>, R: Wait, F: ReadsFiles>(
@@ -207,7 +207,7 @@ impl<L: Site, Q: Wait + Drop, K: Transport + Drop, C: Seconds + Drop> Desk<L, Q,
         hub: &Hub<L, B>,
         port: &mut Port<L>,
         path: &str,
-    ) -> Told
+    ) -> Reply
         ensures told { IsAnswerToAttach
             (sources B.offers B.took B.refuses B.wanted (IsListed B.own B.neighbor_at)
             F.holds F.unreadable)
@@ -237,7 +237,7 @@ impl<L: Site, Q: Wait + Drop, K: Transport + Drop, C: Seconds + Drop> Desk<L, Q,
         hub: &Hub<L, B>,
         port: &mut Port<L>,
         hook: Hook,
-    ) -> Told
+    ) -> Reply
         ensures told { IsAnswerToDetach B.offers B.took B.refuses
             (change (operations_of self.old.loader) (operations_of self.new.loader)
             (known_to port.old.asker) (known_to port.new.asker)
@@ -254,10 +254,10 @@ impl<L: Site, Q: Wait + Drop, K: Transport + Drop, C: Seconds + Drop> Desk<L, Q,
         ensures interfaces { self.new.interfaces ≡ self.old.interfaces }
     {
         if self.loader.detach(hook).is_err() {
-            return Told::Memory;
+            return Reply::Memory;
         }
         self.follow(rt, hub, port);
-        Told::Detached(hook)
+        Reply::Detached(hook)
     }
 
     // Carries out a command. `None` if it ends the console.
@@ -268,7 +268,7 @@ impl<L: Site, Q: Wait + Drop, K: Transport + Drop, C: Seconds + Drop> Desk<L, Q,
         hub: &Hub<L, B>,
         port: &mut Port<L>,
         command: &Command<'_>,
-    ) -> Option<Told>
+    ) -> Option<Reply>
         ensures told { IsCarriedOut
             (sources B.offers B.took B.refuses B.wanted (IsListed B.own B.neighbor_at)
             F.holds F.unreadable)
@@ -329,7 +329,7 @@ impl<L: Site, Q: Wait + Drop, K: Transport + Drop, C: Seconds + Drop> Desk<L, Q,
         hub: &Hub<L, B>,
         port: &mut Port<L>,
         line: &str,
-    ) -> Option<Told>
+    ) -> Option<Reply>
         ensures told { IsObeyed
             (sources B.offers B.took B.refuses B.wanted (IsListed B.own B.neighbor_at)
             F.holds F.unreadable)
@@ -351,8 +351,8 @@ impl<L: Site, Q: Wait + Drop, K: Transport + Drop, C: Seconds + Drop> Desk<L, Q,
         let read = read_command(self.alloc, line);
         match &read {
             Ok(Some(command)) => self.carry_out(rt, files, hub, port, command),
-            Ok(None) => Some(Told::Unknown),
-            Err(_) => Some(Told::Memory),
+            Ok(None) => Some(Reply::Unknown),
+            Err(_) => Some(Reply::Memory),
         }
     }
 
@@ -367,7 +367,7 @@ impl<L: Site, Q: Wait + Drop, K: Transport + Drop, C: Seconds + Drop> Desk<L, Q,
         hub: &Hub<L, B>,
         port: &mut Port<L>,
         line: &str,
-    ) -> Option<Told>
+    ) -> Option<Reply>
         ensures told { (still : Bool) × (knew : List LoaderOperation) × (counted : ℕ)
             × (seat : SeatView)
             × IsMadeUp B.offers B.took B.refuses self.old.unrefreshed still
@@ -401,7 +401,7 @@ impl<L: Site, Q: Wait + Drop, K: Transport + Drop, C: Seconds + Drop> Desk<L, Q,
         hub: &Hub<L, B>,
         port: &mut Port<L>,
         line: &str,
-    ) -> Option<Told>
+    ) -> Option<Reply>
         ensures told { (still : Bool) × (knew : List LoaderOperation) × (counted : ℕ)
             × (seat : SeatView)
             × IsMadeUp B.offers B.took B.refuses self.old.unrefreshed still

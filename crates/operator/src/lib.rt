@@ -9,9 +9,9 @@ pub mod laws;
 mod lists;
 mod outlet;
 mod programs;
-mod told;
+mod reply;
 
 pub use desk::Desk;
 pub use outlet::Outlet;
 pub use programs::{AttachError, ReadsFiles, SystemFiles};
-pub use told::Told;
+pub use reply::Reply;

@@ -6,9 +6,9 @@ ghost use Rattle.hooks.specs.Known.{known_to};
 ghost use Rattle.worker.specs.Turns.{IsListed};
 ghost use Rattle.operator.specs.Shown.{HasReadSome, IsCountersText, IsPartOf, ShowsNeighbors};
 ghost use Rattle.operator.specs.Shown.{ShowsTable};
-ghost use Rattle.operator.specs.declared.told.Told.TheVariants as told;
+ghost use Rattle.operator.specs.declared.reply.Reply.TheVariants as reply;
 
-use crate::told::Told;
+use crate::reply::Reply;
 use console::{counters_text, neighbors_text, table_text};
 use std::alloc::{AllocError, Global};
 use std::sync::Wait;
@@ -16,12 +16,12 @@ use words::{Route, TableRow};
 use worker::{Hub, Port, Site, Taker};
 
 /// The answer of these lines.
-pub fn lines(made: Result<String, AllocError>) -> Told
-    ensures { MatchResult made (λ text. result ≡ told.Lines text) (λ _. result ≡ told.Memory) }
+pub fn lines(made: Result<String, AllocError>) -> Reply
+    ensures { MatchResult made (λ text. result ≡ reply.Lines text) (λ _. result ≡ reply.Memory) }
 {
     match made {
-        Ok(text) => Told::Lines(text),
-        Err(_) => Told::Memory,
+        Ok(text) => Reply::Lines(text),
+        Err(_) => Reply::Memory,
     }
 }
 

@@ -1,6 +1,6 @@
 //! What a line of the console is answered.
 ghost use Rattle.std.specs.Prelude.{◌≡◌};
-ghost use Rattle.operator.specs.declared.told.Told.TheVariants as told;
+ghost use Rattle.operator.specs.declared.reply.Reply.TheVariants as reply;
 ghost use Rattle.worker.specs.Numbers.{turn_error_number};
 
 use isa::Hook;
@@ -9,7 +9,7 @@ use worker::TurnError;
 
 /// The answer to a line. What its `Display` writes is printed.
 #[derive(Drop)]
-pub enum Told {
+pub enum Reply {
     /// A program was published at this hook, which makes at most this number of steps.
     Attached(Hook, u64),
     /// This hook has no program.
@@ -30,38 +30,38 @@ pub enum Told {
     Lines(String),
 }
 
-impl Told {
+impl Reply {
     /// The answer to a line whose turn was refused.
-    pub fn refused(error: TurnError) -> Told
-        ensures { result ≡ told.Refused (turn_error_number error) }
+    pub fn refused(error: TurnError) -> Reply
+        ensures { result ≡ reply.Refused (turn_error_number error) }
     {
-        Told::Refused(error.number())
+        Reply::Refused(error.number())
     }
 }
 
-impl fmt::Display for Told {
+impl fmt::Display for Reply {
     ghost use Rattle.std.specs.Prelude.{Some};
-    ghost use Rattle.operator.specs.Texts.{told_text};
+    ghost use Rattle.operator.specs.Texts.{reply_text};
 
-    ghost output = { λ told. Some (told_text told) };
+    ghost output = { λ told. Some (reply_text told) };
 
     fn fmt<W: fmt::Write>(&self, f: &mut fmt::Formatter<W>) -> fmt::Result {
         match self {
-            Told::Attached(hook, bound) => {
+            Reply::Attached(hook, bound) => {
                 let name = hook.name();
                 write!(f, "attached {name} bound {bound}\n")
             }
-            Told::Detached(hook) => {
+            Reply::Detached(hook) => {
                 let name = hook.name();
                 write!(f, "detached {name}\n")
             }
-            Told::Originated => write!(f, "originated\n"),
-            Told::Withheld => write!(f, "withheld\n"),
-            Told::Withdrawn => write!(f, "withdrawn\n"),
-            Told::Refused(number) => write!(f, "refused {number}\n"),
-            Told::Unknown => write!(f, "unknown\n"),
-            Told::Memory => write!(f, "out of memory\n"),
-            Told::Lines(lines) => write!(f, "{lines}"),
+            Reply::Originated => write!(f, "originated\n"),
+            Reply::Withheld => write!(f, "withheld\n"),
+            Reply::Withdrawn => write!(f, "withdrawn\n"),
+            Reply::Refused(number) => write!(f, "refused {number}\n"),
+            Reply::Unknown => write!(f, "unknown\n"),
+            Reply::Memory => write!(f, "out of memory\n"),
+            Reply::Lines(lines) => write!(f, "{lines}"),
         }
     }
 }
