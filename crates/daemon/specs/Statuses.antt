@@ -10,10 +10,10 @@ use Rattle.worker.specs.Ends.{has_failed}
 use Rattle.daemon.specs.declared.error.RouteError.{RouteError}
 use Rattle.daemon.specs.declared.error.RouteError.TheVariants.{Configuration, Bind, Socket, Hooks}
 use Rattle.daemon.specs.declared.error.RouteError.TheVariants.{Output, Memory}
-use Rattle.daemon.specs.declared.labor.Worked.{Worked}
+use Rattle.daemon.specs.declared.labor.EndedWorker.{EndedWorker}
 use Rattle.daemon.specs.declared.ran.Ran.{Ran}
 use Rattle.daemon.specs.Refusals.{IsWhy}
-use Rattle.daemon.specs.Talks.{is_deaf}
+use Rattle.daemon.specs.Talks.{has_input_failed}
 
 -- 1 refused, 3 a socket or the output, 4 memory
 abbrev pub status_of : RouteError → ℕ
@@ -26,19 +26,20 @@ status_of Memory = 4
 
 -- ---- of a router that ran
 
-abbrev pub any_failed : List Worked → Bool
-any_failed workers = list_any (λ (worked : Worked). has_failed worked.end) workers
+abbrev pub any_failed : List EndedWorker → Bool
+any_failed workers = list_any (λ (worker : EndedWorker). has_failed worker.end) workers
 
 -- 3 if the transport of a worker or of the console failed, or the input couldn't be read, else 0
 abbrev pub status_of_ran : Ran → ℕ
 status_of_ran ran =
-    if any_failed ran.workers.items || has_failed ran.console || is_deaf ran.parted then 3 else 0
+    if any_failed ran.workers.items || has_failed ran.console || has_input_failed ran.ended_console
+    then 3 else 0
 
 -- ---- which router ran
 
 -- A router that began as this one ran, with this number of interfaces: each had a worker that lived
--- until it was told to end, or its transport failed. So says that there is a `Worked` of it, which
--- only
+-- until it was told to end, or its transport failed. So says that there is a `EndedWorker` of it,
+-- which only
 -- `labor::work` makes.
 pub record HasRan (origin : Router) (interfaces : ℕ) (ran : Ran) : Type 0 where
   pub began : ran.origin.value ≡ origin

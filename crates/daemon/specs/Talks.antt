@@ -14,9 +14,9 @@ use Rattle.daemon.specs.Lines.{Fails, Gives, IsGiven}
 use Rattle.daemon.specs.Texts.{Takes, TakesEach}
 use Rattle.daemon.specs.declared.lines.Given.{Given}
 use Rattle.daemon.specs.declared.lines.Given.TheVariants as given
-use Rattle.daemon.specs.declared.talk.Parted.{Parted}
-use Rattle.daemon.specs.declared.talk.Parting.{Parting}
-use Rattle.daemon.specs.declared.talk.Parting.TheVariants.{Done, Deaf, Mute}
+use Rattle.daemon.specs.declared.talk.EndedConsole.{EndedConsole}
+use Rattle.daemon.specs.declared.talk.ConsoleEnd.{ConsoleEnd}
+use Rattle.daemon.specs.declared.talk.ConsoleEnd.TheVariants.{Done, InputFailed, OutputFailed}
 
 -- Where a conversation stands: the input, the operations that the loader has published and those
 -- that the port knows, whether a refresh is due, how many events count, and the port's seat.
@@ -57,25 +57,26 @@ abbrev pub HasRead : {Input : Type 0} → (before after : Place Input) → Type 
 HasRead before after = after ≡ record before { input = after.input }
 
 -- the console is done if a line has no answer
-abbrev pub reply_of : Option Reply → Result Reply Parting
+abbrev pub reply_of : Option Reply → Result Reply ConsoleEnd
 reply_of None = Err Done
 reply_of (Some answer) = Ok answer
 
 -- What was given is answered so: a line as the desk does, or that there was no memory for it; at
--- the end the console is done, and if the input can't be read, it is deaf.
+-- the end the console is done, and if the input can't be read, that failed.
 abbrev pub IsReply : {Input : Type 0} → Sources → (interfaces : ℕ) → Given
-    → (before : Place Input) → Result Reply Parting → (after : Place Input) → Type 0
+    → (before : Place Input) → Result Reply ConsoleEnd → (after : Place Input) → Type 0
 IsReply s interfaces (given.Line line) before reply after =
     (answer : Option Reply) × IsObeyedFrom s interfaces before (string_bytes line) answer after
     × (reply ≡ reply_of answer)
 IsReply s interfaces given.Memory before reply after =
     (reply ≡ Ok reply.Memory) × HasRead before after
 IsReply s interfaces given.End before reply after = (reply ≡ Err Done) × HasRead before after
-IsReply s interfaces given.Failed before reply after = (reply ≡ Err Deaf) × HasRead before after
+IsReply s interfaces given.Failed before reply after =
+    (reply ≡ Err InputFailed) × HasRead before after
 
 -- the input gave something, and that is answered so
 pub record IsReplied {Input : Type 0} (gives : Gives Input) (fails : Fails Input) (s : Sources)
-    (interfaces : ℕ) (before : Place Input) (reply : Result Reply Parting) (after : Place Input)
+    (interfaces : ℕ) (before : Place Input) (reply : Result Reply ConsoleEnd) (after : Place Input)
     : Type 0 where
   pub gave : Given
   pub is_given : IsGiven gives fails before.input gave after.input
@@ -92,26 +93,27 @@ HasAnswered {Input = Input} gives fails s interfaces start (answer ∷ earlier) 
     × IsReplied gives fails s interfaces between (Ok answer) now
 
 -- The console ends: nothing is printed any more, since there is no answer; or an answer was to be
--- printed, and the output couldn't be written, and then it is mute.
+-- printed, and the output couldn't be written, and then that failed.
 pub record IsOver {Input Output : Type 0} (gives : Gives Input) (fails : Fails Input)
     (unwritable : Fails Output) (s : Sources) (interfaces : ℕ) (before : Place Input) (old : Output)
-    (parting : Parting) (after : Place Input) (new : Output) : Type 0 where
-  pub how : (IsReplied gives fails s interfaces before (Err parting) after × (new ≡ old))
-      ⊎ ((parting ≡ Mute) × unwritable old new
+    (console_end : ConsoleEnd) (after : Place Input) (new : Output) : Type 0 where
+  pub how : (IsReplied gives fails s interfaces before (Err console_end) after × (new ≡ old))
+      ⊎ ((console_end ≡ OutputFailed) × unwritable old new
       × ((answer : Reply) × IsReplied gives fails s interfaces before (Ok answer) after))
 
 -- All that the input gave was answered in its order, until the console ended so. The output took
 -- the answers' texts, in their order, and nothing else.
 pub record HasTalked {Input Output : Type 0} (gives : Gives Input) (fails : Fails Input)
     (takes : Takes Output) (unwritable : Fails Output) (s : Sources) (interfaces : ℕ)
-    (start : Place Input) (old : Output) (parting : Parting) (now : Place Input) (new : Output)
+    (start : Place Input) (old : Output) (console_end : ConsoleEnd) (now : Place Input)
+    (new : Output)
     : Type 0 where
   pub answers : List Reply
   pub between : Place Input
   pub printed : Output
   pub answered : HasAnswered gives fails s interfaces start answers between
   pub taken : TakesEach takes old answers printed
-  pub over : IsOver gives fails unwritable s interfaces between printed parting now new
+  pub over : IsOver gives fails unwritable s interfaces between printed console_end now new
 
 -- ---- from the start
 
@@ -127,7 +129,8 @@ IsTicked offers took refuses known now counted counts =
 -- the first is a Tick's turn, and then line follows line
 pub record Converses {Input Output : Type 0} (gives : Gives Input) (fails : Fails Input)
     (takes : Takes Output) (unwritable : Fails Output) (s : Sources) (interfaces : ℕ)
-    (begun : Place Input) (old : Output) (parting : Parting) (now : Place Input) (new : Output)
+    (begun : Place Input) (old : Output) (console_end : ConsoleEnd) (now : Place Input)
+    (new : Output)
     : Type 0 where
   pub known : List LoaderOperation
   pub events : ℕ
@@ -135,22 +138,22 @@ pub record Converses {Input Output : Type 0} (gives : Gives Input) (fails : Fail
   pub learnt : IsPrefix begun.known known
   pub ticked : IsTicked s.offers s.took s.refuses begun.known known begun.events events
   pub talked : HasTalked gives fails takes unwritable s interfaces
-      (record begun { known = known; events = events; seat = seat }) old parting now new
+      (record begun { known = known; events = events; seat = seat }) old console_end now new
 
 -- ---- how it ended
 
-abbrev pub was_deaf : Parting → Bool
-was_deaf Deaf = true
-was_deaf Done = false
-was_deaf Mute = false
+abbrev pub is_input_failed : ConsoleEnd → Bool
+is_input_failed InputFailed = true
+is_input_failed Done = false
+is_input_failed OutputFailed = false
 
-abbrev pub was_mute : Parting → Bool
-was_mute Mute = true
-was_mute Done = false
-was_mute Deaf = false
+abbrev pub is_output_failed : ConsoleEnd → Bool
+is_output_failed OutputFailed = true
+is_output_failed Done = false
+is_output_failed InputFailed = false
 
-abbrev pub is_deaf : Parted → Bool
-is_deaf parted = was_deaf parted.parting
+abbrev pub has_input_failed : EndedConsole → Bool
+has_input_failed ended_console = is_input_failed ended_console.console_end
 
-abbrev pub is_mute : Parted → Bool
-is_mute parted = was_mute parted.parting
+abbrev pub has_output_failed : EndedConsole → Bool
+has_output_failed ended_console = is_output_failed ended_console.console_end

@@ -3,13 +3,13 @@ ghost use Rattle.std.specs.Prelude.{◌≡◌, ◌+◌, true, All, length, map, 
 ghost use Rattle.transports.specs.Descending.{CountDownTo};
 ghost use Rattle.maps.specs.Words.{IsOf};
 ghost use Rattle.worker.specs.Opening.{IsSetUpFor};
-ghost use Rattle.daemon.specs.Talks.{is_mute};
+ghost use Rattle.daemon.specs.Talks.{has_output_failed};
 ghost use Rattle.daemon.specs.Texts.{HasFailed};
 
-use crate::labor::{Worked, Workers, work};
+use crate::labor::{EndedWorker, Workers, work};
 use crate::lines::ReadsBytes;
 use crate::pairs::next_pair;
-use crate::talk::{Console, Parted, talk};
+use crate::talk::{Console, EndedConsole, talk};
 use crate::texts::WritesTexts;
 use log::Log;
 use operator::Desk;
@@ -30,7 +30,7 @@ use worker::{
 ///
 /// Returns the closed book, which took just as many events as all shares count; the shared words
 /// with all their seats, as [`Shared::close`](maps::Shared::close) requires them; how each
-/// transport ended; and the conversation, which is mute only if the output couldn't be written.
+/// transport ended; and how the console ended, by its output only if that couldn't be written.
 ///
 /// # Errors
 /// `AllocError` if an allocation is refused, or if a thread couldn't be started.
@@ -50,7 +50,7 @@ pub fn side_by_side<
     transports: Vec<Sockets<'_>>,
     desk: &mut Desk<L, Q, Sockets<'_>, SystemSeconds<'_, S>>,
     console: &mut Console<'_, S, I, O>,
-) -> Result<(Closed<L>, Vec<Worked>, Parted), AllocError>
+) -> Result<(Closed<L>, Vec<EndedWorker>, EndedConsole), AllocError>
     requires setup { IsSetUpFor L.name L.parts L.words L.history setup }
     requires origin { core ≡ L.origin }
     requires transports { vec_len setup.seats ≡ vec_len transports + 1 }
@@ -60,13 +60,13 @@ pub fn side_by_side<
     ensures seats { IfOk result (λ r.
         (length r.0.seats.items ≡ r.0.shared.seats) × All (IsOf r.0.shared) r.0.seats.items) }
     ensures ends { IfOk result (λ r. vec_len r.1 + 1 ≡ vec_len setup.seats) }
-    ensures mute { IfOk result (λ r. is_mute r.2 ≡ true → HasFailed O.fails) }
+    ensures output { IfOk result (λ r. has_output_failed r.2 ≡ true → HasFailed O.fails) }
 {
     let (hub, ports, rest) = open_hub::<L>(alloc, setup, core)?;
     match in_scope(rt, &hub, ports, workers, transports, desk, console) {
-        Ok((back, ends, parted)) => {
+        Ok((back, ends, ended_console)) => {
             let closed = close_hub(alloc, hub, rest, Ok(back))?;
-            Ok((closed, ends, parted))
+            Ok((closed, ends, ended_console))
         }
         Err(error) => {
             let _none = close_hub(alloc, hub, rest, Err(error));
@@ -91,24 +91,25 @@ fn in_scope<
     transports: Vec<Sockets<'_>>,
     desk: &mut Desk<L, Q, Sockets<'_>, SystemSeconds<'_, S>>,
     console: &mut Console<'_, S, I, O>,
-) -> Result<(Vec<Port<L>>, Vec<Worked>, Parted), AllocError>
+) -> Result<(Vec<Port<L>>, Vec<EndedWorker>, EndedConsole), AllocError>
     requires transports { vec_len ports ≡ vec_len transports + 1 }
     requires numbers { CountDownTo 0 (map (λ p. p.number) ports.items) }
     requires interfaces { CountDownTo 1 (map (λ l. l.own) transports.items) }
     ensures ports { IfOk result (λ back. vec_len back.0 ≡ vec_len ports) }
     ensures ends { IfOk result (λ back. vec_len back.1 + 1 ≡ vec_len ports) }
-    ensures mute { IfOk result (λ back. is_mute back.2 ≡ true → HasFailed O.fails) }
+    ensures output { IfOk result (λ back. has_output_failed back.2 ≡ true → HasFailed O.fails) }
 {
     thread::scope(
         thread::scope_env(),
         rt,
-        |scope| -> Result<(Vec<Port<L>>, Vec<Worked>, Parted), AllocError>
+        |scope| -> Result<(Vec<Port<L>>, Vec<EndedWorker>, EndedConsole), AllocError>
             requires transports { vec_len ports ≡ vec_len transports + 1 }
             requires numbers { CountDownTo 0 (map (λ p. p.number) ports.items) }
             requires interfaces { CountDownTo 1 (map (λ l. l.own) transports.items) }
             ensures ports { IfOk result (λ back. vec_len back.0 ≡ vec_len ports) }
             ensures ends { IfOk result (λ back. vec_len back.1 + 1 ≡ vec_len ports) }
-            ensures mute { IfOk result (λ back. is_mute back.2 ≡ true → HasFailed O.fails) }
+            ensures output { IfOk result (λ back. has_output_failed back.2 ≡ true → HasFailed
+                O.fails) }
         { crew(scope, rt, hub, workers, transports, desk, console, ports) },
     )
 }
@@ -132,13 +133,13 @@ fn crew<
     desk: &mut Desk<L, Q, Sockets<'_>, SystemSeconds<'_, S>>,
     console: &mut Console<'_, S, I, O>,
     ports: Vec<Port<L>>,
-) -> Result<(Vec<Port<L>>, Vec<Worked>, Parted), AllocError>
+) -> Result<(Vec<Port<L>>, Vec<EndedWorker>, EndedConsole), AllocError>
     requires transports { vec_len ports ≡ vec_len transports + 1 }
     requires numbers { CountDownTo 0 (map (λ p. p.number) ports.items) }
     requires interfaces { CountDownTo 1 (map (λ l. l.own) transports.items) }
     ensures ports { IfOk result (λ back. vec_len back.0 ≡ vec_len ports) }
     ensures ends { IfOk result (λ back. vec_len back.1 + 1 ≡ vec_len ports) }
-    ensures mute { IfOk result (λ back. is_mute back.2 ≡ true → HasFailed O.fails) }
+    ensures output { IfOk result (λ back. has_output_failed back.2 ≡ true → HasFailed O.fails) }
 {
     let mut ports = ports;
     let back = Vec::with_capacity(workers.alloc, ports.len())?;
@@ -147,10 +148,10 @@ fn crew<
         unreachable!()
     };
     let running = start_workers(scope, hub, workers, transports, ports)?;
-    let (first, parted) = talk(hub, first, desk, console);
+    let (first, ended_console) = talk(hub, first, desk, console);
     workers.quit.store(true, Ordering::SeqCst);
     let (back, ends) = join_workers(rt, running, first, back, ends)?;
-    Ok((back, ends, parted))
+    Ok((back, ends, ended_console))
 }
 
 // A thread for each port, each with the transport that receives at the interface of its number. If
@@ -161,7 +162,7 @@ fn start_workers<'s, E, L: Site + Send + Sync, R: Threads + Wait + Clock + Log +
     workers: &'s Workers<'_, R>,
     transports: Vec<Sockets<'s>>,
     ports: Vec<Port<L>>,
-) -> Result<Vec<JoinHandle<(Port<L>, Worked)>>, AllocError>
+) -> Result<Vec<JoinHandle<(Port<L>, EndedWorker)>>, AllocError>
     requires { map (λ p. p.number) ports.items ≡ map (λ l. l.own) transports.items }
     ensures { IfOk result (λ running. vec_len running ≡ vec_len ports) }
 {
@@ -170,7 +171,7 @@ fn start_workers<'s, E, L: Site + Send + Sync, R: Threads + Wait + Clock + Log +
     let (clock, memory) = (workers.rt, workers.alloc);
     let quit = &workers.quit;
     while let Some((port, transport)) = next_pair(&mut ports, &mut transports) {
-        let life = move || -> (Port<L>, Worked)
+        let life = move || -> (Port<L>, EndedWorker)
             requires { port.number ≡ transport.own }
         {
             work(
@@ -198,11 +199,11 @@ fn start_workers<'s, E, L: Site + Send + Sync, R: Threads + Wait + Clock + Log +
 // All ports, once the threads that have them are done, and how the threads' transports ended.
 fn join_workers<L: Site, R: Threads>(
     rt: &R,
-    running: Vec<JoinHandle<(Port<L>, Worked)>>,
+    running: Vec<JoinHandle<(Port<L>, EndedWorker)>>,
     first: Port<L>,
     back: Vec<Port<L>>,
-    ends: Vec<Worked>,
-) -> Result<(Vec<Port<L>>, Vec<Worked>), AllocError>
+    ends: Vec<EndedWorker>,
+) -> Result<(Vec<Port<L>>, Vec<EndedWorker>), AllocError>
     requires none { vec_len back ≡ 0 }
     requires unended { vec_len ends ≡ 0 }
     ensures ports { IfOk result (λ back. vec_len back.0 ≡ vec_len running + 1) }

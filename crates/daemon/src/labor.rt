@@ -26,11 +26,11 @@ pub struct Workers<'a, R> {
 /// Evidence that a worker ran to its end, with how its transport ended. Only [`work`] makes one, so
 /// whoever has it has run a worker.
 #[derive(Drop)]
-pub struct Worked {
+pub struct EndedWorker {
     end: TransportEnd,
 }
 
-impl Worked {
+impl EndedWorker {
     /// Whether its transport failed.
     pub fn has_failed(&self) -> bool
         ensures { result ≡ has_failed self.now.end }
@@ -60,7 +60,7 @@ pub fn work<
     quit: F,
     hub: &Hub<L, Book<L>>,
     port: Port<L>,
-) -> (Port<L>, Worked)
+) -> (Port<L>, EndedWorker)
     requires { port.number ≡ transport.own }
     ensures number { result.0.number ≡ port.number }
     ensures lived { has_failed result.1.end ≡ false → HasServed
@@ -89,5 +89,5 @@ pub fn work<
         let number = port.number();
         warn!(rt; "worker {number} stopped");
     }
-    (port, Worked { end })
+    (port, EndedWorker { end })
 }

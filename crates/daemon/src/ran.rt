@@ -2,8 +2,8 @@
 ghost use Rattle.std.specs.Prelude.{◌≡◌};
 ghost use Rattle.daemon.specs.Statuses.{any_failed, status_of_ran};
 
-use crate::labor::Worked;
-use crate::talk::Parted;
+use crate::labor::EndedWorker;
+use crate::talk::EndedConsole;
 use crate::totals::Printed;
 use std::snapshot::Snapshot;
 use worker::{Core, TransportEnd};
@@ -14,17 +14,17 @@ use worker::{Core, TransportEnd};
 #[derive(Drop)]
 pub struct Ran {
     pub(crate) origin: Snapshot<Core>,
-    pub(crate) workers: Vec<Worked>,
+    pub(crate) workers: Vec<EndedWorker>,
     pub(crate) console: TransportEnd,
-    pub(crate) parted: Parted,
+    pub(crate) ended_console: EndedConsole,
     pub(crate) printed: Printed,
 }
 
 // Whether the transport of some worker failed.
-fn is_any_failed(workers: &[Worked]) -> bool
+fn is_any_failed(workers: &[EndedWorker]) -> bool
     ensures { result ≡ any_failed workers.now }
 {
-    workers.iter().any(|worked| worked.has_failed())
+    workers.iter().any(|worker| worker.has_failed())
 }
 
 impl Ran {
@@ -33,7 +33,10 @@ impl Ran {
     pub fn status(&self) -> u8
         ensures { result ≡ status_of_ran self.now }
     {
-        if is_any_failed(&self.workers) || self.console.has_failed() || self.parted.is_deaf() {
+        if is_any_failed(&self.workers)
+            || self.console.has_failed()
+            || self.ended_console.has_input_failed()
+        {
             3
         } else {
             0

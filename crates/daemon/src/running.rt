@@ -10,15 +10,15 @@ ghost use Rattle.worker.specs.Opening.{IsSetUpFor};
 ghost use Rattle.daemon.specs.Refusals.{IsLaterWhy, IsWhy};
 ghost use Rattle.daemon.specs.Statuses.{EndsSo, HasRan, HasRanFor, HasRanOver, IsConfigOf};
 ghost use Rattle.daemon.specs.Statuses.{status_of, status_of_ran};
-ghost use Rattle.daemon.specs.Talks.{is_mute};
+ghost use Rattle.daemon.specs.Talks.{has_output_failed};
 ghost use Rattle.daemon.specs.Texts.{HasFailed};
 
 use crate::crew::side_by_side;
 use crate::error::RouteError;
-use crate::labor::{Worked, Workers};
+use crate::labor::{EndedWorker, Workers};
 use crate::lines::ReadsBytes;
 use crate::ran::Ran;
-use crate::talk::{Console, Parted};
+use crate::talk::{Console, EndedConsole};
 use crate::texts::WritesTexts;
 use crate::totals::{Printed, print_totals};
 use console::{Config, Configured, ConfiguredInterface, Interface, read_configuration};
@@ -102,18 +102,18 @@ fn run_crew<
     transports: Vec<Sockets<'_>>,
     desk: &mut Desk<L, Q, Sockets<'_>, SystemSeconds<'_, R>>,
     console: &mut Console<'_, R, I, O>,
-) -> Result<(Vec<Worked>, Parted, Printed), RouteError>
+) -> Result<(Vec<EndedWorker>, EndedConsole, Printed), RouteError>
     requires setup { IsSetUpFor L.name L.parts L.words L.history setup }
     requires origin { core ≡ L.origin }
     requires transports { vec_len setup.seats ≡ vec_len transports + 1 }
     requires interfaces { CountDownTo 1 (map (λ l. l.own) transports.items) }
     requires told { desk.old.interfaces ≡ vec_len transports }
     ensures ends { IfOk result (λ r. vec_len r.0 + 1 ≡ vec_len setup.seats) }
-    ensures heard { IfOk result (λ r. is_mute r.1 ≡ false) }
+    ensures heard { IfOk result (λ r. has_output_failed r.1 ≡ false) }
     ensures refused { IfErr result (IsLaterWhy (HasFailed O.fails)) }
 {
     let alloc = workers.alloc;
-    let (closed, ends, parted) = side_by_side(
+    let (closed, ends, ended_console) = side_by_side(
         rt, alloc, setup, core, workers, transports, desk, console,
     )?;
     let Closed {
@@ -122,25 +122,25 @@ fn run_crew<
         shared,
         seats,
     } = closed;
-    if parted.is_mute() {
+    if ended_console.has_output_failed() {
         return Err(RouteError::Output);
     }
     let printed = print_totals(alloc, shared, seats, console.output)?;
-    Ok((ends, parted, printed))
+    Ok((ends, ended_console, printed))
 }
 
 // Says how a router ran, and closes what the operator worked with.
 fn ran<L: Site, Q: Wait + Drop, C: Seconds + Drop>(
     origin: Snapshot<Core>,
-    workers: Vec<Worked>,
+    workers: Vec<EndedWorker>,
     desk: Desk<L, Q, Sockets<'_>, C>,
-    parted: Parted,
+    ended_console: EndedConsole,
     printed: Printed,
 ) -> Ran
     ensures origin { result.origin.value ≡ origin.value }
     ensures workers { result.workers ≡ workers }
     ensures many { vec_len result.workers ≡ vec_len workers }
-    ensures parted { result.parted ≡ parted }
+    ensures ended_console { result.ended_console ≡ ended_console }
     ensures console { has_failed result.console ≡ nat_lt 0 desk.entry.outlet.transport.faults }
 {
     let Desk {
@@ -160,7 +160,7 @@ fn ran<L: Site, Q: Wait + Drop, C: Seconds + Drop>(
         origin,
         workers,
         console: transport.end(),
-        parted,
+        ended_console,
         printed,
     }
 }
@@ -217,7 +217,7 @@ fn run_all<
     };
     let mut console = Console { rt, input, output };
     let origin = Snapshot::of(&core);
-    let (ends, parted, printed) = run_crew(
+    let (ends, ended_console, printed) = run_crew(
         rt,
         setup,
         core,
@@ -226,7 +226,7 @@ fn run_all<
         &mut desk,
         &mut console,
     )?;
-    Ok(ran(origin, ends, desk, parted, printed))
+    Ok(ran(origin, ends, desk, ended_console, printed))
 }
 
 /// Runs this router over these transports, one for each interface and that of the first one last,

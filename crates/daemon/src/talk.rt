@@ -12,8 +12,8 @@ ghost use Rattle.daemon.specs.Talks.{
   IsOver,
   IsReplied,
   IsTicked,
-  is_deaf,
-  is_mute,
+  has_input_failed,
+  has_output_failed,
   place,
   reply_of,
 };
@@ -37,35 +37,35 @@ pub struct Console<'a, S, I, O> {
 
 /// How a conversation ends.
 #[derive(Clone, Copy)]
-pub enum Parting {
+pub enum ConsoleEnd {
     /// By `quit`, or at the end of the input.
     Done,
     /// The input can't be read.
-    Deaf,
+    InputFailed,
     /// The output can't be written.
-    Mute,
+    OutputFailed,
 }
 
 /// Evidence that the console's conversation ended, with how it did. Only [`talk`] makes one, so
 /// whoever has it has run the console.
 #[derive(Clone, Copy)]
-pub struct Parted {
-    parting: Parting,
+pub struct EndedConsole {
+    console_end: ConsoleEnd,
 }
 
-impl Parted {
+impl EndedConsole {
     /// The input couldn't be read.
-    pub fn is_deaf(&self) -> bool
-        ensures { result ≡ is_deaf self.now }
+    pub fn has_input_failed(&self) -> bool
+        ensures { result ≡ has_input_failed self.now }
     {
-        matches!(self.parting, Parting::Deaf)
+        matches!(self.console_end, ConsoleEnd::InputFailed)
     }
 
     /// The output couldn't be written.
-    pub fn is_mute(&self) -> bool
-        ensures { result ≡ is_mute self.now }
+    pub fn has_output_failed(&self) -> bool
+        ensures { result ≡ has_output_failed self.now }
     {
-        matches!(self.parting, Parting::Mute)
+        matches!(self.console_end, ConsoleEnd::OutputFailed)
     }
 }
 
@@ -88,12 +88,12 @@ fn tick<L: Site, B: Taker<L>, R: Wait, K: Transport + Drop, C: Seconds + Drop>(
 }
 
 // The console is done if a line has no answer.
-fn reply_of(answer: Option<Reply>) -> Result<Reply, Parting>
+fn reply_of(answer: Option<Reply>) -> Result<Reply, ConsoleEnd>
     ensures { result ≡ reply_of answer }
 {
     match answer {
         Some(reply) => Ok(reply),
-        None => Err(Parting::Done),
+        None => Err(ConsoleEnd::Done),
     }
 }
 
@@ -113,7 +113,7 @@ fn answer_next<
     port: &mut Port<L>,
     desk: &mut Desk<L, Q, K, C>,
     console: &mut Console<'_, S, I, O>,
-) -> Result<Reply, Parting>
+) -> Result<Reply, ConsoleEnd>
     ensures replied { IsReplied I.gives I.fails
         (sources B.offers B.took B.refuses B.wanted (IsListed B.own B.neighbor_at)
         IsAnyFile IsAnyPath) desk.old.interfaces
@@ -127,8 +127,8 @@ fn answer_next<
     match next_line(console.rt, desk.alloc, console.input) {
         Given::Line(line) => reply_of(desk.obey(console.rt, hub, port, line.as_str())),
         Given::Memory => Ok(Reply::Memory),
-        Given::End => Err(Parting::Done),
-        Given::Failed => Err(Parting::Deaf),
+        Given::End => Err(ConsoleEnd::Done),
+        Given::Failed => Err(ConsoleEnd::InputFailed),
     }
 }
 
@@ -148,7 +148,7 @@ fn obey_next<
     port: &mut Port<L>,
     desk: &mut Desk<L, Q, K, C>,
     console: &mut Console<'_, S, I, O>,
-) -> Result<(), Parting>
+) -> Result<(), ConsoleEnd>
     ensures answered { OnOk result ((answer : Answer) × IsReplied I.gives I.fails
         (sources B.offers B.took B.refuses B.wanted (IsListed B.own B.neighbor_at)
         IsAnyFile IsAnyPath) desk.old.interfaces
@@ -157,12 +157,12 @@ fn obey_next<
         (place console.new.input.now (operations_of desk.new.loader) (known_to port.new.asker)
         desk.new.unrefreshed port.new.share.amount port.new.seat)
         × O.takes console.old.output.now (reply_text answer) console.new.output.now) }
-    ensures over { IfErr result (λ parting. IsOver I.gives I.fails O.fails
+    ensures over { IfErr result (λ console_end. IsOver I.gives I.fails O.fails
         (sources B.offers B.took B.refuses B.wanted (IsListed B.own B.neighbor_at)
         IsAnyFile IsAnyPath) desk.old.interfaces
         (place console.old.input.now (operations_of desk.old.loader) (known_to port.old.asker)
         desk.old.unrefreshed port.old.share.amount port.old.seat)
-        console.old.output.now parting
+        console.old.output.now console_end
         (place console.new.input.now (operations_of desk.new.loader) (known_to port.new.asker)
         desk.new.unrefreshed port.new.share.amount port.new.seat)
         console.new.output.now) }
@@ -171,9 +171,9 @@ fn obey_next<
     match answer_next(hub, port, desk, console) {
         Ok(reply) => match console.output.write_text(&reply) {
             Ok(()) => Ok(()),
-            Err(_) => Err(Parting::Mute),
+            Err(_) => Err(ConsoleEnd::OutputFailed),
         },
-        Err(parting) => Err(parting),
+        Err(console_end) => Err(console_end),
     }
 }
 
@@ -193,7 +193,7 @@ fn answer_all<
     port: &mut Port<L>,
     desk: &mut Desk<L, Q, K, C>,
     console: &mut Console<'_, S, I, O>,
-) -> Parting
+) -> ConsoleEnd
     ensures { HasTalked I.gives I.fails O.takes O.fails
         (sources B.offers B.took B.refuses B.wanted (IsListed B.own B.neighbor_at)
         IsAnyFile IsAnyPath) desk.old.interfaces
@@ -208,7 +208,7 @@ fn answer_all<
     for _ in rt.forever() {
         match obey_next(hub, port, desk, console) {
             Ok(()) => {}
-            Err(parting) => return parting,
+            Err(console_end) => return console_end,
         }
     }
     unreachable!()
@@ -229,20 +229,20 @@ pub fn talk<
     port: Port<L>,
     desk: &mut Desk<L, Q, K, C>,
     console: &mut Console<'_, S, I, O>,
-) -> (Port<L>, Parted)
+) -> (Port<L>, EndedConsole)
     ensures conversed { Converses I.gives I.fails O.takes O.fails
         (sources B.offers B.took B.refuses B.wanted (IsListed B.own B.neighbor_at)
         IsAnyFile IsAnyPath) desk.old.interfaces
         (place console.old.input.now (operations_of desk.old.loader) (known_to port.asker)
         desk.old.unrefreshed port.share.amount port.seat)
-        console.old.output.now result.1.parting
+        console.old.output.now result.1.console_end
         (place console.new.input.now (operations_of desk.new.loader) (known_to result.0.asker)
         desk.new.unrefreshed result.0.share.amount result.0.seat)
         console.new.output.now }
-    ensures mute { is_mute result.1 ≡ true → HasFailed O.fails }
+    ensures output { has_output_failed result.1 ≡ true → HasFailed O.fails }
 {
     let mut port = port;
     tick(console.rt, hub, &mut port, &mut desk.outlet);
-    let parting = answer_all(hub, &mut port, desk, console);
-    (port, Parted { parting })
+    let console_end = answer_all(hub, &mut port, desk, console);
+    (port, EndedConsole { console_end })
 }

@@ -1,5 +1,5 @@
 use Rattle.hooks.specs.Known.{known_to}
-use Rattle.daemon.proofs.Talked.{talked_mute}
+use Rattle.daemon.proofs.Talked.{talked_output}
 use Rattle.daemon.proofs.talk.talk.Goals as goal
 
 pub returns-clause-conversed : goal.returns-clause-conversed
@@ -9,8 +9,9 @@ returns-clause-conversed g c = record {
   seat = c.tick.new.port.seat;
   learnt = c.tick.ensures.known;
   ticked = c.tick.ensures.ticked;
-  talked = c.answer_all-parting.ensures;
+  talked = c.answer_all-console_end.ensures;
 }
 
-pub returns-clause-mute : goal.returns-clause-mute
-returns-clause-mute g c is = talked_mute _ _ _ _ _ _ _ _ _ _ _ c.answer_all-parting.ensures is
+pub returns-clause-output : goal.returns-clause-output
+returns-clause-output g c is = talked_output _ _ _ _ _ _ _ _ _ _ _ c.answer_all-console_end.ensures
+    is
