@@ -16,13 +16,13 @@ pub enum RouteError {
     /// The first line of the configuration that is wrong or missing.
     #[error("config refusal line {0}")]
     Configuration(u64),
-    /// The UDP port of 127.0.0.1 can't be had.
+    /// The UDP port of 127.0.0.1 can't be bound.
     #[error("cannot bind {0}")]
     Bind(u16),
     /// A socket can't be waited at.
     #[error("cannot wait at the sockets")]
     Socket,
-    /// There were no places for those who ask the programs: the number of the refusal.
+    /// There were no places for those who ask the programs: the number of `hooks::HookError`.
     #[error("hook refusal {0}")]
     Hooks(u8),
     /// The output can't be written.

@@ -316,12 +316,11 @@ fn run_over<
 
 /// Runs the router that a configuration's text says, with a console that reads commands from
 /// `input` and answers on `output`, until `quit` or the end of input. Every thread is joined before
-/// it answers, and tells how its transport ended; each worker whose transport failed is told by a
-/// warning
-/// `worker N stopped`.
+/// it answers, and tells how its transport ended; for each worker whose transport failed the
+/// warning `worker N stopped` is logged.
 ///
 /// # Errors
-/// `Configuration` if the text says none, `Bind` if a port can't be had, `Socket` if the sockets
+/// `Configuration` if the text says none, `Bind` if a port can't be bound, `Socket` if the sockets
 /// can't be waited at, `Hooks` if the programs have no places, tried in this order; `Output` if the
 /// output can't be written, `Memory` if memory was refused or a thread couldn't be started.
 #[tactic(auto, using(crate::proofs::Ended::text_why, crate::proofs::Ended::socket_why, crate::proofs::Ended::later_why))]

@@ -49,7 +49,7 @@ impl<'a, R: Files + AllocGlobal> ReadsFiles for SystemFiles<'a, R> {
 /// Why no program is attached.
 #[derive(Clone, Copy)]
 pub enum AttachError {
-    /// The file can't be opened or read, or is longer than 16 MiB.
+    /// The file can't be opened or read, isn't a regular file, or is longer than 16 MiB.
     Read,
     /// It is no object file: the number of the refusal.
     Object(u8),
