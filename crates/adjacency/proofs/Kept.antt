@@ -279,8 +279,8 @@ module _ {Begins : ByKey ListEntry → Type 0} {Adds : Key → ListEntry → Typ
       → (n : Neighbor) → Of Q n → Of Q (process own moment db d n).neighbor
   judge_kept own moment db d begun n h = judged_in moment db d begun n.state own n h
 
-  pub hello_kept : (moment from : ℕ) (names : Bool) (o : Option Neighbor)
-      → Of Q (with_hello_heard from moment o) → Of Q (after_hello moment from names o).neighbor
+  pub hello_kept : (moment from : ℕ) (lists_us : Bool) (o : Option Neighbor)
+      → Of Q (with_hello_heard from moment o) → Of Q (after_hello moment from lists_us o).neighbor
   hello_kept moment from true o h = named_kept moment (with_hello_heard from moment o) h
   hello_kept moment from false o h = kept.begins
 

@@ -24,7 +24,7 @@ use Rattle.adjacency.specs.Retransmissions.{add_retransmission, remove_retransmi
 use Rattle.adjacency.specs.Floods.{meets, request_of, without_met_request}
 use Rattle.packet.specs.declared.model.Description.{Description}
 use Rattle.adjacency.specs.declared.standing.Standing.{Standing}
-use Rattle.adjacency.specs.Views.{begins, begun, fresh_standing, keys_of, neighbor_of}
+use Rattle.adjacency.specs.Views.{restarted, restarts, fresh_standing, keys_of, neighbor_of}
 use Rattle.adjacency.specs.Views.{started_standing}
 
 pub contains_key_of : {X : Type 0} (m : ByKey X) (q : Key)
@@ -161,25 +161,26 @@ kept_is a b i = record { present = a i; committed = b i }
 
 -- ---- a Hello
 
-pub begun_named : (moment router : ℕ) (start : Option ℕ) (names : Bool) → names ≡ true
-    → enter_exstart moment (fresh router start moment) ≡ begun moment router start names
-unfolding begun
-begun_named moment router start names is =
+pub restarted_if_listed : (moment router : ℕ) (start : Option ℕ) (lists_us : Bool) → lists_us ≡ true
+    → enter_exstart moment (fresh router start moment) ≡ restarted moment router start lists_us
+unfolding restarted
+restarted_if_listed moment router start lists_us is =
     ap (λ b. after_hello moment router b (Some (fresh router start moment))) (sym is)
 
-pub begun_unnamed : (moment router : ℕ) (start : Option ℕ) (names : Bool) → names ≡ false
-    → no_sends (fresh router start moment) ≡ begun moment router start names
-unfolding begun
-begun_unnamed moment router start names is =
+pub restarted_if_not_listed : (moment router : ℕ) (start : Option ℕ) (lists_us : Bool)
+    → lists_us ≡ false → no_sends (fresh router start moment)
+    ≡ restarted moment router start lists_us
+unfolding restarted
+restarted_if_not_listed moment router start lists_us is =
     ap (λ b. after_hello moment router b (Some (fresh router start moment))) (sym is)
 
-pub none_begins : (moment router : ℕ) (names : Bool)
-    → begun moment router None names ≡ after_hello moment router names None
-unfolding begun
-none_begins moment router true = refl
-none_begins moment router false = refl
+pub none_restarts : (moment router : ℕ) (lists_us : Bool)
+    → restarted moment router None lists_us ≡ after_hello moment router lists_us None
+unfolding restarted
+none_restarts moment router true = refl
+none_restarts moment router false = refl
 
-starts_in : (moment : ℕ) (n : Neighbor) (state : NeighborState) → begins state true ≡ true
+starts_in : (moment : ℕ) (n : Neighbor) (state : NeighborState) → restarts state true ≡ true
     → enter_exstart moment (fresh n.router n.dd_sequence_start moment)
     ≡ two_way_received_in state moment (record n { last_heard = moment })
 starts_in moment n Init is = refl
@@ -188,13 +189,15 @@ starts_in moment n Exchange is = absurd (false≢true is)
 starts_in moment n Loading is = absurd (false≢true is)
 starts_in moment n Full is = absurd (false≢true is)
 
-pub some_begins : (moment from : ℕ) (n : Neighbor) (names : Bool) → begins n.state names ≡ true
-    → begun moment n.router n.dd_sequence_start names ≡ after_hello moment from names (Some n)
-unfolding begun
-some_begins moment from n true is = starts_in moment n n.state is
-some_begins moment from n false is = refl
+pub some_restarts : (moment from : ℕ) (n : Neighbor) (lists_us : Bool)
+    → restarts n.state lists_us ≡ true
+    → restarted moment n.router n.dd_sequence_start lists_us
+    ≡ after_hello moment from lists_us (Some n)
+unfolding restarted
+some_restarts moment from n true is = starts_in moment n n.state is
+some_restarts moment from n false is = refl
 
-rests_in : (moment : ℕ) (n : Neighbor) (state : NeighborState) → begins state true ≡ false
+rests_in : (moment : ℕ) (n : Neighbor) (state : NeighborState) → restarts state true ≡ false
     → two_way_received_in state moment n ≡ no_sends n
 rests_in moment n Init is = absurd (false≢true (sym is))
 rests_in moment n ExStart is = refl
@@ -202,15 +205,16 @@ rests_in moment n Exchange is = refl
 rests_in moment n Loading is = refl
 rests_in moment n Full is = refl
 
-goes_on : (state : NeighborState) → begins state false ≡ true
+goes_on : (state : NeighborState) → restarts state false ≡ true
 goes_on Init = refl
 goes_on ExStart = refl
 goes_on Exchange = refl
 goes_on Loading = refl
 goes_on Full = refl
 
-pub some_rests : (moment from : ℕ) (n : Neighbor) (names : Bool) → begins n.state names ≡ false
-    → no_sends (record n { last_heard = moment }) ≡ after_hello moment from names (Some n)
+pub some_rests : (moment from : ℕ) (n : Neighbor) (lists_us : Bool)
+    → restarts n.state lists_us ≡ false
+    → no_sends (record n { last_heard = moment }) ≡ after_hello moment from lists_us (Some n)
 some_rests moment from n true is = sym (rests_in moment (record n {
   last_heard = moment;
 }) n.state is)

@@ -232,8 +232,8 @@ heard_roomy from moment (Some n) h = roomy (record n {
   last_heard = moment;
 }) h.described h.outstanding
 
-pub hello_roomy : (moment from : ℕ) (names : Bool) (o : Option Neighbor) → HasRoomyListsIfAny o
-    → IsRoomyStep (after_hello moment from names o)
+pub hello_roomy : (moment from : ℕ) (lists_us : Bool) (o : Option Neighbor) → HasRoomyListsIfAny o
+    → IsRoomyStep (after_hello moment from lists_us o)
 hello_roomy moment from true o h =
     named_roomy moment (with_hello_heard from moment o) (heard_roomy from moment o h)
 hello_roomy moment from false o h =

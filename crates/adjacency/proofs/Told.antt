@@ -123,8 +123,8 @@ module _ (t : Telling) where
   heard_told from moment None h = none_in (OfListed t)
   heard_told from moment (Some n) h = h
 
-  pub hello_told : (moment from : ℕ) (names : Bool) (o : Option Neighbor) → OfOwedIfAny t o
-      → OfStep t (after_hello moment from names o)
+  pub hello_told : (moment from : ℕ) (lists_us : Bool) (o : Option Neighbor) → OfOwedIfAny t o
+      → OfStep t (after_hello moment from lists_us o)
   hello_told moment from true o h =
       named_told moment (with_hello_heard from moment o) (heard_told from moment o h)
   hello_told moment from false o h =

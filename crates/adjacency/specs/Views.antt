@@ -87,16 +87,16 @@ started_standing moment router number last_heard = record {
   retransmitted_at = 0;
 }
 
--- the step of a neighbor in Init for a Hello
-unfoldable pub begun : ℕ → ℕ → Option ℕ → Bool → Step
-begun moment router dd_sequence_start names =
-    after_hello moment router names (Some (fresh router dd_sequence_start moment))
+-- the step of a neighbor that starts over at a Hello, by whether that lists this router
+unfoldable pub restarted : ℕ → ℕ → Option ℕ → Bool → Step
+restarted moment router dd_sequence_start lists_us =
+    after_hello moment router lists_us (Some (fresh router dd_sequence_start moment))
 
 -- the neighbor starts over at a Hello: always in Init, and otherwise if the Hello doesn't list this
 -- router
-abbrev pub begins : NeighborState → Bool → Bool
-begins Init names = true
-begins ExStart names = not names
-begins Exchange names = not names
-begins Loading names = not names
-begins Full names = not names
+abbrev pub restarts : NeighborState → Bool → Bool
+restarts Init lists_us = true
+restarts ExStart lists_us = not lists_us
+restarts Exchange lists_us = not lists_us
+restarts Loading lists_us = not lists_us
+restarts Full lists_us = not lists_us

@@ -92,15 +92,20 @@ impl Standing {
     }
 
     /// A neighbor in ExStart, with the sequence number of a new attempt.
-    pub fn started(moment: Second, router: RouterId, number: u32, last_heard: Second) -> Standing
-        ensures { result ≡ started_standing moment router number last_heard }
+    pub fn started(
+        moment: Second,
+        router: RouterId,
+        dd_sequence: u32,
+        last_heard: Second,
+    ) -> Standing
+        ensures { result ≡ started_standing moment router dd_sequence last_heard }
     {
         Standing {
             router,
             state: NeighborState::ExStart,
             is_master: true,
-            sequence: number,
-            dd_sequence_start: Some(number),
+            sequence: dd_sequence,
+            dd_sequence_start: Some(dd_sequence),
             received: None,
             exchanged: None,
             last_heard,

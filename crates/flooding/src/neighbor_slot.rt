@@ -2,7 +2,7 @@
 ghost use Rattle.std.specs.Prelude.{◌≡◌, IfOk, None, Some};
 ghost use Rattle.adjacency.specs.Adjacencies.{enter_exstart};
 ghost use Rattle.adjacency.specs.Steps.{any_exchange_or_later};
-ghost use Rattle.adjacency.specs.Views.{begun, present_of};
+ghost use Rattle.adjacency.specs.Views.{restarted, present_of};
 ghost use Rattle.neighbors.specs.Doing.{Sends};
 ghost use Rattle.flooding.specs.Doing.{SlotSends};
 
@@ -86,27 +86,27 @@ impl NeighborSlot {
         self.neighbor = neighbor;
     }
 
-    /// Begins anew, whatever the neighbor was: it is in Init or, if its Hello lists this router
-    /// (`names`), in ExStart (RFC 2328, sections 10.3 and 10.5).
+    /// Starts over at a Hello, whatever the neighbor was, Down or Full: it is in ExStart if the
+    /// Hello lists this router (2-WayReceived), else in Init (RFC 2328, sections 10.3 and 10.5).
     ///
     /// # Errors
     /// `AllocError` if an allocation is refused; the caller then rolls back.
-    pub fn begin(
+    pub fn restart(
         &mut self,
         alloc: Global,
         moment: Second,
         router: RouterId,
         dd_sequence_start: Option<u32>,
-        names: bool,
+        lists_us: bool,
         draft: &mut Draft,
     ) -> Result<(), AllocError>
-        ensures { Sends (λ _. Some (begun moment router dd_sequence_start names).neighbor)
-            (λ _. (begun moment router dd_sequence_start names).sends) self.old self.new draft.old
-            draft.new result }
+        ensures { Sends (λ _. Some (restarted moment router dd_sequence_start lists_us).neighbor)
+            (λ _. (restarted moment router dd_sequence_start lists_us).sends) self.old self.new
+            draft.old draft.new result }
     {
-        if names {
-            let number = next_dd_sequence_start(moment, dd_sequence_start);
-            let opened = initial_description(alloc, number);
+        if lists_us {
+            let dd_sequence = next_dd_sequence_start(moment, dd_sequence_start);
+            let opened = initial_description(alloc, dd_sequence);
             draft.add_description(opened)?;
             let neighbor = Neighbor::started(alloc, moment, router, dd_sequence_start, moment);
             self.replace(Some(neighbor));
@@ -133,8 +133,8 @@ impl NeighborSlot {
             return Ok(());
         };
         let standing = neighbor.standing();
-        let number = next_dd_sequence_start(moment, standing.dd_sequence_start);
-        let opened = initial_description(alloc, number);
+        let dd_sequence = next_dd_sequence_start(moment, standing.dd_sequence_start);
+        let opened = initial_description(alloc, dd_sequence);
         draft.add_description(opened)?;
         let started = Neighbor::started(
             alloc,

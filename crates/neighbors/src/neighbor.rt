@@ -199,10 +199,10 @@ impl Neighbor {
         ensures { result.present
             ≡ (enter_exstart moment (fresh router dd_sequence_start last_heard)).neighbor }
     {
-        let number = next_dd_sequence_start(moment, dd_sequence_start);
-        let standing = Standing::started(moment, router, number, last_heard);
-        let before = Standing::started(moment, router, number, last_heard);
-        let opened = initial_description(alloc, number);
+        let dd_sequence = next_dd_sequence_start(moment, dd_sequence_start);
+        let standing = Standing::started(moment, router, dd_sequence, last_heard);
+        let before = Standing::started(moment, router, dd_sequence, last_heard);
+        let opened = initial_description(alloc, dd_sequence);
         let described = Revertible::new(Some(opened));
         let summary = KeyedMap::new(alloc);
         let requests = KeyedMap::new(alloc);

@@ -102,8 +102,8 @@ impl<'a> LinkStep for ReceivingHello<'a> {
     fn apply(&self, alloc: Global, _database: &Lsdb, link: &mut Link) -> Result<(), AllocError> {
         let accepted = accepts(self.own, self.from, self.hello, link);
         if accepted {
-            let named = names(self.own, self.hello);
-            return link.receive_hello(alloc, self.moment, self.from, named);
+            let lists_us = names(self.own, self.hello);
+            return link.receive_hello(alloc, self.moment, self.from, lists_us);
         }
         Ok(())
     }

@@ -2,7 +2,7 @@
 //! and 13.7).
 ghost use Rattle.std.specs.Prelude.{◌≡◌, Some};
 ghost use Rattle.adjacency.specs.Adjacencies.{after_hello};
-ghost use Rattle.adjacency.specs.Views.{begins};
+ghost use Rattle.adjacency.specs.Views.{restarts};
 ghost use Rattle.flooding.specs.Doing.{LinkDoes};
 ghost use Rattle.flooding.specs.Links.{with_neighbor};
 
@@ -16,15 +16,15 @@ use words::{Key, RouterId, Second};
 
 // Whether the neighbor starts over at a Hello, by whether that lists this router: nothing is kept
 // except the number of the last attempt.
-fn begins(state: NeighborState, names: bool) -> bool
-    ensures { result ≡ begins state names }
+fn restarts(state: NeighborState, lists_us: bool) -> bool
+    ensures { result ≡ restarts state lists_us }
 {
     match state {
         NeighborState::Init => true,
-        NeighborState::ExStart => !names,
-        NeighborState::Exchange => !names,
-        NeighborState::Loading => !names,
-        NeighborState::Full => !names,
+        NeighborState::ExStart => !lists_us,
+        NeighborState::Exchange => !lists_us,
+        NeighborState::Loading => !lists_us,
+        NeighborState::Full => !lists_us,
     }
 }
 
@@ -43,27 +43,27 @@ impl Link {
         alloc: Global,
         moment: Second,
         from: RouterId,
-        names: bool,
+        lists_us: bool,
     ) -> Result<(), AllocError>
         ensures { LinkDoes
-            (λ link. with_neighbor (Some (after_hello moment from names link.neighbor).neighbor)
+            (λ link. with_neighbor (Some (after_hello moment from lists_us link.neighbor).neighbor)
             link)
-            (λ link. (after_hello moment from names link.neighbor).sends)
+            (λ link. (after_hello moment from lists_us link.neighbor).sends)
             self.old self.new result }
     {
         let Some(neighbor) = &mut self.slot.neighbor else {
             return self
                 .slot
-                .begin(alloc, moment, from, None, names, &mut self.draft);
+                .restart(alloc, moment, from, None, lists_us, &mut self.draft);
         };
         let standing = neighbor.standing();
-        let begins = begins(standing.state, names);
-        if begins {
+        let restarts = restarts(standing.state, lists_us);
+        if restarts {
             let router = standing.router;
             let start = standing.dd_sequence_start;
             return self
                 .slot
-                .begin(alloc, moment, router, start, names, &mut self.draft);
+                .restart(alloc, moment, router, start, lists_us, &mut self.draft);
         }
         neighbor.restart_inactivity_timer(moment);
         Ok(())

@@ -6,9 +6,9 @@ use Rattle.adjacency.specs.Adjacencies.{after_hello}
 use Rattle.adjacency.specs.Contents.{Step}
 use Rattle.adjacency.specs.Drafts.{drafting}
 use Rattle.adjacency.specs.Neighbors.{Neighbor}
-use Rattle.adjacency.specs.Views.{begins, begun, committed_among}
+use Rattle.adjacency.specs.Views.{restarted, restarts, committed_among}
 use Rattle.adjacency.proofs.Floods.{drafting-none}
-use Rattle.adjacency.proofs.Neighbors.{none_begins, some_begins, some_rests}
+use Rattle.adjacency.proofs.Neighbors.{none_restarts, some_restarts, some_rests}
 use Rattle.flooding.specs.Kept.{KeptLink}
 use Rattle.flooding.proofs.Shown.{place_becomes, shown}
 use Rattle.flooding.proofs.link.Link.receive_hello.Goals as goal
@@ -19,54 +19,55 @@ returns-in_default c =
     let l = old.present in
     let delay = l.interface.delay in
     let none : l.neighbor ≡ None = search rules in
-    let after = after_hello c.args.moment c.args.from c.args.names in
-    let starts = none_begins c.args.moment c.args.from c.args.names ∙ ap after (sym none) in
+    let after = after_hello c.args.moment c.args.from c.args.lists_us in
+    let starts = none_restarts c.args.moment c.args.from c.args.lists_us ∙ ap after (sym none) in
     place_becomes (λ (o : Option Neighbor). Some (after o).neighbor)
-    (λ (o : Option Neighbor). (after o).sends) _ old c.begin.new.self.present
-    c.begin.new.self.committed c.begin.new.draft c.begin.result
+    (λ (o : Option Neighbor). (after o).sends) _ old c.restart.new.self.present
+    c.restart.new.self.committed c.restart.new.draft c.restart.result
     (ap shown c.self-inside.view_is ∙ c.self.view_is)
-    (on_ok c.begin.result (λ is. is ∙ ap (λ (s : Step). Some s.neighbor) starts)
-    c.begin.ensures.ok)
-    (on_ok c.begin.result
+    (on_ok c.restart.result (λ is. is ∙ ap (λ (s : Step). Some s.neighbor) starts)
+    c.restart.ensures.ok)
+    (on_ok c.restart.result
     (λ is. is delay
     ∙ (λ i. drafting delay (starts i).sends
     ((ap (λ v. v.draft) c.self-inside.view_is ∙ ap (λ (k : KeptLink). k.drafted) c.self.view_is)
     i)))
-    c.begin.ensures.draft)
-    (c.begin.ensures.committed ∙ ap (λ v. v.slot.committed) c.self-inside.view_is
+    c.restart.ensures.draft)
+    (c.restart.ensures.committed ∙ ap (λ v. v.slot.committed) c.self-inside.view_is
     ∙ ap (λ (k : KeptLink). k.committed.neighbor) c.self.view_is)
 
-pub returns-then-begins : goal.returns-then-begins
-returns-then-begins c =
+pub returns-then-restarts : goal.returns-then-restarts
+returns-then-restarts c =
     let old = c.args.self.now in
     let l = old.present in
     let delay = l.interface.delay in
     let n = c.in-Some.neighbor.present in
     let some : l.neighbor ≡ Some n = search rules in
-    let after = after_hello c.args.moment c.args.from c.args.names in
+    let after = after_hello c.args.moment c.args.from c.args.lists_us in
     let stands = c.standing-standing.ensures in
-    let starts = some_begins c.args.moment c.args.from n c.args.names
-    (sym (ap (λ s. begins s.state c.args.names) stands) ∙ sym c.begins-begins.ensures
-    ∙ c.if-begins.true) ∙ ap after (sym some) in
+    let starts = some_restarts c.args.moment c.args.from n c.args.lists_us
+    (sym (ap (λ s. restarts s.state c.args.lists_us) stands) ∙ sym c.restarts-restarts.ensures
+    ∙ c.if-restarts.true) ∙ ap after (sym some) in
     place_becomes (λ (o : Option Neighbor). Some (after o).neighbor)
-    (λ (o : Option Neighbor). (after o).sends) _ old c.begin-then-begins.new.self.present
-    c.begin-then-begins.new.self.committed c.begin-then-begins.new.draft c.begin-then-begins.result
+    (λ (o : Option Neighbor). (after o).sends) _ old c.restart-then-restarts.new.self.present
+    c.restart-then-restarts.new.self.committed c.restart-then-restarts.new.draft
+    c.restart-then-restarts.result
     (ap shown c.self-inside.view_is ∙ c.self.view_is)
-    (on_ok c.begin-then-begins.result
+    (on_ok c.restart-then-restarts.result
     (λ is. is
-    ∙ (λ i. Some (begun c.args.moment (stands i).router (stands i).dd_sequence_start
-    c.args.names).neighbor)
+    ∙ (λ i. Some (restarted c.args.moment (stands i).router (stands i).dd_sequence_start
+    c.args.lists_us).neighbor)
     ∙ ap (λ (s : Step). Some s.neighbor) starts)
-    c.begin-then-begins.ensures.ok)
-    (on_ok c.begin-then-begins.result
+    c.restart-then-restarts.ensures.ok)
+    (on_ok c.restart-then-restarts.result
     (λ is. is delay
-    ∙ (λ i. drafting delay (begun c.args.moment (stands i).router (stands i).dd_sequence_start
-    c.args.names).sends
+    ∙ (λ i. drafting delay (restarted c.args.moment (stands i).router (stands i).dd_sequence_start
+    c.args.lists_us).sends
     ((ap (λ v. v.draft) c.self-inside.view_is ∙ ap (λ (k : KeptLink). k.drafted) c.self.view_is)
     i))
     ∙ ap (λ (s : Step). drafting delay s.sends old.drafted) starts)
-    c.begin-then-begins.ensures.draft)
-    (c.begin-then-begins.ensures.committed
+    c.restart-then-restarts.ensures.draft)
+    (c.restart-then-restarts.ensures.committed
     ∙ ap (committed_among c.self-inside.inside.0.1.0.before) (sym c.in-Some.is)
     ∙ ap (λ v. v.slot.committed) c.self-inside.view_is
     ∙ ap (λ (k : KeptLink). k.committed.neighbor) c.self.view_is)
@@ -78,11 +79,11 @@ returns c =
     let delay = l.interface.delay in
     let n = c.in-Some.neighbor.present in
     let some : l.neighbor ≡ Some n = search rules in
-    let after = after_hello c.args.moment c.args.from c.args.names in
+    let after = after_hello c.args.moment c.args.from c.args.lists_us in
     let stands = c.standing-standing.ensures in
-    let rests = some_rests c.args.moment c.args.from n c.args.names
-    (sym (ap (λ s. begins s.state c.args.names) stands) ∙ sym c.begins-begins.ensures
-    ∙ c.if-begins.false) ∙ ap after (sym some) in
+    let rests = some_rests c.args.moment c.args.from n c.args.lists_us
+    (sym (ap (λ s. restarts s.state c.args.lists_us) stands) ∙ sym c.restarts-restarts.ensures
+    ∙ c.if-restarts.false) ∙ ap after (sym some) in
     let now = ap (λ k. Some k.present) c.restart_inactivity_timer.ensures
     ∙ ap (λ (s : Step). Some s.neighbor) rests in
     record {

@@ -11,4 +11,4 @@ returns c =
     (ap (λ h. h.present) c.new-requests.ensures) (ap (λ h. h.present) c.new-outstanding.ensures)
     (ap (λ h. h.present) c.new-retransmissions.ensures)
     ∙ starts c.args.moment c.args.router c.args.dd_sequence_start c.args.last_heard
-    c.next_dd_sequence_start-number.result c.next_dd_sequence_start-number.ensures
+    c.next_dd_sequence_start-dd_sequence.result c.next_dd_sequence_start-dd_sequence.ensures

@@ -17,12 +17,12 @@ returns-then-accepted c =
     record {
       link = on_ok c.receive_hello.result
           (λ is. is ∙ ap (λ (b : Bool). with_neighbor
-          (Some (after_hello a.moment a.from b l.neighbor).neighbor) l) c.names-named.ensures
+          (Some (after_hello a.moment a.from b l.neighbor).neighbor) l) c.names-lists_us.ensures
           ∙ accepted a.own a.moment a.from a.hello.now l accepts)
           c.receive_hello.ensures.link;
       draft = on_ok c.receive_hello.result
           (λ is. is ∙ ap (λ (b : Bool). drafting delay
-          (after_hello a.moment a.from b l.neighbor).sends d) c.names-named.ensures
+          (after_hello a.moment a.from b l.neighbor).sends d) c.names-lists_us.ensures
           ∙ accepted_sends a.own a.moment a.from a.hello.now l delay d accepts)
           c.receive_hello.ensures.draft;
       committed = c.receive_hello.ensures.committed;
