@@ -147,7 +147,12 @@ impl Area {
     ///
     /// # Errors
     /// `AllocError` if an allocation is refused.
-    pub fn originate(&mut self, alloc: Global, moment: Second, lsa: Lsa) -> Result<(), AllocError>
+    pub fn install_and_flood_own(
+        &mut self,
+        alloc: Global,
+        moment: Second,
+        lsa: Lsa,
+    ) -> Result<(), AllocError>
         ensures { AreaDoes (originate_outcome moment lsa) self.old self.new result }
     {
         // For the prover alone, by what the call ensures.

@@ -6,7 +6,7 @@ ghost use Rattle.event_rules.specs.Commands.{same_external, same_kind, same_netw
 ghost use Rattle.event_rules.specs.Originations.{external_key};
 ghost use Rattle.procedures.specs.Making.{RouterDoes};
 
-use router_state::{Router, originate};
+use router_state::{Router, originate_if_wanted};
 use std::alloc::{AllocError, Global};
 use words::{External, ExternalType, Key, LS_INFINITY, Prefix, Second, external_key};
 
@@ -96,7 +96,7 @@ fn announce_as(
         return Ok(());
     }
     router.announce(external)?;
-    originate(router, alloc, true, moment, key)
+    originate_if_wanted(router, alloc, true, moment, key)
 }
 
 /// Announces the destination with the programs' answers for its tag and its metric. Only the low 32

@@ -17,7 +17,7 @@ use Rattle.originations.proofs.Decided.{are_the_rules}
 use Rattle.originations.specs.Decisions.{after_origination, origination}
 use Rattle.originations.specs.declared.origination.Origination.{Origination}
 use Rattle.router_state.specs.Owned.{AreOwn}
-use Rattle.router_state.specs.Wanted.{originate_wanted, wanted_origination}
+use Rattle.router_state.specs.Wanted.{originate_if_wanted, wanted_origination}
 use Rattle.flooding.proofs.lsdb.Keys.{tied}
 
 -- ---- which LSAs are wanted
@@ -79,7 +79,7 @@ at_router may_now moment key p found (Some says) is =
 pub done_as_found : (may_now : Bool) (moment : ℕ) (key : Key) (old : Router) (found : Origination)
     → Some found ≡ wanted_origination may_now moment key old (wanted_body old key)
     → (p : EventState) → p.router ≡ old
-    → after_origination moment key found p ≡ originate_wanted may_now moment key p
+    → after_origination moment key found p ≡ originate_if_wanted may_now moment key p
 done_as_found may_now moment key old found is p same =
     at_router may_now moment key p found (wanted_body p.router key)
     (is ∙ ap (λ (r : Router). wanted_origination may_now moment key r (wanted_body r key))

@@ -18,6 +18,6 @@ wanted_origination may_now moment key r (Some says) = Some (origination may_now 
     (finite.get r.area.database key) (finite.get r.originated key))
 
 -- a new instance at once or at a Tick, if the LSA is wanted
-abbrev pub originate_wanted : (may_now : Bool) → Moment → Key → EventState → EventState
-originate_wanted may_now moment key p =
+abbrev pub originate_if_wanted : (may_now : Bool) → Moment → Key → EventState → EventState
+originate_if_wanted may_now moment key p =
     originate_body may_now moment key (wanted_body p.router key) p

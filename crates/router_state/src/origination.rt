@@ -4,7 +4,7 @@ ghost use Rattle.event_rules.specs.Originations.{originate_or_put_off, receive_s
 ghost use Rattle.flooding.specs.adjacency.lsdb.Headers.{Lsa};
 ghost use Rattle.originations.specs.Decisions.{after_origination};
 ghost use Rattle.router_state.specs.Making.{RouterDoes};
-ghost use Rattle.router_state.specs.Wanted.{originate_wanted};
+ghost use Rattle.router_state.specs.Wanted.{originate_if_wanted};
 
 use crate::router::Router;
 use crate::wanted::{is_wanted, wanted_origination};
@@ -35,14 +35,14 @@ fn carry_out(
 ///
 /// # Errors
 /// `AllocError` if an allocation is refused.
-pub fn originate(
+pub fn originate_if_wanted(
     router: &mut Router,
     alloc: Global,
     may_now: bool,
     moment: Second,
     key: &Key,
 ) -> Result<(), AllocError>
-    ensures { RouterDoes (originate_wanted may_now moment key.now) router.old router.new result }
+    ensures { RouterDoes (originate_if_wanted may_now moment key.now) router.old router.new result }
 {
     let found = wanted_origination(router, alloc, may_now, moment, key)?;
     let Some(found) = found else {
@@ -66,7 +66,7 @@ pub fn originate_or_put_off(
     ensures { RouterDoes (originate_or_put_off moment key.now) router.old router.new result }
 {
     let has_room = router.area().database().has_room(key);
-    originate(router, alloc, has_room, moment, key)
+    originate_if_wanted(router, alloc, has_room, moment, key)
 }
 
 /// Processes a self-originated LSA with this header that was received and installed (RFC 2328,

@@ -50,7 +50,7 @@ impl Router {
     ) -> Result<(), AllocError>
         ensures { RouterDoes (put_out moment key.now lsa) self.old self.new result }
     {
-        self.area.originate(alloc, moment, lsa)?;
+        self.area.install_and_flood_own(alloc, moment, lsa)?;
         self.waiting.remove(key)?;
         self.originated.insert(*key, moment)
     }

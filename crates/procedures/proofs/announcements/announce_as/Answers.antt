@@ -18,9 +18,10 @@ returns c =
     ∙ sym c.is_announced_as-announced.ensures ∙ c.if-announced.false in
     does_if_false (λ (p : EventState). p)
     (λ (p : EventState). originate_anyway c.args.moment key (on_router (announce key e) p))
-    c.originate.result (λ (r : Router). is_announced_as e (finite.get r.announced key)) differs
+    c.originate_if_wanted.result (λ (r : Router). is_announced_as e (finite.get r.announced key))
+    differs
     (then_does {f = on_router (announce key e)} {g = originate_anyway c.args.moment key}
-    c.originate.result
+    c.originate_if_wanted.result
     (makes_same (λ p _. ap (λ (k : Key). on_router (announce k e) p) (sym c.requires.key))
     c.in_ok-announce.ensures.makes)
-    c.originate.ensures)
+    c.originate_if_wanted.ensures)

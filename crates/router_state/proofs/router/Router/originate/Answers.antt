@@ -11,18 +11,19 @@ use Rattle.router_state.proofs.Leaves.{appends_install, keeps_install}
 use Rattle.router_state.proofs.Making.{refused, then_does}
 use Rattle.router_state.proofs.router.Router.originate.Goals as goal
 
-pub returns-in_err-originate : goal.returns-in_err-originate
-returns-in_err-originate c =
+pub returns-in_err-install_and_flood_own : goal.returns-in_err-install_and_flood_own
+returns-in_err-install_and_flood_own c =
     refused c.from_residual.result c.from_residual.ensures.0
-    (area_stays _ c.args.self.now c.self.inside.area c.originate.new.self c.self.view_is refl
-    c.in_err-originate.ensures.committed)
+    (area_stays _ c.args.self.now c.self.inside.area c.install_and_flood_own.new.self c.self.view_is
+    refl
+    c.in_err-install_and_flood_own.ensures.committed)
 
 pub returns-in_err-remove : goal.returns-in_err-remove
 returns-in_err-remove c =
     let inside = c.self.inside in
     let flooded : Router = record {
       id = inside.id;
-      area = c.originate.new.self.committed;
+      area = c.install_and_flood_own.new.self.committed;
       announced = inside.announced.committed;
       waiting = keys_of inside.waiting.committed;
       originated = inside.originated.committed;
@@ -31,8 +32,8 @@ returns-in_err-remove c =
     } in
     refused c.from_residual-in_err-remove.result c.from_residual-in_err-remove.ensures.0
     ((λ i. record flooded { waiting = keys_of (c.in_err-remove.ensures.committed i) })
-    ∙ area_stays _ c.args.self.now inside.area c.originate.new.self c.self.view_is refl
-    c.in_ok-originate.ensures.committed)
+    ∙ area_stays _ c.args.self.now inside.area c.install_and_flood_own.new.self c.self.view_is refl
+    c.in_ok-install_and_flood_own.ensures.committed)
 
 pub returns : goal.returns
 returns c =
@@ -43,7 +44,7 @@ returns c =
     let flooded : KeptRouter = record {
       present = record {
         id = inside.id;
-        area = c.originate.new.self.present;
+        area = c.install_and_flood_own.new.self.present;
         announced = inside.announced.present;
         waiting = keys_of inside.waiting.present;
         originated = inside.originated.present;
@@ -52,20 +53,20 @@ returns c =
       };
       committed = record {
         id = inside.id;
-        area = c.originate.new.self.committed;
+        area = c.install_and_flood_own.new.self.committed;
         announced = inside.announced.committed;
         waiting = keys_of inside.waiting.committed;
         originated = inside.originated.committed;
         answers = inside.answers.committed;
         moment = inside.moment.committed;
       };
-      drafted = c.originate.new.self.drafted;
+      drafted = c.install_and_flood_own.new.self.drafted;
     } in
     then_does {f = on_area (install_and_flood m lsa)} {g = on_router (as_originated m k)}
     {middle = flooded} c.insert.result
     (area_does (install_and_flood m lsa) (keeps_install m lsa) (appends_install m lsa) _
-    c.args.self.now c.self.inside.area c.originate.new.self _ c.self.view_is refl
-    c.in_ok-originate.ensures refl).makes
+    c.args.self.now c.self.inside.area c.install_and_flood_own.new.self _ c.self.view_is refl
+    c.in_ok-install_and_flood_own.ensures refl).makes
     (notes flooded flooded c.insert.result refl (keys_of c.remove.new.self.present)
     (keys_of c.remove.new.self.committed) (ap keys_of c.in_ok-remove.ensures.committed) k m
     c.insert.new.self.present c.insert.new.self.committed c.insert.ensures.committed

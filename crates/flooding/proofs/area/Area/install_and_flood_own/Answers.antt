@@ -12,7 +12,7 @@ use Rattle.flooding.specs.Links.{area_of, draft_of, flooded_copy, originate_outc
 use Rattle.flooding.specs.Links.{committed_link, start}
 use Rattle.flooding.proofs.Installed.{at_once, installed}
 use Rattle.flooding.proofs.Marking.{area_is}
-use Rattle.flooding.proofs.area.Area.originate.Goals as goal
+use Rattle.flooding.proofs.area.Area.install_and_flood_own.Goals as goal
 
 pub returns : goal.returns
 returns c =

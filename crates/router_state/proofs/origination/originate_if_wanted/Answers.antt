@@ -1,7 +1,7 @@
 use Rattle.std.proofs.Common.{sym, ◌∙◌}
 use Rattle.router_state.proofs.Making.{does_same}
 use Rattle.router_state.proofs.Found.{done_as_found}
-use Rattle.router_state.proofs.origination.originate.Goals as goal
+use Rattle.router_state.proofs.origination.originate_if_wanted.Goals as goal
 
 pub returns : goal.returns
 returns c =
