@@ -27,7 +27,7 @@ pub enum Event {
 
 /// For the prover alone: tells it that the destination's address is in the range of its type. It
 /// does nothing at run time.
-pub fn check_address(price: &PriceAnswer)
+pub fn prove_address(price: &PriceAnswer)
     ensures { price.now.external.prefix.address < 2 ^ 32 }
 {
     let _address = price.external().prefix.address().bits();

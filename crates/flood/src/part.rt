@@ -9,7 +9,7 @@ ghost use Rattle.flood.specs.Occurrences.{occurrence_of, words_of};
 ghost use Rattle.flood.specs.Parts.{HasInterface, IsPartOf, RefusesAs, late_refusal};
 
 use crate::clash::clashes;
-use crate::event::{Event, check_address};
+use crate::event::{Event, prove_address};
 use event_rules::CoreError;
 use hooks::{PriceAnswer, TagAnswer, VetoAnswer};
 use packet::{Packet, read};
@@ -55,7 +55,7 @@ fn read_answers(router: &Router, tag: &TagAnswer, price: &PriceAnswer) -> Result
     ensures address { price.now.external.prefix.address < 2 ^ 32 }
 {
     // For the prover alone, by what the call ensures.
-    check_address(price);
+    prove_address(price);
     if clashes(router, tag.external(), price.external()) {
         return Err(CoreError::Clash);
     }

@@ -130,7 +130,7 @@ impl Area {
             result }
     {
         // For the prover alone, by what the call ensures.
-        lsa.check_age();
+        lsa.prove_age();
         let header = lsa.header();
         let key = header.key();
         let sent = flood_received(alloc, moment, Some(number), &lsa, &mut self.links)?;
@@ -156,7 +156,7 @@ impl Area {
         ensures { AreaDoes (originate_outcome moment lsa) self.old self.new result }
     {
         // For the prover alone, by what the call ensures.
-        lsa.check_age();
+        lsa.prove_age();
         let header = lsa.header();
         let key = header.key();
         self.database.install(moment, lsa, None)?;

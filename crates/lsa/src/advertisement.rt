@@ -49,8 +49,8 @@ impl Lsa {
         ensures { IfOk result (λ lsa. lsa ≡ sealed_lsa (record { header = header; body = body })) }
     {
         // For the prover alone, by what the calls ensure.
-        header.check_ranges();
-        body.check_ranges();
+        header.prove_ranges();
+        body.prove_ranges();
         let mut rest = Vec::new(alloc);
         put_body(&mut rest, &body)?;
         let unchecked = Header {
@@ -78,7 +78,7 @@ impl Lsa {
 
     /// For the prover alone: tells it that the age is at most 3600 (MaxAge), which an LSA always
     /// keeps. It does nothing at run time.
-    pub fn check_age(&self)
+    pub fn prove_age(&self)
         ensures { self.now.header.age ≤ max_age }
     {
         let _header = &self.header;

@@ -10,7 +10,7 @@ use crate::body::{
 };
 use words::RouterId;
 
-fn check_metric(metric: &LinkTos)
+fn prove_metric(metric: &LinkTos)
     ensures { IsLinkTos metric.now }
 {
     let _tos = metric.tos;
@@ -18,41 +18,41 @@ fn check_metric(metric: &LinkTos)
     let _metric = metric.metric;
 }
 
-fn check_metrics(metrics: &[LinkTos])
+fn prove_metrics(metrics: &[LinkTos])
     ensures { AllByRecursion IsLinkTos metrics.now }
 {
     for metric in metrics {
-        check_metric(metric);
+        prove_metric(metric);
     }
 }
 
-fn check_link(link: &RouterLink)
+fn prove_link(link: &RouterLink)
     ensures { LinkIsTyped link.now }
 {
     let _link_id = link.link_id;
     let _link_data = link.link_data;
     let _metric = link.metric;
-    check_metrics(link.tos.as_slice());
+    prove_metrics(link.tos.as_slice());
 }
 
-fn check_links(links: &[RouterLink])
+fn prove_links(links: &[RouterLink])
     ensures { AllByRecursion LinkIsTyped links.now }
 {
     for link in links {
-        check_link(link);
+        prove_link(link);
     }
 }
 
-fn check_router(router: &RouterLsa)
+fn prove_router(router: &RouterLsa)
     ensures { RouterIsTyped router.now }
 {
     let _flags = router.flags;
-    check_links(router.links.as_slice());
+    prove_links(router.links.as_slice());
 }
 
 /// For the prover alone: tells it that Router IDs are numbers of 32 bits. It does nothing at run
 /// time.
-pub fn check_router_ids(routers: &[RouterId])
+pub fn prove_router_ids(routers: &[RouterId])
     ensures { AllByRecursion IsRouterId routers.now }
 {
     for router in routers {
@@ -60,28 +60,28 @@ pub fn check_router_ids(routers: &[RouterId])
     }
 }
 
-fn check_summary_metric(metric: &SummaryTos)
+fn prove_summary_metric(metric: &SummaryTos)
     ensures { SummaryTosIsTyped metric.now }
 {
     let _tos = metric.tos;
 }
 
-fn check_summary_metrics(metrics: &[SummaryTos])
+fn prove_summary_metrics(metrics: &[SummaryTos])
     ensures { AllByRecursion SummaryTosIsTyped metrics.now }
 {
     for metric in metrics {
-        check_summary_metric(metric);
+        prove_summary_metric(metric);
     }
 }
 
-fn check_summary(summary: &SummaryLsa)
+fn prove_summary(summary: &SummaryLsa)
     ensures { SummaryIsTyped summary.now }
 {
     let _mask = summary.mask.bits();
-    check_summary_metrics(summary.tos.as_slice());
+    prove_summary_metrics(summary.tos.as_slice());
 }
 
-fn check_block(block: &ExternalTos)
+fn prove_block(block: &ExternalTos)
     ensures { ExternalTosIsTyped block.now }
 {
     let _tos = block.tos;
@@ -89,21 +89,21 @@ fn check_block(block: &ExternalTos)
     let _tag = block.tag;
 }
 
-fn check_blocks(blocks: &[ExternalTos])
+fn prove_blocks(blocks: &[ExternalTos])
     ensures { AllByRecursion ExternalTosIsTyped blocks.now }
 {
     for block in blocks {
-        check_block(block);
+        prove_block(block);
     }
 }
 
-fn check_external(external: &ExternalLsa)
+fn prove_external(external: &ExternalLsa)
     ensures { ExternalIsTyped external.now }
 {
     let _mask = external.mask.bits();
     let _forwarding = external.forwarding.bits();
     let _tag = external.tag;
-    check_blocks(external.tos.as_slice());
+    prove_blocks(external.tos.as_slice());
 }
 
 impl LsaBody {
@@ -112,18 +112,18 @@ impl LsaBody {
     ///
     /// The types don't ensure that a list is no longer than its count can say, nor that a metric of
     /// three bytes is below 2^24.
-    pub fn check_ranges(&self)
+    pub fn prove_ranges(&self)
         ensures { BodyIsTyped self.now }
     {
         match self {
-            LsaBody::Router(router) => check_router(router),
+            LsaBody::Router(router) => prove_router(router),
             LsaBody::Network(network) => {
                 let _mask = network.mask.bits();
-                check_router_ids(network.attached.as_slice());
+                prove_router_ids(network.attached.as_slice());
             }
-            LsaBody::NetworkSummary(summary) => check_summary(summary),
-            LsaBody::RouterSummary(summary) => check_summary(summary),
-            LsaBody::External(external) => check_external(external),
+            LsaBody::NetworkSummary(summary) => prove_summary(summary),
+            LsaBody::RouterSummary(summary) => prove_summary(summary),
+            LsaBody::External(external) => prove_external(external),
         }
     }
 }

@@ -24,6 +24,6 @@ pub fn next_number(copy: Option<DatabaseCopy<'_>>) -> Option<SequenceNumber>
     };
     let header = copy.lsa.header();
     // For the prover alone, by what the call ensures.
-    header.check_ranges();
+    header.prove_ranges();
     after(header.sequence)
 }

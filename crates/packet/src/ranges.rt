@@ -7,18 +7,18 @@ ghost use Rattle.packet.specs.Text.{IsDescription, IsHello, IsKey};
 ghost use Rattle.packet.specs.Ranges.{BodyIsTyped, PacketIsTyped};
 
 use crate::model::{Description, Hello, Packet, PacketBody};
-use lsa::{Header, check_router_ids};
+use lsa::{Header, prove_router_ids};
 use words::{Key, Sequence};
 
-fn check_headers(headers: &[Header])
+fn prove_headers(headers: &[Header])
     ensures { AllByRecursion IsHeader headers.now }
 {
     for header in headers {
-        header.check_ranges();
+        header.prove_ranges();
     }
 }
 
-fn check_key(key: &Key)
+fn prove_key(key: &Key)
     ensures { IsKey key.now }
 {
     let _ls_type = key.ls_type;
@@ -26,29 +26,29 @@ fn check_key(key: &Key)
     let _advertising_router = key.advertising_router.number();
 }
 
-fn check_keys(keys: &[Key])
+fn prove_keys(keys: &[Key])
     ensures { AllByRecursion IsKey keys.now }
 {
     for key in keys {
-        check_key(key);
+        prove_key(key);
     }
 }
 
-fn check_bytes(bytes: &[u8])
+fn prove_bytes(bytes: &[u8])
     ensures { AreBytes bytes.now }
 {
     let _bytes = bytes;
 }
 
-fn check_lsas(lsas: &[Sequence<u8>])
+fn prove_lsas(lsas: &[Sequence<u8>])
     ensures { AllByRecursion AreBytes lsas.now }
 {
     for lsa in lsas {
-        check_bytes(lsa.as_slice());
+        prove_bytes(lsa.as_slice());
     }
 }
 
-fn check_hello(hello: &Hello)
+fn prove_hello(hello: &Hello)
     ensures { IsHello hello.now }
 {
     let _mask = hello.mask;
@@ -56,27 +56,27 @@ fn check_hello(hello: &Hello)
     let _options = hello.options;
     let _priority = hello.priority;
     let _dead_interval = hello.dead_interval;
-    check_router_ids(hello.neighbors.as_slice());
+    prove_router_ids(hello.neighbors.as_slice());
 }
 
-fn check_description(description: &Description)
+fn prove_description(description: &Description)
     ensures { IsDescription description.now }
 {
     let _mtu = description.mtu;
     let _options = description.options;
     let _sequence = description.sequence;
-    check_headers(description.headers.as_slice());
+    prove_headers(description.headers.as_slice());
 }
 
-fn check_body(body: &PacketBody)
+fn prove_body(body: &PacketBody)
     ensures { BodyIsTyped body.now }
 {
     match body {
-        PacketBody::Hello(hello) => check_hello(hello),
-        PacketBody::Description(description) => check_description(description),
-        PacketBody::Request(keys) => check_keys(keys.as_slice()),
-        PacketBody::Update(lsas) => check_lsas(lsas.as_slice()),
-        PacketBody::Acknowledgment(headers) => check_headers(headers.as_slice()),
+        PacketBody::Hello(hello) => prove_hello(hello),
+        PacketBody::Description(description) => prove_description(description),
+        PacketBody::Request(keys) => prove_keys(keys.as_slice()),
+        PacketBody::Update(lsas) => prove_lsas(lsas.as_slice()),
+        PacketBody::Acknowledgment(headers) => prove_headers(headers.as_slice()),
     }
 }
 
@@ -86,10 +86,10 @@ impl Packet {
     ///
     /// The types don't ensure that each LSA of a Link State Update has room for its header and the
     /// length that it gives.
-    pub fn check_ranges(&self)
+    pub fn prove_ranges(&self)
         ensures { PacketIsTyped self.now }
     {
         let _router = self.router.number();
-        check_body(&self.body);
+        prove_body(&self.body);
     }
 }

@@ -214,7 +214,7 @@ pub fn write(alloc: Global, packet: &Packet) -> Result<Vec<u8>, AllocError>
         → IfOk result (λ bytes. PacketText bytes.items packet.now) }
 {
     // For the prover alone, by what the call ensures.
-    packet.check_ranges();
+    packet.prove_ranges();
     let mut out = draft(alloc, packet)?;
     let size = out.len() as u16;
     out[2] = (size / 256) as u8;

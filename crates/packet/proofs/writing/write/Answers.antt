@@ -8,7 +8,7 @@ use Rattle.packet.proofs.writing.write.Goals as goal
 pub returns-clause-text : goal.returns-clause-text
 returns-clause-text c = λ whole.
     let p = c.args.packet.now in
-    let is = is_packet p c.check_ranges.ensures whole in
+    let is = is_packet p c.prove_ranges.ensures whole in
     let out = c.in_ok-out.out.items in
     let size : c.len-size.result ≡ length c.in_ok-out.out.items =
     omega (arith, c.len-size.ensures, c.in_ok-out.out.ok.0) in

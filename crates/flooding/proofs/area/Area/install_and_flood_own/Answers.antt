@@ -32,7 +32,7 @@ returns c =
     ∙ ap (λ o. flooded_copy m None o (start (area_of ls (install_originated m lsa d))))
     (installed m lsa None d)
     ∙ ap (λ l. flood m None l (start (area_of ls (install_originated m lsa d))))
-    (at_once m lsa None c.check_age.ensures) in
+    (at_once m lsa None c.prove_age.ensures) in
     record {
       area = on_ok c.flood.result (λ is. is ∙ ap (λ (o : Outcome). o.area) whole
           ∙ ap (λ (v : RouterArea). (originate_outcome m lsa v.present).area) c.self.view_is)

@@ -1,7 +1,7 @@
 use Rattle.std.proofs.Common.{arith}
 use Rattle.words.proofs.Each.{each_one_more}
 use Rattle.lsa.specs.Text.{IsRouterId}
-use Rattle.lsa.proofs.ranges.check_router_ids.Goals as goal
+use Rattle.lsa.proofs.ranges.prove_router_ids.Goals as goal
 
 pub loop-router-preserved : goal.loop-router-preserved
 loop-router-preserved c =

@@ -1,7 +1,7 @@
 use Rattle.std.proofs.Common.{take}
 use Rattle.std.specs.List.{AllByRecursion}
 use Rattle.lsa.specs.Text.{IsLinkTos}
-use Rattle.lsa.proofs.ranges.check_metrics.Given as goal
+use Rattle.lsa.proofs.ranges.prove_metrics.Given as goal
 
 abbrev pub invariant-loop-metric : goal.invariant-loop-metric
 invariant-loop-metric l = AllByRecursion IsLinkTos (take l.metric-index l.metrics)
