@@ -6,7 +6,7 @@ use Rattle.lsdb.specs.Headers.{Lsa, lsa_key}
 use Rattle.received.specs.Cases.{Case}
 use Rattle.received.specs.Updates.{flood_and_install, goes_on, send_copy}
 use Rattle.event_rules.specs.EventState.{EventState, on_area}
-use Rattle.event_rules.specs.Originations.{is_wanted, originate_or_flush, wanted_body}
+use Rattle.event_rules.specs.Originations.{originate_or_flush, should_originate, wanted_body}
 use Rattle.event_rules.specs.Packets.{after_lsa, after_lsas, after_unread, case_in}
 use Rattle.conversations.specs.CarriedOut.{EachCaseIsCarriedOut, IsInCase, having_sent}
 use Rattle.conversations.specs.WorkedFlush.{full}
@@ -52,7 +52,7 @@ carried_out = record {
       (having_sent sends r link (full n)) in
       done moment 1 bytes rest lsa (having_sent sends r link (full n)) Case.Newer is
       ∙ ap (λ b. after_lsas moment 1 rest
-      (cond b (originate_or_flush (is_wanted (wanted_body p.router (lsa_key lsa))) moment
+      (cond b (originate_or_flush (should_originate (wanted_body p.router (lsa_key lsa))) moment
       (lsa_key lsa) p) p)) foreign
       ∙ ap (λ ss. after_lsas moment 1 rest (having_sent ss
       (record r { area = record r.area { database = install_flooded moment lsa r.area.database } })

@@ -22,7 +22,7 @@ use Rattle.received.specs.Outcomes.{Send, sends_at, sent_on, step_on, stepped_li
 use Rattle.received.specs.Updates.{case_at, flood_and_install}
 use Rattle.received.proofs.Flooded.{replaces_older}
 use Rattle.event_rules.specs.Endings.{end_event, stays_as}
-use Rattle.event_rules.specs.Originations.{is_wanted, originate_or_flush, wanted_body}
+use Rattle.event_rules.specs.Originations.{originate_or_flush, should_originate, wanted_body}
 use Rattle.event_rules.specs.Packets.{after_lsa}
 use Rattle.event_rules.specs.Packing.{outs_of}
 use Rattle.event_rules.specs.EventState.{EventState, on_area}
@@ -213,7 +213,8 @@ aged_lsa_comes = record {
       (ap is_exchange_or_later from.is_full) text event.own
       ∙ ap (λ c. after_lsa c moment number lsa (start old))
       (newer moment number lsa old.area none busy)
-      ∙ ap (λ b. cond b (originate_or_flush (is_wanted (wanted_body p.router (lsa_key lsa))) moment
+      ∙ ap (λ b. cond b (originate_or_flush (should_originate (wanted_body p.router (lsa_key lsa)))
+      moment
       (lsa_key lsa) p) p) foreign) in
       let still : IsStill p.router.area.database (lsa_key lsa) (brought lsa moment None) =
       mark_all moment (stepping_sends (flood_to moment (Some number) lsa) old.area.links)

@@ -26,7 +26,8 @@ use Rattle.received.specs.Updates.{case_at, flood_and_install}
 use Rattle.event_rules.specs.declared.model.Out.{Out}
 use Rattle.event_rules.specs.Endings.{start_event, end_event, stays_as}
 use Rattle.event_rules.specs.Events.{Happens}
-use Rattle.event_rules.specs.Originations.{flush, flush_copy, has_max_sequence, has_room, is_wanted}
+use Rattle.event_rules.specs.Originations.{flush, flush_copy, has_max_sequence, has_room}
+use Rattle.event_rules.specs.Originations.{should_originate}
 use Rattle.event_rules.specs.Originations.{may_originate, originate, originate_body, router_body}
 use Rattle.event_rules.specs.Originations.{router_key, originate_or_flush, put_off, wanted_body}
 use Rattle.event_rules.specs.Packets.{after_lsa, after_packet, receive_acknowledgment}
@@ -93,9 +94,9 @@ settles r link n moment lsa mine last young =
     let o : Outcome = record { area = p.router.area; sends = [] } in
     let rest : EventState = cond (has_room key p.router && may_originate moment key p.router)
     (originate moment key (router_body p.router.area.links) p) (on_router (put_off key) p) in
-    (λ i. cond (own i) (originate_or_flush (is_wanted (wanted_body p.router (mine i))) moment
+    (λ i. cond (own i) (originate_or_flush (should_originate (wanted_body p.router (mine i))) moment
     (mine i) p) p)
-    ∙ (λ i. originate_or_flush (is_wanted (wanted p.router i)) moment key p)
+    ∙ (λ i. originate_or_flush (should_originate (wanted p.router i)) moment key p)
     ∙ (λ i. originate_body (has_room key p.router) moment key (wanted p.router i) p)
     ∙ (λ i. cond (has_max_sequence (there i)) (flush moment key p) rest)
     ∙ (λ i. cond (max i) (flush moment key p) rest)

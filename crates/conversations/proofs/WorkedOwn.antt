@@ -28,7 +28,8 @@ use Rattle.event_rules.specs.Endings.{loading_done, end_event, is_at, is_current
 use Rattle.event_rules.specs.Events.{Happens}
 use Rattle.event_rules.specs.Originations.{announced_body, as_originated, flush, has_max_sequence}
 use Rattle.event_rules.specs.Originations.{has_room, install_and_flood, interval_is_over}
-use Rattle.event_rules.specs.Originations.{is_own_external, is_wanted, may_originate, new_instance}
+use Rattle.event_rules.specs.Originations.{is_own_external, may_originate, should_originate}
+use Rattle.event_rules.specs.Originations.{new_instance}
 use Rattle.event_rules.specs.Originations.{originate_body, originate_or_put_off, own_externals}
 use Rattle.event_rules.specs.Originations.{router_body}
 use Rattle.event_rules.specs.Originations.{router_key, originate_or_flush, put_off, wanted_body}
@@ -191,7 +192,8 @@ own_update r new link n moment bytes lsa own outs meet text event =
     refl text event.own
     ∙ ap (λ c. after_lsa c moment 1 lsa (start old))
     (new_case moment 1 lsa old.area meet.is_absent meet.is_young)
-    ∙ ap (λ b. cond b (originate_or_flush (is_wanted (wanted_body p.router (lsa_key lsa))) moment
+    ∙ ap (λ b. cond b (originate_or_flush (should_originate (wanted_body p.router (lsa_key lsa)))
+    moment
     (lsa_key lsa) p) p) meet.is_foreign_lsa
 
 over_not_now : (moment : ℕ) (o : Option ℕ) → interval_is_over moment o ≡ true → is_at moment o

@@ -16,7 +16,7 @@ use Rattle.received.specs.Links.{Link, any_has_retransmission}
 use Rattle.received.specs.Outcomes.{Outcome, on_database}
 use Rattle.event_rules.specs.Endings.{end_event, stays_as}
 use Rattle.event_rules.specs.EventState.{EventState, flood_from_nobody, on_area}
-use Rattle.event_rules.specs.Originations.{announced_body, flush_copy, is_wanted}
+use Rattle.event_rules.specs.Originations.{announced_body, flush_copy, should_originate}
 use Rattle.event_rules.specs.Originations.{originate_or_flush, router_body, router_key, wanted_body}
 use Rattle.event_rules.specs.Packets.{after_lsa}
 use Rattle.event_rules.specs.Packing.{outs_of}
@@ -51,11 +51,12 @@ settles r link n moment lsa mine other unknown young =
     let there : finite.get p.router.area.database key ≡ Some c = inserted r.area.database key c in
     let fresh : is_max_age (age_at lsa.header.age moment moment) ≡ false =
     ap is_max_age (same_age lsa.header.age moment young) ∙ is_young lsa.header.age young in
-    (λ i. cond (own i) (originate_or_flush (is_wanted (wanted_body p.router key)) moment key p) p)
-    ∙ (λ i. originate_or_flush (is_wanted
+    (λ i. cond (own i) (originate_or_flush (should_originate (wanted_body p.router key)) moment key
+    p) p)
+    ∙ (λ i. originate_or_flush (should_originate
     (cond (other i) (Some (router_body p.router.area.links))
     (announced_body (finite.get r.announced key)))) moment key p)
-    ∙ (λ i. originate_or_flush (is_wanted (announced_body (unknown i))) moment key p)
+    ∙ (λ i. originate_or_flush (should_originate (announced_body (unknown i))) moment key p)
     ∙ (λ i. on_area (flush_copy moment key (there i)) p)
     ∙ (λ i. on_area (λ q. cond (fresh i) q
     (flood_from_nobody moment (lsa_aged 3600 lsa) (on_database (age_prematurely moment key) q))) p)

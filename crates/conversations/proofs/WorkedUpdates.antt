@@ -35,7 +35,7 @@ use Rattle.event_rules.specs.declared.model.Out.{Out}
 use Rattle.event_rules.specs.Endings.{start_event, end_event, stays_as}
 use Rattle.event_rules.specs.Events.{Happens, OwnPart}
 use Rattle.event_rules.specs.Hellos.{is_foreign}
-use Rattle.event_rules.specs.Originations.{is_wanted, originate_or_flush, wanted_body}
+use Rattle.event_rules.specs.Originations.{originate_or_flush, should_originate, wanted_body}
 use Rattle.event_rules.specs.Packets.{after_lsa, after_lsas, after_packet, after_unread, case_in}
 use Rattle.event_rules.specs.Packets.{any_exchange_or_later, from_neighbor, is_heard}
 use Rattle.event_rules.specs.Packing.{outs_of}
@@ -323,7 +323,8 @@ comes_twice old middle new moment number bytes lsa link n outs more rest from no
     (ap is_exchange_or_later from.is_full) text one.own
     ∙ ap (λ c. after_lsa c moment number lsa (start old))
     (new_case moment number lsa old.area absent young)
-    ∙ ap (λ b. cond b (originate_or_flush (is_wanted (wanted_body p.router (lsa_key lsa))) moment
+    ∙ ap (λ b. cond b (originate_or_flush (should_originate (wanted_body p.router (lsa_key lsa)))
+    moment
     (lsa_key lsa) p) p) other in
     let is : middle ≡ second old moment number lsa =
     one.router ∙ ap (λ q. (end_event old moment q).router) own

@@ -41,7 +41,7 @@ use Rattle.event_rules.specs.Endings.{flood_aged, links_differ, remove_aged, req
 use Rattle.event_rules.specs.Events.{OwnPart}
 use Rattle.event_rules.specs.Originations.{due_keys, external_key, flush, flush_copy}
 use Rattle.event_rules.specs.Originations.{forget_originations, has_max_sequence, has_room}
-use Rattle.event_rules.specs.Originations.{install_and_flood, is_wanted, may_originate}
+use Rattle.event_rules.specs.Originations.{install_and_flood, may_originate, should_originate}
 use Rattle.event_rules.specs.Originations.{new_instance}
 use Rattle.event_rules.specs.Originations.{originate, originate_anyway, originate_body}
 use Rattle.event_rules.specs.Originations.{originate_due}
@@ -242,7 +242,7 @@ module _ (i : Invariant) (kept : IsKeptByParts i) where
   own_settled : (moment : ℕ) (lsa : Lsa) (p : EventState) → i.of_lsa lsa → InProgress p
       → InProgress (receive_self_originated moment lsa p)
   own_settled moment lsa p so h =
-      let wanted : Bool = is_wanted (wanted_body p.router (lsa_key lsa)) in
+      let wanted : Bool = should_originate (wanted_body p.router (lsa_key lsa)) in
       chosen InProgress (lsa.header.advertising_router == p.router.id)
       (originate_or_flush wanted moment (lsa_key lsa) p) p
       (λ is. wanted_settled wanted moment (lsa_key lsa) p

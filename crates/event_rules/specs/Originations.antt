@@ -214,9 +214,9 @@ forget_originations moment r =
 
 -- ---- received self-originated LSAs (section 13.4)
 
-abbrev pub is_wanted : Option LsaBody → Bool
-is_wanted None = false
-is_wanted (Some says) = true
+abbrev pub should_originate : Option LsaBody → Bool
+should_originate None = false
+should_originate (Some says) = true
 
 abbrev pub originate_or_flush : Bool → Moment → Key → EventState → EventState
 originate_or_flush true moment key p = originate_or_put_off moment key p
@@ -227,5 +227,6 @@ originate_or_flush false moment key p = flush moment key p
 abbrev pub receive_self_originated : Moment → Lsa → EventState → EventState
 receive_self_originated moment lsa p =
     if lsa.header.advertising_router == p.router.id
-    then originate_or_flush (is_wanted (wanted_body p.router (lsa_key lsa))) moment (lsa_key lsa) p
+    then originate_or_flush (should_originate (wanted_body p.router (lsa_key lsa))) moment
+    (lsa_key lsa) p
     else p

@@ -31,7 +31,8 @@ use Rattle.event_rules.specs.Endings.{links_differ, loading_done, start_event}
 use Rattle.event_rules.specs.EventState.{EventState, on_area, on_router}
 use Rattle.event_rules.specs.Events.{Happens, OwnPart}
 use Rattle.event_rules.specs.Originations.{due_keys, external_key, flush, forget_originations}
-use Rattle.event_rules.specs.Originations.{has_max_sequence, has_room, is_wanted, may_originate}
+use Rattle.event_rules.specs.Originations.{has_max_sequence, has_room, should_originate}
+use Rattle.event_rules.specs.Originations.{may_originate}
 use Rattle.event_rules.specs.Originations.{originate, originate_anyway, originate_body}
 use Rattle.event_rules.specs.Originations.{originate_due}
 use Rattle.event_rules.specs.Originations.{originate_or_flush, originate_or_put_off}
@@ -84,7 +85,7 @@ wanted_or_not false moment key p = refl
 self_originated : (moment : ℕ) (lsa : Lsa) (p : EventState)
     → of (receive_self_originated moment lsa p) ≡ of p
 self_originated moment lsa p =
-    let wanted : Bool = is_wanted (wanted_body p.router (lsa_key lsa)) in
+    let wanted : Bool = should_originate (wanted_body p.router (lsa_key lsa)) in
     either (lsa.header.advertising_router == p.router.id)
     (originate_or_flush wanted moment (lsa_key lsa) p) p p
     (wanted_or_not wanted moment (lsa_key lsa) p) refl

@@ -38,7 +38,7 @@ use Rattle.event_rules.specs.Endings.{links_differ, request_all, stays}
 use Rattle.event_rules.specs.Events.{OwnPart}
 use Rattle.event_rules.specs.Originations.{due_keys, external_key, flush, flush_copy}
 use Rattle.event_rules.specs.Originations.{forget_originations, has_max_sequence, has_room}
-use Rattle.event_rules.specs.Originations.{install_and_flood, is_wanted, may_originate}
+use Rattle.event_rules.specs.Originations.{install_and_flood, may_originate, should_originate}
 use Rattle.event_rules.specs.Originations.{new_instance, originate, originate_anyway}
 use Rattle.event_rules.specs.Originations.{originate_body, originate_due, originate_or_flush}
 use Rattle.event_rules.specs.Originations.{originate_or_put_off, put_off, receive_self_originated}
@@ -234,7 +234,7 @@ module _ (i : Invariant) (kept : IsKeptByParts i) (X Y : Lately) (old : Router) 
   own_settled : (lsa : Lsa) (p : EventState) → i.of_lsa lsa → InProgress p
       → InProgress (receive_self_originated moment lsa p)
   own_settled lsa p so h =
-      let wanted : Bool = is_wanted (wanted_body p.router (lsa_key lsa)) in
+      let wanted : Bool = should_originate (wanted_body p.router (lsa_key lsa)) in
       chosen InProgress (lsa.header.advertising_router == p.router.id)
       (originate_or_flush wanted moment (lsa_key lsa) p) p
       (λ is. wanted_settled wanted (lsa_key lsa) p

@@ -31,7 +31,8 @@ use Rattle.received.specs.Updates.{after_case, case_at, goes_on, send_copy}
 use Rattle.event_rules.specs.Endings.{flood_if_aged}
 use Rattle.event_rules.specs.EventState.{EventState, flood_from_nobody, on_area, on_router}
 use Rattle.event_rules.specs.Originations.{flush, flush_copy, has_max_sequence, has_room}
-use Rattle.event_rules.specs.Originations.{interval_is_over, is_wanted, may_originate, new_instance}
+use Rattle.event_rules.specs.Originations.{interval_is_over, may_originate, should_originate}
+use Rattle.event_rules.specs.Originations.{new_instance}
 use Rattle.event_rules.specs.Originations.{originate, originate_body, originate_or_flush}
 use Rattle.event_rules.specs.Originations.{originate_or_put_off, receive_self_originated}
 use Rattle.event_rules.specs.Originations.{router_body, put_off, router_key, wanted_body}
@@ -404,15 +405,17 @@ or_wait_kept moment t key p none tells h =
 
 -- ---- a received LSA
 
-is_wanted_none : (o : Option LsaBody) → is_wanted o ≡ true → o ≡ None → ⊥
-is_wanted_none None is none = absurd cc
-is_wanted_none (Some says) is none = absurd cc
+should_originate_none : (o : Option LsaBody) → should_originate o ≡ true → o ≡ None → ⊥
+should_originate_none None is none = absurd cc
+should_originate_none (Some says) is none = absurd cc
 
 or_flush_kept : (moment : ℕ) (t : Terms) (b : Bool) (key : Key) (p : EventState)
-    → is_wanted (wanted_body p.router key) ≡ b → Tells t p → InProgress moment (excusing key t) p
+    → should_originate (wanted_body p.router key) ≡ b → Tells t p
+    → InProgress moment (excusing key t) p
     → InProgress moment (full t) (originate_or_flush b moment key p)
 or_flush_kept moment t true key p is tells h =
-    or_wait_kept moment t key p (λ none. absurd (is_wanted_none (wanted_body p.router key) is none))
+    or_wait_kept moment t key p (λ none. absurd
+    (should_originate_none (wanted_body p.router key) is none))
     (λ same. tells) h
 or_flush_kept moment t false key p is tells h = flush_kept moment t key p h
 
@@ -448,7 +451,7 @@ received_kept : (moment : ℕ) (t : Terms) (lsa : Lsa) (p : EventState) → Tell
     → InProgress moment (excusing (lsa_key lsa) t) p
     → InProgress moment (full t) (receive_self_originated moment lsa p)
 received_kept moment t lsa p tells h =
-    let wanted : Bool = is_wanted (wanted_body p.router (lsa_key lsa)) in
+    let wanted : Bool = should_originate (wanted_body p.router (lsa_key lsa)) in
     chosen (InProgress moment (full t)) (lsa.header.advertising_router == p.router.id)
     (originate_or_flush wanted moment (lsa_key lsa) p) p
     (λ own. or_flush_kept moment t wanted (lsa_key lsa) p refl tells h)
@@ -457,7 +460,7 @@ received_kept moment t lsa p tells h =
 received_faces : (moment : ℕ) (lsa : Lsa) (p : EventState)
     → StaysFaced p (receive_self_originated moment lsa p)
 received_faces moment lsa p =
-    let wanted : Bool = is_wanted (wanted_body p.router (lsa_key lsa)) in
+    let wanted : Bool = should_originate (wanted_body p.router (lsa_key lsa)) in
     chosen (StaysFaced p) (lsa.header.advertising_router == p.router.id)
     (originate_or_flush wanted moment (lsa_key lsa) p) p
     (λ own. by_wanted wanted) (λ other. refl)

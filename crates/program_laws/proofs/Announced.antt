@@ -34,7 +34,7 @@ use Rattle.event_rules.specs.EventState.{EventState, on_area, on_router}
 use Rattle.event_rules.specs.Originations.{announced_body, due_keys, external_body, external_key}
 use Rattle.event_rules.specs.Originations.{flush}
 use Rattle.event_rules.specs.Originations.{forget_originations, has_max_sequence, has_room}
-use Rattle.event_rules.specs.Originations.{is_wanted}
+use Rattle.event_rules.specs.Originations.{should_originate}
 use Rattle.event_rules.specs.Originations.{may_originate, originate, originate_anyway}
 use Rattle.event_rules.specs.Originations.{originate_body}
 use Rattle.event_rules.specs.Originations.{originate_due, originate_or_flush, originate_or_put_off}
@@ -100,9 +100,10 @@ settled false moment key p = refl
 own_received : (moment : Moment) (lsa : Lsa) → Leaves (receive_self_originated moment lsa)
 own_received moment lsa p =
     either (told p) (lsa.header.advertising_router == p.router.id)
-    (originate_or_flush (is_wanted (wanted_body p.router (lsa_key lsa))) moment (lsa_key lsa) p)
+    (originate_or_flush (should_originate (wanted_body p.router (lsa_key lsa))) moment (lsa_key lsa)
+    p)
     p
-    (settled (is_wanted (wanted_body p.router (lsa_key lsa))) moment (lsa_key lsa) p) refl
+    (settled (should_originate (wanted_body p.router (lsa_key lsa))) moment (lsa_key lsa) p) refl
 
 self_originated : (case : Case) (moment : Moment) (lsa : Lsa)
     → Leaves (after_self_originated case moment lsa)

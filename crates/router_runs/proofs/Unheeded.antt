@@ -29,7 +29,8 @@ use Rattle.event_rules.specs.Endings.{request_all, start_event}
 use Rattle.event_rules.specs.Events.{Happens, OwnPart}
 use Rattle.event_rules.specs.EventState.{EventState, on_area, on_router}
 use Rattle.event_rules.specs.Originations.{due_keys, flush, forget_originations, has_room}
-use Rattle.event_rules.specs.Originations.{has_max_sequence, is_wanted, may_originate, originate}
+use Rattle.event_rules.specs.Originations.{has_max_sequence, may_originate, should_originate}
+use Rattle.event_rules.specs.Originations.{originate}
 use Rattle.event_rules.specs.Originations.{originate_anyway, originate_body, originate_due}
 use Rattle.event_rules.specs.Originations.{originate_or_flush, originate_or_put_off, put_off}
 use Rattle.event_rules.specs.Originations.{receive_self_originated, wanted_body}
@@ -119,7 +120,7 @@ module _ (answers : List (Route × ℕ)) where
 
   own_received : (moment : Moment) (lsa : Lsa) → Overlooks (receive_self_originated moment lsa)
   own_received moment lsa p =
-      let wanted : Bool = is_wanted (wanted_body p.router (lsa_key lsa)) in
+      let wanted : Bool = should_originate (wanted_body p.router (lsa_key lsa)) in
       let own : Bool = lsa.header.advertising_router == p.router.id in
       one_of own (originate_or_flush wanted moment (lsa_key lsa) p) p
       ∙ ap (λ (q : EventState). cond own q (answering p)) (or_flushes wanted moment (lsa_key lsa) p)

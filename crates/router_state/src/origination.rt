@@ -7,7 +7,7 @@ ghost use Rattle.router_state.specs.Making.{RouterDoes};
 ghost use Rattle.router_state.specs.Wanted.{originate_if_wanted};
 
 use crate::router::Router;
-use crate::wanted::{is_wanted, wanted_origination};
+use crate::wanted::{should_originate, wanted_origination};
 use lsa::Header;
 use originations::Origination;
 use std::alloc::{AllocError, Global};
@@ -88,7 +88,7 @@ pub fn receive_self_originated(
         return Ok(());
     }
     let key = header.key();
-    if is_wanted(router, &key) {
+    if should_originate(router, &key) {
         return originate_or_put_off(router, alloc, moment, &key);
     }
     router.flush(alloc, moment, &key)

@@ -1,7 +1,7 @@
 //! Which self-originated LSAs are wanted, and what happens to them.
 ghost use Rattle.std.specs.Prelude.{◌≡◌, IfOk};
 ghost use Rattle.keyed_map.specs.Keys.{same_key};
-ghost use Rattle.event_rules.specs.Originations.{is_wanted, router_key, wanted_body};
+ghost use Rattle.event_rules.specs.Originations.{router_key, should_originate, wanted_body};
 ghost use Rattle.router_state.specs.Wanted.{wanted_origination};
 
 use crate::router::Router;
@@ -22,10 +22,10 @@ fn names_router_lsa(own: RouterId, key: &Key) -> bool
     is_same(key, &own_key)
 }
 
-/// Whether the LSA of this key is wanted: it is the router-LSA, or that of an announced
-/// destination.
-pub fn is_wanted(router: &Router, key: &Key) -> bool
-    ensures { result ≡ is_wanted (wanted_body router.now.present key.now) }
+/// Whether this router is to originate an LSA of this key: it is the router-LSA, or that of an
+/// announced destination.
+pub fn should_originate(router: &Router, key: &Key) -> bool
+    ensures { result ≡ should_originate (wanted_body router.now.present key.now) }
 {
     if names_router_lsa(router.id(), key) {
         return true;
