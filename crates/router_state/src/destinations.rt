@@ -10,8 +10,9 @@ ghost use Rattle.router_state.specs.Making.{RouterDoes};
 
 use crate::router::Router;
 use keyed_map::{KeyTest, KeyedMap};
+use originations::interval_is_over;
 use std::alloc::{AllocError, Global};
-use words::{External, Key, MIN_LS_INTERVAL, Second, external_key};
+use words::{External, Key, Second, external_key};
 
 // Selects the originations since which MinLSInterval has passed (RFC 2328, section 12.4).
 #[derive(Drop)]
@@ -26,7 +27,7 @@ impl KeyTest<Second> for IsOver {
     ghost accepts = { λ a key at. interval_is_over a.moment (Some at) };
 
     fn accepts(&self, _key: &Key, at: &Second) -> bool {
-        MIN_LS_INTERVAL <= self.moment.since(*at)
+        interval_is_over(self.moment, Some(*at))
     }
 }
 

@@ -1,5 +1,5 @@
 //! The database exchange (RFC 2328, sections 10.6, 10.8 and 10.3).
-ghost use Rattle.std.specs.Prelude.{◌≡◌, ◌+◌, ◌%◌, ◌^◌, false, true, if◌then◌else◌, []};
+ghost use Rattle.std.specs.Prelude.{◌≡◌, ◌+◌, ◌%◌, ◌^◌, false, true, []};
 ghost use Rattle.std.specs.Prelude.{◌∷◌, ◌++◌, take, IfOk, OnOk};
 ghost use Rattle.std.specs.FinMap as finite;
 ghost use Rattle.std.specs.List.{filter_map, fold};
@@ -23,6 +23,7 @@ ghost use Rattle.words.specs.Constants.{max_headers_described};
 
 use super::Neighbor;
 use super::negotiation::remove_keys;
+use super::timers::full_where;
 use crate::connectives::either;
 use adjacency::descriptions::as_received;
 use adjacency::{Draft, ListEntry, Lsdb, NeighborState, Verdict, age_at, instance_of, newer};
@@ -148,17 +149,6 @@ fn headers_of(
     Ok(headers)
 }
 
-// `Full` if the request list is empty: the databases are synchronized then.
-fn done_state(nothing: bool) -> NeighborState
-    ensures { result ≡ (if nothing then NeighborState.Full else NeighborState.Loading) }
-{
-    if nothing {
-        NeighborState::Full
-    } else {
-        NeighborState::Loading
-    }
-}
-
 impl Neighbor {
     /// Sends the last Database Description again, if it is kept (RFC 2328, section 10.8).
     ///
@@ -197,7 +187,7 @@ impl Neighbor {
         ensures { self.new ≡ record self.old { present = exchange_done moment self.old.present } }
     {
         let nothing = self.requests.is_empty();
-        let state = done_state(nothing);
+        let state = full_where(NeighborState::Loading, nothing);
         self.standing.state = state;
         self.standing.exchanged = Some(moment);
     }

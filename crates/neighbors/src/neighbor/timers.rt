@@ -45,8 +45,8 @@ fn is_over_for(moment: Second, dead: u32, exchanged: Option<Second>) -> bool
     }
 }
 
-// From Loading to Full if the request list is empty.
-fn full_where(state: NeighborState, unrequested: bool) -> NeighborState
+/// From Loading to Full if the request list is empty: the databases are synchronized then.
+pub fn full_where(state: NeighborState, unrequested: bool) -> NeighborState
     ensures { result ≡ full_where state unrequested }
 {
     match state {
