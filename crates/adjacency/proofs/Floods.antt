@@ -15,15 +15,17 @@ pub drafting-one : (delay : ℕ) (c : Content) (d : Drafted)
 unfolding drafting
 drafting-one delay c d = refl
 
-pub floods : (moment : ℕ) (from : Bool) (lsa : Lsa) (n : Neighbor)
+pub floods : (moment : ℕ) (came_in : Bool) (lsa : Lsa) (n : Neighbor)
     → is_exchange_or_later n.state ≡ true
-    → flooded_in_exchange moment from lsa n ≡ flood_step moment from lsa n
+    → flooded_in_exchange moment came_in lsa n ≡ flood_step moment came_in lsa n
 unfolding flood_step
-floods moment from lsa n is = ap (λ b. cond b (flooded_in_exchange moment from lsa n) (no_sends n))
+floods moment came_in lsa n is = ap
+    (λ b. cond b (flooded_in_exchange moment came_in lsa n) (no_sends n))
     (sym is)
 
-pub rests : (moment : ℕ) (from : Bool) (lsa : Lsa) (n : Neighbor)
-    → is_exchange_or_later n.state ≡ false → no_sends n ≡ flood_step moment from lsa n
+pub rests : (moment : ℕ) (came_in : Bool) (lsa : Lsa) (n : Neighbor)
+    → is_exchange_or_later n.state ≡ false → no_sends n ≡ flood_step moment came_in lsa n
 unfolding flood_step
-rests moment from lsa n is = ap (λ b. cond b (flooded_in_exchange moment from lsa n) (no_sends n))
+rests moment came_in lsa n is = ap
+    (λ b. cond b (flooded_in_exchange moment came_in lsa n) (no_sends n))
     (sym is)

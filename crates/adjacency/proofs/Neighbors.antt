@@ -58,10 +58,12 @@ module _ {X : Type 0} (s : Standing) (des : Option Description) (sum req : ByKey
   unfolding neighbor_of
   releases k = refl
 
-  pub withdraws : (k : Key) → neighbor_of s des sum (finite.remove req k) (finite.remove out k) retr
+  pub request_removed : (k : Key) → neighbor_of s des sum (finite.remove req k)
+      (finite.remove out k) retr
       ≡ without_request k (neighbor_of s des sum req out retr)
   unfolding neighbor_of
-  withdraws k = ap (λ (o : KeySet). record (neighbor_of s des sum (finite.remove req k) out retr)
+  request_removed k = ap (λ (o : KeySet). record
+      (neighbor_of s des sum (finite.remove req k) out retr)
       { outstanding = o }) (keys_remove out k)
 
   pub has_retransmission : (moment : ℕ) (h : Header)

@@ -30,8 +30,8 @@ without_met_request moment lsa n =
 -- list. The LSA is sent and added to that list if and only if it didn't come from this neighbor,
 -- and no instance that is the same or newer is requested of it
 abbrev pub flooded_in_exchange : ℕ → Bool → Lsa → Neighbor → Step
-flooded_in_exchange moment from lsa n =
-    if not from && passes moment lsa (request_of n lsa)
+flooded_in_exchange moment came_in lsa n =
+    if not came_in && passes moment lsa (request_of n lsa)
     then record {
       neighbor = add_retransmission moment lsa.header (without_met_request moment lsa n);
       sends = Updates lsa ∷ [];
@@ -39,12 +39,12 @@ flooded_in_exchange moment from lsa n =
     else no_sends (remove_retransmission (lsa_key lsa) (without_met_request moment lsa n))
 
 abbrev pub flooding : ℕ → Bool → Lsa → Neighbor → Step
-flooding moment from lsa n =
-    if is_exchange_or_later n.state then flooded_in_exchange moment from lsa n else no_sends n
+flooding moment came_in lsa n =
+    if is_exchange_or_later n.state then flooded_in_exchange moment came_in lsa n else no_sends n
 
 -- the same, under a name for contracts
 unfoldable pub flood_step : ℕ → Bool → Lsa → Neighbor → Step
-flood_step moment from lsa n = flooding moment from lsa n
+flood_step moment came_in lsa n = flooding moment came_in lsa n
 
 abbrev pub is_any : {A : Type 0} → List A → Bool
 is_any [] = false

@@ -53,8 +53,8 @@ fn flood_links(
 {
     let mut sent = false;
     for i in 0..links.len() {
-        let from = is_sender(sender, i + 1);
-        let one = links[i].flood(alloc, moment, from, copy)?;
+        let came_in = is_sender(sender, i + 1);
+        let one = links[i].flood(alloc, moment, came_in, copy)?;
         sent = was_sent(sent, one);
     }
     Ok(sent)

@@ -100,8 +100,8 @@ impl Link {
         self.draft.updates()
     }
 
-    /// Floods the copy to the neighbor, from which it came or not. Returns whether it is sent in a
-    /// Link State Update, its age incremented by InfTransDelay (RFC 2328, section 13.3).
+    /// Floods the copy to the neighbor, from which it came in or not. Returns whether it is sent in
+    /// a Link State Update, its age incremented by InfTransDelay (RFC 2328, section 13.3).
     ///
     /// # Errors
     /// `AllocError` if an allocation is refused.
@@ -109,22 +109,22 @@ impl Link {
         &mut self,
         alloc: Global,
         moment: Second,
-        from: bool,
+        came_in: bool,
         copy: &DatabaseCopy<'_>,
     ) -> Result<bool, AllocError>
         ensures does { LinkDoes
-            (neighbor_step (flood_step moment from (lsa_now moment copy.now)))
-            (neighbor_sends (flood_step moment from (lsa_now moment copy.now)))
+            (neighbor_step (flood_step moment came_in (lsa_now moment copy.now)))
+            (neighbor_sends (flood_step moment came_in (lsa_now moment copy.now)))
             self.old self.new result }
         ensures sent { IfOk result (λ sent. sent
-            ≡ is_any (sent_on (flood_step moment from (lsa_now moment copy.now))
+            ≡ is_any (sent_on (flood_step moment came_in (lsa_now moment copy.now))
             self.old.present.neighbor)) }
     {
         let delay = self.interface.delay;
         let Some(neighbor) = &mut self.slot.neighbor else {
             return Ok(false);
         };
-        neighbor.flood(alloc, moment, from, copy, delay, &mut self.draft)
+        neighbor.flood(alloc, moment, came_in, copy, delay, &mut self.draft)
     }
 
     /// Sends the copy in a Link State Update, its age incremented by InfTransDelay, without putting

@@ -57,11 +57,10 @@ impl Area {
         self.database.mark_sent(moment, &sent_key)
     }
 
-    /// Processes an LSA of a Link State Update that was received at the interface with this number,
-    /// if it isn't newer than the copy (RFC 2328, section 13); `case` is what `case_at` tells of
-    /// it. One of the case `Newer` isn't handled here: `router_state` gives it to
-    /// [`flood_and_install`](Area::flood_and_install), and then looks whether it is self-originated
-    /// (section 13.4).
+    /// Carries out each case of a received LSA but `Newer`, which the caller must not hand it: an
+    /// LSA that is newer than the copy goes to [`flood_and_install`](Area::flood_and_install), and
+    /// `router_state` then looks whether it is self-originated (RFC 2328, sections 13 and 13.4).
+    /// `case` is that of `case_at` for this LSA at this interface.
     ///
     /// A duplicate is acknowledged directly, and so is an LSA at MaxAge if there is nothing to
     /// flush. The same instance as on the sender's retransmission list is removed from there. One

@@ -118,10 +118,10 @@ pub fn is_entry(moment: Second, header: &Header, listed: Option<&ListEntry>) -> 
 }
 
 // Not inlined: the prover would visit all parts of the neighbor in each branch (see `connectives`).
-fn gets(from: bool, passes: bool) -> bool
-    ensures { result ≡ (not from && passes) }
+fn gets(came_in: bool, passes: bool) -> bool
+    ensures { result ≡ (not came_in && passes) }
 {
-    !from && passes
+    !came_in && passes
 }
 
 // Not inlined: the prover would visit all parts of the neighbor in each branch (see `connectives`).
@@ -266,7 +266,7 @@ impl Neighbor {
     }
 
     // Removes this key from the request list.
-    fn withdraw(&mut self, header: &Header) -> Result<(), AllocError>
+    fn remove_request(&mut self, header: &Header) -> Result<(), AllocError>
         ensures { NeighborDoes (without_request (key_of header.now)) self.old self.new result }
     {
         self.requests.remove(&header.key())?;
@@ -310,7 +310,7 @@ impl Neighbor {
         let passes = passes(moment, copy, &listed);
         if meets(moment, copy, &listed) {
             let header = copy.header(moment);
-            self.withdraw(&header)?;
+            self.remove_request(&header)?;
         }
         Ok(passes)
     }
@@ -320,20 +320,20 @@ impl Neighbor {
         &mut self,
         alloc: Global,
         moment: Second,
-        from: bool,
+        came_in: bool,
         copy: &DatabaseCopy<'_>,
         delay: u16,
         draft: &mut Draft,
     ) -> Result<bool, AllocError>
-        ensures does { NeighborUpdates delay (flooded_in_exchange moment from
+        ensures does { NeighborUpdates delay (flooded_in_exchange moment came_in
             (lsa_now moment copy.now)) self.old self.new draft.old draft.new result }
         ensures sent { IfOk result (λ sent. sent
-            ≡ is_any (flooded_in_exchange moment from (lsa_now moment copy.now)
+            ≡ is_any (flooded_in_exchange moment came_in (lsa_now moment copy.now)
             self.old.present).sends) }
     {
         let header = copy.header(moment);
         let passes = self.meet(moment, copy)?;
-        let gets = gets(from, passes);
+        let gets = gets(came_in, passes);
         if gets {
             self.add_retransmission(moment, &header)?;
             draft.add_update(alloc, delay, moment, copy)?;
@@ -344,8 +344,8 @@ impl Neighbor {
         Ok(false)
     }
 
-    /// Floods the copy to the neighbor, from which it came or not (RFC 2328, section 13.3). Returns
-    /// whether it is sent in a Link State Update, its age incremented by InfTransDelay.
+    /// Floods the copy to the neighbor, from which it came in or not (RFC 2328, section 13.3).
+    /// Returns whether it is sent in a Link State Update, its age incremented by InfTransDelay.
     ///
     /// # Errors
     /// `AllocError` if an allocation is refused; the caller then rolls back.
@@ -353,19 +353,19 @@ impl Neighbor {
         &mut self,
         alloc: Global,
         moment: Second,
-        from: bool,
+        came_in: bool,
         copy: &DatabaseCopy<'_>,
         delay: u16,
         draft: &mut Draft,
     ) -> Result<bool, AllocError>
-        ensures does { NeighborUpdates delay (flood_step moment from (lsa_now moment copy.now))
+        ensures does { NeighborUpdates delay (flood_step moment came_in (lsa_now moment copy.now))
             self.old self.new draft.old draft.new result }
         ensures sent { IfOk result (λ sent. sent
-            ≡ is_any (flood_step moment from (lsa_now moment copy.now) self.old.present).sends) }
+            ≡ is_any (flood_step moment came_in (lsa_now moment copy.now) self.old.present).sends) }
     {
         let floods = self.standing().state.is_exchange_or_later();
         if floods {
-            return self.flood_in_exchange(alloc, moment, from, copy, delay, draft);
+            return self.flood_in_exchange(alloc, moment, came_in, copy, delay, draft);
         }
         Ok(false)
     }

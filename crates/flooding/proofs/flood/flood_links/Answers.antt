@@ -37,10 +37,10 @@ loop-i-preserved c =
     let F = step c.args.moment c.args.sender lsa in
     let old = get_or c.loop-i.links c.loop-i.i c.index-links-i.result in
     let stepping = ap (λ b. neighbor.step_on (flood_step c.args.moment b lsa) old.present.neighbor)
-    c.is_sender-from.ensures ∙ step_is c.args.moment c.args.sender lsa (c.loop-i.i + 1)
+    c.is_sender-came_in.ensures ∙ step_is c.args.moment c.args.sender lsa (c.loop-i.i + 1)
     old.present old.present.neighbor in
     let sending = ap (λ b. neighbor.sent_on (flood_step c.args.moment b lsa) old.present.neighbor)
-    c.is_sender-from.ensures ∙ sent_is c.args.moment c.args.sender lsa (c.loop-i.i + 1)
+    c.is_sender-came_in.ensures ∙ sent_is c.args.moment c.args.sender lsa (c.loop-i.i + 1)
     old.present old.present.neighbor in
     record {
       floods = finishes_next present draft_of (after_step c.args.moment c.args.sender lsa)

@@ -13,7 +13,7 @@ returns-in_default-clause-does c =
     let none : l.present.neighbor ≡ None = search rules in
     let same = ap (λ (k : KeptLink). k.drafted) c.self.view_is in
     let sent =
-    none_sent (flood_step c.args.moment c.args.from (lsa_now c.args.moment c.args.copy.now))
+    none_sent (flood_step c.args.moment c.args.came_in (lsa_now c.args.moment c.args.copy.now))
     l.present.neighbor l.present.interface.delay l.drafted none in
     record {
       link = first_of (search rules, grind (arith, common_steps));

@@ -14,7 +14,7 @@ returns-then-floods-clause-does c =
     let is = ap (λ s. is_exchange_or_later s.state) (sym c.standing.ensures)
     ∙ sym c.is_exchange_or_later-floods.ensures in
     updates_after c.flood_in_exchange.result refl
-    (floods c.args.moment c.args.from lsa n (is ∙ c.if-floods.true))
+    (floods c.args.moment c.args.came_in lsa n (is ∙ c.if-floods.true))
     c.flood_in_exchange.ensures.does
 
 pub returns-then-floods-clause-sent : goal.returns-then-floods-clause-sent
@@ -25,7 +25,7 @@ returns-then-floods-clause-sent c =
     ∙ sym c.is_exchange_or_later-floods.ensures in
     IfOk-weaker c.flood_in_exchange.result _ _
     (λ x made. made ∙ ap (λ s. is_any s.sends)
-    (floods c.args.moment c.args.from lsa n
+    (floods c.args.moment c.args.came_in lsa n
     (is ∙ c.if-floods.true))) c.flood_in_exchange.ensures.sent
 
 pub returns-clause-does : goal.returns-clause-does
@@ -34,7 +34,7 @@ returns-clause-does c =
     let lsa = lsa_now c.args.moment c.args.copy.now in
     let is = ap (λ s. is_exchange_or_later s.state) (sym c.standing.ensures)
     ∙ sym c.is_exchange_or_later-floods.ensures in
-    updates_nothing _ refl (rests c.args.moment c.args.from lsa n (is ∙ c.if-floods.false))
+    updates_nothing _ refl (rests c.args.moment c.args.came_in lsa n (is ∙ c.if-floods.false))
 
 pub returns-clause-sent : goal.returns-clause-sent
 returns-clause-sent c =
@@ -42,5 +42,5 @@ returns-clause-sent c =
     let lsa = lsa_now c.args.moment c.args.copy.now in
     let is = ap (λ s. is_exchange_or_later s.state) (sym c.standing.ensures)
     ∙ sym c.is_exchange_or_later-floods.ensures in
-    ap (λ s. is_any s.sends) (rests c.args.moment c.args.from lsa n
+    ap (λ s. is_any s.sends) (rests c.args.moment c.args.came_in lsa n
     (is ∙ c.if-floods.false))

@@ -20,7 +20,7 @@ returns-then-gets-clause-does c =
     } in
     let B : Step = no_sends (remove_retransmission (lsa_key lsa) m) in
     let is = ap (λ b. cond b A B) (sym c.if-gets.true ∙ c.gets-gets.ensures
-    ∙ ap (λ b. not c.args.from && b) c.in_ok-passes.ensures.passes) in
+    ∙ ap (λ b. not c.args.came_in && b) c.in_ok-passes.ensures.passes) in
     record {
       ok = c.in_ok-add_retransmission.ensures.ok
           ∙ ap (λ h. add_retransmission c.args.moment h c.meet.new.self.present)
@@ -42,7 +42,7 @@ returns-then-gets-clause-sent c =
     } in
     let B : Step = no_sends (remove_retransmission (lsa_key lsa) m) in
     ap (λ b. is_any (cond b A B).sends) (sym c.if-gets.true ∙ c.gets-gets.ensures
-    ∙ ap (λ b. not c.args.from && b) c.in_ok-passes.ensures.passes)
+    ∙ ap (λ b. not c.args.came_in && b) c.in_ok-passes.ensures.passes)
 
 pub returns-clause-does : goal.returns-clause-does
 returns-clause-does c =
@@ -55,7 +55,7 @@ returns-clause-does c =
     } in
     let B : Step = no_sends (remove_retransmission (lsa_key lsa) m) in
     let is = ap (λ b. cond b A B) (sym c.if-gets.false ∙ c.gets-gets.ensures
-    ∙ ap (λ b. not c.args.from && b) c.in_ok-passes.ensures.passes) in
+    ∙ ap (λ b. not c.args.came_in && b) c.in_ok-passes.ensures.passes) in
     record {
       ok = c.in_ok-remove_retransmission.ensures.ok
           ∙ ap (λ h. remove_retransmission (key_of h) c.meet.new.self.present)
@@ -77,4 +77,4 @@ returns-clause-sent c =
     } in
     let B : Step = no_sends (remove_retransmission (lsa_key lsa) m) in
     ap (λ b. is_any (cond b A B).sends) (sym c.if-gets.false ∙ c.gets-gets.ensures
-    ∙ ap (λ b. not c.args.from && b) c.in_ok-passes.ensures.passes)
+    ∙ ap (λ b. not c.args.came_in && b) c.in_ok-passes.ensures.passes)

@@ -4,8 +4,8 @@ use Rattle.adjacency.specs.lsdb.Headers.{key_of}
 use Rattle.adjacency.specs.Requests.{without_request}
 use Rattle.keyed_map.proofs.Helds.{on_ok}
 use Rattle.adjacency.specs.Views.{neighbor_of}
-use Rattle.adjacency.proofs.Neighbors.{withdraws}
-use Rattle.neighbors.proofs.neighbor.Neighbor.withdraw.Goals as goal
+use Rattle.adjacency.proofs.Neighbors.{request_removed}
+use Rattle.neighbors.proofs.neighbor.Neighbor.remove_request.Goals as goal
 
 pub returns : goal.returns
 returns c =
@@ -21,7 +21,7 @@ returns c =
           (c.in_ok-remove.ensures.ok ∙ ap (finite.remove req) c.key.ensures)
           ∙ ap (λ o. neighbor_of s des sum (finite.remove req (key_of c.args.header.now)) o retr)
           (is ∙ ap (finite.remove out) c.key-2.ensures)
-          ∙ withdraws s des sum req out retr (key_of c.args.header.now)
+          ∙ request_removed s des sum req out retr (key_of c.args.header.now)
           ∙ ap (λ h. without_request (key_of c.args.header.now) h.present) c.self.view_is)
           c.remove-2.ensures.ok;
       committed = search rules;
