@@ -22,7 +22,9 @@ pub fn apply_part(
     ensures { RouterDoes (after_part part moment) router.old router.new result }
 {
     match part {
-        Part::Packet(number, packet) => { receive_packet(router, alloc, moment, number, &packet) }
+        Part::Packet(interface, packet) => {
+            receive_packet(router, alloc, moment, interface, &packet)
+        }
         Part::Tick => tick(router, alloc, moment),
         Part::Redistribute(external, tag, price) => {
             redistribute(router, alloc, moment, external, tag, price)
@@ -32,8 +34,8 @@ pub fn apply_part(
             router.set_answers(answers);
             Ok(())
         }
-        Part::LinkDown(number) => {
-            router.take_down(number);
+        Part::LinkDown(interface) => {
+            router.take_down(interface);
             Ok(())
         }
     }

@@ -42,12 +42,12 @@ impl Event {
         ensures { IfOk result (λ copy. copy ≡ self.now) }
     {
         match self {
-            Event::Packet(number, bytes) => Ok(Event::Packet(*number, bytes.copy()?)),
+            Event::Packet(interface, bytes) => Ok(Event::Packet(*interface, bytes.copy()?)),
             Event::Tick => Ok(Event::Tick),
             Event::Redistribute(tag, price) => Ok(Event::Redistribute(*tag, *price)),
             Event::Withdraw(prefix) => Ok(Event::Withdraw(*prefix)),
             Event::Install(answers) => Ok(Event::Install(answers.copy()?)),
-            Event::LinkDown(number) => Ok(Event::LinkDown(*number)),
+            Event::LinkDown(interface) => Ok(Event::LinkDown(*interface)),
         }
     }
 

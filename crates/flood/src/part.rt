@@ -34,14 +34,14 @@ pub enum Part {
     LinkDown(usize),
 }
 
-fn read_packet(alloc: Global, number: u16, bytes: &[u8]) -> Result<Part, CoreError>
-    ensures part { IfOk result (λ part. IsPartOf (Occurrence.Packet number bytes.now) part) }
+fn read_packet(alloc: Global, interface: u16, bytes: &[u8]) -> Result<Part, CoreError>
+    ensures part { IfOk result (λ part. IsPartOf (Occurrence.Packet interface bytes.now) part) }
     ensures interface { IfOk result (λ part. (count : ℕ)
-        → 1 ≤ number → number ≤ count → HasInterface part count) }
+        → 1 ≤ interface → interface ≤ count → HasInterface part count) }
     ensures tells { RefusesAs (bad_packet (fault_of bytes.now)) result }
 {
     let packet = read(alloc, bytes)?;
-    Ok(Part::Packet(usize::from(number), packet))
+    Ok(Part::Packet(usize::from(interface), packet))
 }
 
 // The two answers, which have to be for one destination whose Link State ID no other announced
@@ -93,11 +93,11 @@ pub fn read_part(router: &Router, alloc: Global, event: &Event) -> Result<Part, 
     ensures address { AnnouncesAddress (occurrence_of event.now) }
 {
     match event {
-        Event::Packet(number, bytes) => read_packet(alloc, *number, bytes.as_slice()),
+        Event::Packet(interface, bytes) => read_packet(alloc, *interface, bytes.as_slice()),
         Event::Tick => Ok(Part::Tick),
         Event::Redistribute(tag, price) => read_answers(router, tag, price),
         Event::Withdraw(prefix) => Ok(Part::Withdraw(*prefix)),
         Event::Install(answers) => Ok(read_vetoes(alloc, answers.as_slice())?),
-        Event::LinkDown(number) => Ok(Part::LinkDown(usize::from(*number))),
+        Event::LinkDown(interface) => Ok(Part::LinkDown(usize::from(*interface))),
     }
 }

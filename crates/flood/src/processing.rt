@@ -20,16 +20,16 @@ use procedures::{Router, end_event, full_routers};
 use std::alloc::Global;
 use words::Second;
 
-fn is_interface(router: &Router, number: u16) -> bool
-    ensures { result ≡ is_interface number router.now.present }
+fn is_interface(router: &Router, interface: u16) -> bool
+    ensures { result ≡ is_interface interface router.now.present }
 {
-    1 <= number && usize::from(number) <= router.area().links().len()
+    1 <= interface && usize::from(interface) <= router.area().links().len()
 }
 
-fn refuses_interface(router: &Router, number: u16) -> Option<CoreError>
-    ensures { result ≡ no_interface number router.now.present None }
+fn refuses_interface(router: &Router, interface: u16) -> Option<CoreError>
+    ensures { result ≡ no_interface interface router.now.present None }
 {
-    if is_interface(router, number) {
+    if is_interface(router, interface) {
         None
     } else {
         Some(CoreError::NoInterface)
@@ -45,12 +45,12 @@ pub fn refuses(router: &Router, moment: Second, event: &Event) -> Option<CoreErr
         return Some(CoreError::ClockBack);
     }
     match event {
-        Event::Packet(number, _) => refuses_interface(router, *number),
+        Event::Packet(interface, _) => refuses_interface(router, *interface),
         Event::Tick => None,
         Event::Redistribute(_, _) => None,
         Event::Withdraw(_) => None,
         Event::Install(_) => None,
-        Event::LinkDown(number) => refuses_interface(router, *number),
+        Event::LinkDown(interface) => refuses_interface(router, *interface),
     }
 }
 

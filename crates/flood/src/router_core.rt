@@ -206,10 +206,10 @@ impl Core {
 
     /// The neighbor at the interface with this number and its state, or `None` if it is Down or
     /// there is no such interface.
-    pub fn neighbor(&self, number: u16) -> Option<(RouterId, NeighborState)>
-        ensures { result ≡ shown_at self.now number }
+    pub fn neighbor(&self, interface: u16) -> Option<(RouterId, NeighborState)>
+        ensures { result ≡ shown_at self.now interface }
     {
-        let place = usize::from(number).checked_sub(1)?;
+        let place = usize::from(interface).checked_sub(1)?;
         let link = self.router.area().links().get(place)?;
         link.neighbor()
     }
@@ -217,15 +217,15 @@ impl Core {
     /// How many acknowledgments and requested LSAs the neighbor at the interface with this number
     /// owes: the entries of its retransmission list and of its request list (RFC 2328, section 10).
     /// 0 if it is Down or there is no such interface. It takes constant time.
-    pub fn owes(&self, number: u16) -> usize
-        ensures { result ≡ owed_at self.now number }
+    pub fn owes(&self, interface: u16) -> usize
+        ensures { result ≡ owed_at self.now interface }
     {
         let links = self.router.area().links();
-        let number = usize::from(number);
-        if number == 0 || number > links.len() {
+        let interface = usize::from(interface);
+        if interface == 0 || interface > links.len() {
             return 0;
         }
-        links[number - 1].owes()
+        links[interface - 1].owes()
     }
 
     /// The candidates for the routing table at the moment of the last event (RFC 2328, section 16).

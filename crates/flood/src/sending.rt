@@ -29,10 +29,10 @@ pub fn outs(alloc: Global, own: RouterId, drafts: Vec<Draft>) -> Result<Vec<Out>
         → AreDrafts links sends drafts.items → OnOk result (AreTexts own links sends) }
 {
     let mut outs = Vec::new(alloc);
-    let mut number = 1;
+    let mut interface = 1;
     for draft in drafts {
-        put_outs(alloc, &mut outs, own, number, draft)?;
-        number += 1;
+        put_outs(alloc, &mut outs, own, interface, draft)?;
+        interface += 1;
     }
     Ok(outs)
 }

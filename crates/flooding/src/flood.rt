@@ -20,12 +20,12 @@ use lsdb::CopyTimes;
 use std::alloc::{AllocError, Global};
 use words::{Key, Second};
 
-fn is_sender(sender: Option<usize>, number: usize) -> bool
-    ensures { result ≡ is_sender sender number }
+fn is_sender(sender: Option<usize>, interface: usize) -> bool
+    ensures { result ≡ is_sender sender interface }
 {
     match sender {
         None => false,
-        Some(s) => s == number,
+        Some(s) => s == interface,
     }
 }
 
@@ -121,20 +121,20 @@ impl Area {
         &mut self,
         alloc: Global,
         moment: Second,
-        number: usize,
+        interface: usize,
         lsa: Lsa,
     ) -> Result<(), AllocError>
-        requires first { 1 ≤ number }
-        requires last { number ≤ length self.old.present.links }
-        ensures { AreaDoes (λ a. flood_and_install moment number lsa (start a)) self.old self.new
+        requires first { 1 ≤ interface }
+        requires last { interface ≤ length self.old.present.links }
+        ensures { AreaDoes (λ a. flood_and_install moment interface lsa (start a)) self.old self.new
             result }
     {
         // For the prover alone, by what the call ensures.
         lsa.prove_age();
         let header = lsa.header();
         let key = header.key();
-        let sent = flood_received(alloc, moment, Some(number), &lsa, &mut self.links)?;
-        delay_acknowledgment(number, header, &mut self.links)?;
+        let sent = flood_received(alloc, moment, Some(interface), &lsa, &mut self.links)?;
+        delay_acknowledgment(interface, header, &mut self.links)?;
         self.database.install(moment, lsa, Some(moment))?;
         if sent {
             return self.database.mark_sent(moment, &key);

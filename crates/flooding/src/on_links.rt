@@ -50,16 +50,16 @@ pub fn any_has_retransmission(key: &Key, links: &[Link]) -> bool
 pub fn bad_request(
     alloc: Global,
     moment: Second,
-    number: usize,
+    interface: usize,
     links: &mut [Link],
 ) -> Result<(), AllocError>
-    requires first { 1 ≤ number }
-    requires last { number ≤ length links.old }
-    ensures { LinksDo (stepped_links (only_at number (mismatch_step moment)))
-        (stepping_sends (only_at number (mismatch_step moment)))
+    requires first { 1 ≤ interface }
+    requires last { interface ≤ length links.old }
+    ensures { LinksDo (stepped_links (only_at interface (mismatch_step moment)))
+        (stepping_sends (only_at interface (mismatch_step moment)))
         links.old links.new result }
 {
-    let i = number - 1;
+    let i = interface - 1;
     links[i].bad_request(alloc, moment)
 }
 
@@ -68,19 +68,19 @@ pub fn bad_request(
 /// # Errors
 /// `AllocError` if an allocation is refused.
 pub fn remove_retransmission(
-    number: usize,
+    interface: usize,
     header: &Header,
     links: &mut [Link],
 ) -> Result<(), AllocError>
-    requires first { 1 ≤ number }
-    requires last { number ≤ length links.old }
+    requires first { 1 ≤ interface }
+    requires last { interface ≤ length links.old }
     ensures { LinksDo
-        (stepped_links (only_at number (λ n. no_sends (remove_retransmission (key_of header.now)
+        (stepped_links (only_at interface (λ n. no_sends (remove_retransmission (key_of header.now)
         n))))
         (λ ls. [])
         links.old links.new result }
 {
-    let i = number - 1;
+    let i = interface - 1;
     links[i].remove_retransmission(header)
 }
 
@@ -89,16 +89,16 @@ pub fn remove_retransmission(
 /// # Errors
 /// `AllocError` if an allocation is refused.
 pub fn delay_acknowledgment(
-    number: usize,
+    interface: usize,
     header: Header,
     links: &mut [Link],
 ) -> Result<(), AllocError>
-    requires first { 1 ≤ number }
-    requires last { number ≤ length links.old }
-    ensures { LinksDo (change_link number (delay_acknowledgment header)) (λ ls. []) links.old
+    requires first { 1 ≤ interface }
+    requires last { interface ≤ length links.old }
+    ensures { LinksDo (change_link interface (delay_acknowledgment header)) (λ ls. []) links.old
         links.new result }
 {
-    let i = number - 1;
+    let i = interface - 1;
     links[i].delay_acknowledgment(header)
 }
 
@@ -107,16 +107,16 @@ pub fn delay_acknowledgment(
 /// # Errors
 /// `AllocError` if an allocation is refused.
 pub fn draft_direct_acknowledgment(
-    number: usize,
+    interface: usize,
     header: Header,
     links: &mut [Link],
 ) -> Result<(), AllocError>
-    requires first { 1 ≤ number }
-    requires last { number ≤ length links.old }
-    ensures { LinksDo (λ ls. ls) (λ ls. sends_at number (Acknowledges header ∷ [])) links.old
+    requires first { 1 ≤ interface }
+    requires last { interface ≤ length links.old }
+    ensures { LinksDo (λ ls. ls) (λ ls. sends_at interface (Acknowledges header ∷ [])) links.old
         links.new result }
 {
-    let i = number - 1;
+    let i = interface - 1;
     links[i].draft_direct_acknowledgment(header)
 }
 
@@ -127,16 +127,16 @@ pub fn draft_direct_acknowledgment(
 pub fn draft_update(
     alloc: Global,
     moment: Second,
-    number: usize,
+    interface: usize,
     copy: &DatabaseCopy<'_>,
     links: &mut [Link],
 ) -> Result<(), AllocError>
-    requires first { 1 ≤ number }
-    requires last { number ≤ length links.old }
+    requires first { 1 ≤ interface }
+    requires last { interface ≤ length links.old }
     ensures { LinksDo (λ ls. ls)
-        (λ ls. sends_at number (Updates (lsa_now moment copy.now) ∷ []))
+        (λ ls. sends_at interface (Updates (lsa_now moment copy.now) ∷ []))
         links.old links.new result }
 {
-    let i = number - 1;
+    let i = interface - 1;
     links[i].draft_copy(alloc, moment, copy)
 }

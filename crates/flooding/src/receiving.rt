@@ -19,17 +19,17 @@ use words::{Key, Second};
 impl Area {
     /// The case of an LSA of a Link State Update that was received at the interface with this
     /// number, 1 or greater.
-    pub fn case_at(&self, moment: Second, number: usize, lsa: &Lsa) -> Case
-        requires first { 1 ≤ number }
-        requires last { number ≤ length self.now.present.links }
-        ensures { case_of result ≡ case_at moment number lsa.now self.now.present }
+    pub fn case_at(&self, moment: Second, interface: usize, lsa: &Lsa) -> Case
+        requires first { 1 ≤ interface }
+        requires last { interface ≤ length self.now.present.links }
+        ensures { case_of result ≡ case_at moment interface lsa.now self.now.present }
     {
         let header = lsa.header();
         let key = header.key();
         let copy = self.database.get(&key);
         let links = self.links();
         let synchronizing = any_exchange_or_loading(links);
-        let i = number - 1;
+        let i = interface - 1;
         case_on(moment, &copy, &links[i], synchronizing, lsa)
     }
 
@@ -39,20 +39,20 @@ impl Area {
         &mut self,
         alloc: Global,
         moment: Second,
-        number: usize,
+        interface: usize,
         key: &Key,
     ) -> Result<(), AllocError>
-        requires first { 1 ≤ number }
-        requires last { number ≤ length self.old.present.links }
+        requires first { 1 ≤ interface }
+        requires last { interface ≤ length self.old.present.links }
         ensures { AreaDoes
-            (λ a. send_copy moment number (finite.get a.database key.now) (start a))
+            (λ a. send_copy moment interface (finite.get a.database key.now) (start a))
             self.old self.new result }
     {
         let Some(copy) = self.database.get(key) else {
             return Ok(());
         };
         let header = copy.header(moment);
-        draft_update(alloc, moment, number, &copy, &mut self.links)?;
+        draft_update(alloc, moment, interface, &copy, &mut self.links)?;
         let sent_key = header.key();
         self.database.mark_sent(moment, &sent_key)
     }
@@ -75,29 +75,33 @@ impl Area {
         alloc: Global,
         case: Case,
         moment: Second,
-        number: usize,
+        interface: usize,
         lsa: &Lsa,
     ) -> Result<(), AllocError>
-        requires first { 1 ≤ number }
-        requires last { number ≤ length self.old.present.links }
+        requires first { 1 ≤ interface }
+        requires last { interface ≤ length self.old.present.links }
         requires other { is_newer (case_of case) ≡ false }
-        ensures { AreaDoes (λ a. after_case (case_of case) moment number lsa.now (start a))
+        ensures { AreaDoes (λ a. after_case (case_of case) moment interface lsa.now (start a))
             self.old self.new result }
     {
         let header = lsa.header();
         match case {
-            Case::NothingToFlush => draft_direct_acknowledgment(number, header, &mut self.links),
+            Case::NothingToFlush => draft_direct_acknowledgment(interface, header, &mut self.links),
             Case::TooSoon => Ok(()),
             // Excluded by what is required: `flood_and_install` takes it.
             Case::Newer => Ok(()),
-            Case::BadRequest => bad_request(alloc, moment, number, &mut self.links),
-            Case::ImpliedAcknowledgment => remove_retransmission(number, &header, &mut self.links),
-            Case::Duplicate => draft_direct_acknowledgment(number, header, &mut self.links),
+            Case::BadRequest => bad_request(alloc, moment, interface, &mut self.links),
+            Case::ImpliedAcknowledgment => remove_retransmission(
+                interface,
+                &header,
+                &mut self.links,
+            ),
+            Case::Duplicate => draft_direct_acknowledgment(interface, header, &mut self.links),
             Case::SequenceWraps => Ok(()),
             Case::SentJustNow => Ok(()),
             Case::Older => {
                 let key = header.key();
-                self.draft_copy(alloc, moment, number, &key)
+                self.draft_copy(alloc, moment, interface, &key)
             }
         }
     }

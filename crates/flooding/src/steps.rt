@@ -125,16 +125,16 @@ impl Area {
     }
 
     /// The neighbor on the link with this number goes Down. It doesn't allocate.
-    pub fn take_down(&mut self, number: usize)
-        requires first { 1 ≤ number }
-        requires last { number ≤ length self.old.present.links }
+    pub fn take_down(&mut self, interface: usize)
+        requires first { 1 ≤ interface }
+        requires last { interface ≤ length self.old.present.links }
         ensures { self.new ≡ record self.old {
           present = record self.old.present {
-            links = change_link number taken_down self.old.present.links;
+            links = change_link interface taken_down self.old.present.links;
           };
         } }
     {
-        self.links[number - 1].take_down();
+        self.links[interface - 1].take_down();
     }
 
     /// Each link takes the step, and each copy that it sends in a Link State Update is marked as
@@ -166,16 +166,16 @@ impl Area {
         &mut self,
         alloc: Global,
         moment: Second,
-        number: usize,
+        interface: usize,
         step: &S,
     ) -> Result<(), AllocError>
-        requires first { 1 ≤ number }
-        requires last { number ≤ length self.old.present.links }
+        requires first { 1 ≤ interface }
+        requires last { interface ≤ length self.old.present.links }
         ensures { AreaDoes
-            (λ a. one_link moment number (S.after step.now) (S.sends step.now) (start a))
+            (λ a. one_link moment interface (S.after step.now) (S.sends step.now) (start a))
             self.old self.new result }
     {
-        let i = number - 1;
+        let i = interface - 1;
         let count = self.links[i].updates().len();
         step.apply(alloc, &self.database, &mut self.links[i])?;
         mark_behind(moment, count, self.links[i].updates(), &mut self.database)

@@ -27,13 +27,13 @@ impl Router {
         &mut self,
         alloc: Global,
         moment: Second,
-        number: usize,
+        interface: usize,
         from: RouterId,
         hello: &Hello,
     ) -> Result<(), AllocError>
-        requires first { 1 ≤ number }
-        requires last { number ≤ length self.old.present.area.links }
-        ensures { RouterDoes (on_area (receive_hello self.old.present.id moment number from
+        requires first { 1 ≤ interface }
+        requires last { interface ≤ length self.old.present.area.links }
+        ensures { RouterDoes (on_area (receive_hello self.old.present.id moment interface from
             hello.now)) self.old self.new result }
     {
         let receiving = ReceivingHello {
@@ -42,7 +42,7 @@ impl Router {
             from,
             hello,
         };
-        self.area.step_link(alloc, moment, number, &receiving)
+        self.area.step_link(alloc, moment, interface, &receiving)
     }
 
     /// A Database Description from the neighbor at the interface with this number (RFC 2328,
@@ -54,13 +54,13 @@ impl Router {
         &mut self,
         alloc: Global,
         moment: Second,
-        number: usize,
+        interface: usize,
         description: &Description,
     ) -> Result<(), AllocError>
-        requires first { 1 ≤ number }
-        requires last { number ≤ length self.old.present.area.links }
+        requires first { 1 ≤ interface }
+        requires last { interface ≤ length self.old.present.area.links }
         ensures { RouterDoes
-            (on_area (receive_description self.old.present.id moment number description.now))
+            (on_area (receive_description self.old.present.id moment interface description.now))
             self.old self.new result }
     {
         let receiving = ReceivingDescription {
@@ -68,7 +68,7 @@ impl Router {
             moment,
             description,
         };
-        self.area.step_link(alloc, moment, number, &receiving)
+        self.area.step_link(alloc, moment, interface, &receiving)
     }
 
     /// A Link State Request for these keys from the neighbor at the interface with this number,
@@ -81,18 +81,18 @@ impl Router {
         &mut self,
         alloc: Global,
         moment: Second,
-        number: usize,
+        interface: usize,
         keys: &[Key],
     ) -> Result<(), AllocError>
-        requires first { 1 ≤ number }
-        requires last { number ≤ length self.old.present.area.links }
+        requires first { 1 ≤ interface }
+        requires last { interface ≤ length self.old.present.area.links }
         requires exchange { any_exchange_or_later
-            (neighbor_at number self.old.present.area.links) ≡ true }
-        ensures { RouterDoes (on_area (receive_request moment number keys.now)) self.old self.new
+            (neighbor_at interface self.old.present.area.links) ≡ true }
+        ensures { RouterDoes (on_area (receive_request moment interface keys.now)) self.old self.new
             result }
     {
         let receiving = ReceivingRequest { moment, keys };
-        self.area.step_link(alloc, moment, number, &receiving)
+        self.area.step_link(alloc, moment, interface, &receiving)
     }
 
     /// A Link State Acknowledgment of these instances from the neighbor at the interface with this
@@ -104,15 +104,15 @@ impl Router {
         &mut self,
         alloc: Global,
         moment: Second,
-        number: usize,
+        interface: usize,
         headers: &[Header],
     ) -> Result<(), AllocError>
-        requires first { 1 ≤ number }
-        requires last { number ≤ length self.old.present.area.links }
-        ensures { RouterDoes (on_area (receive_acknowledgment moment number headers.now))
+        requires first { 1 ≤ interface }
+        requires last { interface ≤ length self.old.present.area.links }
+        ensures { RouterDoes (on_area (receive_acknowledgment moment interface headers.now))
             self.old self.new result }
     {
         let receiving = ReceivingAcknowledgment { moment, headers };
-        self.area.step_link(alloc, moment, number, &receiving)
+        self.area.step_link(alloc, moment, interface, &receiving)
     }
 }

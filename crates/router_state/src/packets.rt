@@ -61,60 +61,60 @@ fn is_from_named(from: RouterId, neighbor: Option<(RouterId, NeighborState)>) ->
 }
 
 // The neighbor at the interface with this number, unless it is Down.
-fn neighbor_at(router: &Router, number: usize) -> Option<(RouterId, NeighborState)>
-    requires first { 1 ≤ number }
-    requires last { number ≤ length router.now.present.area.links }
-    ensures { result ≡ named_neighbor (neighbor_at number router.now.present.area.links) }
+fn neighbor_at(router: &Router, interface: usize) -> Option<(RouterId, NeighborState)>
+    requires first { 1 ≤ interface }
+    requires last { interface ≤ length router.now.present.area.links }
+    ensures { result ≡ named_neighbor (neighbor_at interface router.now.present.area.links) }
 {
     let links = router.area().links();
-    let i = number - 1;
+    let i = interface - 1;
     links[i].neighbor()
 }
 
 // Whether the neighbor at the interface with this number is in Exchange or later.
-fn is_exchange_or_later(router: &Router, number: usize) -> bool
-    requires first { 1 ≤ number }
-    requires last { number ≤ length router.now.present.area.links }
-    ensures { result ≡ any_exchange_or_later (neighbor_at number router.now.present.area.links) }
+fn is_exchange_or_later(router: &Router, interface: usize) -> bool
+    requires first { 1 ≤ interface }
+    requires last { interface ≤ length router.now.present.area.links }
+    ensures { result ≡ any_exchange_or_later (neighbor_at interface router.now.present.area.links) }
 {
-    let neighbor = neighbor_at(router, number);
+    let neighbor = neighbor_at(router, interface);
     is_exchange_or_later_named(neighbor)
 }
 
 // Whether this is the Router ID of the neighbor at the interface with this number.
-fn is_from(from: RouterId, router: &Router, number: usize) -> bool
-    requires first { 1 ≤ number }
-    requires last { number ≤ length router.now.present.area.links }
-    ensures { result ≡ is_from from (neighbor_at number router.now.present.area.links) }
+fn is_from(from: RouterId, router: &Router, interface: usize) -> bool
+    requires first { 1 ≤ interface }
+    requires last { interface ≤ length router.now.present.area.links }
+    ensures { result ≡ is_from from (neighbor_at interface router.now.present.area.links) }
 {
-    let neighbor = neighbor_at(router, number);
+    let neighbor = neighbor_at(router, interface);
     is_from_named(from, neighbor)
 }
 
 // Whether the packet is from another router, and a Hello or from the interface's neighbor.
-fn is_heard(packet: &Packet, router: &Router, number: usize) -> bool
-    requires first { 1 ≤ number }
-    requires last { number ≤ length router.now.present.area.links }
+fn is_heard(packet: &Packet, router: &Router, interface: usize) -> bool
+    requires first { 1 ≤ interface }
+    requires last { interface ≤ length router.now.present.area.links }
     ensures { result ≡ is_heard router.now.present.id packet.now
-        (neighbor_at number router.now.present.area.links) }
+        (neighbor_at interface router.now.present.area.links) }
 {
     let own = router.id();
     let from = packet.router;
     let foreign = is_foreign(own, from);
     let hello = is_hello(&packet.body);
-    let from_neighbor = is_from(from, router, number);
+    let from_neighbor = is_from(from, router, interface);
     foreign && (hello || from_neighbor)
 }
 
 // Whether the packet is processed: whether it is heard, and doesn't wait for Exchange before that.
-fn is_processed(packet: &Packet, router: &Router, number: usize) -> bool
-    requires first { 1 ≤ number }
-    requires last { number ≤ length router.now.present.area.links }
+fn is_processed(packet: &Packet, router: &Router, interface: usize) -> bool
+    requires first { 1 ≤ interface }
+    requires last { interface ≤ length router.now.present.area.links }
     ensures { result ≡ is_processed router.now.present.id packet.now
-        (neighbor_at number router.now.present.area.links) }
+        (neighbor_at interface router.now.present.area.links) }
 {
-    let heard = is_heard(packet, router, number);
-    let exchanging = is_exchange_or_later(router, number);
+    let heard = is_heard(packet, router, interface);
+    let exchanging = is_exchange_or_later(router, interface);
     let early = counts_before_exchange(&packet.body);
     heard && (exchanging || early)
 }
@@ -130,26 +130,33 @@ pub fn receive_packet(
     router: &mut Router,
     alloc: Global,
     moment: Second,
-    number: usize,
+    interface: usize,
     packet: &Packet,
 ) -> Result<(), AllocError>
-    requires first { 1 ≤ number }
-    requires last { number ≤ length router.old.present.area.links }
-    ensures { RouterDoes (after_packet moment number packet.now) router.old router.new result }
+    requires first { 1 ≤ interface }
+    requires last { interface ≤ length router.old.present.area.links }
+    ensures { RouterDoes (after_packet moment interface packet.now) router.old router.new result }
 {
-    if !is_processed(packet, router, number) {
+    if !is_processed(packet, router, interface) {
         return Ok(());
     }
     let from = packet.router;
     match &packet.body {
-        PacketBody::Hello(hello) => router.receive_hello(alloc, moment, number, from, hello),
+        PacketBody::Hello(hello) => router.receive_hello(alloc, moment, interface, from, hello),
         PacketBody::Description(description) => {
-            router.receive_description(alloc, moment, number, description)
+            router.receive_description(alloc, moment, interface, description)
         }
-        PacketBody::Request(keys) => router.receive_request(alloc, moment, number, keys.as_slice()),
-        PacketBody::Update(lsas) => { receive_lsas(router, alloc, moment, number, lsas.as_slice()) }
+        PacketBody::Request(keys) => router.receive_request(
+            alloc,
+            moment,
+            interface,
+            keys.as_slice(),
+        ),
+        PacketBody::Update(lsas) => {
+            receive_lsas(router, alloc, moment, interface, lsas.as_slice())
+        }
         PacketBody::Acknowledgment(headers) => {
-            router.receive_acknowledgment(alloc, moment, number, headers.as_slice())
+            router.receive_acknowledgment(alloc, moment, interface, headers.as_slice())
         }
     }
 }

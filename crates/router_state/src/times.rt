@@ -103,16 +103,16 @@ impl Router {
 
     /// The neighbor at the interface with this number goes Down. It doesn't allocate. If there is
     /// no such interface, nothing changes.
-    pub fn take_down(&mut self, number: usize)
-        ensures { Makes (after_link_down number) self.old self.new }
+    pub fn take_down(&mut self, interface: usize)
+        ensures { Makes (after_link_down interface) self.old self.new }
     {
-        if number == 0 {
+        if interface == 0 {
             return;
         }
         let links = self.area.links();
-        if links.len() < number {
+        if links.len() < interface {
             return;
         }
-        self.area.take_down(number);
+        self.area.take_down(interface);
     }
 }

@@ -67,14 +67,14 @@ impl Router {
         &mut self,
         alloc: Global,
         moment: Second,
-        number: usize,
+        interface: usize,
         bytes: &[u8],
     ) -> Result<bool, AllocError>
-        requires first { 1 ≤ number }
-        requires last { number ≤ length self.old.present.area.links }
+        requires first { 1 ≤ interface }
+        requires last { interface ≤ length self.old.present.area.links }
         ensures goes_on { IfOk result (λ goes. goes
-            ≡ goes_on_at moment number (lsa_in bytes.now) self.old.present) }
-        ensures does { RouterDoes (after_unread moment number (lsa_in bytes.now))
+            ≡ goes_on_at moment interface (lsa_in bytes.now) self.old.present) }
+        ensures does { RouterDoes (after_unread moment interface (lsa_in bytes.now))
             self.old self.new result }
     {
         let unread = read_lsa(alloc, bytes)?;
@@ -82,14 +82,14 @@ impl Router {
             return Ok(true);
         };
         let header = lsa.header();
-        let case = self.area.case_at(moment, number, &lsa);
+        let case = self.area.case_at(moment, interface, &lsa);
         let newer = is_newer(case);
         if newer {
-            self.area.flood_and_install(alloc, moment, number, lsa)?;
+            self.area.flood_and_install(alloc, moment, interface, lsa)?;
             receive_self_originated(self, alloc, moment, &header)?;
             return Ok(true);
         }
-        self.area.after_case(alloc, case, moment, number, &lsa)?;
+        self.area.after_case(alloc, case, moment, interface, &lsa)?;
         Ok(goes_on(case))
     }
 }
@@ -105,16 +105,16 @@ pub fn receive_lsas(
     router: &mut Router,
     alloc: Global,
     moment: Second,
-    number: usize,
+    interface: usize,
     lsas: &[Sequence<u8>],
 ) -> Result<(), AllocError>
-    requires first { 1 ≤ number }
-    requires last { number ≤ length router.old.present.area.links }
-    ensures { RouterDoes (after_lsas moment number lsas.now) router.old router.new result }
+    requires first { 1 ≤ interface }
+    requires last { interface ≤ length router.old.present.area.links }
+    ensures { RouterDoes (after_lsas moment interface lsas.now) router.old router.new result }
 {
     for i in 0..lsas.len() {
         let bytes = lsas[i].as_slice();
-        let goes = router.receive_lsa(alloc, moment, number, bytes)?;
+        let goes = router.receive_lsa(alloc, moment, interface, bytes)?;
         if !goes {
             return Ok(());
         }

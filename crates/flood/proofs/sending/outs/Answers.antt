@@ -17,15 +17,15 @@ loop-draft-init c =
 pub put_outs-requires : goal.put_outs-requires
 put_outs-requires c =
     let gives = c.into_iter-draft-iterator.ensures.into_iter_gives in
-    next_draft c.args.own (into_iter_items c.into_iter-draft-iterator.result) c.loop-draft.number
+    next_draft c.args.own (into_iter_items c.into_iter-draft-iterator.result) c.loop-draft.interface
     c.loop-draft.outs.items (into_iter_items c.loop-draft.draft-iterator)
     (into_iter_items c.next.new.self) c.in-Some.draft
     c.loop-draft.invariant.0 c.in-Some.ensures.steps.0 c.requires.drafts.0 c.requires.drafts.1
     (subst (AreDraftsFrom 1 c.requires.drafts.0 c.requires.drafts.1) (sym gives.0)
     c.requires.drafts.2.from)
 
-pub overflow_add-number : goal.overflow_add-number
-overflow_add-number c =
+pub overflow_add-interface : goal.overflow_add-interface
+overflow_add-interface c =
     let short = ap length c.in-Some.ensures.steps.0 in
     let few = c.loop-draft.invariant.2 in
     omega arith
@@ -37,7 +37,7 @@ loop-draft-preserved c =
     let few = c.loop-draft.invariant.2 in
     let gone = steps.1 in
     let short = ap length steps.0 in (
-      one_sent c.args.own (into_iter_items c.into_iter-draft-iterator.result) c.loop-draft.number
+      one_sent c.args.own (into_iter_items c.into_iter-draft-iterator.result) c.loop-draft.interface
           c.loop-draft.outs.items c.put_outs.new.outs.items
           (into_iter_items c.loop-draft.draft-iterator) (into_iter_items c.next.new.self)
           c.in-Some.draft
@@ -53,7 +53,7 @@ returns-clause-outs c = λ links sends are.
     let gives = c.into_iter-draft-iterator.ensures.into_iter_gives in
     let none = none_left rest (into_iter_len c.loop-draft.draft-iterator) c.loop-draft.invariant.1
     c.in-None.ensures.steps.0 in
-    all_sent c.args.own (into_iter_items c.into_iter-draft-iterator.result) c.loop-draft.number
+    all_sent c.args.own (into_iter_items c.into_iter-draft-iterator.result) c.loop-draft.interface
     c.loop-draft.outs.items rest c.loop-draft.invariant.0 none links sends
     (subst (AreDraftsFrom 1 links sends) (sym gives.0) are.from)
 
@@ -63,6 +63,7 @@ returns-clause-texts c = λ links sends are.
     let gives = c.into_iter-draft-iterator.ensures.into_iter_gives in
     let none = none_left rest (into_iter_len c.loop-draft.draft-iterator) c.loop-draft.invariant.1
     c.in-None.ensures.steps.0 in
-    all_spelled c.args.own (into_iter_items c.into_iter-draft-iterator.result) c.loop-draft.number
+    all_spelled c.args.own (into_iter_items c.into_iter-draft-iterator.result)
+    c.loop-draft.interface
     c.loop-draft.outs.items rest c.loop-draft.invariant.0 none links sends
     (subst (AreDraftsFrom 1 links sends) (sym gives.0) are.from)

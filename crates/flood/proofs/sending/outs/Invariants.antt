@@ -5,7 +5,7 @@ use Rattle.flood.proofs.sending.outs.Given as goal
 
 abbrev pub invariant-loop-draft : goal.invariant-loop-draft
 invariant-loop-draft l =
-    IsSending l.own (into_iter_items l.initial.draft-iterator) l.number l.outs.items
+    IsSending l.own (into_iter_items l.initial.draft-iterator) l.interface l.outs.items
     (into_iter_items l.draft-iterator)
     × (into_iter_len l.draft-iterator ≡ length (into_iter_items l.draft-iterator))
-    × (l.number + length (into_iter_items l.draft-iterator) ≤ 64)
+    × (l.interface + length (into_iter_items l.draft-iterator) ≤ 64)

@@ -5,7 +5,7 @@ use Rattle.flooding.proofs.on_links.delay_acknowledgment.Goals as goal
 
 pub returns : goal.returns
 returns c =
-    one_changes c.args.links.now (c.args.number - 1) c.args.number c.index-links-i.result
+    one_changes c.args.links.now (c.args.interface - 1) c.args.interface c.index-links-i.result
     c.delay_acknowledgment.new.self (omega (arith, c.requires.first, c.requires.last))
     (omega (arith, c.requires.first)) c.index-links-i.is c.delay_acknowledgment.result
     (delay_acknowledgment c.args.header) c.delay_acknowledgment.ensures

@@ -6,7 +6,7 @@ use Rattle.flooding.proofs.on_links.draft_update.Goals as goal
 
 pub returns : goal.returns
 returns c =
-    one_sends c.args.links.now (c.args.number - 1) c.args.number c.index-links-i.result
+    one_sends c.args.links.now (c.args.interface - 1) c.args.interface c.index-links-i.result
     c.draft_copy.new.self (omega (arith, c.requires.first, c.requires.last))
     (omega (arith, c.requires.first)) c.index-links-i.is c.draft_copy.result
     (Updates (lsa_now c.args.moment c.args.copy.now) ∷ []) c.draft_copy.ensures

@@ -8,7 +8,8 @@ use Rattle.flooding.proofs.on_links.remove_retransmission.Goals as goal
 
 pub returns : goal.returns
 returns c =
-    one_steps_silently c.args.links.now (c.args.number - 1) c.args.number c.index-links-i.result
+    one_steps_silently c.args.links.now (c.args.interface - 1) c.args.interface
+    c.index-links-i.result
     c.remove_retransmission.new.self (omega (arith, c.requires.first, c.requires.last))
     (omega (arith, c.requires.first)) c.index-links-i.is c.remove_retransmission.result
     (λ (n : Neighbor). no_sends (remove_retransmission (key_of c.args.header.now) n))

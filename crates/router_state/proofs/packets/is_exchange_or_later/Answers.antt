@@ -8,4 +8,4 @@ pub returns : goal.returns
 returns c =
     c.is_exchange_or_later_named.ensures
     ∙ ap is_exchange_or_later_named c.neighbor_at-neighbor.ensures
-    ∙ exchange_named (neighbor_at c.args.number c.args.router.now.present.area.links)
+    ∙ exchange_named (neighbor_at c.args.interface c.args.router.now.present.area.links)

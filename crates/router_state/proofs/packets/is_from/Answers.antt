@@ -7,4 +7,4 @@ use Rattle.router_state.proofs.packets.is_from.Goals as goal
 pub returns : goal.returns
 returns c =
     c.is_from_named.ensures ∙ ap (is_from_named c.args.from) c.neighbor_at-neighbor.ensures
-    ∙ from_named c.args.from (neighbor_at c.args.number c.args.router.now.present.area.links)
+    ∙ from_named c.args.from (neighbor_at c.args.interface c.args.router.now.present.area.links)

@@ -9,7 +9,7 @@ use Rattle.router_state.proofs.packets.neighbor_at.Goals as goal
 
 pub returns : goal.returns
 returns c =
-    let n = c.args.number in
+    let n = c.args.interface in
     let ls = c.links-links.result.now in
     let same = c.links-links.ensures.present
     ∙ ap (λ (a : RouterArea). a.present.links) c.area.ensures.parts in

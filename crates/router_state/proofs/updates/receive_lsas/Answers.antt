@@ -18,7 +18,7 @@ returns-then-not-goes c =
     let i = c.loop-i.i in
     let split = drop_next i lsas c.index-lsas-i.result (omega (arith, c.loop-i-test.true))
     ∙ ap (λ y. y ∷ drop (i + 1) lsas) (sym (c.as_slice-bytes.ensures ∙ c.index-lsas-i.is)) in
-    done _ (goes_no_further c.args.moment c.args.number lsas c.args.router.now i
+    done _ (goes_no_further c.args.moment c.args.interface lsas c.args.router.now i
     c.as_slice-bytes.result.now c.loop-i.router c.receive_lsa.new.self split
     (sym c.in_ok-goes.ensures.goes_on ∙ c.if-not-goes.true) c.in_ok-goes.ensures.does.makes
     c.loop-i.invariant.goes)
@@ -31,7 +31,7 @@ loop-i-preserved c =
     ∙ ap (λ y. y ∷ drop (i + 1) lsas) (sym (c.as_slice-bytes.ensures ∙ c.index-lsas-i.is)) in
     let does = c.in_ok-goes.ensures.does in
     record {
-      goes = goes_further c.args.moment c.args.number lsas c.args.router.now i
+      goes = goes_further c.args.moment c.args.interface lsas c.args.router.now i
           c.as_slice-bytes.result.now c.loop-i.router c.receive_lsa.new.self split
           (sym c.in_ok-goes.ensures.goes_on ∙ c.if-not-goes.false) does.makes
           c.loop-i.invariant.goes;
@@ -41,6 +41,7 @@ loop-i-preserved c =
 
 pub returns : goal.returns
 returns c =
-    done _ (goes_to_the_end c.args.moment c.args.number c.args.lsas.now c.args.router.now c.loop-i.i
+    done _ (goes_to_the_end c.args.moment c.args.interface c.args.lsas.now c.args.router.now
+    c.loop-i.i
     c.loop-i.router (omega (arith, c.loop-i-test.false, c.loop-i.auto.i-end))
     c.loop-i.invariant.goes)

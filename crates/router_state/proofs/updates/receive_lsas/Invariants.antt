@@ -4,7 +4,7 @@ use Rattle.router_state.proofs.updates.receive_lsas.Given as goal
 
 abbrev pub invariant-loop-i : goal.invariant-loop-i
 invariant-loop-i l = record {
-  goes : Going l.moment l.number l.lsas l.fn.router l.i l.router;
+  goes : Going l.moment l.interface l.lsas l.fn.router l.i l.router;
   links : length l.router.present.area.links ≡ length l.fn.router.present.area.links;
   committed : l.router.committed ≡ l.fn.router.committed;
 }

@@ -22,7 +22,7 @@ use Rattle.flooding.proofs.area.Area.after_case.Goals as goal
 pub returns-in-NothingToFlush : goal.returns-in-NothingToFlush
 returns-in-NothingToFlush c =
     let m = c.args.moment in
-    let n = c.args.number in
+    let n = c.args.interface in
     let lsa = c.args.lsa.now in
     let old = c.args.self.now in
     let cs = Acknowledges c.header-header.result ∷ [] in
@@ -40,7 +40,7 @@ returns-in-NothingToFlush c =
 pub returns-in-TooSoon : goal.returns-in-TooSoon
 returns-in-TooSoon c =
     let m = c.args.moment in
-    let n = c.args.number in
+    let n = c.args.interface in
     let lsa = c.args.lsa.now in
     let old = c.args.self.now in
     area_rests (λ (a : Area). after_case (case_of c.args.case) m n lsa (start a)) old _
@@ -53,7 +53,7 @@ returns-in-Newer c = absurd (false≢true
 pub returns-in-BadRequest : goal.returns-in-BadRequest
 returns-in-BadRequest c =
     let m = c.args.moment in
-    let n = c.args.number in
+    let n = c.args.interface in
     let lsa = c.args.lsa.now in
     let old = c.args.self.now in
     let it = c.self-in-BadRequest in
@@ -81,7 +81,7 @@ returns-in-BadRequest c =
 pub returns-in-ImpliedAcknowledgment : goal.returns-in-ImpliedAcknowledgment
 returns-in-ImpliedAcknowledgment c =
     let m = c.args.moment in
-    let n = c.args.number in
+    let n = c.args.interface in
     let lsa = c.args.lsa.now in
     let old = c.args.self.now in
     let it = c.self-in-ImpliedAcknowledgment in
@@ -116,7 +116,7 @@ returns-in-ImpliedAcknowledgment c =
 pub returns-in-Duplicate : goal.returns-in-Duplicate
 returns-in-Duplicate c =
     let m = c.args.moment in
-    let n = c.args.number in
+    let n = c.args.interface in
     let lsa = c.args.lsa.now in
     let old = c.args.self.now in
     let it = c.self-in-Duplicate in
@@ -134,7 +134,7 @@ returns-in-Duplicate c =
 pub returns-in-SequenceWraps : goal.returns-in-SequenceWraps
 returns-in-SequenceWraps c =
     let m = c.args.moment in
-    let n = c.args.number in
+    let n = c.args.interface in
     let lsa = c.args.lsa.now in
     let old = c.args.self.now in
     area_rests (λ (a : Area). after_case (case_of c.args.case) m n lsa (start a)) old _
@@ -143,7 +143,7 @@ returns-in-SequenceWraps c =
 pub returns-in-SentJustNow : goal.returns-in-SentJustNow
 returns-in-SentJustNow c =
     let m = c.args.moment in
-    let n = c.args.number in
+    let n = c.args.interface in
     let lsa = c.args.lsa.now in
     let old = c.args.self.now in
     area_rests (λ (a : Area). after_case (case_of c.args.case) m n lsa (start a)) old _
@@ -152,7 +152,7 @@ returns-in-SentJustNow c =
 pub returns-in-Older : goal.returns-in-Older
 returns-in-Older c =
     let m = c.args.moment in
-    let n = c.args.number in
+    let n = c.args.interface in
     let lsa = c.args.lsa.now in
     let old = c.args.self.now in
     area_same (λ (a : Area). send_copy m n (finite.get a.database c.key-key.result) (start a))

@@ -13,7 +13,7 @@ use Rattle.flooding.proofs.area.Area.case_at.Goals as goal
 pub returns : goal.returns
 returns c =
     let m = c.args.moment in
-    let n = c.args.number in
+    let n = c.args.interface in
     let ls = c.links-links.result.now in
     let lsa = c.args.lsa.now in
     let d = c.self.inside.database.present in

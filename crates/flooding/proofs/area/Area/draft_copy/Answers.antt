@@ -18,9 +18,9 @@ returns-in_default c =
     let a = c.args.self.now.present in
     let k = c.args.key.now in
     area_rests
-    (λ (x : Area). send_copy c.args.moment c.args.number (finite.get x.database k) (start x))
+    (λ (x : Area). send_copy c.args.moment c.args.interface (finite.get x.database k) (start x))
     c.args.self.now _
-    (ap (λ q. send_copy c.args.moment c.args.number q (start a)) (c.in_default.ensures
+    (ap (λ q. send_copy c.args.moment c.args.interface q (start a)) (c.in_default.ensures
     ∙ ap (λ (v : RouterArea). finite.get v.present.database k) c.self.view_is))
 
 pub returns-in_err-draft_update : goal.returns-in_err-draft_update
@@ -37,7 +37,7 @@ returns-in_err-draft_update c = record {
 pub returns : goal.returns
 returns c =
     let m = c.args.moment in
-    let n = c.args.number in
+    let n = c.args.interface in
     let k = c.args.key.now in
     let items = c.self.inside.links.items in
     let len = c.self.inside.links.len in

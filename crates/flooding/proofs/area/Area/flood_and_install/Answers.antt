@@ -89,7 +89,7 @@ returns-in_err-install c =
 pub returns-then-sent : goal.returns-then-sent
 returns-then-sent c =
     let m = c.args.moment in
-    let k = c.args.number in
+    let k = c.args.interface in
     let lsa = c.args.lsa in
     let items = c.self.inside.links.items in
     let n = c.self.inside.links.len in
@@ -146,7 +146,7 @@ returns-then-sent c =
 pub returns : goal.returns
 returns c =
     let m = c.args.moment in
-    let k = c.args.number in
+    let k = c.args.interface in
     let lsa = c.args.lsa in
     let items = c.self.inside.links.items in
     let n = c.self.inside.links.len in

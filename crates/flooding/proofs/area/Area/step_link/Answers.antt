@@ -60,7 +60,7 @@ pub returns-in_err-apply : goal.returns-in_err-apply
 returns-in_err-apply g c = record {
   area = on_err c.from_residual.result _ c.from_residual.ensures.0;
   drafts = on_err c.from_residual.result _ c.from_residual.ensures.0;
-  committed = area_is (shows_kept committed_link c.self.inside.links.items (c.args.number - 1)
+  committed = area_is (shows_kept committed_link c.self.inside.links.items (c.args.interface - 1)
       c.index_mut.result.now c.apply.new.link c.index_mut.ensures.value
       (c.in_err-apply.ensures.committed ∙ ap committed_link c.index_mut.ensures.value)) refl
       ∙ ap (λ (v : RouterArea). v.committed) c.self.view_is;
@@ -70,7 +70,7 @@ returns-in_err-apply g c = record {
 pub returns : goal.returns
 returns g c =
     let m = c.args.moment in
-    let k = c.args.number in
+    let k = c.args.interface in
     let i = k - 1 in
     let items = c.self.inside.links.items in
     let d = c.self.inside.database.present in

@@ -23,7 +23,7 @@ index_mut-requires c =
 
 pub returns : goal.returns
 returns c =
-    let n = c.args.number in
+    let n = c.args.interface in
     let i = n - 1 in
     let items = c.self.inside.links.items in
     let link = c.index_mut.result.now in

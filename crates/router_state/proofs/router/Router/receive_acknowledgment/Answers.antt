@@ -13,7 +13,7 @@ use Rattle.router_state.proofs.router.Router.receive_acknowledgment.Goals as goa
 pub returns : goal.returns
 returns c =
     let m = c.args.moment in
-    let n = c.args.number in
+    let n = c.args.interface in
     let hs = c.args.headers.now in
     let a : Area = c.self.inside.area.present in
     area_does (receive_acknowledgment m n hs) (keeps_acknowledgment m n hs)

@@ -15,7 +15,7 @@ pub returns : goal.returns
 returns c =
     let id = c.self.inside.id in
     let m = c.args.moment in
-    let n = c.args.number in
+    let n = c.args.interface in
     let d = c.args.description.now in
     let a : Area = c.self.inside.area.present in
     does_same c.step_link.result

@@ -13,7 +13,7 @@ pub returns : goal.returns
 returns c =
     let id = c.self.inside.id in
     let m = c.args.moment in
-    let n = c.args.number in
+    let n = c.args.interface in
     let from = c.args.from in
     let h = c.args.hello.now in
     let a : Area = c.self.inside.area.present in

@@ -17,14 +17,14 @@ use Rattle.router_state.proofs.router.Router.receive_lsa.Goals as goal
 
 pub returns-in_default-clause-goes_on : goal.returns-in_default-clause-goes_on
 returns-in_default-clause-goes_on c =
-    ap (λ (o : Option Lsa). goes_on_at c.args.moment c.args.number o c.args.self.now.present)
+    ap (λ (o : Option Lsa). goes_on_at c.args.moment c.args.interface o c.args.self.now.present)
     (sym c.in_default.is ∙ c.in_ok-unread.ensures)
 
 pub returns-in_default-clause-does : goal.returns-in_default-clause-does
 returns-in_default-clause-does c =
     let r = c.args.self.now in
-    done _ (subst (λ (o : Option Lsa). Makes (after_unread c.args.moment c.args.number o) r r)
-    (sym c.in_default.is ∙ c.in_ok-unread.ensures) (text_skipped c.args.moment c.args.number r))
+    done _ (subst (λ (o : Option Lsa). Makes (after_unread c.args.moment c.args.interface o) r r)
+    (sym c.in_default.is ∙ c.in_ok-unread.ensures) (text_skipped c.args.moment c.args.interface r))
 
 pub returns-in_err-flood_and_install-clause-does : goal.returns-in_err-flood_and_install-clause-does
 returns-in_err-flood_and_install-clause-does c =
@@ -37,7 +37,7 @@ returns-in_err-flood_and_install-clause-does c =
 pub returns-then-newer-clause-goes_on : goal.returns-then-newer-clause-goes_on
 returns-then-newer-clause-goes_on c =
     let m = c.args.moment in
-    let n = c.args.number in
+    let n = c.args.interface in
     let lsa = c.in-Some.lsa in
     newer_goes_on (case_of c.case_at-case.result)
     (sym c.is_newer-newer.ensures ∙ c.if-newer.true)
@@ -60,7 +60,7 @@ returns-in_err-receive_self_originated-clause-does c =
 pub returns-then-newer-clause-does : goal.returns-then-newer-clause-does
 returns-then-newer-clause-does c =
     let m = c.args.moment in
-    let n = c.args.number in
+    let n = c.args.interface in
     let lsa = c.in-Some.lsa in
     let case = case_of c.case_at-case.result in
     let newer = sym c.is_newer-newer.ensures ∙ c.if-newer.true in
@@ -86,7 +86,7 @@ returns-in_err-after_case-clause-does c =
 pub returns-clause-goes_on : goal.returns-clause-goes_on
 returns-clause-goes_on c =
     let m = c.args.moment in
-    let n = c.args.number in
+    let n = c.args.interface in
     let lsa = c.in-Some.lsa in
     c.goes_on.ensures
     ∙ ap goes_on (c.case_at-case.ensures
@@ -97,7 +97,7 @@ returns-clause-goes_on c =
 pub returns-clause-does : goal.returns-clause-does
 returns-clause-does c =
     let m = c.args.moment in
-    let n = c.args.number in
+    let n = c.args.interface in
     let lsa = c.in-Some.lsa in
     let case = case_of c.case_at-case.result in
     done _

@@ -12,7 +12,7 @@ use Rattle.router_state.proofs.router.Router.receive_request.Goals as goal
 pub returns : goal.returns
 returns c =
     let m = c.args.moment in
-    let n = c.args.number in
+    let n = c.args.interface in
     let ks = c.args.keys.now in
     let a : Area = c.self.inside.area.present in
     let last : n ≤ length a.links = omega
