@@ -282,7 +282,7 @@ impl Core {
 
     /// Whether some candidate is in none of the answers of the last `Install`, so that programs
     /// have to be asked again. If there was none at an earlier call or when the answers came, and
-    /// no event since then has changed what an LSA says, no candidate is visited. If there is no
+    /// no event since then has changed the body of an LSA, no candidate is visited. If there is no
     /// valid walk, one is made and kept. `turns` asks this after each event, so a change of the
     /// topology has the shortest paths calculated at once, without a delay that would join several
     /// changes.
@@ -307,7 +307,7 @@ impl Core {
     /// The number of walks, calculations of all shortest paths, that were made and kept since the
     /// start or the copy; it saturates. [`step`](Core::step) makes none. [`stale`](Core::stale)
     /// makes at most one, and only if since the last one an LSA of type 1 or 2 was added or
-    /// removed, has reached MaxAge or says something else, or the addresses of the interfaces
+    /// removed, has reached MaxAge or has another body, or the addresses of the interfaces
     /// differ.
     pub fn walks(&self) -> u64 {
         self.routes.walks()

@@ -308,12 +308,12 @@ impl Lsdb {
         self.copies.keys_where(alloc, &AgedOut { moment })
     }
 
-    /// Whether each copy of an LS type up to this one, or of any type if none is given, says at the
-    /// moment what the copy of its key said when the database was last committed (RFC 2328, section
-    /// 13.2): no copy was added or removed, each has the same body, and neither the earlier copy
-    /// nor the present one is at MaxAge at the moment, unless they have the same age. It visits the
-    /// edits since then. Another sequence number, checksum, age below MaxAge or Options field
-    /// doesn't matter, nor whether a copy was sent.
+    /// Whether the contents of no copy of an LS type up to this one, or of any type if none is
+    /// given, have changed since the database was last committed (RFC 2328, section 13.2): no copy
+    /// was added or removed, each has the same body, and neither the earlier copy nor the present
+    /// one is at MaxAge at the moment, unless they have the same age. It visits the edits since
+    /// then. Another sequence number, checksum, age below MaxAge or Options field doesn't matter,
+    /// nor whether a copy was sent.
     ///
     /// # Errors
     /// `AllocError` if an allocation for the bytes of LSAs, which are compared, is refused.

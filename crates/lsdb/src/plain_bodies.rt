@@ -5,7 +5,7 @@ ghost use Rattle.lsa.specs.declared.body.LsaBody.TheVariants.{External, Router};
 
 use lsa::{ExternalLsa, LsaBody, RouterLink, RouterLsa};
 
-/// Whether both bodies are certainly the same. `false` says nothing: bodies of other types, and
+/// Whether both bodies are certainly the same. `false` leaves it open: bodies of other types, and
 /// those with metrics for types of service, aren't compared.
 pub fn are_plainly_one(old: &LsaBody, new: &LsaBody) -> bool
     ensures { IsTrue result → old.now ≡ new.now }

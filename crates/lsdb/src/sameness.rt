@@ -102,9 +102,10 @@ fn behind_header(text: &[u8]) -> &[u8]
     &text[HEADER_LENGTH..]
 }
 
-/// Whether what this key's copy says, on which routes depend, is the same at `moment` as it was at
-/// `before`: both copies say the same, as in `contents_agree`; or the earlier one said nothing at
-/// `before` and the present one says nothing at `moment`, since each is missing or at MaxAge.
+/// Whether the body of this key's copy, on which routes depend, is the same at `moment` as it was
+/// at `before`: the contents of both copies agree, as in `contents_agree`; or neither the earlier
+/// one at `before` nor the present one at `moment` has a body that counts, since each is missing or
+/// at MaxAge.
 ///
 /// # Errors
 /// `AllocError` if an allocation for their bytes, which are compared, is refused.
@@ -124,8 +125,8 @@ pub fn says_no_more(
     contents_agree(alloc, moment, old, new)
 }
 
-// Whether the earlier copy said nothing at the moment `before`, and the present one says nothing at
-// `moment`.
+// Whether neither the earlier copy at the moment `before` nor the present one at `moment` has a
+// body that counts.
 fn stays_silent(
     before: Second,
     moment: Second,
@@ -141,7 +142,7 @@ fn stays_silent(
     is_silent(moment, new)
 }
 
-// Whether the copy says nothing at the moment: it doesn't exist, or is at MaxAge.
+// Whether the copy has no body that counts at the moment: it doesn't exist, or is at MaxAge.
 fn is_silent(moment: Second, copy: Option<&StoredLsa>) -> bool
     ensures { IsTrue result ↔ (said_by moment (option_copied copy.entry) ≡ None) }
 {

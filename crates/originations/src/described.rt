@@ -42,25 +42,25 @@ fn described_body(
     full: &[Option<RouterId>],
 ) -> Result<LsaBody, AllocError>
     requires { length full.now ≡ length links.now }
-    ensures { IfOk result (λ says. says
+    ensures { IfOk result (λ body. body
         ≡ described_body (interfaces (map present links.now)) full.now) }
 {
-    let mut said = Vec::new(alloc);
+    let mut router_links = Vec::new(alloc);
     for i in 0..links.len() {
         let interface = links[i].interface();
-        put_described(alloc, &mut said, &interface, full[i])?;
+        put_described(alloc, &mut router_links, &interface, full[i])?;
     }
     Ok(LsaBody::Router(RouterLsa {
         flags: 2,
-        links: Sequence::from_vec(said),
+        links: Sequence::from_vec(router_links),
     }))
 }
 
 // Some LSA with this body.
-fn saying(alloc: Global, says: LsaBody) -> Result<Lsa, AllocError>
-    requires fits { BodyFits says }
-    requires size { length (body_text says) ≤ 65515 }
-    ensures { IfOk result (λ lsa. lsa.body ≡ says) }
+fn lsa_with_body(alloc: Global, body: LsaBody) -> Result<Lsa, AllocError>
+    requires fits { BodyFits body }
+    requires size { length (body_text body) ≤ 65515 }
+    ensures { IfOk result (λ lsa. lsa.body ≡ body) }
 {
     let header = Header {
         age: 0,
@@ -72,7 +72,7 @@ fn saying(alloc: Global, says: LsaBody) -> Result<Lsa, AllocError>
         checksum: 0,
         length: 0,
     };
-    let lsa = Lsa::new(alloc, header, says)?;
+    let lsa = Lsa::new(alloc, header, body)?;
     Ok(lsa)
 }
 
@@ -87,12 +87,12 @@ fn described_lsa(
     ensures { IfOk result (λ lsa. lsa.body
         ≡ described_body (interfaces (map present links.now)) full.now) }
 {
-    let says = described_body(alloc, links, full)?;
-    saying(alloc, says)
+    let body = described_body(alloc, links, full)?;
+    lsa_with_body(alloc, body)
 }
 
 // The bytes of the LSA's body.
-fn said(alloc: Global, lsa: &Lsa) -> Result<Vec<u8>, AllocError>
+fn body_bytes(alloc: Global, lsa: &Lsa) -> Result<Vec<u8>, AllocError>
     ensures { IfOk result (λ text. text.items ≡ body_text lsa.now.body) }
 {
     let mut text = Vec::new(alloc);
@@ -104,8 +104,8 @@ fn said(alloc: Global, lsa: &Lsa) -> Result<Vec<u8>, AllocError>
 fn same_body(alloc: Global, a: &Lsa, b: &Lsa) -> Result<bool, AllocError>
     ensures { IfOk result (λ same. same ≡ same_body a.now.body b.now.body) }
 {
-    let left = said(alloc, a)?;
-    let right = said(alloc, b)?;
+    let left = body_bytes(alloc, a)?;
+    let right = body_bytes(alloc, b)?;
     Ok(left.as_slice().cmp(right.as_slice()) == Ordering::Equal)
 }
 
@@ -181,9 +181,9 @@ pub fn links_differ(
     texts_differ(alloc, links, before, &now)
 }
 
-fn lsa_says(alloc: Global, links: &[Link], lsa: &Lsa) -> Result<bool, AllocError>
+fn lsa_describes(alloc: Global, links: &[Link], lsa: &Lsa) -> Result<bool, AllocError>
     requires few { length links.now ≤ 63 }
-    ensures { IfOk result (λ says. says
+    ensures { IfOk result (λ describes. describes
         ≡ same_body lsa.now.body (router_body (map present links.now))) }
 {
     let now = full_routers(alloc, links)?;
@@ -196,17 +196,17 @@ fn lsa_says(alloc: Global, links: &[Link], lsa: &Lsa) -> Result<bool, AllocError
 ///
 /// # Errors
 /// `AllocError` if an allocation is refused.
-pub fn tells(
+pub fn copy_describes(
     alloc: Global,
     links: &[Link],
     copy: Option<DatabaseCopy<'_>>,
 ) -> Result<bool, AllocError>
     requires few { length links.now ≤ 63 }
-    ensures { IfOk result (λ tells. tells
+    ensures { IfOk result (λ describes. describes
         ≡ copy_has_body (router_body (map present links.now)) copy.entry) }
 {
     match copy {
         None => Ok(false),
-        Some(copy) => lsa_says(alloc, links, copy.lsa),
+        Some(copy) => lsa_describes(alloc, links, copy.lsa),
     }
 }

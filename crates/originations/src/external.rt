@@ -43,6 +43,6 @@ pub fn external_instance(
         ≡ next_instance key (finite.get database.now.present key) (external_body external.now)) }
 {
     let key = external_key(own, external.prefix);
-    let says = external_body(alloc, external);
-    next_instance(alloc, database, &key, says)
+    let body = external_body(alloc, external);
+    next_instance(alloc, database, &key, body)
 }

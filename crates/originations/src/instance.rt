@@ -20,12 +20,12 @@ pub fn next_instance(
     alloc: Global,
     database: &Lsdb,
     key: &Key,
-    says: LsaBody,
+    body: LsaBody,
 ) -> Result<Option<Lsa>, AllocError>
-    requires fits { BodyFits says }
-    requires size { length (body_text says) ≤ 65515 }
+    requires fits { BodyFits body }
+    requires size { length (body_text body) ≤ 65515 }
     ensures { IfOk result (λ instance. instance
-        ≡ next_instance key.now (finite.get database.now.present key.now) says) }
+        ≡ next_instance key.now (finite.get database.now.present key.now) body) }
 {
     let Some(sequence) = next_number(database.get(key)) else {
         return Ok(None);
@@ -40,6 +40,6 @@ pub fn next_instance(
         checksum: 0,
         length: 0,
     };
-    let lsa = Lsa::new(alloc, header, says)?;
+    let lsa = Lsa::new(alloc, header, body)?;
     Ok(Some(lsa))
 }

@@ -9,7 +9,7 @@ mod origination;
 mod router;
 mod sequence;
 
-pub use described::{full_routers, links_differ, tells};
+pub use described::{copy_describes, full_routers, links_differ};
 pub use external::external_instance;
 pub use origination::{Origination, interval_is_over, originate_external, originate_router};
 pub use router::router_instance;

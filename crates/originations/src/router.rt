@@ -104,13 +104,13 @@ fn put_links(alloc: Global, links: &mut Vec<RouterLink>, link: &Link) -> Result<
 fn router_body(alloc: Global, links: &[Link]) -> Result<LsaBody, AllocError>
     ensures { IfOk result (λ body. body ≡ router_body (map present links.now)) }
 {
-    let mut said = Vec::new(alloc);
+    let mut router_links = Vec::new(alloc);
     for link in links {
-        put_links(alloc, &mut said, link)?;
+        put_links(alloc, &mut router_links, link)?;
     }
     Ok(LsaBody::Router(RouterLsa {
         flags: 2,
-        links: Sequence::from_vec(said),
+        links: Sequence::from_vec(router_links),
     }))
 }
 
@@ -133,6 +133,6 @@ pub fn router_instance(
         (finite.get database.now.present key) (router_body (map present links.now))) }
 {
     let key = router_key(own);
-    let says = router_body(alloc, links)?;
-    next_instance(alloc, database, &key, says)
+    let body = router_body(alloc, links)?;
+    next_instance(alloc, database, &key, body)
 }

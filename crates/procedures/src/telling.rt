@@ -40,7 +40,7 @@ fn is_current(router: &Router, alloc: Global, moment: Second) -> Result<bool, Al
     }
     let area = router.area();
     let copy = area.database().get(&key);
-    originations::tells(alloc, area.links(), copy)
+    originations::copy_describes(alloc, area.links(), copy)
 }
 
 /// Whether the body of the router-LSA differs from what it was when exactly the neighbors `before`

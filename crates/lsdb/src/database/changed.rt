@@ -1,5 +1,5 @@
-//! Which copies say something else than when the database was last committed, and what they said
-//! then.
+//! Which copies have other contents than when the database was last committed, and which bodies
+//! they had then.
 ghost use Rattle.std.specs.Prelude.{◌≡◌, IfOk, option_copied};
 ghost use Rattle.std.specs.FinMap as finite;
 ghost use Rattle.std.specs.List.{Contains};
@@ -13,9 +13,9 @@ use std::alloc::{AllocError, Global};
 use words::{Key, Second};
 
 impl Lsdb {
-    /// The keys whose copies don't say at the moment what the copies of these keys said when the
-    /// database was last committed, as `keeps` compares them (RFC 2328, section 13.2). A key may be
-    /// there twice. It visits the edits since then.
+    /// The keys whose copies have other contents at the moment than when the database was last
+    /// committed, as `keeps` compares them (RFC 2328, section 13.2). A key may be there twice. It
+    /// visits the edits since then.
     ///
     /// # Errors
     /// `AllocError` if an allocation for the keys, or for the bytes of LSAs, which are compared, is

@@ -35,7 +35,8 @@ fn counts_by<T: KeyRule>(rule: &T, alloc: Global, key: &Key) -> Result<bool, All
     Ok(!rule.leaves_out(alloc, key)?)
 }
 
-// Whether the copies of the keys that count say what they said, or nothing before and now.
+// Whether the copies of the keys that count have the bodies that they had, or none that counts
+// (missing, or at MaxAge) before and now.
 #[derive(Drop)]
 struct OthersSayNoMore<'a, T> {
     rule: &'a T,
@@ -67,10 +68,10 @@ impl<'a, T: KeyRule> ChangeTest<StoredLsa> for OthersSayNoMore<'a, T> {
 }
 
 impl Lsdb {
-    /// Whether each copy whose key counts says at the moment what the copy of its key said when the
-    /// database was last committed, as `keeps` compares them (RFC 2328, section 13.2). A key that
-    /// had no copy then, or one that had MaxAge at the moment `before`, may have none now, or one
-    /// at MaxAge. It visits the edits since then.
+    /// Whether each copy whose key counts has the contents at the moment that the copy of its key
+    /// had when the database was last committed, as `keeps` compares them (RFC 2328, section 13.2).
+    /// A key that had no copy then, or one that had MaxAge at the moment `before`, may have none
+    /// now, or one at MaxAge. It visits the edits since then.
     ///
     /// # Errors
     /// `AllocError` if an allocation for the rule, or for the bytes of LSAs, which are compared, is

@@ -10,7 +10,7 @@ loop-i-preserved c =
     let is = interfaces (map present links) in
     let i = c.loop-i.i in
     described_next is c.args.full.now i c.interface-interface.result c.index-full-i.result
-    c.loop-i.said.items c.put_described.new.links.items (described_links is c.args.full.now)
+    c.loop-i.router_links.items c.put_described.new.links.items (described_links is c.args.full.now)
     (omega (arith, c.loop-i-test.true, count_of links)) (omega (arith, c.requires, count_of links))
     (interface_here links i c.index-links-i.result c.interface-interface.result c.loop-i-test.true
     c.interface-interface.ensures c.index-links-i.is)

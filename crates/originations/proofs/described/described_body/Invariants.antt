@@ -4,5 +4,6 @@ use Rattle.originations.specs.Described.{described_links, interfaces}
 use Rattle.originations.proofs.described.described_body.Given as goal
 
 abbrev pub invariant-loop-i : goal.invariant-loop-i
-invariant-loop-i l = l.said.items ++ described_links (drop l.i (interfaces (map present l.links)))
+invariant-loop-i l = l.router_links.items
+    ++ described_links (drop l.i (interfaces (map present l.links)))
     (drop l.i l.full) ≡ described_links (interfaces (map present l.links)) l.full

@@ -6,6 +6,6 @@ use Rattle.originations.proofs.instance.next_instance.Goals as goal
 
 pub returns : goal.returns
 returns c =
-    instance_is c.args.key.now (finite.get c.args.database.now.present c.args.key.now) c.args.says
+    instance_is c.args.key.now (finite.get c.args.database.now.present c.args.key.now) c.args.body
     c.in-Some.sequence c.in_ok-lsa.lsa
     (c.in-Some.ensures.number ∙ ap next_number c.get.ensures) c.in_ok-lsa.ensures

@@ -10,11 +10,11 @@ use Rattle.originations.proofs.router.router_instance.Goals as goal
 
 pub next_instance-requires-clause-fits : goal.next_instance-requires-clause-fits
 next_instance-requires-clause-fits c =
-    router_fits c.args.links.now c.in_ok-says.says c.in_ok-says.ensures c.requires
+    router_fits c.args.links.now c.in_ok-body.body c.in_ok-body.ensures c.requires
 
 pub next_instance-requires-clause-size : goal.next_instance-requires-clause-size
 next_instance-requires-clause-size c =
-    router_size c.args.links.now c.in_ok-says.says c.in_ok-says.ensures c.requires
+    router_size c.args.links.now c.in_ok-body.body c.in_ok-body.ensures c.requires
 
 pub returns : goal.returns
 returns c =
@@ -24,4 +24,4 @@ returns c =
     c.router_key-key.ensures
     (subst (λ s. IfOk c.next_instance.result
     (λ i. i ≡ next_instance c.router_key-key.result (get c.router_key-key.result) s))
-    c.in_ok-says.ensures c.next_instance.ensures)
+    c.in_ok-body.ensures c.next_instance.ensures)

@@ -3,7 +3,7 @@ use Rattle.event_rules.specs.Endings.{same_body}
 use Rattle.flooding.specs.Links.{present}
 use Rattle.originations.specs.Described.{described_body, interfaces}
 use Rattle.originations.proofs.FullNeighbors.{body_now}
-use Rattle.originations.proofs.described.lsa_says.Goals as goal
+use Rattle.originations.proofs.described.lsa_describes.Goals as goal
 
 pub returns : goal.returns
 returns c =
