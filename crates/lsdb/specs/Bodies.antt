@@ -11,8 +11,8 @@ use Rattle.lsdb.specs.Keys.{key_cmp}
 abbrev pub InOrder : List (Key × LsaBody) → Type 0
 InOrder bodies = AllPairs (λ (a : Key × LsaBody) (b : Key × LsaBody). key_cmp a.0 b.0 ≡ Less) bodies
 
--- exactly the keys of LS types up to this one, or of all types, whose LSAs say something, each once
--- and with its LSA's body, in the order of the keys
+-- exactly the keys of LS types up to this one, or of all types, whose LSAs have a body that counts,
+-- each once and with that body, in the order of the keys
 pub record AreBodies (last : Option ℕ) (said : Key → Option LsaBody)
     (bodies : List (Key × LsaBody)) : Type 0 where
   pub each : (key : Key) (says : LsaBody) → Contains bodies (key, says)

@@ -1,4 +1,4 @@
--- Which copies say the same as earlier copies of their keys (RFC 2328, section 13.2).
+-- Which copies have the contents of earlier copies of their keys (RFC 2328, section 13.2).
 use Rattle.std.specs.Prelude.{◌≡◌, ◌⊎◌, ℕ, ◌≤◌, false, Option, None, Some}
 use Rattle.lsdb.specs.Copies.{DatabaseCopy, is_aged_out}
 use Rattle.words.specs.Numbers.{Moment}

@@ -12,8 +12,8 @@ use lsa::{HEADER_LENGTH, Lsa, write_at_age};
 use std::alloc::{AllocError, Global};
 use words::Second;
 
-/// Whether both copies say the same at the moment (RFC 2328, section 13.2), or neither exists:
-/// their bodies are equal, and they had one age or neither has MaxAge.
+/// Whether both copies have the same contents at the moment (RFC 2328, section 13.2), or neither
+/// exists: their bodies are equal, and they had one age or neither has MaxAge.
 ///
 /// # Errors
 /// `AllocError` if an allocation for their bytes, which are compared, is refused.

@@ -13,7 +13,7 @@ use keyed_map::ChangeTest;
 use std::alloc::{AllocError, Global};
 use words::{Key, Second};
 
-/// A rule for the keys that don't count, whatever their LSAs say.
+/// A rule for the keys that don't count, whatever the bodies of their LSAs.
 pub trait KeyRule {
     ghost use Rattle.words.specs.declared.key.Key.{Key};
 
