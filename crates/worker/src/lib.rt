@@ -17,7 +17,7 @@ pub use settling::{Closed, Settled, close_hub, settle};
 pub use setup::Setup;
 pub use sockets::clock::{ReadsSeconds, SystemSeconds};
 pub use sockets::error::SocketError;
-pub use sockets::refusals::{came, sent};
+pub use sockets::refusals::{judge_receive, judge_send};
 pub use sockets::socket::DatagramSocket;
 pub use sockets::socket_transports::{Sockets, TransportEnd, listening, listening_with};
 pub use sockets::waiting::{Ear, ListensAt, SystemPoller, Waits};

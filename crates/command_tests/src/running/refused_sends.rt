@@ -3,7 +3,7 @@ use std::io;
 use std::process::Abort;
 use std::sync::atomic::{AtomicUsize, Ordering};
 use transports::Transport;
-use worker::{DatagramSocket, Sockets, Wire, came, sent};
+use worker::{DatagramSocket, Sockets, Wire, judge_receive, judge_send};
 
 // EPERM, EACCES, EAGAIN, ENOMEM, EMSGSIZE, EADDRNOTAVAIL, ENETDOWN, ENETUNREACH, ENETRESET,
 // ENOBUFS, ECONNREFUSED, EHOSTDOWN and EHOSTUNREACH of Linux, and at last EINVAL, which a route
@@ -149,11 +149,11 @@ const OF_A_RECEIVE: &[(i32, bool)] = &[
 ];
 
 fn gives_nothing(number: i32) -> bool {
-    came(Err(io::Error::from_raw_os_error(number))) == Ok(None)
+    judge_receive(Err(io::Error::from_raw_os_error(number))) == Ok(None)
 }
 
 fn is_a_fault(number: i32) -> bool {
-    came(Err(io::Error::from_raw_os_error(number))).is_err()
+    judge_receive(Err(io::Error::from_raw_os_error(number))).is_err()
 }
 
 #[test]
@@ -165,5 +165,5 @@ fn a_receive_that_is_refused_gives_nothing(rt: HostRuntime) {
             "{number}"
         );
     }
-    assert!(rt; came(Ok(44)) == Ok(Some(44)) && sent(Ok(44)) == Ok(true));
+    assert!(rt; judge_receive(Ok(44)) == Ok(Some(44)) && judge_send(Ok(44)) == Ok(true));
 }

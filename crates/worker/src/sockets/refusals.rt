@@ -56,7 +56,7 @@ fn is_lost(error: &io::Error) -> bool
 ///
 /// # Errors
 /// `SocketFault` if the error says that the socket is of no use.
-pub fn sent(outcome: io::Result<usize>) -> Result<bool, SocketFault>
+pub fn judge_send(outcome: io::Result<usize>) -> Result<bool, SocketFault>
     ensures went { IfOk outcome (λ _. result ≡ Ok true) }
     ensures lost { IfErr outcome (λ error. IsTrue (is_lost error) → result ≡ Ok false) }
     ensures fault { IfErr outcome (λ error. IsFalse (is_lost error) → IsErr result) }
@@ -73,7 +73,7 @@ pub fn sent(outcome: io::Result<usize>) -> Result<bool, SocketFault>
 ///
 /// # Errors
 /// `SocketFault` if the error says that the socket is of no use.
-pub fn came(outcome: io::Result<usize>) -> Result<Option<usize>, SocketFault>
+pub fn judge_receive(outcome: io::Result<usize>) -> Result<Option<usize>, SocketFault>
     ensures length { IfOk outcome (λ length. result ≡ Ok (Some length)) }
     ensures none { IfErr outcome (λ error. IsTrue (is_passing error) → result ≡ Ok None) }
     ensures fault { IfErr outcome (λ error. IsFalse (is_passing error) → IsErr result) }

@@ -9,7 +9,7 @@ ghost use Rattle.worker.specs.Wires.{HasWaited, IsHeardAt, IsListening, IsNoneTh
 ghost use Rattle.worker.specs.Wires.{IsWhyNoneWaits, IsWhyNoneWaitsAt};
 
 use crate::sockets::error::SocketError;
-use crate::sockets::refusals::{came, sent};
+use crate::sockets::refusals::{judge_receive, judge_send};
 use crate::sockets::socket::DatagramSocket;
 use crate::sockets::waiting::{Ear, ListensAt, SystemPoller, Waits};
 use crate::sockets::wire::{Wire, wire_at};
@@ -181,7 +181,7 @@ fn take<S: DatagramSocket>(
         IfSome n (λ n. S.hands wire.now.socket (take n buffer.new))) }
     ensures none { IfOk result (λ n. IfNone n (IsNoneThere S.refuses wire.now.socket)) }
 {
-    came(wire.socket.receive(buffer))
+    judge_receive(wire.socket.receive(buffer))
 }
 
 /// Waits until a datagram may be there, at most a second. A transport without an ear, as the
@@ -249,7 +249,7 @@ fn say<S: DatagramSocket>(wire: &Wire<S>, bytes: &[u8]) -> Result<bool, SocketFa
     if wire.peer == 0 {
         return Err(SocketFault {});
     }
-    sent(wire.socket.send(bytes, wire.peer))
+    judge_send(wire.socket.send(bytes, wire.peer))
 }
 
 impl<'a, S: DatagramSocket, E: Waits> Transport for Sockets<'a, S, E> {
