@@ -7,7 +7,7 @@ use Rattle.words.specs.declared.route.External.{External}
 use Rattle.hooks.specs.declared.operation.LoaderOperation.{LoaderOperation}
 use Rattle.worker.specs.Lives.{IsSent, IsTried, Senses, Standing}
 use Rattle.worker.specs.Sending.{Gives}
-use Rattle.worker.specs.Turned.{Turned}
+use Rattle.worker.specs.TurnOutcome.{TurnOutcome}
 use Rattle.worker.specs.TurnError.{TurnError}
 use Rattle.worker.specs.Turns.{Offers, Refuses, Took}
 use Rattle.worker.specs.Work.{Work}
@@ -71,7 +71,7 @@ announced offers took refuses wanted knew then known external counted between co
 
 -- what was sent by a transport that didn't fail
 pub sent : {Transport X E : Type 0} (gives : Gives Transport) (faults : Transport → ℕ)
-    (before after : Transport) (turned : Turned) (outcome : Result X E)
+    (before after : Transport) (turned : TurnOutcome) (outcome : Result X E)
     → OnOk outcome (IsSent gives before turned after)
     → OnErr outcome (faults before < faults after) → faults after ≡ faults before
     → IsSent gives before turned after
@@ -81,7 +81,7 @@ sent gives faults before after turned (Err error) is failed fine =
 
 pub served : {Transport Clock : Type 0} (senses : Senses Transport Clock) (w : Work)
     (before after : Standing Transport Clock) (moment : Moment) (shown : Clock) (ended : Moment)
-    (outcome : Result Turned TurnError) (turned : Turned)
+    (outcome : Result TurnOutcome TurnError) (turned : TurnOutcome)
     → senses.shows before.clock moment shown → outcome ≡ Ok turned
     → IsPrefix before.known after.known
     → IsTried senses.shows (λ m. senses.refusals before.known after.known before.events m w)
@@ -107,7 +107,7 @@ served senses w before after moment shown ended outcome turned is_shown is learn
 
 pub unserved : {Transport Clock : Type 0} (senses : Senses Transport Clock) (w : Work)
     (before after : Standing Transport Clock) (moment : Moment) (shown : Clock) (ended : Moment)
-    (outcome : Result Turned TurnError) (error : TurnError)
+    (outcome : Result TurnOutcome TurnError) (error : TurnError)
     → senses.shows before.clock moment shown → outcome ≡ Err error
     → IsPrefix before.known after.known
     → IsTried senses.shows (λ m. senses.refusals before.known after.known before.events m w)

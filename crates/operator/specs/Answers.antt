@@ -15,7 +15,7 @@ use Rattle.hooks.specs.declared.operation.LoaderOperation.{LoaderOperation}
 use Rattle.hooks.specs.declared.operation.LoaderOperation.TheVariants.{Attach, Detach}
 use Rattle.worker.specs.Numbers.{turn_error_number}
 use Rattle.worker.specs.Lives.{Senses, Serves, Standing}
-use Rattle.worker.specs.Turned.{Turned}
+use Rattle.worker.specs.TurnOutcome.{TurnOutcome}
 use Rattle.worker.specs.TurnError.{TurnError}
 use Rattle.worker.specs.Turns.{IsTurned, Offers, Refuses, RefusesFor, Took}
 use Rattle.worker.specs.Work.{Work}
@@ -104,7 +104,7 @@ change before now knew known still due counted counts seat seated = record {
 abbrev pub IsDone : Offers → Took → Refuses → (known now : List LoaderOperation) → Work
     → (counted counts : ℕ) → Type 0
 IsDone offers took refuses known now w counted counts =
-    (moment : Moment) × (turned : Turned)
+    (moment : Moment) × (turned : TurnOutcome)
     × IsTurned offers took refuses known now moment w counted counts turned
 
 -- as a worker serves one: a turn for this work was tried at a moment that the clock showed, and the

@@ -7,7 +7,9 @@ ghost use Rattle.operator.specs.Answers.{IsDone, IsRefusedOnce, IsServed};
 
 use std::sync::Wait;
 use transports::{Seconds, Transport};
-use worker::{Hub, Open, Port, Site, Taker, TurnError, Turned, Work, send_all, turn_with_retries};
+use worker::{
+    Hub, Open, Port, Site, Taker, TurnError, TurnOutcome, Work, send_all, turn_with_retries,
+};
 
 /// The transport and the clock of port 0.
 #[derive(Drop)]
@@ -20,7 +22,7 @@ pub struct Outlet<K: Transport + Drop, C: Seconds + Drop> {
 
 // Sends the outs of a turn, and sets `failed` if the transport fails.
 #[tactic(auto, using(crate::proofs::Done::sent, crate::proofs::Served::never_fewer))]
-fn send<K: Transport>(transport: &mut K, failed: &mut bool, turned: &Turned)
+fn send<K: Transport>(transport: &mut K, failed: &mut bool, turned: &TurnOutcome)
     ensures sent { K.faults transport.new ≡ K.faults transport.old
         → IsSent K.gives transport.old turned.now transport.new }
     ensures faults { K.faults transport.old ≤ K.faults transport.new }

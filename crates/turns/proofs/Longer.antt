@@ -19,7 +19,7 @@ use Rattle.turns.specs.Turns.{IsInstall}
 use Rattle.turns.specs.Turns.{IsPriceOn, IsRedistribute, IsTagOn, IsTurned, IsUnchanged}
 use Rattle.turns.specs.Turns.{IsUnrefreshed, IsVetoOn, IsWordOn, Offers, Refuses, RefusesFor}
 use Rattle.turns.specs.Turns.{TakesFor, Took}
-use Rattle.turns.specs.declared.turned.Turned.{Turned}
+use Rattle.turns.specs.declared.turned.TurnOutcome.{TurnOutcome}
 use Rattle.turns.specs.declared.turned.TurnError.{TurnError}
 use Rattle.turns.specs.declared.work.Work.{Work}
 use Rattle.turns.specs.declared.work.Work.TheVariants as work
@@ -133,7 +133,7 @@ module _ (known more now most : List LoaderOperation) (longer : IsPrefix known m
   )
 
   pub turned_longer : (offers : Offers) (took : Took) (refuses : Refuses) (moment : Moment)
-      (w : Work) (before after : ℕ) (turned : Turned)
+      (w : Work) (before after : ℕ) (turned : TurnOutcome)
       → IsTurned offers took refuses more now moment w before after turned
       → IsTurned offers took refuses known most moment w before after turned
   turned_longer offers took refuses moment w before after turned h = record {

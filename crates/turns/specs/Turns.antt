@@ -34,7 +34,7 @@ use Rattle.flood.specs.Offers.{IsOffered, IsStaleNow}
 use Rattle.flood.specs.Refusals.{RefusesAnewByRules}
 use Rattle.flood.specs.Replay.{BookView, IsAfterEvents}
 use Rattle.flood.specs.NeighborState.{NeighborState}
-use Rattle.turns.specs.declared.turned.Turned.{Turned}
+use Rattle.turns.specs.declared.turned.TurnOutcome.{TurnOutcome}
 use Rattle.turns.specs.declared.turned.TurnError.{TurnError}
 use Rattle.turns.specs.declared.turned.TurnError.TheVariants as turn_error
 use Rattle.turns.specs.declared.work.Work.{Work}
@@ -383,7 +383,7 @@ IsUnchanged refuses events =
 -- refresh is given.
 pub record IsTurned (offers : Offers) (took : Took) (refuses : Refuses)
     (known now : List LoaderOperation) (moment : Moment) (w : Work) (before after : ℕ)
-    (turned : Turned)
+    (turned : TurnOutcome)
     : Type 0 where
   pub stale : Option Bool
   pub outs : TakesFor offers took known now before moment w turned.outs.items stale

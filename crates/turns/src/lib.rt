@@ -25,6 +25,6 @@ pub use hub::Hub;
 pub use port::Port;
 pub use site::{Site, WorkerSeat};
 pub use taker::{Taken, Taker};
-pub use turned::{TurnError, Turned};
+pub use turned::{TurnError, TurnOutcome};
 pub use turns::turn;
 pub use work::Work;

@@ -11,7 +11,7 @@ use thiserror::Error;
 /// They are two lists, since joining them could need memory at a point where neither event can be
 /// undone.
 #[derive(Drop)]
-pub struct Turned {
+pub struct TurnOutcome {
     pub outs: Vec<Out>,
     pub refreshed: Option<Vec<Out>>,
 }

@@ -22,7 +22,7 @@ use crate::port::Port;
 use crate::questions::{make_event, make_install};
 use crate::site::Site;
 use crate::taker::Taker;
-use crate::turned::{TurnError, Turned};
+use crate::turned::{TurnError, TurnOutcome};
 use crate::work::Work;
 use flood::{BookError, CoreError, Out};
 use std::sync::Wait;
@@ -58,7 +58,7 @@ pub fn turn<L: Site, B: Taker<L>, G: Gate, R: Wait>(
     gate: &mut G,
     moment: Second,
     work: &Work,
-) -> Result<Turned, TurnError>
+) -> Result<TurnOutcome, TurnError>
     ensures turned { IfOk result (λ r. IsTurned B.offers B.took B.refuses
         (known_to port.old.asker) (known_to port.new.asker)
         moment work.now port.old.share.amount port.new.share.amount r) }
@@ -86,7 +86,7 @@ pub fn turn<L: Site, B: Taker<L>, G: Gate, R: Wait>(
     gate.pass(port.number);
     let taken = hub.take(rt, &mut port.share, moment, event)?;
     let refreshed = follow(rt, hub, port, moment, changes, taken.stale);
-    Ok(Turned {
+    Ok(TurnOutcome {
         outs: taken.outs,
         refreshed,
     })

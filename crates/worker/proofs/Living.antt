@@ -6,7 +6,7 @@ use Rattle.std.proofs.Common.{◌∙◌, arith}
 use Rattle.std.specs.Prelude.{MatchResult, OnErr}
 use mathlib.Core.List.{IsPrefix}
 use Rattle.turns.specs.Turns.{Offers, Refuses, Took}
-use Rattle.turns.specs.declared.turned.Turned.{Turned}
+use Rattle.turns.specs.declared.turned.TurnOutcome.{TurnOutcome}
 use Rattle.turns.specs.declared.turned.TurnError.{TurnError}
 use Rattle.turns.specs.declared.work.Work.{Work}
 use Rattle.turns.specs.declared.work.Work.TheVariants.{Datagram, Tick}
@@ -48,8 +48,9 @@ module _ {Clock : Type 0} (shows : Shows Clock) (refused : (moment : ℕ) → Tu
   }
 
   pub at_last : (before : Clock) (first : ℕ) (after : Clock) (last tries : ℕ)
-      (outcome : Result Turned TurnError) → IsTriedSo shows refused before first after last tries
-      → tries ≤ 3 → (outcome ≡ Err clock_back → tries ≡ 3)
+      (outcome : Result TurnOutcome TurnError)
+      → IsTriedSo shows refused before first after last tries → tries ≤ 3
+      → (outcome ≡ Err clock_back → tries ≡ 3)
       → IsTried shows refused before first after last outcome
   at_last before first after last tries outcome so few thrice = record {
     again = so.again;
@@ -91,7 +92,7 @@ on_ok (Err e) f h = h
 -- a turn that was tried, and whose outs were sent, if it was taken
 pub serves : {Transport Clock : Type 0} (senses : Senses Transport Clock) (moment : ℕ) (work : Work)
     (before : Standing Transport Clock) (ended : ℕ) (after : Standing Transport Clock)
-    (outcome : Result Turned TurnError) → IsPrefix before.known after.known
+    (outcome : Result TurnOutcome TurnError) → IsPrefix before.known after.known
     → IsTried senses.shows (λ m. senses.refusals before.known after.known before.events m work)
     before.clock moment after.clock ended outcome → senses.asks ended work
     → IfOk outcome (λ turned. senses.turns before.known after.known ended work before.events

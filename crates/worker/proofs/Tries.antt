@@ -5,7 +5,7 @@ use Rattle.words.specs.Numbers.{Moment}
 use Rattle.hooks.specs.declared.operation.LoaderOperation.{LoaderOperation}
 use Rattle.hooks.proofs.Fronts.{prefix_self, prefix_trans}
 use Rattle.turns.specs.Turns.{IsTurned, Offers, Refuses, RefusesFor, Took}
-use Rattle.turns.specs.declared.turned.Turned.{Turned}
+use Rattle.turns.specs.declared.turned.TurnOutcome.{TurnOutcome}
 use Rattle.turns.specs.declared.turned.TurnError.{TurnError}
 use Rattle.turns.specs.declared.work.Work.{Work}
 use Rattle.turns.proofs.Longer.{refused_longer, turned_longer}
@@ -13,7 +13,7 @@ use Rattle.turns.proofs.Longer.{refused_longer, turned_longer}
 -- what it gives is of all that the port knew at first and knows now
 pub turned_first : (offers : Offers) (took : Took) (refuses : Refuses)
     (known more most : List LoaderOperation) (moment : Moment) (w : Work) (before now after : ℕ)
-    (turned : Turned) → IsPrefix known more → now ≡ before
+    (turned : TurnOutcome) → IsPrefix known more → now ≡ before
     → IsTurned offers took refuses more most moment w now after turned
     → IsTurned offers took refuses known most moment w before after turned
 turned_first offers took refuses known more most moment w before now after turned longer same h =
@@ -24,7 +24,7 @@ turned_first offers took refuses known more most moment w before now after turne
 -- so it is of what was answered
 pub answered_first : (offers : Offers) (took : Took) (refuses : Refuses)
     (known more most : List LoaderOperation) (moment : Moment) (w : Work) (before now after : ℕ)
-    (outcome : Result Turned TurnError) → IsPrefix known more → now ≡ before
+    (outcome : Result TurnOutcome TurnError) → IsPrefix known more → now ≡ before
     → IfOk outcome (λ turned. IsTurned offers took refuses more most moment w now after turned)
     → IfOk outcome (λ turned. IsTurned offers took refuses known most moment w before after
     turned)
@@ -36,7 +36,7 @@ answered_first offers took refuses known more most moment w before now after (Er
 
 -- and of what was refused
 pub refused_first : (offers : Offers) (refuses : Refuses) (known more most : List LoaderOperation)
-    (before now : ℕ) (moment : Moment) (w : Work) (outcome : Result Turned TurnError)
+    (before now : ℕ) (moment : Moment) (w : Work) (outcome : Result TurnOutcome TurnError)
     → IsPrefix known more → now ≡ before
     → IfErr outcome (λ error. RefusesFor offers refuses more most now moment w error)
     → IfErr outcome (λ error. RefusesFor offers refuses known most before moment w error)
@@ -48,7 +48,7 @@ refused_first offers refuses known more most before now moment w (Err error) lon
 
 -- so a turn that is tried again was refused at the moment before
 pub refused_so : (offers : Offers) (refuses : Refuses) (known more most : List LoaderOperation)
-    (before now : ℕ) (moment : Moment) (w : Work) (outcome : Result Turned TurnError)
+    (before now : ℕ) (moment : Moment) (w : Work) (outcome : Result TurnOutcome TurnError)
     (error : TurnError) → IsPrefix known more → now ≡ before → outcome ≡ Err error
     → IfErr outcome (λ error. RefusesFor offers refuses more most now moment w error)
     → RefusesFor offers refuses known most before moment w error

@@ -3,7 +3,7 @@ pub use Rattle.turns.specs.Offers
 pub use Rattle.turns.specs.Replay
 pub use Rattle.turns.specs.Turns
 pub use Rattle.turns.specs.Numbers
-pub use Rattle.turns.specs.declared.turned.Turned
+pub use Rattle.turns.specs.declared.turned.TurnOutcome
 pub use Rattle.turns.specs.declared.turned.TurnError
 pub use Rattle.turns.specs.declared.work.Work
 pub mod Sending

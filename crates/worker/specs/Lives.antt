@@ -6,7 +6,7 @@ use Rattle.std.specs.Prelude.{Result, Err, MatchResult}
 use mathlib.Core.List.{IsPrefix}
 use Rattle.hooks.specs.declared.operation.LoaderOperation.{LoaderOperation}
 use Rattle.turns.specs.Turns.{AsksFor, IsTurned, Offers, Refuses, RefusesFor, Took}
-use Rattle.turns.specs.declared.turned.Turned.{Turned}
+use Rattle.turns.specs.declared.turned.TurnOutcome.{TurnOutcome}
 use Rattle.turns.specs.declared.turned.TurnError.{TurnError}
 use Rattle.turns.specs.declared.work.Work.{Work}
 use Rattle.turns.specs.declared.work.Work.TheVariants.{Datagram, Tick}
@@ -30,7 +30,7 @@ Hears Transport = (before : Transport) → (heard : Option (List ℕ)) → (afte
 -- a turn at a moment, for a work, which operations its port knew before it and knows after it, and
 -- how many events that had given before and after
 abbrev pub Turns : Type 1
-Turns = (known now : List LoaderOperation) → (moment : ℕ) → Work → (before after : ℕ) → Turned
+Turns = (known now : List LoaderOperation) → (moment : ℕ) → Work → (before after : ℕ) → TurnOutcome
     → Type 0
 
 -- a turn at a moment, for a work, that was refused, what its port knew and knows, how many events
@@ -88,7 +88,7 @@ senses_of gives hears shows offers took refuses number = record {
 }
 
 -- the transport was given what it sends, and then what its refresh sends
-abbrev pub IsSent : {Transport : Type 0} → Gives Transport → (before : Transport) → Turned
+abbrev pub IsSent : {Transport : Type 0} → Gives Transport → (before : Transport) → TurnOutcome
     → (after : Transport) → Type 0
 IsSent gives before turned after =
     MatchOption turned.refreshed (IsGivenEach gives before turned.outs.items after)
@@ -117,7 +117,7 @@ AreAhead refused first (moment ∷ moments) =
 -- it is refused so at last, it was tried three times again.
 pub record IsTried {Clock : Type 0} (shows : Shows Clock)
     (refused : (moment : ℕ) → TurnError → Type 0) (before : Clock) (first : ℕ)
-    (after : Clock) (last : ℕ) (outcome : Result Turned TurnError) : Type 0 where
+    (after : Clock) (last : ℕ) (outcome : Result TurnOutcome TurnError) : Type 0 where
   pub again : List ℕ
   pub few : length again ≤ 3
   pub shown : ShowsEach shows before again after
@@ -133,7 +133,7 @@ pub record Serves {Transport Clock : Type 0} (senses : Senses Transport Clock) (
     (work : Work)
     (before : Standing Transport Clock) (ended : ℕ) (after : Standing Transport Clock) : Type 0
   where
-    pub outcome : Result Turned TurnError
+    pub outcome : Result TurnOutcome TurnError
     pub learnt : IsPrefix before.known after.known
     pub tried : IsTried senses.shows
         (λ m. senses.refusals before.known after.known before.events m work)

@@ -15,7 +15,7 @@ use std::alloc::Global;
 use std::sync::Wait;
 use transports::{Seconds, SocketFault, Transport};
 use turns::{
-    BookError, CoreError, Gate, Hub, Out, Port, Site, Taker, TurnError, Turned, Work, turn,
+    BookError, CoreError, Gate, Hub, Out, Port, Site, Taker, TurnError, TurnOutcome, Work, turn,
 };
 use words::Second;
 
@@ -199,7 +199,7 @@ fn listen<L: Site, B: Taker<L>, G: Gate, K: Transport, S: Seconds, R: Wait>(
 }
 
 // Whether the turn was refused since the router's clock is ahead.
-fn is_clock_back(turned: &Result<Turned, TurnError>) -> bool
+fn is_clock_back(turned: &Result<TurnOutcome, TurnError>) -> bool
     ensures back { result ≡ true → turned.now ≡ Err clock_back }
     ensures other { result ≡ false → turned.now ≡ Err clock_back → ⊥ }
 {
@@ -224,7 +224,7 @@ pub fn turn_with_retries<L: Site, B: Taker<L>, G: Gate, S: Seconds, R: Wait>(
     clock: &mut S,
     moment: &mut Second,
     work: &Work,
-) -> Result<Turned, TurnError>
+) -> Result<TurnOutcome, TurnError>
     ensures turned { IfOk result (λ r. IsTurned B.offers B.took B.refuses
         (known_to port.old.asker) (known_to port.new.asker) moment.new work.now
         port.old.share.amount port.new.share.amount r) }
@@ -257,7 +257,7 @@ pub fn turn_with_retries<L: Site, B: Taker<L>, G: Gate, S: Seconds, R: Wait>(
 /// # Errors
 /// `SocketFault` if a send fails: the later outs aren't sent.
 #[tactic(auto, using(crate::proofs::Sending::given_both))]
-pub fn send_all<K: Transport>(transport: &mut K, turned: &Turned) -> Result<(), SocketFault>
+pub fn send_all<K: Transport>(transport: &mut K, turned: &TurnOutcome) -> Result<(), SocketFault>
     ensures each { OnOk result (MatchOption turned.now.refreshed
         (IsGivenEach K.gives transport.old turned.now.outs.items transport.new)
         (λ outs. IsGivenEach K.gives transport.old (turned.now.outs.items ++ outs.items)
@@ -275,7 +275,7 @@ pub fn send_all<K: Transport>(transport: &mut K, turned: &Turned) -> Result<(), 
 // Sends what a turn sends; a refused one sends nothing.
 fn send_turned<K: Transport>(
     transport: &mut K,
-    turned: &Result<Turned, TurnError>,
+    turned: &Result<TurnOutcome, TurnError>,
 ) -> Result<(), SocketFault>
     ensures sent { OnOk result (MatchResult turned.now
         (λ turned. IsSent K.gives transport.old turned transport.new)

@@ -8,11 +8,11 @@ use std::time::{Clock, Duration};
 use transports::{Seconds, Times};
 use words::Second;
 use worker::{
-    Gate, Hub, Open, Port, Site, Taker, TurnError, Turned, Work, turn, turn_with_retries,
+    Gate, Hub, Open, Port, Site, Taker, TurnError, TurnOutcome, Work, turn, turn_with_retries,
 };
 
 /// The number of a turn's refusal, or 0.
-pub fn number_of(turned: Result<Turned, TurnError>) -> u8 {
+pub fn number_of(turned: Result<TurnOutcome, TurnError>) -> u8 {
     match turned {
         Ok(_) => 0,
         Err(error) => error.number(),
