@@ -19,11 +19,11 @@ use Rattle.worker.specs.declared.sockets.error.SocketError.TheVariants as socket
 use Rattle.daemon.specs.Lines.{Fails}
 use Rattle.daemon.specs.Texts.{HasFailed}
 use Rattle.daemon.specs.Refusals.{IsLaterWhy, IsPortOf, IsWhy, of_sockets, of_text}
-use Rattle.daemon.specs.Statuses.{EndsSo, HasRanFor, status_of, status_of_ran}
+use Rattle.daemon.specs.Statuses.{EndsSo, HasRanFor, status_of, status_of_ended}
 use Rattle.daemon.specs.declared.error.RouteError.{RouteError}
 use Rattle.daemon.specs.declared.error.RouteError.TheVariants.{Configuration, Bind, Socket, Hooks}
 use Rattle.daemon.specs.declared.error.RouteError.TheVariants.{Output, Memory}
-use Rattle.daemon.specs.declared.ran.Ran.{Ran}
+use Rattle.daemon.specs.declared.ended_router.EndedRouter.{EndedRouter}
 
 -- what is so of a worker that ended as it was told to is so of one whose transport didn't fail
 pub until_told : {A : Type 0} (ended : Ended) (old new : ℕ) (end : TransportEnd)
@@ -40,12 +40,12 @@ pub until_fault : {A : Type 0} (ended : Ended) (old new : ℕ) (end : TransportE
 until_fault ended old new end lived fault is failed none =
     lived (fault.1 (omega (arith, none, ltb-true 0 new (sym is ∙ failed))))
 
-pub ends_so : (unwritten : Type 0) (text : List ℕ) (outcome : Result Ran RouteError) (status : ℕ)
-    → IfOk outcome (HasRanFor text) → IfErr outcome (IsWhy unwritten text)
-    → IfOk outcome (λ ran. status ≡ status_of_ran ran)
+pub ends_so : (unwritten : Type 0) (text : List ℕ) (outcome : Result EndedRouter RouteError)
+    (status : ℕ) → IfOk outcome (HasRanFor text) → IfErr outcome (IsWhy unwritten text)
+    → IfOk outcome (λ ended. status ≡ status_of_ended ended)
     → IfErr outcome (λ error. (status ≡ status_of error) ⊎ ((status ≡ 3) × unwritten))
     → EndsSo unwritten text status
-ends_so unwritten text (Ok ran) status has why is told = inl (ran, has, is)
+ends_so unwritten text (Ok ended) status has why is told = inl (ended, has, is)
 ends_so unwritten text (Err error) status has why is told = inr (error, why, told)
 
 -- ---- why none ran

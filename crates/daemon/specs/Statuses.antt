@@ -11,7 +11,7 @@ use Rattle.daemon.specs.declared.error.RouteError.{RouteError}
 use Rattle.daemon.specs.declared.error.RouteError.TheVariants.{Configuration, Bind, Socket, Hooks}
 use Rattle.daemon.specs.declared.error.RouteError.TheVariants.{Output, Memory}
 use Rattle.daemon.specs.declared.labor.EndedWorker.{EndedWorker}
-use Rattle.daemon.specs.declared.ran.Ran.{Ran}
+use Rattle.daemon.specs.declared.ended_router.EndedRouter.{EndedRouter}
 use Rattle.daemon.specs.Refusals.{IsWhy}
 use Rattle.daemon.specs.Talks.{has_input_failed}
 
@@ -30,20 +30,19 @@ abbrev pub any_failed : List EndedWorker → Bool
 any_failed workers = list_any (λ (worker : EndedWorker). has_failed worker.end) workers
 
 -- 3 if the transport of a worker or of the console failed, or the input couldn't be read, else 0
-abbrev pub status_of_ran : Ran → ℕ
-status_of_ran ran =
-    if any_failed ran.workers.items || has_failed ran.console || has_input_failed ran.ended_console
-    then 3 else 0
+abbrev pub status_of_ended : EndedRouter → ℕ
+status_of_ended ended =
+    if any_failed ended.workers.items || has_failed ended.console
+    || has_input_failed ended.ended_console then 3 else 0
 
 -- ---- which router ran
 
 -- A router that began as this one ran, with this number of interfaces: each had a worker that lived
--- until it was told to end, or its transport failed. So says that there is a `EndedWorker` of it,
--- which only
--- `labor::work` makes.
-pub record HasRan (origin : Router) (interfaces : ℕ) (ran : Ran) : Type 0 where
-  pub began : ran.origin.value ≡ origin
-  pub workers : length ran.workers.items ≡ interfaces
+-- until it was told to end, or its transport failed. So says that there is an `EndedWorker` of it,
+-- which only `labor::work` makes.
+pub record HasRan (origin : Router) (interfaces : ℕ) (ended : EndedRouter) : Type 0 where
+  pub began : ended.origin.value ≡ origin
+  pub workers : length ended.workers.items ≡ interfaces
 
 -- the router's configuration is what was configured, without ports
 abbrev pub IsConfigOf : Configured → Config → Type 0
@@ -52,20 +51,20 @@ IsConfigOf configured config =
     × (config.interfaces ≡ map (λ configured. configured.interface) configured.interfaces)
 
 -- one of this configuration ran, over this number of sockets
-abbrev pub HasRanOver : (sockets : ℕ) → Configured → Ran → Type 0
-HasRanOver sockets configured ran =
-    (config : Config) × IsConfigOf configured config × HasRan (initial config) sockets ran
+abbrev pub HasRanOver : (sockets : ℕ) → Configured → EndedRouter → Type 0
+HasRanOver sockets configured ended =
+    (config : Config) × IsConfigOf configured config × HasRan (initial config) sockets ended
 
 -- one ran whose configuration is said by this text, with a socket for each of its interfaces
-abbrev pub HasRanFor : (text : List ℕ) → Ran → Type 0
-HasRanFor text ran =
+abbrev pub HasRanFor : (text : List ℕ) → EndedRouter → Type 0
+HasRanFor text ended =
     (configured : Configured) × Says text configured
-    × HasRanOver (length configured.interfaces) configured ran
+    × HasRanOver (length configured.interfaces) configured ended
 
 -- the program ends as such a router ran; or, if none did, as the reason says, or as output that
 -- couldn't be written when that was told
 abbrev pub EndsSo : (unwritten : Type 0) → (text : List ℕ) → (status : ℕ) → Type 0
 EndsSo unwritten text status =
-    ((ran : Ran) × HasRanFor text ran × (status ≡ status_of_ran ran))
+    ((ended : EndedRouter) × HasRanFor text ended × (status ≡ status_of_ended ended))
     ⊎ ((error : RouteError) × IsWhy unwritten text error
     × ((status ≡ status_of error) ⊎ ((status ≡ 3) × unwritten)))

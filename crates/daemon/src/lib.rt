@@ -7,17 +7,17 @@
 #![tactic(auto)]
 
 mod crew;
+mod ended_router;
 mod error;
 mod labor;
 mod lines;
 mod pairs;
-mod ran;
 mod running;
 mod talk;
 mod texts;
 mod totals;
 
+pub use ended_router::EndedRouter;
 pub use error::RouteError;
-pub use ran::Ran;
 pub use running::{operate, route, run_router};
 pub use texts::{Unwritable, WritesTexts};

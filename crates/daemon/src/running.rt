@@ -9,15 +9,15 @@ ghost use Rattle.worker.specs.event_rules.Events.{initial};
 ghost use Rattle.worker.specs.Opening.{IsSetUpFor};
 ghost use Rattle.daemon.specs.Refusals.{IsLaterWhy, IsWhy};
 ghost use Rattle.daemon.specs.Statuses.{EndsSo, HasRan, HasRanFor, HasRanOver, IsConfigOf};
-ghost use Rattle.daemon.specs.Statuses.{status_of, status_of_ran};
+ghost use Rattle.daemon.specs.Statuses.{status_of, status_of_ended};
 ghost use Rattle.daemon.specs.Talks.{has_output_failed};
 ghost use Rattle.daemon.specs.Texts.{HasFailed};
 
 use crate::crew::side_by_side;
+use crate::ended_router::EndedRouter;
 use crate::error::RouteError;
 use crate::labor::{EndedWorker, Workers};
 use crate::lines::ReadsBytes;
-use crate::ran::Ran;
 use crate::talk::{Console, EndedConsole};
 use crate::texts::WritesTexts;
 use crate::totals::{Printed, print_totals};
@@ -129,14 +129,14 @@ fn run_crew<
     Ok((ends, ended_console, printed))
 }
 
-// Says how a router ran, and closes what the operator worked with.
-fn ran<L: Site, Q: Wait + Drop, C: Seconds + Drop>(
+// Says how a router ended, and closes what the operator worked with.
+fn end_router<L: Site, Q: Wait + Drop, C: Seconds + Drop>(
     origin: Snapshot<Core>,
     workers: Vec<EndedWorker>,
     desk: Desk<L, Q, Sockets<'_>, C>,
     ended_console: EndedConsole,
     printed: Printed,
-) -> Ran
+) -> EndedRouter
     ensures origin { result.origin.value ≡ origin.value }
     ensures workers { result.workers ≡ workers }
     ensures many { vec_len result.workers ≡ vec_len workers }
@@ -156,7 +156,7 @@ fn ran<L: Site, Q: Wait + Drop, C: Seconds + Drop>(
         clock: _,
         failed: _,
     } = outlet;
-    Ran {
+    EndedRouter {
         origin,
         workers,
         console: transport.end(),
@@ -183,7 +183,7 @@ fn run_all<
     own: Sockets<'x>,
     input: &'x mut I,
     output: &'x mut O,
-) -> Result<Ran, RouteError>
+) -> Result<EndedRouter, RouteError>
     requires setup { IsSetUpFor L.name L.parts L.words L.history setup }
     requires history { history_of loader ≡ L.history }
     requires origin { core ≡ L.origin }
@@ -226,7 +226,7 @@ fn run_all<
         &mut desk,
         &mut console,
     )?;
-    Ok(ran(origin, ends, desk, ended_console, printed))
+    Ok(end_router(origin, ends, desk, ended_console, printed))
 }
 
 /// Runs this router over these transports, one for each interface and that of the first one last,
@@ -249,7 +249,7 @@ pub fn operate<
     own: Sockets<'x>,
     input: &'x mut I,
     output: &'x mut O,
-) -> Result<Ran, RouteError>
+) -> Result<EndedRouter, RouteError>
     requires { CountDownTo 1 (map (λ l. l.own) transports.items) }
     ensures ran { IfOk result (HasRan (initial config.now) (vec_len transports.entry)) }
     ensures refused { IfErr result (IsLaterWhy (HasFailed O.fails)) }
@@ -257,10 +257,10 @@ pub fn operate<
     let ports = transports.len().saturating_add(1);
     let (loader, setup) = Setup::new(rt.alloc(), rt, ports)?;
     let core = core_of(rt.alloc(), config)?;
-    let ran = run_all::<Brand, R, &R, I, O>(
+    let ended = run_all::<Brand, R, &R, I, O>(
         rt, setup, loader, core, transports, own, input, output,
     )?;
-    Ok(ran)
+    Ok(ended)
 }
 
 // Runs it over transports that are all at the same sockets, one for each, and of which no call has
@@ -277,7 +277,7 @@ fn operate_at_same<
     own: Sockets<'x>,
     input: &'x mut I,
     output: &'x mut O,
-) -> Result<Ran, RouteError>
+) -> Result<EndedRouter, RouteError>
     requires interfaces { CountDownTo 1 (map (λ l. l.own) transports.items) }
     requires each { vec_len transports ≡ length own.wires.now }
     requires transports { All (λ l. (l.wires.now ≡ own.wires.now) × (l.faults ≡ 0))
@@ -301,7 +301,7 @@ fn run_over<
     wires: &[Wire],
     input: &mut I,
     output: &mut O,
-) -> Result<Ran, RouteError>
+) -> Result<EndedRouter, RouteError>
     requires { AreBound (λ _ _. ⊤) configured.now.interfaces wires.now }
     ensures ran { IfOk result (HasRanOver (length wires.now) configured.now) }
     ensures refused { IfErr result (IsLaterWhy (HasFailed O.fails)) }
@@ -310,8 +310,8 @@ fn run_over<
     let config = config_of(rt.alloc(), &mut clock, configured)?;
     let transports = listening(rt, rt.alloc(), wires)?;
     let own = Sockets::of_console(wires);
-    let ran = operate_at_same(rt, &config, transports, own, input, output)?;
-    Ok(ran)
+    let ended = operate_at_same(rt, &config, transports, own, input, output)?;
+    Ok(ended)
 }
 
 /// Runs the router that a configuration's text says, with a console that reads commands from
@@ -328,27 +328,27 @@ pub fn run_router<
     R: Net + Threads + Wait + Clock + Log + Files + AllocGlobal + Sync + Drop,
     I: BufRead,
     O: WritesTexts,
->(rt: &R, text: &str, input: &mut I, output: &mut O) -> Result<Ran, RouteError>
+>(rt: &R, text: &str, input: &mut I, output: &mut O) -> Result<EndedRouter, RouteError>
     ensures ran { IfOk result (HasRanFor text.now) }
     ensures refused { IfErr result (IsWhy (HasFailed O.fails) text.now) }
 {
     let alloc = rt.alloc();
     let configured = read_configuration(alloc, text)?;
     let wires = bind_each(rt, alloc, configured.interfaces.as_slice())?;
-    let ran = run_over(rt, &configured, &wires, input, output)?;
-    Ok(ran)
+    let ended = run_over(rt, &configured, &wires, input, output)?;
+    Ok(ended)
 }
 
 // The status after a router ran. If none did, a line on `output` says why.
 #[tactic(auto, using(crate::proofs::Ended::failed_once))]
-fn report<O: WritesTexts>(outcome: Result<Ran, RouteError>, output: &mut O) -> u8
-    ensures ran { IfOk outcome (λ ran. result ≡ status_of_ran ran) }
+fn report<O: WritesTexts>(outcome: Result<EndedRouter, RouteError>, output: &mut O) -> u8
+    ensures ran { IfOk outcome (λ ended. result ≡ status_of_ended ended) }
     ensures refused { IfErr outcome (λ error.
         (result ≡ status_of error) ⊎ ((result ≡ 3) × HasFailed O.fails)) }
     ensures few { result ≤ 4 }
 {
     match outcome {
-        Ok(ran) => ran.status(),
+        Ok(ended) => ended.status(),
         Err(error) => match output.write_text(format_args!("{error}\n")) {
             Ok(()) => error.status(),
             Err(_) => RouteError::Output.status(),
