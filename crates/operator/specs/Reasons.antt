@@ -30,7 +30,7 @@ object_error error = errors.Object (error_number error)
 
 abbrev pub code_error : DecodeFault → (slot : ℕ) → AttachError
 code_error decoding.Memory slot = errors.Memory
-code_error fault slot = errors.Code (fault_number fault) slot
+code_error fault slot = errors.Code slot (fault_number fault)
 
 abbrev pub rule_error : (slot : ℕ) → Rule → AttachError
 rule_error slot rules.Memory = errors.Memory
@@ -59,7 +59,7 @@ IsReason holds unreadable path e =
 abbrev pub reason_text : (path : List ℕ) → AttachError → List ℕ
 reason_text path errors.Read = codes "cannot read " ++ (path ++ 10 ∷ [])
 reason_text path (errors.Object number) = codes "object refusal " ++ (decimal number ++ 10 ∷ [])
-reason_text path (errors.Code number slot) =
+reason_text path (errors.Code slot number) =
     codes "code refusal " ++ (decimal number ++ (codes " slot " ++ (decimal slot ++ 10 ∷ [])))
 reason_text path (errors.Refused slot rule) =
     codes "refused slot " ++ (decimal slot ++ (codes " rule " ++ (decimal rule ++ 10 ∷ [])))

@@ -53,8 +53,8 @@ pub enum AttachError {
     Read,
     /// It is no object file: the number of the refusal.
     Object(u8),
-    /// Its code doesn't decode: the number of the refusal, and the slot.
-    Code(u8, u64),
+    /// Its code doesn't decode: the slot, and the number of the refusal.
+    Code(u64, u8),
     /// The verifier refuses it: the slot, and the number of the rule.
     Refused(u64, u8),
     /// Memory was refused.
@@ -72,7 +72,7 @@ impl From<VerifyError> for AttachError {
             VerifyError::Object(error) => AttachError::Object(error.number()),
             VerifyError::Code(error) => match error.kind {
                 DecodeFault::Memory => AttachError::Memory,
-                kind => AttachError::Code(kind.number(), error.slot as u64),
+                kind => AttachError::Code(error.slot as u64, kind.number()),
             },
             VerifyError::Refused(refusal) => match refusal.rule {
                 Rule::Memory => AttachError::Memory,
@@ -92,7 +92,7 @@ pub fn reason(alloc: Global, path: &str, error: AttachError) -> Result<String, A
     match error {
         AttachError::Read => format!(in alloc; "cannot read {path}\n"),
         AttachError::Object(number) => format!(in alloc; "object refusal {number}\n"),
-        AttachError::Code(number, slot) => {
+        AttachError::Code(slot, number) => {
             format!(in alloc; "code refusal {number} slot {slot}\n")
         }
         AttachError::Refused(slot, rule) => format!(in alloc; "refused slot {slot} rule {rule}\n"),
