@@ -28,7 +28,7 @@ interface_words number c =
     ∷ codes "dead" ∷ decimal c.interface.dead_interval
     ∷ codes "rxmt" ∷ decimal c.interface.retransmit_interval
     ∷ codes "delay" ∷ decimal c.interface.delay
-    ∷ codes "port" ∷ decimal c.port
+    ∷ codes "port" ∷ decimal c.udp_port
     ∷ codes "peer" ∷ decimal c.peer ∷ []
 
 -- a valid Router ID
@@ -36,8 +36,8 @@ abbrev pub IsRouter : RouterNumber → Type 0
 IsRouter router = (1 ≤ router) × (router < 2 ^ 32)
 
 -- a UDP port that datagrams can be sent from and to
-abbrev pub IsPort : ℕ → Type 0
-IsPort port = (1 ≤ port) × (port < 2 ^ 16)
+abbrev pub IsUdpPort : ℕ → Type 0
+IsUdpPort udp_port = (1 ≤ udp_port) × (udp_port < 2 ^ 16)
 
 -- an interface whose numbers are valid and fit into the fields that packets have for them
 pub record IsInterface (c : ConfiguredInterface) : Type 0 where
@@ -49,8 +49,8 @@ pub record IsInterface (c : ConfiguredInterface) : Type 0 where
   pub retransmit_interval :
       (1 ≤ c.interface.retransmit_interval) × (c.interface.retransmit_interval < 2 ^ 16)
   pub delay : (1 ≤ c.interface.delay) × (c.interface.delay ≤ max_age)
-  pub port : IsPort c.port
-  pub peer : IsPort c.peer
+  pub udp_port : IsUdpPort c.udp_port
+  pub peer : IsUdpPort c.peer
 
 -- the line spells the interface with this number
 pub record SaysInterface (number : InterfaceNumber) (line : Line) (c : ConfiguredInterface)

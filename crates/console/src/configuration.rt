@@ -24,7 +24,7 @@ pub struct ConfiguredInterface {
     /// Its network and its parameters.
     pub interface: Interface,
     /// The UDP port of 127.0.0.1 on which it receives.
-    pub port: u16,
+    pub udp_port: u16,
     /// The UDP port of 127.0.0.1 to which it sends.
     pub peer: u16,
 }
@@ -166,7 +166,7 @@ fn interface_of(number: u64, words: &[&str]) -> Option<ConfiguredInterface>
     let dead_interval = read_setting((dead, d), "dead", 1, 4_294_967_295)?;
     let retransmit_interval = read_setting((rxmt, r), "rxmt", 1, 65_535)?;
     let delay = read_setting((delay, t), "delay", 1, 3_600)?;
-    let port = read_setting((port, p), "port", 1, 65_535)?;
+    let udp_port = read_setting((port, p), "port", 1, 65_535)?;
     let peer = read_setting((peer, q), "peer", 1, 65_535)?;
     Some(ConfiguredInterface {
         interface: Interface {
@@ -178,7 +178,7 @@ fn interface_of(number: u64, words: &[&str]) -> Option<ConfiguredInterface>
             retransmit_interval: retransmit_interval as u16,
             delay: delay as u16,
         },
-        port: port as u16,
+        udp_port: udp_port as u16,
         peer: peer as u16,
     })
 }

@@ -18,7 +18,7 @@ use Rattle.worker.specs.declared.sockets.error.SocketError.{SocketError}
 use Rattle.worker.specs.declared.sockets.error.SocketError.TheVariants as socket_error
 use Rattle.daemon.specs.Lines.{Fails}
 use Rattle.daemon.specs.Texts.{HasFailed}
-use Rattle.daemon.specs.Refusals.{IsLaterWhy, IsPortOf, IsWhy, of_sockets, of_text}
+use Rattle.daemon.specs.Refusals.{IsLaterWhy, IsUdpPortOf, IsWhy, of_sockets, of_text}
 use Rattle.daemon.specs.Statuses.{EndsSo, HasRanFor, status_of, status_of_ended}
 use Rattle.daemon.specs.declared.error.RouteError.{RouteError}
 use Rattle.daemon.specs.declared.error.RouteError.TheVariants.{Configuration, Bind, Socket, Hooks}
@@ -58,7 +58,7 @@ failed_once fails before after failed = (before, after, failed)
 pub unprinted_why : (unwritten : Type 0) (error : RouteError) → IsLaterWhy ⊥ error
     → IsLaterWhy unwritten error
 unprinted_why unwritten (Configuration line) is = is
-unprinted_why unwritten (Bind port) is = absurd is
+unprinted_why unwritten (Bind udp_port) is = absurd is
 unprinted_why unwritten (Hooks number) is = is
 unprinted_why unwritten Socket is = tt
 unprinted_why unwritten Output is = absurd is
@@ -67,7 +67,7 @@ unprinted_why unwritten Memory is = tt
 pub unwaited_why : {Socket : Type 0} (unwritten : Type 0) (fails : Socket → Type 0)
     (wires : List (Wire Socket)) (why : SocketError) (error : RouteError)
     → IsWhyNoneWaits fails wires why → error ≡ of_sockets why → IsLaterWhy unwritten error
-unwaited_why unwritten fails wires (socket_error.Bind port) error is same = absurd is
+unwaited_why unwritten fails wires (socket_error.Bind udp_port) error is same = absurd is
 unwaited_why unwritten fails wires socket_error.Wait error is same =
     subst (IsLaterWhy unwritten) (sym same) tt
 unwaited_why unwritten fails wires socket_error.Memory error is same =
@@ -76,7 +76,7 @@ unwaited_why unwritten fails wires socket_error.Memory error is same =
 pub later_why : (unwritten : Type 0) (text : List ℕ) (configured : Configured) (error : RouteError)
     → Says text configured → IsLaterWhy unwritten error → IsWhy unwritten text error
 later_why unwritten text configured (Configuration line) says is = inr (is, (configured, says))
-later_why unwritten text configured (Bind port) says is = absurd is
+later_why unwritten text configured (Bind udp_port) says is = absurd is
 later_why unwritten text configured (Hooks number) says is = (is, (configured, says))
 later_why unwritten text configured Socket says is = (configured, says)
 later_why unwritten text configured Output says is = (is, (configured, says))
@@ -96,9 +96,10 @@ pub socket_why : (unwritten : Type 0) (text : List ℕ) (configured : Configured
     (interfaces : List ConfiguredInterface) (why : SocketError) (error : RouteError)
     → Says text configured → interfaces ≡ configured.interfaces
     → IsRefusalOf (λ _. ⊤) interfaces why → error ≡ of_sockets why → IsWhy unwritten text error
-socket_why unwritten text configured interfaces (socket_error.Bind port) error says are is same =
+socket_why unwritten text configured interfaces (socket_error.Bind udp_port) error says are is
+    same =
     subst (IsWhy unwritten text) (sym same)
-    (configured, says, subst (λ l. IsPortOf l port) are is.1)
+    (configured, says, subst (λ l. IsUdpPortOf l udp_port) are is.1)
 socket_why unwritten text configured interfaces socket_error.Wait error says are is same =
     subst (IsWhy unwritten text) (sym same) (configured, says)
 socket_why unwritten text configured interfaces socket_error.Memory error says are is same =

@@ -19,7 +19,7 @@ of_text (configuration.Line line) = Configuration line
 of_text configuration.Memory = Memory
 
 abbrev pub of_sockets : SocketError → RouteError
-of_sockets (socket_error.Bind port) = Bind port
+of_sockets (socket_error.Bind udp_port) = Bind udp_port
 of_sockets socket_error.Wait = Socket
 of_sockets socket_error.Memory = Memory
 
@@ -34,25 +34,25 @@ of_hooks hook_error.Memory = Memory
 -- `unwritten` says that the output couldn't be written.
 abbrev pub IsLaterWhy : (unwritten : Type 0) → RouteError → Type 0
 IsLaterWhy unwritten (Configuration line) = line ≡ 1
-IsLaterWhy unwritten (Bind port) = ⊥
+IsLaterWhy unwritten (Bind udp_port) = ⊥
 IsLaterWhy unwritten (Hooks number) = (number ≡ 1) ⊎ (number ≡ 3)
 IsLaterWhy unwritten Socket = Unit {0}
 IsLaterWhy unwritten Output = unwritten
 IsLaterWhy unwritten Memory = Unit {0}
 
--- one of these interfaces is to have its socket at this port
-abbrev pub IsPortOf : List ConfiguredInterface → (port : ℕ) → Type 0
-IsPortOf interfaces port = SomeIndex interfaces (λ k.
-    slice_index_or (map (λ configured. configured.port) interfaces) k port ≡ port)
+-- one of these interfaces is to have its socket at this UDP port
+abbrev pub IsUdpPortOf : List ConfiguredInterface → (udp_port : ℕ) → Type 0
+IsUdpPortOf interfaces udp_port = SomeIndex interfaces (λ k.
+    slice_index_or (map (λ configured. configured.udp_port) interfaces) k udp_port ≡ udp_port)
 
 -- Why no router that this text says runs: the first line that is wrong or missing, or that of the
--- router, if it isn't within the profile; a port of one of its interfaces; no places for those who
--- ask the programs; output that couldn't be written.
+-- router, if it isn't within the profile; a UDP port of one of its interfaces; no places for those
+-- who ask the programs; output that couldn't be written.
 abbrev pub IsWhy : (unwritten : Type 0) → (text : List ℕ) → RouteError → Type 0
 IsWhy unwritten text (Configuration line) =
     Refuses text line ⊎ ((line ≡ 1) × ((configured : Configured) × Says text configured))
-IsWhy unwritten text (Bind port) =
-    (configured : Configured) × Says text configured × IsPortOf configured.interfaces port
+IsWhy unwritten text (Bind udp_port) =
+    (configured : Configured) × Says text configured × IsUdpPortOf configured.interfaces udp_port
 IsWhy unwritten text (Hooks number) =
     ((number ≡ 1) ⊎ (number ≡ 3)) × ((configured : Configured) × Says text configured)
 IsWhy unwritten text Socket = (configured : Configured) × Says text configured

@@ -19,7 +19,7 @@ use Rattle.daemon.specs.Talks.{has_input_failed}
 abbrev pub status_of : RouteError → ℕ
 status_of (Configuration line) = 1
 status_of (Hooks number) = 1
-status_of (Bind port) = 3
+status_of (Bind udp_port) = 3
 status_of Socket = 3
 status_of Output = 3
 status_of Memory = 4
@@ -44,7 +44,7 @@ pub record HasRan (origin : Router) (interfaces : ℕ) (ended : EndedRouter) : T
   pub began : ended.origin.value ≡ origin
   pub workers : length ended.workers.items ≡ interfaces
 
--- the router's configuration is what was configured, without ports
+-- the router's configuration is what was configured, without UDP ports
 abbrev pub IsConfigOf : Configured → Config → Type 0
 IsConfigOf configured config =
     (config.router ≡ configured.router)

@@ -78,7 +78,7 @@ impl From<SocketError> for RouteError {
 
     fn from(error: SocketError) -> RouteError {
         match error {
-            SocketError::Bind(port) => RouteError::Bind(port),
+            SocketError::Bind(udp_port) => RouteError::Bind(udp_port),
             SocketError::Wait => RouteError::Socket,
             SocketError::Memory => RouteError::Memory,
         }

@@ -41,7 +41,7 @@ use worker::{
     Closed, ConfigError, Core, Setup, Site, Sockets, SystemSeconds, Wire, bind_each, listening,
 };
 
-// The interfaces of a configuration, without their ports.
+// The interfaces of a configuration, without their UDP ports.
 fn interfaces_of(
     alloc: Global,
     configured: &[ConfiguredInterface],
@@ -320,9 +320,9 @@ fn run_over<
 /// warning `worker N stopped` is logged.
 ///
 /// # Errors
-/// `Configuration` if the text says none, `Bind` if a port can't be bound, `Socket` if the sockets
-/// can't be waited at, `Hooks` if the programs have no places, tried in this order; `Output` if the
-/// output can't be written, `Memory` if memory was refused or a thread couldn't be started.
+/// `Configuration` if the text says none, `Bind` if a UDP port can't be bound, `Socket` if the
+/// sockets can't be waited at, `Hooks` if the programs have no places, tried in this order; `Output`
+/// if the output can't be written, `Memory` if memory was refused or a thread couldn't be started.
 #[tactic(auto, using(crate::proofs::Ended::text_why, crate::proofs::Ended::socket_why, crate::proofs::Ended::later_why))]
 pub fn run_router<
     R: Net + Threads + Wait + Clock + Log + Files + AllocGlobal + Sync + Drop,

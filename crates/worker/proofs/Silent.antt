@@ -101,5 +101,5 @@ pub unwaited : {Socket : Type 0} (fails : Socket → Type 0) (wires : List (Wire
 unwaited fails wires zero errors.Wait h some within = absurd (omega (arith, some))
 unwaited fails wires (suc before) errors.Wait h some within =
     inr (suc before, unwaited_there fails wires before (omega (arith, within)) h)
-unwaited fails wires interface (errors.Bind port) h some within = absurd h
+unwaited fails wires interface (errors.Bind udp_port) h some within = absurd h
 unwaited fails wires interface errors.Memory h some within = tt

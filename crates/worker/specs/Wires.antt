@@ -14,18 +14,18 @@ abbrev pub wire_at : {Wire : Type 0} → List Wire → (interface : ℕ) → Opt
 wire_at wires zero = None
 wire_at wires (suc before) = slice_get wires before
 
--- what is said of a socket that was bound at a port, and of a port that couldn't be had
+-- what is said of a socket that was bound at a UDP port, and of a UDP port that couldn't be had
 abbrev pub Bound : (Socket : Type 0) → Type 1
-Bound Socket = Socket → (port : ℕ) → Type 0
+Bound Socket = Socket → (udp_port : ℕ) → Type 0
 
 abbrev pub Refused : Type 1
-Refused = (port : ℕ) → Type 0
+Refused = (udp_port : ℕ) → Type 0
 
--- the wire is that of the interface: its socket was bound at the interface's port, and its packets
--- go to the interface's peer
+-- the wire is that of the interface: its socket was bound at the interface's UDP port, and its
+-- packets go to the interface's peer
 abbrev pub IsBound : {Socket : Type 0} → Bound Socket → ConfiguredInterface → Wire Socket → Type 0
 IsBound bound configured wire =
-    bound wire.socket configured.port × (wire.peer ≡ configured.peer)
+    bound wire.socket configured.udp_port × (wire.peer ≡ configured.peer)
 
 -- so is each of these, in order
 abbrev pub AreBound : {Socket : Type 0} → Bound Socket → List ConfiguredInterface
@@ -36,12 +36,12 @@ AreBound bound (configured ∷ interfaces) (wire ∷ wires) =
 AreBound bound [] (wire ∷ wires) = ⊥
 AreBound bound (configured ∷ interfaces) [] = ⊥
 
--- it names an interface whose port couldn't be had
+-- it names an interface whose UDP port couldn't be had
 abbrev pub IsRefusalOf : Refused → List ConfiguredInterface → SocketError → Type 0
-IsRefusalOf refused interfaces (errors.Bind port) =
-    refused port
-    × SomeIndex interfaces (λ k. slice_index_or (map (λ configured. configured.port) interfaces) k
-    port ≡ port)
+IsRefusalOf refused interfaces (errors.Bind udp_port) =
+    refused udp_port
+    × SomeIndex interfaces (λ k.
+    slice_index_or (map (λ configured. configured.udp_port) interfaces) k udp_port ≡ udp_port)
 IsRefusalOf refused interfaces other = other ≡ errors.Memory
 
 -- the socket of this interface was handed the bytes, for its peer; if there is no such interface,
@@ -99,7 +99,7 @@ abbrev pub IsWhyNoneWaitsAt : {Socket : Type 0} → (fails : Socket → Type 0) 
     → (interface : ℕ) → SocketError → Type 0
 IsWhyNoneWaitsAt fails wires interface errors.Wait =
     MatchOption (wire_at wires interface) (Unit {0}) (λ wire. fails wire.socket)
-IsWhyNoneWaitsAt fails wires interface (errors.Bind port) = ⊥
+IsWhyNoneWaitsAt fails wires interface (errors.Bind udp_port) = ⊥
 IsWhyNoneWaitsAt fails wires interface errors.Memory = Unit {0}
 
 -- one of these sockets can't be waited at, or there are more than the numbers of interfaces; or
@@ -109,5 +109,5 @@ abbrev pub IsWhyNoneWaits : {Socket : Type 0} → (fails : Socket → Type 0) �
 IsWhyNoneWaits fails wires errors.Wait =
     (65535 < length wires)
     ⊎ ((interface : ℕ) × MatchOption (wire_at wires interface) ⊥ (λ wire. fails wire.socket))
-IsWhyNoneWaits fails wires (errors.Bind port) = ⊥
+IsWhyNoneWaits fails wires (errors.Bind udp_port) = ⊥
 IsWhyNoneWaits fails wires errors.Memory = Unit {0}

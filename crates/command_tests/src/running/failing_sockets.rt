@@ -1,4 +1,5 @@
-//! A router one of whose sockets fails. Nothing can be sent to port 0, which no configuration says.
+//! A router one of whose sockets fails. Nothing can be sent to UDP port 0, which no configuration
+//! says.
 use console::ConfiguredInterface;
 use daemon::{RouteError, operate};
 use event_rules::{Config, Interface};
@@ -14,8 +15,8 @@ use std::time::{Clock, Duration};
 use words::{Address, RouterId, Second, Sequence};
 use worker::{SocketError, Sockets, Wire, bind_each, listening};
 
-// Whether the router has an interface, the ports that the sockets of its worker and of the console
-// send to, the seconds that the workers have, and the router's status at its end.
+// Whether the router has an interface, the UDP ports that the sockets of its worker and of the
+// console send to, the seconds that the workers have, and the router's status at its end.
 struct Row {
     name: &'static str,
     has_interface: bool,
@@ -116,10 +117,10 @@ fn config(alloc: Global, has_interface: bool) -> Result<Config, AllocError> {
     })
 }
 
-// A socket at this port, if there is a port that it sends to.
+// A socket at this UDP port, if there is one that it sends to.
 fn wires<R: Net + AllocGlobal>(
     rt: &R,
-    port: u16,
+    udp_port: u16,
     peer: Option<u16>,
 ) -> Result<Vec<Wire>, SocketError> {
     match peer {
@@ -128,7 +129,7 @@ fn wires<R: Net + AllocGlobal>(
             let interface = interface();
             let configured = [ConfiguredInterface {
                 interface,
-                port,
+                udp_port,
                 peer,
             }];
             bind_each(rt, rt.alloc(), &configured)
@@ -154,7 +155,7 @@ fn run<R: Net + Threads + Wait + Clock + Log + Files + AllocGlobal + Sync + Drop
     };
     let own = Sockets::of_console(own);
     match operate(rt, &config, transports, own, &mut input, &mut output) {
-        Ok(ran) => Ok(if output.written == 4 { ran.status() } else { 9 }),
+        Ok(end) => Ok(if output.written == 4 { end.status() } else { 9 }),
         Err(RouteError::Configuration(1)) => Ok(if output.written == 0 { 1 } else { 9 }),
         Err(fault) => Err(fault),
     }

@@ -11,7 +11,7 @@ use worker::{DatagramSocket, Sockets, Wire, judge_receive, judge_send};
 const OF_A_SEND: [i32; 14] = [1, 13, 11, 12, 90, 99, 100, 101, 102, 105, 111, 112, 113, 22];
 
 // Refuses its calls with these numbers of the system, one after the other, and none after the last;
-// it counts what it was handed for port 7002.
+// it counts what it was handed for UDP port 7002.
 #[derive(Drop)]
 struct Refusing<'a> {
     numbers: &'a [i32],
@@ -38,12 +38,12 @@ impl<'a> DatagramSocket for Refusing<'a> {
 
     ghost refuses = { λ _ _. ⊤ };
 
-    fn send(&self, bytes: &[u8], port: u16) -> io::Result<usize> {
+    fn send(&self, bytes: &[u8], udp_port: u16) -> io::Result<usize> {
         let call = self.calls.fetch_add(1, Ordering::SeqCst);
         if let Some(number) = self.numbers.get(call) {
             return Err(io::Error::from_raw_os_error(*number));
         }
-        if port == 7002 {
+        if udp_port == 7002 {
             self.handed.fetch_add(bytes.len(), Ordering::SeqCst);
         }
         Ok(bytes.len())

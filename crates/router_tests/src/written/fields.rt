@@ -143,12 +143,12 @@ const ENDS: &str = "router 255.255.255.255\n\
 const CONFIGURATIONS: &[(&str, &str)] = &[
     (
         FIRST,
-        "Configured { router: RouterId { number: 16843009 }, interfaces: Sequence { items: [ConfiguredInterface { interface: Interface { address: Address { bits: 167772417 }, length: 24, cost: 10, hello_interval: 10, dead_interval: 40, retransmit_interval: 5, delay: 1 }, port: 7001, peer: 7002 }] } }",
+        "Configured { router: RouterId { number: 16843009 }, interfaces: Sequence { items: [ConfiguredInterface { interface: Interface { address: Address { bits: 167772417 }, length: 24, cost: 10, hello_interval: 10, dead_interval: 40, retransmit_interval: 5, delay: 1 }, udp_port: 7001, peer: 7002 }] } }",
     ),
     // the last line feed is optional
     (
         ENDS,
-        "Configured { router: RouterId { number: 4294967295 }, interfaces: Sequence { items: [ConfiguredInterface { interface: Interface { address: Address { bits: 0 }, length: 0, cost: 65535, hello_interval: 65535, dead_interval: 4294967295, retransmit_interval: 65535, delay: 3600 }, port: 65535, peer: 1 }, ConfiguredInterface { interface: Interface { address: Address { bits: 167772673 }, length: 32, cost: 1, hello_interval: 1, dead_interval: 1, retransmit_interval: 1, delay: 1 }, port: 7003, peer: 7004 }] } }",
+        "Configured { router: RouterId { number: 4294967295 }, interfaces: Sequence { items: [ConfiguredInterface { interface: Interface { address: Address { bits: 0 }, length: 0, cost: 65535, hello_interval: 65535, dead_interval: 4294967295, retransmit_interval: 65535, delay: 3600 }, udp_port: 65535, peer: 1 }, ConfiguredInterface { interface: Interface { address: Address { bits: 167772673 }, length: 32, cost: 1, hello_interval: 1, dead_interval: 1, retransmit_interval: 1, delay: 1 }, udp_port: 7003, peer: 7004 }] } }",
     ),
 ];
 

@@ -10,22 +10,23 @@ use std::net::{IpAddr, Ipv4Addr, SocketAddr};
 
 /// A socket of datagrams whose calls don't wait.
 ///
-/// `takes` (bytes for a port of 127.0.0.1), `hands` (a datagram) and `refuses` (why a receive
+/// `takes` (bytes for a UDP port of 127.0.0.1), `hands` (a datagram) and `refuses` (why a receive
 /// failed) are relations that each implementation defines. Code that is generic over the socket can
 /// establish them only by the calls, so a contract that has them shows that the calls were made.
 pub trait DatagramSocket {
-    ghost takes: { Self → (port : ℕ) → List ℕ → Type 0 };
+    ghost takes: { Self → (udp_port : ℕ) → List ℕ → Type 0 };
 
     ghost hands: { Self → List ℕ → Type 0 };
 
     ghost refuses: { Self → Error → Type 0 };
 
-    /// Sends the bytes to this port of 127.0.0.1 as one datagram, and returns how many there were.
+    /// Sends the bytes to this UDP port of 127.0.0.1 as one datagram, and returns how many there
+    /// were.
     ///
     /// # Errors
     /// What the system says, such as `WouldBlock` if there is no room for it now.
-    fn send(&self, bytes: &[u8], port: u16) -> io::Result<usize>
-        ensures { takes self.now port bytes.now };
+    fn send(&self, bytes: &[u8], udp_port: u16) -> io::Result<usize>
+        ensures { takes self.now udp_port bytes.now };
 
     /// Puts a datagram that is there at the buffer's front. Returns its length. One that is longer
     /// than the buffer is cut.
@@ -46,8 +47,8 @@ impl DatagramSocket for UdpSocket {
 
     ghost refuses = { λ _ _. ⊤ };
 
-    fn send(&self, bytes: &[u8], port: u16) -> io::Result<usize> {
-        self.send_to(bytes, address_of(port))
+    fn send(&self, bytes: &[u8], udp_port: u16) -> io::Result<usize> {
+        self.send_to(bytes, address_of(udp_port))
     }
 
     fn receive(&self, buffer: &mut [u8; 8193]) -> io::Result<usize> {
@@ -57,10 +58,10 @@ impl DatagramSocket for UdpSocket {
     }
 }
 
-/// A port of 127.0.0.1.
-pub fn address_of(port: u16) -> SocketAddr
+/// A UDP port of 127.0.0.1.
+pub fn address_of(udp_port: u16) -> SocketAddr
     ensures address { octets (socket_ip result) ≡ 127 ∷ 0 ∷ 0 ∷ 1 ∷ [] }
-    ensures port { socket_port result ≡ port }
+    ensures udp_port { socket_port result ≡ udp_port }
 {
-    SocketAddr::new(IpAddr::V4(Ipv4Addr::new(127, 0, 0, 1)), port)
+    SocketAddr::new(IpAddr::V4(Ipv4Addr::new(127, 0, 0, 1)), udp_port)
 }

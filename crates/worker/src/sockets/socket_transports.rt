@@ -241,8 +241,8 @@ fn receive_at<S: DatagramSocket, E: Waits>(
     }
 }
 
-// Sends the bytes to the peer of this interface. To port 0 no packet can go: a socket whose peer
-// has it is of no use.
+// Sends the bytes to the peer of this interface. To UDP port 0 no packet can go: a socket whose
+// peer has it is of no use.
 fn say<S: DatagramSocket>(wire: &Wire<S>, bytes: &[u8]) -> Result<bool, SocketFault>
     ensures { OnOk result (S.takes wire.now.socket wire.now.peer bytes.now) }
 {

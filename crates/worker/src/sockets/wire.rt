@@ -11,7 +11,7 @@ use mio::net::UdpSocket;
 use std::alloc::{AllocFailed, Global};
 use std::net::Net;
 
-/// An interface's socket, and the port that its packets go to.
+/// An interface's socket, and the UDP port that its packets go to.
 #[derive(Drop)]
 pub struct Wire<S = UdpSocket> {
     pub(crate) socket: S,
@@ -19,7 +19,7 @@ pub struct Wire<S = UdpSocket> {
 }
 
 impl<S> Wire<S> {
-    /// A socket whose packets go to this port of 127.0.0.1. To port 0 none can.
+    /// A socket whose packets go to this UDP port of 127.0.0.1. To UDP port 0 none can.
     pub fn new(socket: S, peer: u16) -> Wire<S>
         ensures { (result.socket ≡ socket) × (result.peer ≡ peer) }
     {
@@ -34,19 +34,20 @@ impl<S> Wire<S> {
     }
 }
 
-/// Binds sockets to ports of 127.0.0.1.
+/// Binds sockets to UDP ports of 127.0.0.1.
 ///
-/// `bound` (a socket and its port) and `refused` (a port that can't be bound) are relations that each
-/// implementation defines: code that is generic over it can establish them only by the call.
+/// `bound` (a socket and its UDP port) and `refused` (a UDP port that can't be bound) are relations
+/// that each implementation defines: code that is generic over it can establish them only by the
+/// call.
 pub trait BindsSockets<S> {
-    ghost bound: { S → (port : ℕ) → Type 0 };
+    ghost bound: { S → (udp_port : ℕ) → Type 0 };
 
-    ghost refused: { (port : ℕ) → Type 0 };
+    ghost refused: { (udp_port : ℕ) → Type 0 };
 
-    /// A socket at this port; `None` if that can't be bound.
-    fn bind(&self, port: u16) -> Option<S>
-        ensures bound { IfSome result (λ socket. bound socket port) }
-        ensures refused { IfNone result (refused port) };
+    /// A socket at this UDP port; `None` if that can't be bound.
+    fn bind(&self, udp_port: u16) -> Option<S>
+        ensures bound { IfSome result (λ socket. bound socket udp_port) }
+        ensures refused { IfNone result (refused udp_port) };
 }
 
 /// Binds sockets of the system. No contract says what the system does.
@@ -60,8 +61,8 @@ impl<'a, R: Net> BindsSockets<UdpSocket> for SystemSockets<'a, R> {
 
     ghost refused = { λ _. ⊤ };
 
-    fn bind(&self, port: u16) -> Option<UdpSocket> {
-        UdpSocket::bind(self.rt, address_of(port)).ok()
+    fn bind(&self, udp_port: u16) -> Option<UdpSocket> {
+        UdpSocket::bind(self.rt, address_of(udp_port)).ok()
     }
 }
 
@@ -71,20 +72,20 @@ fn bind_one<S: Drop, B: BindsSockets<S>>(
     configured: &ConfiguredInterface,
 ) -> Result<Wire<S>, SocketError>
     ensures wire { IfOk result (IsBound B.bound configured.now) }
-    ensures port { IfErr result (λ error. error ≡ Bind configured.now.port) }
-    ensures refused { IfErr result (λ _. B.refused configured.now.port) }
+    ensures udp_port { IfErr result (λ error. error ≡ Bind configured.now.udp_port) }
+    ensures refused { IfErr result (λ _. B.refused configured.now.udp_port) }
 {
-    match binder.bind(configured.port) {
+    match binder.bind(configured.udp_port) {
         Some(socket) => Ok(Wire::new(socket, configured.peer)),
-        None => Err(SocketError::Bind(configured.port)),
+        None => Err(SocketError::Bind(configured.udp_port)),
     }
 }
 
-/// Binds a socket for each interface, in order, at the interface's own port, by this binder. What
-/// is sent at interface n goes to the port of its peer.
+/// Binds a socket for each interface, in order, at the interface's own UDP port, by this binder.
+/// What is sent at interface n goes to the UDP port of its peer.
 ///
 /// # Errors
-/// `Bind` with the first port that can't be bound; `Memory` if an allocation was refused.
+/// `Bind` with the first UDP port that can't be bound; `Memory` if an allocation was refused.
 #[tactic(auto, using(crate::proofs::Refused::refused_at, crate::proofs::Binding::all_bound))]
 pub fn bind_each_with<S: Drop, B: BindsSockets<S>>(
     binder: &B,
@@ -92,7 +93,7 @@ pub fn bind_each_with<S: Drop, B: BindsSockets<S>>(
     interfaces: &[ConfiguredInterface],
 ) -> Result<Vec<Wire<S>>, SocketError>
     ensures bound { IfOk result (λ wires. AreBound B.bound interfaces.now wires.items) }
-    ensures port { IfErr result (IsRefusalOf B.refused interfaces.now) }
+    ensures udp_port { IfErr result (IsRefusalOf B.refused interfaces.now) }
 {
     let mut wires = Vec::with_capacity(alloc, interfaces.len())?;
     for configured in interfaces {
@@ -113,7 +114,7 @@ pub fn bind_each<R: Net>(
 ) -> Result<Vec<Wire>, SocketError>
     ensures bound { IfOk result (λ wires.
         AreBound (λ _ _. ⊤) interfaces.now wires.items) }
-    ensures port { IfErr result (IsRefusalOf (λ _. ⊤) interfaces.now) }
+    ensures udp_port { IfErr result (IsRefusalOf (λ _. ⊤) interfaces.now) }
 {
     bind_each_with(&SystemSockets { rt }, alloc, interfaces)
 }

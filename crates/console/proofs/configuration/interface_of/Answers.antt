@@ -50,10 +50,10 @@ returns-in_err-delay c = told_nothing c.from_residual-in_err-delay.result _ _
     (word_at c.args.words.now none 11 _ (omega arith) e)
     (word_at c.args.words.now none 12 _ (omega arith) e))
 
-pub returns-in_err-port : goal.returns-in_err-port
-returns-in_err-port c = told_nothing c.from_residual-in_err-port.result _ _
-    c.from_residual-in_err-port.ensures (λ i is e.
-    c.in_err-port.ensures i.port is.port.0 (omega (arith, is.port.1))
+pub returns-in_err-udp_port : goal.returns-in_err-udp_port
+returns-in_err-udp_port c = told_nothing c.from_residual-in_err-udp_port.result _ _
+    c.from_residual-in_err-udp_port.ensures (λ i is e.
+    c.in_err-udp_port.ensures i.udp_port is.udp_port.0 (omega (arith, is.udp_port.1))
     (word_at c.args.words.now none 13 _ (omega arith) e)
     (word_at c.args.words.now none 14 _ (omega arith) e))
 
@@ -80,8 +80,8 @@ returns c =
           (both c.in_ok-retransmit_interval.ensures.1
           (both c.in_ok-delay.ensures.0
           (both c.in_ok-delay.ensures.1
-          (both c.in_ok-port.ensures.0
-          (both c.in_ok-port.ensures.1
+          (both c.in_ok-udp_port.ensures.0
+          (both c.in_ok-udp_port.ensures.1
           (both c.in_ok-peer.ensures.0
           (both c.in_ok-peer.ensures.1
           (refl))))))))))))))))),
@@ -102,7 +102,7 @@ returns c =
           omega (arith, c.in_ok-retransmit_interval.ensures.3),
         );
         delay = (c.in_ok-delay.ensures.2, omega (arith, c.in_ok-delay.ensures.3));
-        port = (c.in_ok-port.ensures.2, omega (arith, c.in_ok-port.ensures.3));
+        udp_port = (c.in_ok-udp_port.ensures.2, omega (arith, c.in_ok-udp_port.ensures.3));
         peer = (c.in_ok-peer.ensures.2, omega (arith, c.in_ok-peer.ensures.3));
       },
     )
