@@ -28,8 +28,8 @@ use worker::{
 /// until the operator is done. Every thread is joined before this returns, whatever it returns.
 /// There is a transport for each port but the operator's: port n's receives at interface n.
 ///
-/// Returns the closed book, which took just as many events as all shares count; the shared words
-/// with all their seats, as [`Shared::close`](maps::Shared::close) requires them; how each
+/// Returns the closed book, which took just as many events as all shares count; the counters and
+/// cells with all their seats, as [`Shared::close`](maps::Shared::close) requires them; how each
 /// transport ended; and how the console ended, by its output only if that couldn't be written.
 ///
 /// # Errors
@@ -179,7 +179,7 @@ fn start_workers<'s, E, L: Site + Send + Sync, R: Threads + Wait + Clock + Log +
                 memory,
                 transport,
                 SystemSeconds::new(clock),
-                Signal { flag: quit },
+                Signal { quit },
                 hub,
                 port,
             )

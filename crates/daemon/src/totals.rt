@@ -19,8 +19,8 @@ pub struct Printed {
     told: (),
 }
 
-// Closes the words that the programs share, of which all seats are back: for each counter the sum
-// of all that was added to it.
+// Closes the programs' counters and cells, of which all seats are back: for each counter the sum of
+// all that was added to it.
 fn sums_of(shared: Shared, seats: Vec<Seat>) -> Totals
     requires all { length seats.items ≡ shared.seats }
     requires table { All (IsOf shared) seats.items }
@@ -47,7 +47,7 @@ fn print_sums<O: WritesTexts>(
     }
 }
 
-/// Closes the words that the programs share, of which all seats are back, and prints for each
+/// Closes the programs' counters and cells, of which all seats are back, and prints for each
 /// counter the sum of all that was added to it.
 ///
 /// # Errors

@@ -35,7 +35,7 @@ use std::sync::ledger::Share;
 use std::sync::{Mutex, Wait};
 use words::{Prefix, Route, RouterId, Second};
 
-/// The router's book, at which workers take turns, and the words that their programs share.
+/// The router's book, at which workers take turns, and the counters and cells of their programs.
 #[derive(Drop)]
 pub struct Hub<L: Site, B: Taker<L>> {
     book: Mutex<B>,
@@ -64,7 +64,7 @@ fn neighbors_of<L: Site, B: Taker<L>>(
 }
 
 impl<L: Site, B: Taker<L>> Hub<L, B> {
-    /// A hub with this book and these words.
+    /// A hub with this book, and these counters and cells.
     pub fn new(book: B, shared: Shared) -> Hub<L, B>
         requires { shared ≡ L.words }
     {
@@ -76,7 +76,7 @@ impl<L: Site, B: Taker<L>> Hub<L, B> {
         }
     }
 
-    /// The book and the shared words, once the workers are done.
+    /// The book, and the counters and cells, once the workers are done.
     pub fn into_parts(self) -> (B, Shared)
         ensures { result.1 ≡ L.words }
     {

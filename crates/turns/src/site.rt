@@ -9,8 +9,8 @@ use hooks::Asker;
 use maps::Seat;
 use std::marker::{Brand, PhantomData};
 
-/// Which ledger counts the events, which router began, which table of shared words the seats are of
-/// and how many it gave, and whose published programs the askers run.
+/// Which ledger counts the events, which router began, which table of counters and cells the
+/// seats are of and how many it gave, and whose published programs the askers run.
 ///
 /// A hub's type and its ports' types name it. Who starts workers picks it, by `Brand`. Contracts
 /// alone speak of it: nothing that the router does depends on it, nor on the shares of the ledger.

@@ -38,8 +38,8 @@ use words::Second;
 /// is later than the turn's: it may have passed while the programs were asked. All else happens at
 /// the turn's moment.
 ///
-/// What the programs did to the shared words stays even if the turn is refused, and so does a mark
-/// ([`Book::mark`](flood::Book::mark)).
+/// What the programs did to counters and cells stays even if the turn is refused, and so does a
+/// mark ([`Book::mark`](flood::Book::mark)).
 ///
 /// The refresh is refused too if the programs were changed since the turn began
 /// ([`Hub::programs_changed`]). A refusal of it leaves the turn's outs as they are, and the next

@@ -16,16 +16,16 @@ pub trait Flag {
         ensures { reads self.old result self.new };
 }
 
-/// The flag of `routerd`: a shared atomic word. Whoever ends the workers sets it.
+/// The flag of `routerd`: an atomic Boolean that its threads share. Whoever ends them sets it.
 #[derive(Drop)]
 pub struct Signal<'a> {
-    pub flag: &'a AtomicBool,
+    pub quit: &'a AtomicBool,
 }
 
 impl<'a> Flag for Signal<'a> {
     ghost reads = { λ before is_set after. Unit {0} };
 
     fn is_set(&mut self) -> bool {
-        self.flag.load(Ordering::SeqCst)
+        self.quit.load(Ordering::SeqCst)
     }
 }

@@ -45,8 +45,8 @@ pub fn settle<L: Site>(
     Ok(Settled { share: all, seats })
 }
 
-/// What is left of a hub: how many events its book took, the share that counts them, and the shared
-/// words with the ports' seats.
+/// What is left of a hub: how many events its book took, the share that counts them, and the
+/// counters and cells with the ports' seats.
 #[derive(Drop)]
 pub struct Closed<L: Site> {
     pub taken: u64,
@@ -56,7 +56,7 @@ pub struct Closed<L: Site> {
 }
 
 /// Settles with the ports, once all came back, and drops the book. The book had taken just as many
-/// events as the share counts; the words come with all their seats, as
+/// events as the share counts; the counters and cells come with all their seats, as
 /// [`Shared::close`](maps::Shared::close) asks for them.
 ///
 /// # Errors

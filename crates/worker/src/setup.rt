@@ -10,9 +10,9 @@ use std::alloc::{AllocError, Global};
 use std::sync::Wait;
 use std::sync::ledger::Blank;
 
-/// What the workers of one router start with, for this number of ports: the shared words with a
-/// seat for each port, an asker for each, and a ledger with a part for each. The ledger (`blank`)
-/// is there for the contracts: nothing that the router does depends on it.
+/// What the workers of one router start with, for this number of ports: counters and cells
+/// with a seat for each port, an asker for each, and a ledger with a part for each. The ledger
+/// (`blank`) is there for the contracts: nothing that the router does depends on it.
 #[derive(Drop)]
 pub struct Setup {
     pub(crate) blank: Blank,

@@ -58,7 +58,7 @@ pub fn serve<L: Site, B: Taker<L>, R: Wait>(
     let mut transport = Script::new(answers(alloc, heard), &quit);
     let moments = Vec::from_slice(alloc, moments).unwrap_or(Vec::new(alloc));
     let mut clock = Times::new(moments);
-    let mut flag = Signal { flag: &quit };
+    let mut flag = Signal { quit: &quit };
     let ended = run(
         rt,
         alloc,
