@@ -183,6 +183,10 @@ impl<L: Site, B: Taker<L>> Hub<L, B> {
 
     /// The candidates for the routing table now, for a caller that needs no rows: less work than
     /// `offered`.
+    ///
+    /// A refresh that then finds a program at `veto` drops them and calls `offered`: the programs
+    /// judge candidates beside the rows of the same moment, and meanwhile the lock was released, so
+    /// those that are judged may be others.
     pub(crate) fn candidates<R: Wait>(&self, rt: &R) -> Result<Vec<Route>, AllocError>
         ensures offered { IfOk result (λ c. (rows : List TableRow) × B.offers c.items rows) }
         ensures short { OnErr result (IsLacking B.refuses Lack.Memory) }
