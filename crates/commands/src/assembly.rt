@@ -48,7 +48,7 @@ fn write_object<'a, R: Files + AllocGlobal>(
 }
 
 /// What is told of an object file that was written: how many slots its code has.
-fn written(alloc: Global, file: &ObjectFile) -> Result<CommandOutput, AllocError>
+fn report_written(alloc: Global, file: &ObjectFile) -> Result<CommandOutput, AllocError>
     ensures text { IfOk result (λ report. string_bytes report.text ≡ codes "ok "
         ++ decimal (slots_of file.now.object) ++ 10 ∷ []) }
     ensures done { IfOk result (λ report. report.is_refused ≡ false) }
@@ -79,13 +79,13 @@ pub fn assemble_file<'a, R: Files + AllocGlobal>(
     let alloc = rt.alloc();
     let text = files::read_text(rt, source)?;
     let file = object_file(alloc, text.as_str())?;
-    let report = written(alloc, &file)?;
+    let report = report_written(alloc, &file)?;
     write_object(rt, target, &file)?;
     Ok(report)
 }
 
 /// The listing of the object file that these bytes are.
-fn listed<'a>(alloc: Global, bytes: &[u8]) -> Result<CommandOutput, CommandError<'a>>
+fn report_listing<'a>(alloc: Global, bytes: &[u8]) -> Result<CommandOutput, CommandError<'a>>
     ensures listed { IfOk result (IsListing bytes.now) }
     ensures fault { IfErr result (IsObjectFault bytes.now) }
 {
@@ -117,5 +117,5 @@ pub fn list<'a, R: Files + AllocGlobal>(
         ⊎ ((bytes : List ℕ) × IsObjectFault bytes fault)) }
 {
     let bytes = files::read(rt, path)?;
-    listed(rt.alloc(), bytes.as_slice())
+    report_listing(rt.alloc(), bytes.as_slice())
 }

@@ -14,7 +14,7 @@ use std::rt::Files;
 use verifier::{Refusal, Rule};
 
 /// What is told of a program that is accepted with this bound.
-fn accepted(alloc: Global, bound: u64) -> Result<CommandOutput, AllocError>
+fn report_accepted(alloc: Global, bound: u64) -> Result<CommandOutput, AllocError>
     ensures told { IfOk result (λ report. string_bytes report.text ≡ accepted_line bound) }
     ensures done { IfOk result (λ report. report.is_refused ≡ false) }
 {
@@ -25,7 +25,7 @@ fn accepted(alloc: Global, bound: u64) -> Result<CommandOutput, AllocError>
 }
 
 /// What is told of a program that is refused: the first slot that breaks a rule, and which rule.
-fn refused(alloc: Global, refusal: Refusal) -> Result<CommandOutput, AllocError>
+fn report_refused(alloc: Global, refusal: Refusal) -> Result<CommandOutput, AllocError>
     ensures told { IfOk result (λ report. string_bytes report.text ≡ refused_line refusal) }
     ensures refused { IfOk result (λ report. report.is_refused ≡ true) }
 {
@@ -43,13 +43,13 @@ fn verdict_of<'a>(alloc: Global, bytes: &[u8]) -> Result<CommandOutput, CommandE
     ensures fault { IfErr result (IsObjectFault bytes.now) }
 {
     match verify_object(alloc, bytes) {
-        Ok(program) => Ok(accepted(alloc, program.bound())?),
+        Ok(program) => Ok(report_accepted(alloc, program.bound())?),
         Err(VerifyError::Object(error)) => Err(CommandError::from(error)),
         Err(VerifyError::Code(error)) => Err(CommandError::from(error)),
         Err(VerifyError::Refused(refusal)) if refusal.rule == Rule::Memory => Err(
             CommandError::Memory,
         ),
-        Err(VerifyError::Refused(refusal)) => Ok(refused(alloc, refusal)?),
+        Err(VerifyError::Refused(refusal)) => Ok(report_refused(alloc, refusal)?),
     }
 }
 

@@ -45,7 +45,7 @@ fn candidates_of<L: Origin>(book: &Book<L>) -> u8 {
     }
 }
 
-fn called<L: Origin>(book: &mut Book<L>, share: &mut Share<L>, call: Call) -> u8
+fn call_book<L: Origin>(book: &mut Book<L>, share: &mut Share<L>, call: Call) -> u8
     requires { 0 < share.old.parts }
     ensures { share.new.parts ≡ share.old.parts }
 {
@@ -61,16 +61,16 @@ fn called<L: Origin>(book: &mut Book<L>, share: &mut Share<L>, call: Call) -> u8
 
 // The last answer of the calls of a row. An allocation may be refused once, as a run of the tests
 // with a refusal makes it: then the book is as it was, and answers in full the next time.
-fn called_often<L: Origin>(book: &mut Book<L>, share: &mut Share<L>, row: &Row) -> u8
+fn call_often<L: Origin>(book: &mut Book<L>, share: &mut Share<L>, row: &Row) -> u8
     requires { 0 < share.old.parts }
     ensures { share.new.parts ≡ share.old.parts }
 {
     let (times, call, ..) = *row;
     let mut answer = 0;
     for _time in 0..times {
-        answer = called(book, share, call);
+        answer = call_book(book, share, call);
         if answer == MEMORY {
-            answer = called(book, share, call);
+            answer = call_book(book, share, call);
         }
     }
     answer
@@ -82,7 +82,7 @@ fn play_rows<L: Origin>(book: &mut Book<L>, share: &mut Share<L>, rows: &[Row]) 
 {
     for (number, row) in rows.iter().enumerate() {
         let (_, _, answer, journal, taken) = *row;
-        let found = called_often(book, share, row);
+        let found = call_often(book, share, row);
         if (found, book.journal().len(), book.taken()) != (answer, journal, taken) {
             return number;
         }
@@ -114,7 +114,7 @@ fn play_once(alloc: Global, rows: &[Row]) -> usize {
 
 // How many rows are as told. If there was no memory for a book, or it was marked before its journal
 // was too much, as it is if memory is refused, all is played once more.
-fn played(alloc: Global, rows: &[Row]) -> usize {
+fn play_all(alloc: Global, rows: &[Row]) -> usize {
     let count = play_once(alloc, rows);
     if count < rows.len() {
         return play_once(alloc, rows);
@@ -142,7 +142,7 @@ const HEAVY: &[Row] = &[
 #[test]
 fn journals_are_full_or_start_anew(rt: HostRuntime) {
     for rows in &[FULL, HEAVY] {
-        let count = played(rt.alloc(), rows);
+        let count = play_all(rt.alloc(), rows);
         assert!(rt; count == rows.len(), "{count} of {}", rows.len());
     }
 }

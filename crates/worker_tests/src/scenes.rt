@@ -105,14 +105,14 @@ fn play_on<
 }
 
 // How many events stand in the journal, and how many the book took. The book is dropped.
-fn closed<L: Site>(hub: Hub<L, Book<L>>) -> (usize, u64) {
+fn close<L: Site>(hub: Hub<L, Book<L>>) -> (usize, u64) {
     let (book, _shared) = hub.into_parts();
     let journal = book.journal().len();
     (journal, book.close())
 }
 
 // Plays the scene at this hub, and looks into the book.
-fn ended<L: Site + Send + Sync, R: Threads + Wait + Clock + Sync, Q: Wait + Drop>(
+fn play_in_hub<L: Site + Send + Sync, R: Threads + Wait + Clock + Sync, Q: Wait + Drop>(
     rt: &R,
     alloc: Global,
     hub: Hub<L, Book<L>>,
@@ -124,7 +124,7 @@ fn ended<L: Site + Send + Sync, R: Threads + Wait + Clock + Sync, Q: Wait + Drop
         return (announce(rt, alloc, hub, &mut stage), 0, 0, 0);
     }
     let (status, count) = play_on(rt, alloc, &hub, stage, scene);
-    let (journal, taken) = closed(hub);
+    let (journal, taken) = close(hub);
     (status, count, journal, taken)
 }
 
@@ -142,7 +142,7 @@ fn play_at<L: Site + Send + Sync, R: Threads + Wait + Clock + Sync, Q: Wait + Dr
     requires history { history_of loader ≡ L.history }
 {
     match open_hub::<L>(alloc, setup, core) {
-        Ok((hub, ports, _rest)) => ended(rt, alloc, hub, Stage { ports, loader }, scene),
+        Ok((hub, ports, _rest)) => play_in_hub(rt, alloc, hub, Stage { ports, loader }, scene),
         Err(_) => UNOPENED,
     }
 }

@@ -78,7 +78,7 @@ pub fn try_again<L: Site, B: Taker<L>, R: Wait>(
 }
 
 // Waits for the flag. The answer is whether it was raised within 10,000 tries of a millisecond.
-fn waited<R: Clock>(rt: &R, flag: &AtomicBool) -> bool {
+fn wait_for<R: Clock>(rt: &R, flag: &AtomicBool) -> bool {
     for _attempt in 0..10_000u32 {
         if flag.load(Ordering::SeqCst) {
             return true;
@@ -106,14 +106,14 @@ struct Held<'a, R: Clock> {
 impl<'a, R: Clock> Gate for Held<'a, R> {
     fn pass(&mut self, _port: u16) {
         self.flags.came.store(true, Ordering::SeqCst);
-        if !waited(self.rt, &self.flags.released) {
+        if !wait_for(self.rt, &self.flags.released) {
             self.flags.gave_up.store(true, Ordering::SeqCst);
         }
     }
 }
 
 // What both are answered, as `hold` says it.
-fn judged(answer: u8, refused: u8, flags: &Flags) -> u8 {
+fn judge(answer: u8, refused: u8, flags: &Flags) -> u8 {
     if flags.gave_up.load(Ordering::SeqCst) {
         return if refused == 9 { 6 } else { 9 };
     }
@@ -144,7 +144,7 @@ fn hold_at<L: Site + Send + Sync, B: Taker<L> + Send, R: Threads + Wait + Clock 
         rt,
         || -> u8 { number_of(turn(rt, hub, first, &mut gate, Second::new(5), work)) },
         || -> u8 {
-            if !waited(rt, &flags.came) {
+            if !wait_for(rt, &flags.came) {
                 return 9;
             }
             let refused = tick(rt, hub, second, 5, until);
@@ -152,7 +152,7 @@ fn hold_at<L: Site + Send + Sync, B: Taker<L> + Send, R: Threads + Wait + Clock 
             refused
         },
     );
-    judged(answer, refused, &flags)
+    judge(answer, refused, &flags)
 }
 
 /// Holds a turn of port 1 at moment 5 until port 2 has ticked at each moment from 5 to below this,

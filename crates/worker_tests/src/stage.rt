@@ -93,7 +93,7 @@ impl<'a, L: Site, B: Taker<L>> Gate for Changing<'a, L, B> {
 }
 
 // A turn of this port: whether a refresh followed.
-fn turned<L: Site, B: Taker<L>, R: Wait>(
+fn take_turn<L: Site, B: Taker<L>, R: Wait>(
     rt: &R,
     hub: &Hub<L, B>,
     port: &mut Port<L>,
@@ -187,7 +187,7 @@ impl<L: Site, Q: Wait + Drop> Stage<L, Q> {
             _ => None,
         };
         match self.ports.get_mut(place_of(deed)) {
-            Some(port) => turned(rt, hub, port, notice, moment, work),
+            Some(port) => take_turn(rt, hub, port, notice, moment, work),
             None => Ok(false),
         }
     }

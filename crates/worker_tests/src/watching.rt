@@ -28,7 +28,7 @@ impl<'a, L: Site, B: Taker<L>> Gate for Noting<'a, L, B> {
 
 // What a turn of the one port is answered, which the other sees pass: 9 if it didn't pass the gate
 // exactly once, after the datagram was counted.
-fn noted<L: Site, B: Taker<L>, R: Wait>(
+fn note_turn<L: Site, B: Taker<L>, R: Wait>(
     rt: &R,
     hub: &Hub<L, B>,
     hears: &mut Port<L>,
@@ -50,7 +50,7 @@ fn noted<L: Site, B: Taker<L>, R: Wait>(
 }
 
 // Plays the turn of port 1 while port 0 looks on at the gate.
-fn watched<L: Site, B: Taker<L>, R: Wait>(
+fn watch_turn<L: Site, B: Taker<L>, R: Wait>(
     rt: &R,
     hub: &Hub<L, B>,
     ports: &mut [Port<L>],
@@ -60,7 +60,7 @@ fn watched<L: Site, B: Taker<L>, R: Wait>(
         return 9;
     };
     match others.last_mut() {
-        Some(hears) => noted(rt, hub, hears, looks, work),
+        Some(hears) => note_turn(rt, hub, hears, looks, work),
         None => 9,
     }
 }
@@ -75,7 +75,7 @@ pub fn watch<L: Site, B: Taker<L>, R: Wait, Q: Wait + Drop>(
 ) -> u8 {
     let _is_attached = stage.change(alloc, Deed::Attach(COUNTING));
     match hello(alloc, 1, 0) {
-        Ok(work) => watched(rt, hub, &mut stage.ports, &work),
+        Ok(work) => watch_turn(rt, hub, &mut stage.ports, &work),
         Err(_) => 6,
     }
 }
