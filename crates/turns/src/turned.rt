@@ -22,8 +22,9 @@ pub enum TurnError {
     /// The book refused the event, or an allocation was refused (`CoreError::Memory`).
     #[error("{0}")]
     Book(BookError),
-    /// The published programs couldn't be read for `tag`, `price` or `veto`; or, of the refresh
-    /// that follows a turn, they were changed since the turn began.
+    /// The published programs couldn't be read for `tag`, `price` or `veto`. Of the refresh that
+    /// follows a turn also that they were changed since the turn began; but the turn keeps that to
+    /// itself, and the next one refreshes.
     #[error("no reading of the programs")]
     Away,
 }

@@ -60,7 +60,8 @@ pub struct Closed<L: Site> {
 /// [`Shared::close`](maps::Shared::close) asks for them.
 ///
 /// # Errors
-/// `AllocError` if the ports didn't come back, or an allocation is refused.
+/// `AllocError` if an allocation is refused; or, handed on from `back`, if the caller has no ports,
+/// in which case the book is closed all the same.
 #[tactic(auto, using(crate::proofs::SeatsOf::of_the_same))]
 pub fn close_hub<L: Site>(
     alloc: Global,
