@@ -1,13 +1,14 @@
 //! The answers at hooks without a program.
-ghost use Rattle.std.specs.Prelude.{◌≡◌, List, IfOk, IfSome, map};
+ghost use Rattle.std.specs.Prelude.{◌≡◌, ◌↔◌, List, IfOk, IfSome, IsTrue, map};
 ghost use mathlib.Core.List.{IsPrefix};
+ghost use Rattle.isa.specs.declared.hook.Hook.TheVariants.{Veto};
 ghost use Rattle.left_right.specs.Sides.{view};
 ghost use Rattle.words.specs.declared.route.Route.{Route};
 ghost use Rattle.words.specs.declared.route.TableRow.{TableRow};
 ghost use Rattle.hooks.specs.Known.{known_to, asks_of};
 ghost use Rattle.hooks.specs.Questions.{tag_input, price_input, veto_input};
 ghost use Rattle.hooks.specs.Rule.{HasSeen};
-ghost use Rattle.hooks.specs.Vacant.{AreVacancies, IsAnsweredByNone, let_in};
+ghost use Rattle.hooks.specs.Vacant.{AreVacancies, IsAnsweredByNone, IsVacant, let_in};
 
 use crate::answer::{PriceAnswer, TagAnswer, VetoAnswer};
 use crate::asker::Asker;
@@ -63,6 +64,18 @@ impl Asker {
         let (reader, vacancies) = look(reader, &mut self.front);
         self.reader = Some(reader);
         vacancies
+    }
+
+    /// Whether no program stands at `veto`, as one reading shows. `None` if the published programs
+    /// can't be read.
+    pub fn is_veto_vacant(&mut self) -> Option<bool>
+        ensures history { asks_of self.new ≡ asks_of self.old }
+        ensures known { IsPrefix (known_to self.old) (known_to self.new) }
+        ensures vacant { IfSome result (λ vacant.
+            IsTrue vacant ↔ IsVacant Veto (known_to self.new)) }
+    {
+        let vacancies = self.vacancies()?;
+        Some(vacancies.veto)
     }
 
     /// The answers of `tag` and `price` on an external destination if one reading shows no program

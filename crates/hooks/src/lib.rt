@@ -25,6 +25,7 @@ mod rule;
 mod slot;
 mod start;
 mod value;
+mod vetoes;
 
 pub use answer::{PriceAnswer, TagAnswer, VetoAnswer};
 pub use asker::{Asker, HookAnswer};

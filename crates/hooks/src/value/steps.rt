@@ -1,22 +1,34 @@
 //! The operations on the published value.
-ghost use Rattle.std.specs.Prelude.{◌≡◌, List, IfOk};
+ghost use Rattle.std.specs.Prelude.{◌≡◌, ◌<◌, ◌≤◌, List, IfOk, length, take, vec_capacity};
+ghost use Rattle.std.specs.Prelude.{vec_len};
+ghost use Rattle.isa.specs.declared.hook.Hook.TheVariants.{Veto as VetoHook};
 ghost use Rattle.machine.specs.Given.{given_by};
+ghost use Rattle.machine.specs.Input.{IsOfHook};
 ghost use Rattle.machine.specs.Label.{Label};
-ghost use Rattle.maps.specs.Words.{IsOf};
+ghost use Rattle.maps.specs.Words.{IsOf, SeatView};
 ghost use Rattle.helpers.specs.Seats.{SeatMakes};
+ghost use Rattle.hooks.specs.Answered.{AreAnswered, IsVetoAnswered};
+ghost use Rattle.hooks.specs.declared.operation.LoaderOperation.{LoaderOperation};
 ghost use Rattle.hooks.specs.Operations.{leaves, Answers, IsAsked};
 ghost use Rattle.hooks.specs.Shown.{published_operations, Stands, after_operation, vacant};
 ghost use Rattle.hooks.specs.Vacant.{AreVacancies};
 
 use super::{HistoryEntry, Programs, Vacancies};
+use crate::answer::VetoAnswer;
 use crate::history::Front;
 use crate::input::{default_word, hook_of};
 use crate::slot::ProgramSlot;
+use contexts::veto_context;
 use left_right::Absorb;
-use machine::{Hook, Input};
+use machine::{Hook, Input, TableRow};
 use maps::{Seat, Shared};
 use std::alloc::{AllocError, Global};
-use word_machine::run;
+use word_machine::{WordMemory, run, run_in};
+use words::{Route, Second};
+
+/// How many questions one reading of the programs answers at most: an operation that is published
+/// meanwhile waits for them.
+const QUESTIONS_PER_READING: usize = 64;
 
 impl Programs {
     /// Programs of which no hook has one, with capacity for any: to publish one later needs no
@@ -79,6 +91,91 @@ impl Programs {
                 run(program, input, shared, seat).answer
             }
             None => default_word(hook, input),
+        }
+    }
+
+    // Runs the program at `veto`, if there is one.
+    fn at_veto(
+        &self,
+        input: &Input,
+        memory: &mut WordMemory,
+        shared: &Shared,
+        seat: &mut Seat,
+    ) -> u64
+        requires asked { IsOfHook VetoHook (given_by input.now) }
+        requires stands { Stands self.now }
+        requires table { IsOf shared.now seat.old }
+        ensures answered { (labels : List Label) × SeatMakes seat.old labels seat.new
+            × Answers (published_operations self.now) (given_by input.now) labels result }
+        ensures table { IsOf shared.now seat.new }
+    {
+        match self.veto.program() {
+            Some(program) => {
+                // For the prover alone, by what the calls ensure.
+                let _bound = program.bound();
+                let _code = program.slots();
+                let _regions = program.regions();
+                run_in(memory, program, input, shared, seat).answer
+            }
+            None => 0,
+        }
+    }
+
+    // Asks `veto` about a route.
+    fn veto(
+        &self,
+        route: &Route,
+        moment: Second,
+        rows: &[TableRow],
+        memory: &mut WordMemory,
+        shared: &Shared,
+        seat: &mut Seat,
+    ) -> VetoAnswer
+        requires stands { Stands self.now }
+        requires table { IsOf shared.now seat.old }
+        ensures answered { IsVetoAnswered (published_operations self.now)
+            (published_operations self.now) seat.old seat.new moment rows.now route.now result }
+        ensures table { IsOf shared.now seat.new }
+    {
+        let input = Input {
+            context: veto_context(*route, moment),
+            packet: &[],
+            rows,
+        };
+        let word = self.at_veto(&input, memory, shared, seat);
+        VetoAnswer::new(*route, moment, word)
+    }
+
+    /// Asks `veto` about the next routes in turn, at most 64: those that come after the answered
+    /// ones. Never blocks or allocates.
+    pub fn vetoes(
+        &self,
+        routes: &[Route],
+        moment: Second,
+        rows: &[TableRow],
+        shared: &Shared,
+        seat: &mut Seat,
+        answers: &mut Vec<VetoAnswer>,
+    )
+        requires stands { Stands self.now }
+        requires table { IsOf shared.now seat.old }
+        requires left { vec_len answers.old < length routes.now }
+        requires room { length routes.now ≤ vec_capacity answers.old }
+        ensures answered { (known : List LoaderOperation) (first : SeatView)
+            → AreAnswered known (published_operations self.now) first seat.old moment rows.now
+            (take (vec_len answers.old) routes.now) answers.old.items
+            → AreAnswered known (published_operations self.now) first seat.new moment rows.now
+            (take (vec_len answers.new) routes.now) answers.new.items }
+        ensures more { (vec_len answers.old < vec_len answers.new)
+            × (vec_len answers.new ≤ length routes.now) }
+        ensures room { vec_capacity answers.new ≡ vec_capacity answers.old }
+        ensures table { IsOf shared.now seat.new }
+    {
+        let mut memory = WordMemory::new();
+        let from = answers.len();
+        let end = from + (routes.len() - from).min(QUESTIONS_PER_READING);
+        for at in from..end {
+            answers.push_reserved(self.veto(&routes[at], moment, rows, &mut memory, shared, seat));
         }
     }
 }

@@ -24,8 +24,12 @@ enum Step<'a> {
     Tag(Option<(u64, u32)>),
     Price(Option<u64>),
     Veto(Option<u64>),
+    // The words on two routes, by one reading.
+    Vetoes(Option<(u64, u64)>),
     // The words of `tag` and `price`, if neither hook has a program.
     Configured(Option<(u64, u64)>),
+    // Whether `veto` has no program.
+    Vacant(Option<bool>),
     // How many of two routes are accepted, if `veto` has no program.
     LetIn(Option<usize>),
 }
@@ -48,7 +52,9 @@ fn takes<R: Wait + Drop>(
         Step::Tag(words) => trial.tag(of) == words,
         Step::Price(word) => trial.price(of) == word,
         Step::Veto(word) => trial.veto(of) == word,
+        Step::Vetoes(words) => trial.vetoes(alloc, of) == words,
         Step::Configured(words) => trial.configured(of) == words,
+        Step::Vacant(is) => trial.is_veto_vacant() == is,
         Step::LetIn(routes) => trial.let_in(alloc, of) == routes,
     }
 }
@@ -111,6 +117,7 @@ const CONFIGURED: &[Step<'_>] = &[
     Step::LetIn(Some(2)),
     Step::Attach("hook veto\nrank 0\nr0 = 3\nexit"),
     Step::LetIn(None),
+    Step::Vacant(Some(false)),
     Step::Detach(Hook::Price),
     Step::Attach("hook tag\nrank 0\nr0 = 3\nexit"),
     Step::Configured(None),
@@ -118,6 +125,7 @@ const CONFIGURED: &[Step<'_>] = &[
     Step::Detach(Hook::Veto),
     Step::Configured(Some((0x0506_0708, 20))),
     Step::LetIn(Some(2)),
+    Step::Vacant(Some(true)),
 ];
 
 const DETACHED: &[Step<'_>] = &[
@@ -159,6 +167,23 @@ const BYTES: &[Step<'_>] = &[
 const COST_OF_THE_ROUTE: &[Step<'_>] = &[
     Step::Attach("hook veto\nrank 0\nr0 = *u32 r1 12\nexit"),
     Step::Veto(Some(20)),
+    Step::Vetoes(Some((20, 21))),
+];
+
+// How many questions a seat had, in a number of its own.
+const COUNTED: &[Step<'_>] = &[
+    Step::Vetoes(Some((0, 0))),
+    Step::Attach("hook veto\nrank 0\nr6 = map 1 8\nr0 = *u64 r6 0\nr0 += 1\n*u64 r6 0 = r0\nexit"),
+    Step::Vetoes(Some((1, 2))),
+    Step::Veto(Some(3)),
+    Step::Detach(Hook::Veto),
+    Step::Vetoes(Some((0, 0))),
+];
+
+// The second run of one reading writes the stack that the first one wrote.
+const ONE_STACK: &[Step<'_>] = &[
+    Step::Attach("hook veto\nrank 0\nr0 = *u32 r1 12\n*u64 r10 -8 = r0\nr0 = *u64 r10 -8\nexit"),
+    Step::Vetoes(Some((20, 21))),
 ];
 
 const CASES: &[(&str, &[Step<'_>])] = &[
@@ -178,6 +203,8 @@ const CASES: &[(&str, &[Step<'_>])] = &[
         "a program of veto reads the cost of its route",
         COST_OF_THE_ROUTE,
     ),
+    ("each route is asked about in its turn", COUNTED),
+    ("a run finds on the stack what it has stored", ONE_STACK),
 ];
 
 // An allocation may be refused once.

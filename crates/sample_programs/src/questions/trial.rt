@@ -29,18 +29,18 @@ pub fn accepted(alloc: Global, text: &str) -> Option<Accepted> {
 pub struct Subjects {
     /// 203.0.113.0/24 of type 2 with the configured metric 20 and the configured tag 0x05060708.
     pub external: External,
-    /// 192.0.2.0/24 within the area, with cost 20 by interface 1, twice.
+    /// 192.0.2.0/24 within the area by interface 1, with cost 20 and with cost 21.
     pub routes: [Route; 2],
     /// The table: 192.0.2.0/24 with cost 20.
     pub rows: [TableRow; 1],
 }
 
-fn route() -> Option<Route> {
+fn route(cost: u32) -> Option<Route> {
     let prefix = Prefix::new(Address::new(0xc000_0200), 24)?;
     Some(Route {
         prefix,
         kind: RouteKind::Intra,
-        cost: 20,
+        cost,
         distance: 0,
         hops: Hops::only(1),
         tag: 0,
@@ -55,7 +55,7 @@ pub fn samples() -> Option<Subjects> {
         kind: ExternalType::Type2,
         tag: 0x0506_0708,
     };
-    let routes = [route()?, route()?];
+    let routes = [route(20)?, route(21)?];
     let rows = [row()?];
     Some(Subjects {
         external,
@@ -166,6 +166,27 @@ impl<R: Wait + Drop> HookTrial<R> {
             .asker
             .veto(&of.routes[0], Second::new(MOMENT), &[], shared, seat)?;
         Some(vetoed.word())
+    }
+
+    /// The words of `veto` on both routes, by one reading; others if memory was refused.
+    pub fn vetoes(&mut self, alloc: Global, of: &Subjects) -> Option<(u64, u64)> {
+        let (shared, seat) = (&self.shared, &mut self.seat);
+        let asked = self
+            .asker
+            .vetoes(alloc, &of.routes, Second::new(MOMENT), &[], shared, seat);
+        let Ok(vetoed) = asked else {
+            return Some((u64::MAX, u64::MAX));
+        };
+        let answers = vetoed?;
+        match answers.as_slice() {
+            [near, far] => Some((near.word(), far.word())),
+            _ => None,
+        }
+    }
+
+    /// Whether `veto` has no program.
+    pub fn is_veto_vacant(&mut self) -> Option<bool> {
+        self.asker.is_veto_vacant()
     }
 
     /// The words of `tag` and `price`, if neither hook has a program.
