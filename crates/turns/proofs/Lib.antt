@@ -6,3 +6,4 @@ mod LetIn
 mod Tables
 pub mod Longer
 mod Vetoes
+mod Unread

@@ -1,8 +1,8 @@
 -- Answers to questions, one after the other.
-use Rattle.std.proofs.Common.{◌≡◌, ℕ, zero, suc, ◌+◌, ◌<◌, List, [], ◌∷◌, ◌++◌, length, map, take}
-use Rattle.std.proofs.Common.{get_or, ap, sym, subst, ◌∙◌, arith}
+use Rattle.std.proofs.Common.{◌≡◌, ℕ, zero, suc, List, [], ◌∷◌, map, refl, ap, sym, subst, ◌∙◌}
+use Rattle.std.proofs.Common.{arith}
 use Rattle.std.specs.List.{All}
-use Rattle.std.proofs.lemmas.List.{map-append, take_more}
+use mathlib.Core.List.{IsPrefix}
 use Rattle.std.proofs.lemmas.List.Elements.{All-append}
 use Rattle.words.specs.Numbers.{Moment}
 use Rattle.words.specs.declared.route.External.{External}
@@ -11,11 +11,12 @@ use Rattle.words.specs.declared.route.TableRow.{TableRow}
 use Rattle.hooks.specs.machine.Given.{Given}
 use Rattle.maps.specs.Words.{SeatView}
 use Rattle.hooks.specs.declared.operation.LoaderOperation.{LoaderOperation}
-use Rattle.hooks.specs.Answered.{IsAnswered}
+use Rattle.hooks.specs.Answered.{AreAnswered, IsAnswered}
 use Rattle.hooks.specs.Questions.{ExternalAnswer, RouteAnswer}
 use Rattle.hooks.specs.Questions.{price_input, tag_input, veto_input}
-use Rattle.hooks.proofs.Fronts.{prefix_self}
+use Rattle.hooks.proofs.Fronts.{prefix_self, prefix_trans}
 use Rattle.turns.specs.Turns.{AreVetoes, IsPriceOn, IsTagOn, IsVetoOn, IsWordOn}
+use Rattle.turns.proofs.Longer.{veto_longer, vetoes_longer}
 
 pub is_word : {before now : List LoaderOperation} {old new : SeatView} {input : Given} {word : ℕ}
     → IsAnswered before now old new input word → IsWordOn before now input word
@@ -52,27 +53,30 @@ alone : (P : RouteAnswer → Type 0) (a : RouteAnswer) → P a → All P (a ∷ 
 alone P a p zero d lt = p
 alone P a p (suc k) d lt = absurd (omega arith)
 
-pub one_more : (known now : List LoaderOperation) (moment : Moment)
-    (rows asked_rows : List TableRow) (routes items : List Route) (i : ℕ)
-    (answers after : List RouteAnswer) (route : Route) (a : RouteAnswer) → asked_rows ≡ rows
-    → items ≡ routes → AreVetoes known now moment rows (take i routes) answers
-    → i < length items → route ≡ get_or items i route → after ≡ answers ++ a ∷ []
-    → (a.route ≡ route) × IsVetoOn known now moment asked_rows a
-    → AreVetoes known now moment rows (take (i + 1) routes) after
-one_more known now moment rows asked_rows routes items i answers after route a same_rows same_routes
-    so_far there item grown one =
-    let more : take (i + 1) items ≡ take i items ++ route ∷ [] =
-    take_more items i route there ∙ ap (λ r. take i items ++ r ∷ []) (sym item) in
-    let more_routes : take (i + 1) routes ≡ take i routes ++ route ∷ [] =
-    (let P : List Route → Type 0 = λ l. take (i + 1) l ≡ take i l ++ route ∷ [] in
-    subst P same_routes more) in
-    let on : IsVetoOn known now moment rows a =
-    (let P : List TableRow → Type 0 = λ l. IsVetoOn known now moment l a in subst P same_rows one.1)
-    in
-    let Q : List RouteAnswer → Type 0 = λ l. All (IsVetoOn known now moment rows) l in (
-      ap (map (λ x. x.route)) grown ∙ map-append (λ x. x.route) answers (a ∷ [])
-          ∙ ap (λ l. l ++ a.route ∷ []) so_far.0
-          ∙ ap (λ r. take i routes ++ r ∷ []) one.0 ∙ sym more_routes,
-      subst Q (sym grown) (All-append (IsVetoOn known now moment rows) answers (a ∷ []) so_far.1
-          (alone (IsVetoOn known now moment rows) a on)),
+-- the answers of questions one after the other
+pub are_vetoes : (before now : List LoaderOperation) (old new : SeatView) (moment : Moment)
+    (rows : List TableRow) (routes : List Route) (answers : List RouteAnswer)
+    → AreAnswered before now old new moment rows routes answers
+    → IsPrefix before now × AreVetoes before now moment rows routes answers
+are_vetoes before now old new moment rows [] [] all =
+    (all.0, (refl, λ k d low. absurd (omega arith)))
+are_vetoes before now old new moment rows [] (a ∷ answers) all = absurd all
+are_vetoes before now old new moment rows (route ∷ routes) [] all = absurd all
+are_vetoes before now old new moment rows (route ∷ routes) (a ∷ answers) all =
+    let known = all.0 in
+    let first = all.2 in
+    let begins : IsPrefix before known = first.answered.begins in
+    let after = are_vetoes known now all.1 new moment rows routes answers all.3 in
+    let rest : AreVetoes before now moment rows routes answers =
+    vetoes_longer before known now now begins (prefix_self now) moment rows routes answers
+    after.1 in
+    let one = is_veto moment rows route a (first.on, first.at) first.answered in
+    let is : IsVetoOn before now moment rows a =
+    veto_longer before before known now (prefix_self before) after.0 moment rows a one.1 in (
+      prefix_trans before known now begins after.0,
+      (
+        ap (λ r. r ∷ map (λ x. x.route) answers) one.0 ∙ ap (λ l. route ∷ l) rest.0,
+        All-append (IsVetoOn before now moment rows) (a ∷ []) answers
+            (alone (IsVetoOn before now moment rows) a is) rest.1,
+      ),
     )

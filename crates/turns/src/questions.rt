@@ -12,7 +12,6 @@ ghost use Rattle.turns.specs.Turns.{
   IsPriceOn,
   IsTagOn,
   RefusesQuestions,
-  IsVetoOn,
 };
 
 use crate::hub::Hub;
@@ -24,7 +23,7 @@ use flood::{Event, Offered};
 use hooks::{Asker, PriceAnswer, TagAnswer, VetoAnswer};
 use maps::{Seat, Shared};
 use std::sync::Wait;
-use words::{External, Route, Second, Sequence, TableRow};
+use words::{External, Second, Sequence, TableRow};
 
 /// The event that this work gives to the book, with the answers of the programs that it needs.
 ///
@@ -194,11 +193,35 @@ fn price<L: Site, B: Taker<L>>(
 }
 
 /// An `Install`: of each candidate now, whether it is kept out of the table. If `veto` has no
-/// program, one reading of the programs answers for all of them, and the table isn't made.
+/// program, one reading of the programs answers for all of them, and the table isn't made. Another
+/// reading before it tells which way to go, so that the candidates are copied once.
 ///
 /// # Errors
 /// `Away` if `veto` got no reading of the published programs; `Memory` if an allocation is refused.
 pub fn make_install<L: Site, B: Taker<L>, R: Wait>(
+    rt: &R,
+    hub: &Hub<L, B>,
+    asker: &mut Asker,
+    seat: &mut Seat,
+    moment: Second,
+) -> Result<Event, TurnError>
+    requires { IsOf L.words seat.old }
+    ensures event { IfOk result (λ event.
+        IsInstall B.offers (known_to asker.old) (known_to asker.new) moment event) }
+    ensures err { IfErr result (RefusesQuestions B.refuses Work.Refresh moment) }
+    ensures seat { IsOf L.words seat.new }
+    ensures history { asks_of asker.new ≡ asks_of asker.old }
+    ensures known { IsPrefix (known_to asker.old) (known_to asker.new) }
+{
+    match asker.is_veto_vacant() {
+        Some(false) => ask_about_candidates(rt, hub, asker, seat, moment),
+        _ => let_in(rt, hub, asker, seat, moment),
+    }
+}
+
+// The same, if no program may stand at `veto`. If the reading for the answers shows one after all,
+// it is asked.
+fn let_in<L: Site, B: Taker<L>, R: Wait>(
     rt: &R,
     hub: &Hub<L, B>,
     asker: &mut Asker,
@@ -244,7 +267,7 @@ fn ask_about_candidates<L: Site, B: Taker<L>, R: Wait>(
     Ok(Event::Install(Sequence::from_vec(answers)))
 }
 
-// The answers on the candidates, in their order, each by a question of its own.
+// The answers on the candidates, in their order.
 fn ask_vetoes<L: Site, B: Taker<L>>(
     shared: &Shared,
     asker: &mut Asker,
@@ -260,34 +283,12 @@ fn ask_vetoes<L: Site, B: Taker<L>>(
     ensures history { asks_of asker.new ≡ asks_of asker.old }
     ensures known { IsPrefix (known_to asker.old) (known_to asker.new) }
 {
+    let alloc = *offered.candidates.allocator();
+    let routes = offered.candidates.as_slice();
     let rows = offered.rows.as_slice();
-    let mut answers = B::room(*offered.candidates.allocator(), offered.candidates.len())?;
-    for route in &offered.candidates {
-        let answer = veto::<L, B>(asker, route, moment, rows, shared, seat)?;
-        answers.push_reserved(answer);
-    }
-    Ok(answers)
-}
-
-fn veto<L: Site, B: Taker<L>>(
-    asker: &mut Asker,
-    route: &Route,
-    moment: Second,
-    rows: &[TableRow],
-    shared: &Shared,
-    seat: &mut Seat,
-) -> Result<VetoAnswer, TurnError>
-    requires { IsOf shared.now seat.old }
-    ensures answer { IfOk result (λ a.
-        (a.route ≡ route.now)
-        × IsVetoOn (known_to asker.old) (known_to asker.new) moment rows.now a) }
-    ensures err { IfErr result (RefusesQuestions B.refuses Work.Refresh moment) }
-    ensures seat { IsOf shared.now seat.new }
-    ensures history { asks_of asker.new ≡ asks_of asker.old }
-    ensures known { IsPrefix (known_to asker.old) (known_to asker.new) }
-{
-    match B::veto(asker, route, moment, rows, shared, seat) {
-        Some(answer) => Ok(answer),
+    let all = B::vetoes(asker, alloc, routes, moment, rows, shared, seat)?;
+    match all {
+        Some(answers) => Ok(answers),
         None => Err(TurnError::Away),
     }
 }

@@ -1,7 +1,8 @@
 //! What takes events, as a turn sees it, and what a turn asks beside.
 ghost use Rattle.std.specs.Prelude.{◌≡◌, ◌+◌, ◌<◌, ◌≤◌, ◌↔◌, ℕ, Bool, List, Option, Err, IfOk};
 ghost use Rattle.std.specs.Prelude.{IfErr, IfNone, IfSome, IsTrue, MatchResult, None, OnErr};
-ghost use Rattle.std.specs.Prelude.{OnOk, Some, [], map, max, vec_capacity};
+ghost use Rattle.std.specs.Prelude.{OnOk, Some, map, max};
+ghost use Rattle.std.specs.List.{Contains};
 ghost use mathlib.Core.List.{IsPrefix};
 ghost use Rattle.words.specs.Constants.{clock_end};
 ghost use Rattle.words.specs.Numbers.{InterfaceNumber, Moment, RouterNumber};
@@ -9,7 +10,7 @@ ghost use Rattle.words.specs.Prefixes.{Network};
 ghost use Rattle.words.specs.declared.route.Route.{Route as RouteValue};
 ghost use Rattle.words.specs.declared.route.TableRow.{TableRow};
 ghost use Rattle.maps.specs.Words.{IsOf};
-ghost use Rattle.hooks.specs.Answered.{IsAnswered};
+ghost use Rattle.hooks.specs.Answered.{AreAnswered, IsAnswered};
 ghost use Rattle.hooks.specs.Known.{asks_of, known_to, told_by};
 ghost use Rattle.hooks.specs.Questions.{count_input, price_input, tag_input, veto_input};
 ghost use Rattle.hooks.specs.Vacant.{IsAnsweredByNone, let_in};
@@ -200,25 +201,27 @@ pub trait Taker<L: Origin> {
             seat.old seat.new (price_input external.now moment rows.now) a.word) }
         ensures table { IsOf shared.now seat.new };
 
-    /// Asks the program at `veto` whether to keep a route out of the table, by [`Asker::veto`].
-    /// `None` if the published programs can't be read.
-    fn veto(
+    /// Asks the program at `veto` whether to keep each route out of the table, by
+    /// [`Asker::vetoes`]. `None` if the published programs can't be read.
+    fn vetoes(
         asker: &mut Asker,
-        route: &Route,
+        alloc: Global,
+        routes: &[Route],
         moment: Second,
         rows: &[TableRow],
         shared: &Shared,
         seat: &mut Seat,
-    ) -> Option<VetoAnswer>
+    ) -> Result<Option<Vec<VetoAnswer>>, AllocError>
         requires { IsOf shared.now seat.old }
         ensures history { asks_of asker.new ≡ asks_of asker.old }
-        ensures unread { IfNone result ((known_to asker.new ≡ known_to asker.old)
-            × (seat.new ≡ seat.old)) }
-        ensures lacking { IfNone result
-            (IsLacking refuses (Lack.Reading (veto_input route.now moment rows.now))) }
-        ensures question { IfSome result (λ a. (a.route ≡ route.now) × (a.moment ≡ moment)) }
-        ensures answered { IfSome result (λ a. IsAnswered (known_to asker.old) (known_to asker.new)
-            seat.old seat.new (veto_input route.now moment rows.now) a.word) }
+        ensures known { IsPrefix (known_to asker.old) (known_to asker.new) }
+        ensures lacking { IfOk result (λ o. IfNone o ((route : RouteValue)
+            × Contains routes.now route
+            × IsLacking refuses (Lack.Reading (veto_input route moment rows.now)))) }
+        ensures answered { IfOk result (λ o. IfSome o (λ answers.
+            AreAnswered (known_to asker.old) (known_to asker.new) seat.old seat.new moment
+            rows.now routes.now answers.items)) }
+        ensures short { OnErr result (IsLacking refuses Lack.Memory) }
         ensures table { IsOf shared.now seat.new };
 
     /// The answers on these routes if `veto` has no program: each is let in, by
@@ -241,22 +244,13 @@ pub trait Taker<L: Origin> {
             (known_to asker.old) (known_to asker.new) (veto_input route moment rows) 0)) }
         ensures short { OnErr result (IsLacking refuses Lack.Memory) };
 
-    /// Clones a datagram for its event. It stands here, as `room` does, so that a refusal for
-    /// memory counts as one of this implementation.
+    /// Clones a datagram for its event. It stands here, so that a refusal for memory counts
+    /// as one of this implementation.
     ///
     /// # Errors
     /// `AllocError` if an allocation is refused.
     fn copied(bytes: &Sequence<u8>) -> Result<Sequence<u8>, AllocError>
         ensures copied { IfOk result (λ copy. copy ≡ bytes.now) }
-        ensures short { OnErr result (IsLacking refuses Lack.Memory) };
-
-    /// An empty list with capacity for this number of answers.
-    ///
-    /// # Errors
-    /// `AllocError` if an allocation is refused.
-    fn room(alloc: Global, answers: usize) -> Result<Vec<VetoAnswer>, AllocError>
-        ensures none { IfOk result (λ list. list.items ≡ []) }
-        ensures room { IfOk result (λ list. answers ≤ vec_capacity list) }
         ensures short { OnErr result (IsLacking refuses Lack.Memory) };
 
     /// Counts one more change of the programs, which are now those of the notice.
@@ -411,15 +405,16 @@ impl<L: Origin> Taker<L> for Book<L> {
         asker.price(external, moment, rows, shared, seat)
     }
 
-    fn veto(
+    fn vetoes(
         asker: &mut Asker,
-        route: &Route,
+        alloc: Global,
+        routes: &[Route],
         moment: Second,
         rows: &[TableRow],
         shared: &Shared,
         seat: &mut Seat,
-    ) -> Option<VetoAnswer> {
-        asker.veto(route, moment, rows, shared, seat)
+    ) -> Result<Option<Vec<VetoAnswer>>, AllocError> {
+        asker.vetoes(alloc, routes, moment, rows, shared, seat)
     }
 
     fn all_let_in(
@@ -433,10 +428,6 @@ impl<L: Origin> Taker<L> for Book<L> {
 
     fn copied(bytes: &Sequence<u8>) -> Result<Sequence<u8>, AllocError> {
         bytes.copy()
-    }
-
-    fn room(alloc: Global, answers: usize) -> Result<Vec<VetoAnswer>, AllocError> {
-        Vec::with_capacity(alloc, answers)
     }
 
     fn tell(changes: &AtomicU64, _notice: &Notice) {

@@ -102,15 +102,16 @@ impl<L: Site> Taker<L> for Tableless<L> {
         asker.price(external, moment, rows, shared, seat)
     }
 
-    fn veto(
+    fn vetoes(
         _asker: &mut Asker,
-        _route: &Route,
+        _alloc: Global,
+        _routes: &[Route],
         _moment: Second,
         _rows: &[TableRow],
         _shared: &Shared,
         _seat: &mut Seat,
-    ) -> Option<VetoAnswer> {
-        None
+    ) -> Result<Option<Vec<VetoAnswer>>, AllocError> {
+        Err(AllocError)
     }
 
     fn all_let_in(
@@ -123,10 +124,6 @@ impl<L: Site> Taker<L> for Tableless<L> {
     }
 
     fn copied(_bytes: &Sequence<u8>) -> Result<Sequence<u8>, AllocError> {
-        Err(AllocError)
-    }
-
-    fn room(_alloc: Global, _answers: usize) -> Result<Vec<VetoAnswer>, AllocError> {
         Err(AllocError)
     }
 

@@ -1,34 +1,43 @@
-use Rattle.std.proofs.Common.{◌≡◌, ◌<◌, [], ◌∷◌, ◌++◌, length, ◌∙◌, arith, rules}
+use Rattle.std.proofs.Common.{List, subst}
+use Rattle.std.specs.List.{Contains}
+use Rattle.std.specs.Prelude.{IfNone, IfSome}
+use Rattle.words.specs.declared.route.Route.{Route}
+use Rattle.words.specs.declared.route.TableRow.{TableRow}
+use Rattle.hooks.specs.Answered.{AreAnswered}
 use Rattle.hooks.specs.Known.{known_to}
-use Rattle.hooks.proofs.Fronts.{prefix_self, prefix_trans}
-use Rattle.turns.proofs.Longer.{veto_longer, vetoes_longer}
-use Rattle.turns.proofs.Vetoes.{one_more}
+use Rattle.hooks.specs.Questions.{veto_input}
+use Rattle.turns.specs.Turns.{AreVetoes, IsLacking, Lack}
+use Rattle.turns.proofs.Away.{of_veto}
+use Rattle.turns.proofs.Vetoes.{are_vetoes}
 use Rattle.turns.proofs.questions.ask_vetoes.Goals as goal
 
-pub loop-route-preserved : goal.loop-route-preserved
-loop-route-preserved g c =
-    let before = c.loop-route.invariant in
-    let began = known_to c.args.asker.now in
-    let now = known_to c.veto.new.asker in
-    let answer = c.in_ok-answer.answer in
-    let one = c.in_ok-answer.ensures.answer in
-    let grown : c.push_reserved.new.self.items ≡ c.loop-route.answers.items ++ answer ∷ [] =
-    c.push_reserved.ensures.items in
-    let there : c.loop-route.route-index < length c.deref-route-items.result.now = omega arith in
-    record {
-      seat = c.veto.ensures.seat;
-      history = c.veto.ensures.history ∙ before.history;
-      known = prefix_trans _ _ _ before.known c.veto.ensures.known;
-      room = search rules;
-      many = search rules;
-      answers =
-          one_more _ _ c.args.moment c.args.offered.now.rows.items c.as_slice-rows.result.now
-          c.args.offered.now.candidates.items c.deref-route-items.result.now
-          c.loop-route.route-index c.loop-route.answers.items c.push_reserved.new.self.items
-          c.route-item.result answer
-          c.as_slice-rows.ensures.value c.deref-route-items.ensures.value
-          (vetoes_longer began began _ now (prefix_self began) c.veto.ensures.known _ _ _ _
-          before.answers) there
-          c.route-item.is grown
-          (one.0, veto_longer _ _ now now before.known (prefix_self now) _ _ _ one.1);
-    }
+pub returns-in-Some-clause-answers : goal.returns-in-Some-clause-answers
+returns-in-Some-clause-answers g c =
+    let before = known_to c.args.asker.now in
+    let now = known_to c.vetoes.new.asker in
+    let rows = c.as_slice-rows.result.now in
+    let routes = c.as_slice-routes.result.now in
+    let answers = c.in-Some.answers.items in
+    let all : AreAnswered before now c.args.seat.now c.vetoes.new.seat c.args.moment rows routes
+    answers =
+    subst (λ o. IfSome o (λ answers. AreAnswered before now c.args.seat.now c.vetoes.new.seat
+    c.args.moment rows routes answers.items)) c.in-Some.is c.in_ok-all.ensures.answered in
+    let beside : List TableRow → Type 0 =
+    λ l. AreVetoes before now c.args.moment l routes answers in
+    let on : List Route → Type 0 =
+    λ l. AreVetoes before now c.args.moment c.args.offered.now.rows.items l answers in
+    let asked =
+    are_vetoes before now c.args.seat.now c.vetoes.new.seat c.args.moment rows routes answers
+    all in
+    subst on c.as_slice-routes.ensures.value (subst beside c.as_slice-rows.ensures.value asked.1)
+
+pub returns-in-None-clause-err : goal.returns-in-None-clause-err
+returns-in-None-clause-err g c =
+    let refuses = g.B.Taker.refuses in
+    let rows = c.as_slice-rows.result.now in
+    let one : (route : Route) × Contains c.as_slice-routes.result.now route
+    × IsLacking refuses (Lack.Reading (veto_input route c.args.moment rows)) =
+    subst (λ o. IfNone o ((route : Route) × Contains c.as_slice-routes.result.now route
+    × IsLacking refuses (Lack.Reading (veto_input route c.args.moment rows)))) c.in-None.is
+    c.in_ok-all.ensures.lacking in
+    of_veto refuses one.0 c.args.moment rows one.2

@@ -1,0 +1,9 @@
+use Rattle.hooks.specs.Known.{known_to}
+use Rattle.turns.proofs.Unread.{first_unread}
+use Rattle.turns.proofs.taker.BookTaker.vetoes.Goals as goal
+
+pub returns-clause-lacking : goal.returns-clause-lacking
+returns-clause-lacking g c =
+    first_unread (known_to c.args.asker.now) (known_to c.vetoes.new.self) c.args.seat.now
+    c.vetoes.new.seat c.args.moment c.args.rows.now c.args.routes.now c.vetoes.result
+    c.vetoes.ensures.unread
