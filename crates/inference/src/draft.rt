@@ -143,19 +143,8 @@ impl StatementDraft {
         self.has_changed = true;
     }
 
-    /// How the bounds of a statement grow that has changed so often.
-    fn growth_after(&self, changes: u32, is_head: bool) -> Growth<'_> {
-        Growth {
-            is_exact: !(is_head & self.is_rising()) | (changes < EXACT_CHANGES),
-            limits: if changes < LIMITED_CHANGES {
-                self.limits.as_slice()
-            } else {
-                &[]
-            },
-        }
-    }
-
-    /// The statement at the edge's target, extended by what is known at the edge.
+    /// The statement at the edge's target, which has changed so often, extended by what is known at
+    /// the edge.
     fn grown(
         &self,
         old: Option<Statement>,
@@ -163,13 +152,18 @@ impl StatementDraft {
         arrival: &Arrival,
         state: &AbstractState<Value>,
     ) -> Option<Statement> {
-        match old {
-            Some(old) => {
-                let growth = self.growth_after(changes, arrival.is_head);
-                joined_statement(growth, &old, arrival.live, state)
-            }
-            None => first_statement(arrival.slot, arrival.live, state),
-        }
+        let Some(old) = old else {
+            return first_statement(arrival.slot, arrival.live, state);
+        };
+        let growth = Growth {
+            is_exact: !(arrival.is_head & self.is_rising()) | (changes < EXACT_CHANGES),
+            limits: if changes < LIMITED_CHANGES {
+                self.limits.as_slice()
+            } else {
+                &[]
+            },
+        };
+        joined_statement(growth, &old, arrival.live, state)
     }
 
     /// Extends the statement at the edge's target, or what was collected there, by what is known at

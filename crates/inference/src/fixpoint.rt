@@ -1,11 +1,10 @@
 //! Passes over the code until the statements don't change any more.
 
-use crate::draft::{NOTHING, Purpose, SiteDraft, StatementDraft};
+use crate::draft::{NOTHING, Purpose, SiteDraft};
 use crate::edges::Edge;
-use crate::flow::{Passes, Program};
-use crate::liveness::{live_registers, reads_frame};
+use crate::flow::Passes;
 use crate::memory::{Memory, element_or};
-use crate::sites::{Sites, sites_of};
+use crate::sites::Sites;
 use crate::widening::limits_of;
 use isa::{Code, Hook};
 use kinds::put;
@@ -73,21 +72,14 @@ fn keep(passes: &mut Passes<'_>, kept: &[Statement]) {
     }
 }
 
-/// The program of the code at the hook.
-pub fn program_of<'a>(
-    memory: &'a Memory,
-    code: &'a Code,
-    hook: Hook,
-    given: &[Statement],
-) -> Program<'a> {
-    Program {
-        memory,
-        code,
-        hook,
-        sites: sites_of(memory, code, given),
-        live: live_registers(memory, code, hook),
-        depth: if reads_frame(code, hook) { 512 } else { 0 },
+/// Finds the statements and the edges between them.
+fn find(passes: &mut Passes<'_>, given: &[Statement], are_kept: bool) {
+    if are_kept {
+        keep(passes, given)
     }
+    widen_and_narrow(passes, false);
+    widen_and_narrow(passes, true);
+    pass(passes, Purpose::Gather)
 }
 
 /// Finds statements for the code at the hook, unless an allocation is refused: at each target of a
@@ -100,16 +92,9 @@ pub fn infer_statements(
     given: &[Statement],
     are_kept: bool,
 ) -> Inference {
-    let program = program_of(memory, code, hook, given);
     let limits = limits_of(memory, code, given);
-    let draft = StatementDraft::new(memory, program.sites.slots.len(), limits);
-    let mut passes = Passes::new(program, draft);
-    if are_kept {
-        keep(&mut passes, given)
-    }
-    widen_and_narrow(&mut passes, false);
-    widen_and_narrow(&mut passes, true);
-    pass(&mut passes, Purpose::Gather);
+    let mut passes = Passes::new(memory, code, hook, given, limits);
+    find(&mut passes, given, are_kept);
     let Passes { program, draft, .. } = passes;
     Inference {
         sites: program.sites,

@@ -4,9 +4,9 @@ ghost use Rattle.std.specs.Prelude.{◌<◌};
 use crate::draft::{Arrival, StatementDraft};
 use crate::edges::copy_of;
 use crate::joining::{Value, any_number, idle_statement};
-use crate::liveness::{Registers, target_of};
+use crate::liveness::{Registers, live_registers, reads_frame, target_of};
 use crate::memory::{Memory, element_or};
-use crate::sites::Sites;
+use crate::sites::{Sites, sites_of};
 use isa::{Code, Hook, Instruction, Register, Slot, Source, Test, Width};
 use kinds::{AbstractState, Kind, PointerPlace, StackEntry, put, reset, target_of as stated};
 use object::Statement;
@@ -89,20 +89,31 @@ fn narrow(here: &mut Here, branch: &Branch, values: Option<(Value, Value)>) {
     }
 }
 
-/// What is known at the entry of the program.
-fn entry(program: &Program<'_>, is_live: bool) -> Here {
-    Here {
-        begun: program.sites.slots.len(),
-        state: entry_state(program.memory, program.depth),
-        is_live,
-        is_idle: false,
-    }
-}
-
 impl<'a> Passes<'a> {
-    /// No pass has been made yet.
-    pub fn new(program: Program<'a>, draft: StatementDraft) -> Passes<'a> {
-        let here = entry(&program, false);
+    /// The program of the code at the hook, over which no pass has been made yet. It has a site for
+    /// each given statement, too. Bounds that grow are widened to these limits.
+    pub fn new(
+        memory: &'a Memory,
+        code: &'a Code,
+        hook: Hook,
+        given: &[Statement],
+        limits: Vec<u64>,
+    ) -> Passes<'a> {
+        let program = Program {
+            memory,
+            code,
+            hook,
+            sites: sites_of(memory, code, given),
+            live: live_registers(memory, code, hook),
+            depth: if reads_frame(code, hook) { 512 } else { 0 },
+        };
+        let draft = StatementDraft::new(memory, program.sites.slots.len(), limits);
+        let here = Here {
+            begun: 0,
+            state: entry_state(memory, program.depth),
+            is_live: false,
+            is_idle: false,
+        };
         Passes {
             program,
             draft,
@@ -238,8 +249,12 @@ impl<'a> Passes<'a> {
     /// there, which is no backward jump: it comes from before the first slot. Else the entry's
     /// segment begins there, if it `is_due`.
     pub fn begin_at_entry(&mut self, is_due: bool) {
-        let is_live = is_due & self.program.sites.at(0).is_none();
-        self.here = entry(&self.program, is_live);
+        self.here = Here {
+            begun: self.program.sites.slots.len(),
+            state: entry_state(self.program.memory, self.program.depth),
+            is_live: is_due & self.program.sites.at(0).is_none(),
+            is_idle: false,
+        };
         self.enter(0, false)
     }
 

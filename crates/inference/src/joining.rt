@@ -86,37 +86,31 @@ fn known_bits(numbers: StatedNumber) -> (u64, u64) {
     }
 }
 
-/// The bits with the same known value in both; of numbers that keep growing only the lowest ones,
-/// since higher ones would give the old bounds back.
-fn joined_mask(growth: Growth<'_>, old: StatedNumber, new: StatedNumber) -> u64 {
-    let (old_mask, old_bits) = known_bits(old);
-    let (new_mask, new_bits) = known_bits(new);
-    let mask = old_mask & new_mask & !(old_bits ^ new_bits);
-    let has_grown = (new.low() < old.low()) | (old.high() < new.high());
-    if has_grown & !growth.is_exact {
-        mask & !mask.wrapping_add(1)
-    } else {
-        mask
-    }
-}
-
-/// The join of both sets of numbers.
+/// The join of both sets of numbers. Known are the bits with the same known value in both; of
+/// numbers that keep growing only the lowest ones, since higher ones would give the old bounds
+/// back.
 fn joined_numbers(
     growth: Growth<'_>,
     old: StatedNumber,
     new: StatedNumber,
 ) -> Option<StatedNumber> {
-    let low = if growth.is_exact | (old.low() <= new.low()) {
-        old.low().min(new.low())
-    } else {
-        below(growth.limits, new.low())
-    };
-    let high = if growth.is_exact | (new.high() <= old.high()) {
-        old.high().max(new.high())
-    } else {
-        above(growth.limits, new.high())
-    };
-    number(low, high, joined_mask(growth, old, new), known_bits(old).1)
+    let (old_mask, old_bits) = known_bits(old);
+    let (new_mask, new_bits) = known_bits(new);
+    let mut mask = old_mask & new_mask & !(old_bits ^ new_bits);
+    let mut low = old.low().min(new.low());
+    let mut high = old.high().max(new.high());
+    let falls = low < old.low();
+    let rises = old.high() < high;
+    if !growth.is_exact & (falls | rises) {
+        mask &= !mask.wrapping_add(1);
+        if falls {
+            low = below(growth.limits, low);
+        }
+        if rises {
+            high = above(growth.limits, high);
+        }
+    }
+    number(low, high, mask, old_bits)
 }
 
 /// The join of what both say of a register.

@@ -1,13 +1,12 @@
 //! The maximum number of iterations of loops, found by following them one iteration at a time.
 
-use crate::draft::{NOTHING, Purpose, SiteDraft, StatementDraft};
-use crate::fixpoint::program_of;
-use crate::flow::{Passes, Program};
+use crate::draft::{NOTHING, Purpose, SiteDraft};
+use crate::flow::Passes;
 use crate::memory::{Memory, element_or};
-use isa::{Code, Hook, Slot};
+use crate::sites::Sites;
+use isa::{Code, Hook};
 use kinds::put;
 use object::Statement;
-use segments::places::jump_of;
 use std::alloc::{AllocError, Global};
 
 /// The maximum number of instructions that are followed.
@@ -23,145 +22,108 @@ struct Mark {
     until: usize,
 }
 
-/// Loops that are followed iteration by iteration, and for each site the last one of its loop: the
-/// last before a backward jump to it; the site itself if it begins no loop.
-#[derive(Drop)]
-struct Unrolling<'a> {
-    passes: Passes<'a>,
-    lasts: Vec<usize>,
-    mark: Mark,
+/// The first reached site from `from` on and before `to`.
+fn first_pending(drafts: &[SiteDraft], from: usize, to: usize) -> Option<usize> {
+    for site in from..to {
+        if let Some(SiteDraft { found: Some(_), .. }) = drafts.get(site) {
+            return Some(site);
+        }
+    }
+    None
 }
 
-/// For each site the last one of the loop that it begins; the site itself if it begins none.
-fn lasts_of(program: &Program<'_>) -> Vec<usize> {
-    let mut lasts = program.memory.filled(0, program.sites.slots.len());
-    let mut last = 0;
-    for slot in 0..program.code.len() {
-        if let Some(site) = program.sites.at(slot) {
-            last = site;
-            put(&mut lasts, site, site);
-        }
-        if let Some(Slot::Start(instruction)) = program.code.at(slot as u64) {
-            let to = jump_of(slot, &instruction).unwrap_or(usize::MAX);
-            if to <= slot {
-                if let Some(head) = program.sites.at(to) {
-                    put(&mut lasts, head, last)
-                }
-            }
+/// The site to follow next: the first reached one, but the head of a loop only after all that is
+/// left within the loop.
+fn next_of(drafts: &[SiteDraft], sites: &Sites) -> Option<usize> {
+    let Some(mut next) = first_pending(drafts, 0, drafts.len()) else {
+        return None;
+    };
+    for _ in 0..drafts.len() {
+        match first_pending(drafts, next.saturating_add(1), drafts.len()) {
+            Some(inner) if sites.is_in_loop(next, inner) => next = inner,
+            _ => break,
         }
     }
-    lasts
+    Some(next)
 }
 
-impl<'a> Unrolling<'a> {
-    /// The first reached site from `from` on and before `to`.
-    fn first_pending(&self, from: usize, to: usize) -> Option<usize> {
-        for site in from..to {
-            if let Some(SiteDraft { found: Some(_), .. }) = self.passes.draft.sites.get(site) {
-                return Some(site);
-            }
-        }
-        None
+/// Whether a state comes back and nothing else is left to follow, so that the loops don't end. The
+/// mark moves on at each step whose number is a power of two, so that a circle of any length is
+/// found.
+fn comes_back(drafts: &[SiteDraft], mark: &mut Mark, site: usize, step: usize) -> bool {
+    if first_pending(drafts, 0, site).is_some()
+        || first_pending(drafts, site.saturating_add(1), drafts.len()).is_some()
+    {
+        return false;
     }
-
-    /// The site to follow next: the first reached one, but the head of a loop only after all that
-    /// is left within the loop.
-    fn next(&self) -> Option<usize> {
-        let sites = self.passes.program.sites.slots.len();
-        let mut next = self.first_pending(0, sites)?;
-        for _ in 0..sites {
-            let last = element_or(&self.lasts, next, 0);
-            match self.first_pending(next.saturating_add(1), last.saturating_add(1)) {
-                Some(inner) => next = inner,
-                None => break,
-            }
-        }
-        Some(next)
+    let state = element_or(drafts, site, NOTHING).found;
+    if (mark.site == site) & (mark.state == state) {
+        return true;
     }
-
-    /// Whether a state comes back and nothing else is left to follow, so that the loops don't end.
-    /// The mark moves on at each step whose number is a power of two, so that a circle of any
-    /// length is found.
-    fn comes_back(&mut self, site: usize, step: usize) -> bool {
-        let sites = self.passes.program.sites.slots.len();
-        if self.first_pending(0, site).is_some()
-            || self.first_pending(site.saturating_add(1), sites).is_some()
-        {
-            return false;
+    if step >= mark.until {
+        *mark = Mark {
+            site,
+            state,
+            until: step.saturating_mul(2).max(1),
         }
-        let state = element_or(&self.passes.draft.sites, site, NOTHING).found;
-        if (self.mark.site == site) & (self.mark.state == state) {
-            return true;
-        }
-        if step >= self.mark.until {
-            self.mark = Mark {
-                site,
-                state,
-                until: step.saturating_mul(2).max(1),
-            }
-        }
-        false
     }
+    false
+}
 
-    /// Follows the segment that begins at the site. Returns the number of its instructions.
-    fn follow(&mut self, site: usize) -> usize {
-        let mut draft = element_or(&self.passes.draft.sites, site, NOTHING);
-        let Some(statement) = draft.found else {
-            return 0;
+/// Follows the segment that begins at the site. Returns the number of its instructions.
+fn follow(passes: &mut Passes<'_>, site: usize) -> usize {
+    let mut draft = element_or(&passes.draft.sites, site, NOTHING);
+    let Some(statement) = draft.found else {
+        return 0;
+    };
+    passes.draft.turns = draft.turns;
+    draft.found = None;
+    draft.turns = 0;
+    put(&mut passes.draft.sites, site, draft);
+    passes.begin(site, &statement);
+    let first = element_or(&passes.program.sites.slots, site, 0);
+    passes.follow_segment(first)
+}
+
+/// Follows the entry's segment and the reached sites until there is none left, with at most `most`
+/// backward jumps that count. Returns the maximum number of those, if it gets there.
+fn turns_of(passes: &mut Passes<'_>, most: u32) -> Option<u32> {
+    passes.draft.purpose = Purpose::Collect;
+    passes.begin_at_entry(true);
+    passes.follow_segment(0);
+    let mut mark = Mark {
+        site: 0,
+        state: None,
+        until: 0,
+    };
+    let mut steps = 0usize;
+    for step in 0..MAX_STEPS {
+        let Some(site) = next_of(&passes.draft.sites, &passes.program.sites) else {
+            return Some(passes.draft.max_turns);
         };
-        self.passes.draft.turns = draft.turns;
-        draft.found = None;
-        draft.turns = 0;
-        put(&mut self.passes.draft.sites, site, draft);
-        self.passes.begin(site, &statement);
-        let first = element_or(&self.passes.program.sites.slots, site, 0);
-        self.passes.follow_segment(first)
-    }
-
-    /// Follows the reached sites until there is none, with at most `most` backward jumps that
-    /// count. Returns whether there is none.
-    fn ends(&mut self, most: u32) -> bool {
-        let mut steps = 0usize;
-        for step in 0..MAX_STEPS {
-            let Some(site) = self.next() else {
-                return true;
-            };
-            if self.comes_back(site, step) {
-                break;
-            }
-            let more = self.follow(site).max(1);
-            steps = steps.saturating_add(more);
-            if (steps > MAX_STEPS) | (self.passes.draft.max_turns > most) {
-                break;
-            }
+        if comes_back(&passes.draft.sites, &mut mark, site, step) {
+            break;
         }
-        false
+        let more = follow(passes, site).max(1);
+        steps = steps.saturating_add(more);
+        if (steps > MAX_STEPS) | (passes.draft.max_turns > most) {
+            break;
+        }
     }
+    None
 }
 
-/// The loops of the program, at its entry. Backward jumps to these slots count.
-fn loops_of<'a>(memory: &'a Memory, code: &'a Code, hook: Hook, heads: &[usize]) -> Unrolling<'a> {
-    let program = program_of(memory, code, hook, &[]);
-    let sites = program.sites.slots.len();
-    let mut draft = StatementDraft::new(memory, sites, Vec::new(memory.alloc));
+/// The program, with no site followed yet. Backward jumps to these slots count.
+fn passes_of<'a>(memory: &'a Memory, code: &'a Code, hook: Hook, heads: &[usize]) -> Passes<'a> {
+    let mut passes = Passes::new(memory, code, hook, &[], Vec::new(memory.alloc));
     for head in heads {
-        if let Some(site) = program.sites.at(*head) {
-            let mut counted = NOTHING;
-            counted.is_counted = true;
-            put(&mut draft.sites, site, counted)
+        if let Some(site) = passes.program.sites.at(*head) {
+            if let Some(draft) = passes.draft.sites.get_mut(site) {
+                draft.is_counted = true;
+            }
         }
     }
-    draft.purpose = Purpose::Collect;
-    let lasts = lasts_of(&program);
-    Unrolling {
-        passes: Passes::new(program, draft),
-        lasts,
-        mark: Mark {
-            site: 0,
-            state: None,
-            until: 0,
-        },
-    }
+    passes
 }
 
 /// The maximum number of backward jumps to these slots in a run of the code at the hook, by what is
@@ -178,10 +140,7 @@ pub fn max_turns(
     most: u32,
 ) -> Result<Option<u32>, AllocError> {
     let memory = Memory::new(alloc);
-    let mut unrolling = loops_of(&memory, code, hook, heads);
-    unrolling.passes.begin_at_entry(true);
-    unrolling.passes.follow_segment(0);
-    let ends = unrolling.ends(most);
-    let turns = unrolling.passes.draft.max_turns;
-    memory.enough(if ends { Some(turns) } else { None })
+    let mut passes = passes_of(&memory, code, hook, heads);
+    let turns = turns_of(&mut passes, most);
+    memory.enough(turns)
 }
