@@ -1,6 +1,6 @@
 //! Loops among the sites, and how a number is carried around one.
 
-use crate::loops::{Circle, SiteEdges};
+use crate::loops::{Circle, SiteEdges, mark};
 use crate::weights::Bounds;
 use inference::memory::{Memory, element_or};
 use inference::{Edge, Sites};
@@ -61,9 +61,7 @@ impl<'a> Graph<'a> {
             };
         }
         let circle = ways.circle(self.memory, self.edges, head);
-        for site in &circle.sites {
-            put(done, *site, true)
-        }
+        mark(&circle.sites, done);
         circle
     }
 

@@ -31,37 +31,50 @@ pub fn numbers_below(memory: &Memory, count: usize) -> Vec<usize> {
     numbers
 }
 
+/// Records for each of these edges where it starts and leads back to. The entry, which has the last
+/// number, comes first among the edges, and no edge leads back to it. A site at which no edge
+/// starts gets the place of the next one's first edge.
+fn note(edges: &[Edge], numbers: &[usize], starts: &mut Vec<usize>, lasts: &mut Vec<usize>) {
+    for passed in 0..numbers.len() {
+        let place = numbers.len() - 1 - passed;
+        if let Some(edge) = edges.get(numbers[place]) {
+            if edge.from.saturating_add(1) < starts.len() {
+                let last = element_or(lasts, edge.to, 0);
+                put(starts, edge.from, place);
+                put(lasts, edge.to, last.max(edge.from))
+            }
+        }
+    }
+    let mut next = numbers.len();
+    for passed in 0..starts.len() {
+        let site = starts.len() - 1 - passed;
+        next = next.min(starts[site]);
+        put(starts, site, next)
+    }
+}
+
+/// Marks these sites.
+pub fn mark(sites: &[usize], marks: &mut Vec<bool>) {
+    for site in sites {
+        put(marks, *site, true)
+    }
+}
+
+/// Whether both ends of the edge are marked.
+fn is_within(marks: &[bool], edge: &Edge) -> bool {
+    element_or(marks, edge.from, false) & element_or(marks, edge.to, false)
+}
+
 impl SiteEdges {
     /// These edges, between `nodes` sites, the entry included.
     pub fn new(memory: &Memory, edges: &[Edge], numbers: Vec<usize>, nodes: usize) -> SiteEdges {
-        let mut ways = SiteEdges {
-            starts: memory.filled(numbers.len(), nodes),
-            lasts: memory.filled(0, nodes),
+        let mut starts = memory.filled(numbers.len(), nodes);
+        let mut lasts = memory.filled(0, nodes);
+        note(edges, &numbers, &mut starts, &mut lasts);
+        SiteEdges {
             numbers,
-        };
-        ways.note(edges);
-        ways
-    }
-
-    /// Records for each edge where it starts and leads back to. The entry, which has the last
-    /// number, comes first among the edges, and no edge leads back to it. A site at which no edge
-    /// starts gets the place of the next one's first edge.
-    fn note(&mut self, edges: &[Edge]) {
-        for passed in 0..self.numbers.len() {
-            let place = self.numbers.len().saturating_sub(1).saturating_sub(passed);
-            if let Some(edge) = edges.get(element_or(&self.numbers, place, usize::MAX)) {
-                if edge.from.saturating_add(1) < self.starts.len() {
-                    let last = element_or(&self.lasts, edge.to, 0);
-                    put(&mut self.starts, edge.from, place);
-                    put(&mut self.lasts, edge.to, last.max(edge.from))
-                }
-            }
-        }
-        let mut next = self.numbers.len();
-        for passed in 0..self.starts.len() {
-            let site = self.starts.len() - 1 - passed;
-            next = next.min(self.starts[site]);
-            put(&mut self.starts, site, next)
+            starts,
+            lasts,
         }
     }
 
@@ -102,12 +115,7 @@ impl SiteEdges {
         };
         for number in &kept {
             if let Some(edge) = edges.get(*number) {
-                let is_from = element_or(&forward, edge.from, false)
-                    & element_or(&back, edge.from, false);
-                if is_from
-                    & element_or(&forward, edge.to, false)
-                    & element_or(&back, edge.to, false)
-                {
+                if is_within(&forward, edge) & is_within(&back, edge) {
                     circle.add(memory, edge.from, *number)
                 }
             }

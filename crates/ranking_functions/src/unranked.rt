@@ -1,7 +1,7 @@
 //! Which loops have no rank.
 
 use crate::circles::Graph;
-use crate::loops::Circle;
+use crate::loops::mark;
 use crate::plan::RankPlan;
 use crate::trouble::{Endless, unranked_loop};
 use inference::memory::element_or;
@@ -19,22 +19,22 @@ pub struct Unranked {
     pub endless: Option<Endless>,
 }
 
-impl<'a> Graph<'a> {
-    /// Whether one of the loop's sites is marked.
-    fn has_marked(&self, circle: &Circle, marks: &[bool]) -> bool {
-        for site in &circle.sites {
-            if element_or(marks, *site, false) {
-                return true;
-            }
+/// Whether one of the sites is marked.
+fn has_marked(sites: &[usize], marks: &[bool]) -> bool {
+    for site in sites {
+        if element_or(marks, *site, false) {
+            return true;
         }
-        false
     }
+    false
+}
 
+impl<'a> Graph<'a> {
     /// Whether a loop begins at the site that has no rank on its own, though those within it have.
     fn is_unranked(&self, plan: &mut RankPlan, unranked: &[bool], head: usize) -> bool {
         let circle = self.ways.circle(self.memory, self.edges, head);
         !circle.sites.is_empty()
-            && !self.has_marked(&circle, unranked)
+            && !has_marked(&circle.sites, unranked)
             && !self.rank_circle(plan, &circle, head)
     }
 
@@ -52,12 +52,12 @@ impl<'a> Graph<'a> {
 
     /// Marks the sites of the loop that begins at this one; all sites if there is none.
     fn mark_together(&self, failed: Option<usize>, marks: &mut Vec<bool>) {
-        let sites = match failed {
-            Some(head) => self.ways.circle(self.memory, self.edges, head).sites,
-            None => self.memory.copied(&self.all.sites),
-        };
-        for site in &sites {
-            put(marks, *site, true)
+        match failed {
+            Some(head) => mark(
+                &self.ways.circle(self.memory, self.edges, head).sites,
+                marks,
+            ),
+            None => mark(&self.all.sites, marks),
         }
     }
 
