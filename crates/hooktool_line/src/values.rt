@@ -95,6 +95,19 @@ pub(crate) fn type_in(matches: &ArgMatches<'_>) -> Option<ExternalType>
     }
 }
 
+// The kind of this name.
+fn kind_named(name: &str) -> Option<RouteKind>
+    ensures { Reads (λ kind. name.now ≡ kind_word kind) result }
+{
+    match name {
+        "intra" => Some(RouteKind::Intra),
+        "inter" => Some(RouteKind::Inter),
+        "ext1" => Some(RouteKind::External1),
+        "ext2" => Some(RouteKind::External2),
+        _ => None,
+    }
+}
+
 /// The kind under `kind`, or intra-area.
 pub(crate) fn kind_in(matches: &ArgMatches<'_>) -> Option<RouteKind>
     ensures { Reads (λ kind. OrElse (first_of (codes "kind") (rows_of (found_of matches.now))) (kind
@@ -103,10 +116,6 @@ pub(crate) fn kind_in(matches: &ArgMatches<'_>) -> Option<RouteKind>
 {
     match word_of(matches, "kind") {
         None => Some(RouteKind::Intra),
-        Some("intra") => Some(RouteKind::Intra),
-        Some("inter") => Some(RouteKind::Inter),
-        Some("ext1") => Some(RouteKind::External1),
-        Some("ext2") => Some(RouteKind::External2),
-        Some(_) => None,
+        Some(word) => kind_named(word),
     }
 }
