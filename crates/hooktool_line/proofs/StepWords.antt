@@ -1,22 +1,22 @@
 -- The lines of a test, word by word.
 use Rattle.std.proofs.Common.{◌≡◌, ◌∙◌, ◌+◌, ◌<◌, ◌≤◌, ◌^◌, ℕ, List, [], ◌∷◌, ◌++◌, Option, Some}
-use Rattle.std.proofs.Common.{None, Ok, Err, ap, ap₂, arith, get_or, inl, inr, length, refl, subst}
-use Rattle.std.proofs.Common.{false, sym, take, true}
+use Rattle.std.proofs.Common.{None, ap, ap₂, arith, get_or, inl, inr, length, refl, subst}
+use Rattle.std.proofs.Common.{codes, false, sym, take, true}
 use Rattle.std.proofs.lemmas.Fmt.{decimal_injective}
 use Rattle.std.proofs.lemmas.List.{length-map, length-take-le, take_all, take_more}
 use Rattle.std.proofs.lemmas.Option.{slice_get-get_or, slice_get-map}
 use Rattle.std.specs.Borrow.{Bor}
 use Rattle.std.specs.Global.{Vec}
-use Rattle.std.specs.Prelude.{IfOk, Result, option_map}
+use Rattle.std.specs.Prelude.{option_map}
 use Rattle.clap.specs.Faults.{fault_of, is_simple_and_free}
 use Rattle.clap.specs.Matches.{found_of}
-use Rattle.clap.specs.Simple.{App, HasMatchesOf, matches_of}
+use Rattle.clap.specs.Simple.{App, HasMatchesOf}
 use Rattle.clap.specs.Walk.{Row, Text, first_of, rows_of}
 use Rattle.clap.specs.declared.parser.matches.ArgMatches.{ArgMatches}
 use Rattle.hooktool_line.specs.CommandLine.{ask}
 use Rattle.hooktool_line.specs.Questions.{HasNumber, HasQuestion}
-use Rattle.hooktool_line.specs.Steps.{AddsLine, AreLines, HasOptions, IsLine, IsWrong, is_blank}
-use Rattle.hooktool_line.specs.Steps.{views, words_of}
+use Rattle.hooktool_line.specs.Steps.{AddsLine, AreLines, BeginsWith, HasOptions, IsLine, IsWrong}
+use Rattle.hooktool_line.specs.Steps.{SaysAsk, is_blank, views, words_of}
 use Rattle.hooktool_line.specs.Words.{IsNumber, OrElse}
 use Rattle.hooktool_line.specs.declared.requests.Question.{Question}
 use Rattle.hooktool_line.specs.declared.steps.LineError.{LineError}
@@ -34,13 +34,14 @@ taken a words m own none has = (
   subst (λ (x : App). HasMatchesOf x words m) own has,
 )
 
-pub asked : (words : List Text) (m : ArgMatches) (question : Question) → HasOptions words m
-    → HasQuestion (rows_of (found_of m)) question
-    → (fault_of ask words ≡ []) × HasQuestion (matches_of ask words) question
-asked words m question taken is = (
-  taken.0,
-  subst (λ (rows : List Row). HasQuestion rows question) (taken.1 refl).0 is,
-)
+pub asked : (words : List Text) (m : ArgMatches) (question : Question)
+    → BeginsWith (codes "ask") words → HasOptions words m
+    → HasQuestion (rows_of (found_of m)) question → SaysAsk words question
+asked words m question begins taken is = record {
+  named = begins;
+  taken = taken.0;
+  question_is = subst (λ (rows : List Row). HasQuestion rows question) (taken.1 refl).0 is;
+}
 
 -- ---- lines of one word to four
 

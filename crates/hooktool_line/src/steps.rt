@@ -2,10 +2,6 @@
 
 ghost use Rattle.std.specs.Prelude.{◌≡◌, List, [], ◌∷◌, codes, false, IfErr, IfOk, IfSome, IsTrue};
 ghost use Rattle.std.specs.Prelude.{OnOk};
-ghost use Rattle.clap.specs.Faults.{fault_of};
-ghost use Rattle.clap.specs.Simple.{matches_of};
-ghost use Rattle.hooktool_line.specs.CommandLine.{ask};
-ghost use Rattle.hooktool_line.specs.Questions.{HasQuestion};
 ghost use Rattle.hooktool_line.specs.Steps.{AddsLine, AreLines, BeginsWith, HasOptions, Says};
 ghost use Rattle.hooktool_line.specs.Steps.{IsWrong, SaysAnswer, SaysPlain, is_blank, is_mark};
 ghost use Rattle.hooktool_line.specs.Steps.{step_for, views, words_of};
@@ -174,14 +170,14 @@ fn options_in<'a>(alloc: Global, words: &'a [&'a str]) -> Result<ArgMatches<'a>,
     }
 }
 
-/// The question of a line that begins with `ask`, whose words are options.
-fn asked_by<'a>(alloc: Global, words: &'a [&'a str]) -> Result<Question<'a>, LineError>
-    ensures { IfOk result (λ question. (fault_of ask (views words.entry.now) ≡ [])
-        × HasQuestion (matches_of ask (views words.entry.now)) question) }
+/// The step of a line that begins with `ask`, whose other words are options.
+fn asked_by<'a>(alloc: Global, words: &'a [&'a str]) -> Result<Step<'a>, LineError>
+    requires { BeginsWith (codes "ask") (views words.now) }
+    ensures { IfOk result (Says (views words.entry.now)) }
 {
     match options_in(alloc, words) {
         Ok(matches) => match question_of(alloc, &matches) {
-            Ok(question) => Ok(question),
+            Ok(question) => Ok(Step::Ask(question)),
             Err(NotRead::Meaningless(wrong)) => Err(LineError::Words(text_of(wrong))),
             Err(NotRead::OutOfMemory) => Err(LineError::Memory),
         },
@@ -194,10 +190,7 @@ fn step_of<'a>(alloc: Global, words: &'a [&'a str]) -> Result<Step<'a>, LineErro
     ensures { IfOk result (Says (views words.entry.now)) }
 {
     if let ["ask", ..] = *words {
-        return match asked_by(alloc, words) {
-            Ok(question) => Ok(Step::Ask(question)),
-            Err(error) => Err(error),
-        };
+        return asked_by(alloc, words);
     }
     match told_by(words) {
         Some(plain) => Ok(step_for(plain)),

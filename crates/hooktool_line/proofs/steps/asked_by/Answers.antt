@@ -4,5 +4,5 @@ use Rattle.hooktool_line.specs.Steps.{views}
 
 pub returns-in-Ok-question_of : goal.returns-in-Ok-question_of
 returns-in-Ok-question_of c =
-    asked (views c.args.words.now) c.in-Ok.matches c.in-Ok-question_of.question c.in-Ok.ensures
-    c.in-Ok-question_of.ensures
+    asked (views c.args.words.now) c.in-Ok.matches c.in-Ok-question_of.question c.requires
+    c.in-Ok.ensures c.in-Ok-question_of.ensures
