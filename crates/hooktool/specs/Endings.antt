@@ -10,6 +10,7 @@ use Rattle.clap.specs.declared.error.ErrorKind.TheVariants as kinds
 use Rattle.hooktool_line.specs.Requests.{Asks, IsRefusal}
 use Rattle.hooktool_line.specs.declared.requests.HooktoolRequest.{HooktoolRequest}
 use Rattle.hooktool_line.specs.declared.requests.HooktoolRequest.TheVariants as requests
+use Rattle.hooktool_line.specs.declared.requests.PlainRequest.TheVariants as plain
 use Rattle.hooktool.specs.Annotations.{IsAnnotated}
 use Rattle.hooktool.specs.Builds.{IsBuilt, IsExplainedFile}
 use Rattle.hooktool.specs.Faults.{IsAnnotationFault, IsObjectFault, IsPacketFault}
@@ -26,10 +27,10 @@ use Rattle.hooktool.specs.declared.report.CommandReport.{CommandReport}
 -- The request was carried out, and this is told of the files that it names. Of a test more is told
 -- than a report.
 abbrev pub IsMadeOf : KnownFiles → HooktoolRequest → CommandReport → Type 0
-IsMadeOf known (requests.Annotate hook code object fuel) report =
+IsMadeOf known (requests.Plain (plain.Annotate hook code object fuel)) report =
     (file : List ℕ) × known.holds code.now file
     × IsAnnotated (known.written object.now) hook fuel file report
-IsMadeOf known (requests.Build file folder hook fuel) report =
+IsMadeOf known (requests.Plain (plain.Build file folder hook fuel)) report =
     (bytes : List ℕ) × known.holds file.now bytes
     × IsBuilt bytes (record {
       folder = Some folder.now;
@@ -37,28 +38,28 @@ IsMadeOf known (requests.Build file folder hook fuel) report =
       fuel = fuel;
       written = known.written;
     }) report
-IsMadeOf known (requests.Explain object) report =
+IsMadeOf known (requests.Plain (plain.Explain object)) report =
     (bytes : List ℕ) × known.holds object.now bytes × IsExplainedFile known bytes report
 IsMadeOf known (requests.Try object question) report =
     (bytes : List ℕ) × known.holds object.now bytes
     × (packet : List ℕ) × IsPacketOf known question.packet packet
     × IsTried bytes packet question report
-IsMadeOf known (requests.Test file) report = ⊥
+IsMadeOf known (requests.Plain (plain.Test file)) report = ⊥
 
 -- The request can't be carried out, for this fault.
 abbrev pub IsFaultOf : KnownFiles → HooktoolRequest → HooktoolFault → Type 0
-IsFaultOf known (requests.Annotate hook code object fuel) fault =
+IsFaultOf known (requests.Plain (plain.Annotate hook code object fuel)) fault =
     IsUnread known code fault ⊎ IsUnwritten known object fault
     ⊎ ((file : List ℕ) × known.holds code.now file × IsAnnotationFault hook fuel file fault)
-IsFaultOf known (requests.Build file folder hook fuel) fault =
+IsFaultOf known (requests.Plain (plain.Build file folder hook fuel)) fault =
     IsUnread known file fault ⊎ IsUnplaced known folder fault
-IsFaultOf known (requests.Explain object) fault =
+IsFaultOf known (requests.Plain (plain.Explain object)) fault =
     IsUnread known object fault
     ⊎ ((bytes : List ℕ) × known.holds object.now bytes × IsObjectFault bytes fault)
 IsFaultOf known (requests.Try object question) fault =
     IsUnread known object fault ⊎ IsPacketFault known question.packet fault
     ⊎ ((bytes : List ℕ) × known.holds object.now bytes × IsObjectFault bytes fault)
-IsFaultOf known (requests.Test file) fault = ⊥
+IsFaultOf known (requests.Plain (plain.Test file)) fault = ⊥
 
 abbrev pub IsOutcomeOf : KnownFiles → HooktoolRequest → Result CommandReport HooktoolFault → Type 0
 IsOutcomeOf known request outcome =
@@ -101,7 +102,7 @@ EndsPlayed (Err fault) output output_after status = IsTold fault output_after st
 -- A test was asked for, and played; or its file can't be read, or memory was refused.
 abbrev pub EndsTest : KnownFiles → HooktoolRequest → (output output_after : StreamState) → ℕ
     → Type 0
-EndsTest known (requests.Test file) output output_after status =
+EndsTest known (requests.Plain (plain.Test file)) output output_after status =
     (outcome : Result Tested HooktoolFault) × IfOk outcome (IsTested known file.now)
     × IfErr outcome (IsTestFault known file)
     × EndsPlayed outcome output output_after status

@@ -16,7 +16,7 @@ use crate::testing::{Tested, test};
 use crate::trying::try_question;
 use clap::Error;
 use clap::error::ErrorKind;
-use hooktool_line::{FuelAsked, HooktoolRequest};
+use hooktool_line::{FuelAsked, HooktoolRequest, PlainRequest};
 use isa::Hook;
 use object_trials::WholeFiles;
 use std::alloc::Global;
@@ -115,10 +115,10 @@ fn build<'a, R: WholeFiles + AllocGlobal>(
     hook: Option<Hook>,
     fuel: FuelAsked,
 ) -> Result<CommandReport, HooktoolFault<'a>>
-    ensures made { IfOk result
-        (IsMadeOf R.known (HooktoolRequest.Build file.entry folder.entry hook fuel)) }
-    ensures fault { IfErr result
-        (IsFaultOf R.known (HooktoolRequest.Build file.entry folder.entry hook fuel)) }
+    ensures made { IfOk result (IsMadeOf R.known
+        (HooktoolRequest.Plain (PlainRequest.Build file.entry folder.entry hook fuel))) }
+    ensures fault { IfErr result (IsFaultOf R.known
+        (HooktoolRequest.Plain (PlainRequest.Build file.entry folder.entry hook fuel))) }
 {
     let order = Order {
         purpose: Purpose::Object { folder },
@@ -131,6 +131,33 @@ fn build<'a, R: WholeFiles + AllocGlobal>(
     }
 }
 
+// Carries out a request without a question, and answers the status.
+fn carry_out_plain<R: WholeFiles + AllocGlobal, O: Stream>(
+    rt: &R,
+    request: PlainRequest<'_>,
+    output: &mut O,
+) -> u8
+    ensures { EndsRequest R.known (HooktoolRequest.Plain request.entry) (O.state output.old)
+        (O.state output.new) result }
+{
+    match request {
+        PlainRequest::Annotate {
+            hook,
+            code,
+            object,
+            fuel,
+        } => end(annotate(rt, hook, code, object, fuel), output),
+        PlainRequest::Build {
+            file,
+            folder,
+            hook,
+            fuel,
+        } => end(build(rt, file, folder, hook, fuel), output),
+        PlainRequest::Explain { object } => end(explain(rt, object), output),
+        PlainRequest::Test { file } => end_test(test(rt, file), output),
+    }
+}
+
 // Carries out a request, and answers the status.
 fn carry_out<R: WholeFiles + AllocGlobal, O: Stream>(
     rt: &R,
@@ -140,23 +167,10 @@ fn carry_out<R: WholeFiles + AllocGlobal, O: Stream>(
     ensures { EndsRequest R.known request.entry (O.state output.old) (O.state output.new) result }
 {
     match request {
-        HooktoolRequest::Annotate {
-            hook,
-            code,
-            object,
-            fuel,
-        } => end(annotate(rt, hook, code, object, fuel), output),
-        HooktoolRequest::Build {
-            file,
-            folder,
-            hook,
-            fuel,
-        } => end(build(rt, file, folder, hook, fuel), output),
-        HooktoolRequest::Explain { object } => end(explain(rt, object), output),
+        HooktoolRequest::Plain(plain) => carry_out_plain(rt, plain, output),
         HooktoolRequest::Try { object, question } => {
             end(try_question(rt, object, &question), output)
         }
-        HooktoolRequest::Test { file } => end_test(test(rt, file), output),
     }
 }
 

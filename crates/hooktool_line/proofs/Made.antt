@@ -1,8 +1,8 @@
 -- Which requests a command makes of its words.
-use Rattle.std.proofs.Common.{◌≡◌, ◌≢◌, ◌∙◌, ap, ap₂, sym, subst, arith, ℕ, List, Option, Some}
+use Rattle.std.proofs.Common.{◌≡◌, ◌≢◌, ◌∙◌, ap, ap₂, sym, subst, true≢false, List, Option, Some}
 use Rattle.std.proofs.Common.{None, Ok, Err, codes, slice_index, inl, inr, refl}
 use Rattle.std.specs.Borrow.{Bor}
-use Rattle.std.specs.Prelude.{Box, IfOk, IfErr, Result, option_map, ◌⊎◌}
+use Rattle.std.specs.Prelude.{Box, IfOk, IfErr, Result, option_map, ◌⊎◌, ◌==◌}
 use Rattle.clap.specs.Matches.{found_of}
 use Rattle.clap.specs.Simple.{subcommand_rows}
 use Rattle.clap.specs.Values.{kind_of}
@@ -18,6 +18,7 @@ use Rattle.isa.specs.declared.hook.Hook.{Hook}
 use Rattle.hooktool_line.specs.Questions.{HasQuestion}
 use Rattle.hooktool_line.specs.Requests.{HasFuel, HasHook, HasWord, IsMade, IsWrong, IsWrongWord}
 use Rattle.hooktool_line.specs.Requests.{MadeBy, Makes, MakesNone, MakesPlain, command_of}
+use Rattle.hooktool_line.specs.Requests.{plain_command}
 use Rattle.hooktool_line.specs.Words.{ReadsOrLacks}
 use Rattle.hooktool_line.specs.declared.requests.FuelAsked.{FuelAsked}
 use Rattle.hooktool_line.specs.declared.requests.Question.{Question}
@@ -35,44 +36,34 @@ pub some_is : {X : Type 0} {x y : X} → Some x ≡ Some y → x ≡ y
 some_is e = cc
 
 annotate≢build : codes "build" ≡ codes "annotate" → ⊥
-annotate≢build e = let bad : ◌≡◌ {A = ℕ} 98 97 = ap (λ (t : List ℕ). slice_index t 0) e in
-    absurd (omega arith)
+annotate≢build e = true≢false (ap (λ (t : Text). slice_index t 0 == 98) e)
 
 build≢explain : codes "explain" ≡ codes "build" → ⊥
-build≢explain e = let bad : ◌≡◌ {A = ℕ} 101 98 = ap (λ (t : List ℕ). slice_index t 0) e in
-    absurd (omega arith)
+build≢explain e = true≢false (ap (λ (t : Text). slice_index t 0 == 101) e)
 
 build≢try : codes "try" ≡ codes "build" → ⊥
-build≢try e = let bad : ◌≡◌ {A = ℕ} 116 98 = ap (λ (t : List ℕ). slice_index t 0) e in
-    absurd (omega arith)
+build≢try e = true≢false (ap (λ (t : Text). slice_index t 0 == 116) e)
 
 annotate≢explain : codes "explain" ≡ codes "annotate" → ⊥
-annotate≢explain e = let bad : ◌≡◌ {A = ℕ} 101 97 = ap (λ (t : List ℕ). slice_index t 0) e in
-    absurd (omega arith)
+annotate≢explain e = true≢false (ap (λ (t : Text). slice_index t 0 == 101) e)
 
 annotate≢try : codes "try" ≡ codes "annotate" → ⊥
-annotate≢try e = let bad : ◌≡◌ {A = ℕ} 116 97 = ap (λ (t : List ℕ). slice_index t 0) e in
-    absurd (omega arith)
+annotate≢try e = true≢false (ap (λ (t : Text). slice_index t 0 == 116) e)
 
 explain≢try : codes "try" ≡ codes "explain" → ⊥
-explain≢try e = let bad : ◌≡◌ {A = ℕ} 116 101 = ap (λ (t : List ℕ). slice_index t 0) e in
-    absurd (omega arith)
+explain≢try e = true≢false (ap (λ (t : Text). slice_index t 0 == 116) e)
 
 annotate≢test : codes "test" ≡ codes "annotate" → ⊥
-annotate≢test e = let bad : ◌≡◌ {A = ℕ} 116 97 = ap (λ (t : List ℕ). slice_index t 0) e in
-    absurd (omega arith)
+annotate≢test e = true≢false (ap (λ (t : Text). slice_index t 0 == 116) e)
 
 build≢test : codes "test" ≡ codes "build" → ⊥
-build≢test e = let bad : ◌≡◌ {A = ℕ} 116 98 = ap (λ (t : List ℕ). slice_index t 0) e in
-    absurd (omega arith)
+build≢test e = true≢false (ap (λ (t : Text). slice_index t 0 == 116) e)
 
 explain≢test : codes "test" ≡ codes "explain" → ⊥
-explain≢test e = let bad : ◌≡◌ {A = ℕ} 116 101 = ap (λ (t : List ℕ). slice_index t 0) e in
-    absurd (omega arith)
+explain≢test e = true≢false (ap (λ (t : Text). slice_index t 0 == 116) e)
 
 try≢test : codes "test" ≡ codes "try" → ⊥
-try≢test e = let bad : ◌≡◌ {A = ℕ} 101 114 = ap (λ (t : List ℕ). slice_index t 1) e in
-    absurd (omega arith)
+try≢test e = true≢false (ap (λ (t : Text). slice_index t 1 == 101) e)
 
 pub no_annotate : (rows : List Row)
     → ((hook : Hook) (code object : Text) (fuel : FuelAsked)
@@ -114,27 +105,23 @@ no_test rows none (plain.Build file folder hook fuel) (named, has) = build≢tes
 no_test rows none (plain.Explain object) (named, has) = explain≢test (sym named)
 no_test rows none (plain.Test file) (named, has) = none file.now has
 
+plain≢try : (request : PlainRequest) → plain_command request ≡ codes "try" → ⊥
+plain≢try (plain.Annotate hook code object fuel) named = annotate≢try (sym named)
+plain≢try (plain.Build file folder hook fuel) named = build≢try (sym named)
+plain≢try (plain.Explain object) named = explain≢try (sym named)
+plain≢try (plain.Test file) named = try≢test named
+
 pub no_try : (rows : List Row) → ((object : Text) (question : Question)
     → HasWord rows (codes "OBJECT") object → HasQuestion rows question → ⊥)
     → MadeBy (codes "try") rows None
-no_try rows none (requests.Annotate hook code object fuel) named has =
-    absurd (annotate≢try (sym named))
-no_try rows none (requests.Build file folder hook fuel) named has = absurd (build≢try (sym named))
-no_try rows none (requests.Explain object) named has = absurd (explain≢try (sym named))
+no_try rows none (requests.Plain request) named has = absurd (plain≢try request named)
 no_try rows none (requests.Try object question) named has = none object.now question has.0 has.1
-no_try rows none (requests.Test file) named has = absurd (try≢test named)
 
 -- a command that takes no question makes no request if it makes none without a question
 pub no_plain : (name : Text) (rows : List Row) → name ≢ codes "try"
     → ((request : PlainRequest) → MakesPlain name rows request → ⊥) → MadeBy name rows None
-no_plain name rows other none (requests.Annotate hook code object fuel) named has =
-    none (plain.Annotate hook code object fuel) (named, has)
-no_plain name rows other none (requests.Build file folder hook fuel) named has =
-    none (plain.Build file folder hook fuel) (named, has)
-no_plain name rows other none (requests.Explain object) named has =
-    none (plain.Explain object) (named, has)
+no_plain name rows other none (requests.Plain request) named has = none request (named, has)
 no_plain name rows other none (requests.Try object question) named has = other (sym named)
-no_plain name rows other none (requests.Test file) named has = none (plain.Test file) (named, has)
 
 -- without a question there is no request
 pub no_question : (rows : List Row) (lack : NotRead) → ReadsOrLacks (HasQuestion rows) (Err lack)

@@ -22,12 +22,15 @@ use Rattle.hooktool_line.specs.declared.values.NotRead.{NotRead}
 use Rattle.hooktool_line.specs.declared.values.NotRead.TheVariants as not_read
 
 -- the command that makes the request
+abbrev pub plain_command : PlainRequest → Text
+plain_command (plain.Annotate hook code object fuel) = codes "annotate"
+plain_command (plain.Build file folder hook fuel) = codes "build"
+plain_command (plain.Explain object) = codes "explain"
+plain_command (plain.Test file) = codes "test"
+
 abbrev pub command_of : HooktoolRequest → Text
-command_of (requests.Annotate hook code object fuel) = codes "annotate"
-command_of (requests.Build file folder hook fuel) = codes "build"
-command_of (requests.Explain object) = codes "explain"
+command_of (requests.Plain request) = plain_command request
 command_of (requests.Try object question) = codes "try"
-command_of (requests.Test file) = codes "test"
 
 -- the word under this name
 abbrev pub HasWord : List Row → Text → Text → Type 0
@@ -52,29 +55,24 @@ abbrev pub HasHook : List Row → Option Hook → Type 0
 HasHook rows hook = OrElse (first_of (codes "hook") rows) (hook ≡ None) (λ word. IsHook word hook)
 
 -- The words of the request's command are those of the request.
-abbrev pub HasWordsOf : List Row → HooktoolRequest → Type 0
-HasWordsOf rows (requests.Annotate hook code object fuel) =
+abbrev pub HasPlainWords : List Row → PlainRequest → Type 0
+HasPlainWords rows (plain.Annotate hook code object fuel) =
     HasWord rows (codes "HOOK") (hook_name hook) × HasWord rows (codes "CODE") code.now
     × HasWord rows (codes "OBJECT") object.now × HasFuel rows fuel
-HasWordsOf rows (requests.Build file folder hook fuel) =
+HasPlainWords rows (plain.Build file folder hook fuel) =
     HasWord rows (codes "FILE") file.now × HasWord rows (codes "FOLDER") folder.now
     × HasHook rows hook × HasFuel rows fuel
-HasWordsOf rows (requests.Explain object) = HasWord rows (codes "OBJECT") object.now
+HasPlainWords rows (plain.Explain object) = HasWord rows (codes "OBJECT") object.now
+HasPlainWords rows (plain.Test file) = HasWord rows (codes "FILE") file.now
+
+abbrev pub HasWordsOf : List Row → HooktoolRequest → Type 0
+HasWordsOf rows (requests.Plain request) = HasPlainWords rows request
 HasWordsOf rows (requests.Try object question) =
     HasWord rows (codes "OBJECT") object.now × HasQuestion rows question
-HasWordsOf rows (requests.Test file) = HasWord rows (codes "FILE") file.now
-
--- the request that is one without a question
-abbrev pub request_for : PlainRequest → HooktoolRequest
-request_for (plain.Annotate hook code object fuel) = requests.Annotate hook code object fuel
-request_for (plain.Build file folder hook fuel) = requests.Build file folder hook fuel
-request_for (plain.Explain object) = requests.Explain object
-request_for (plain.Test file) = requests.Test file
 
 -- The command of this name makes this request of its words.
 abbrev pub MakesPlain : Text → List Row → PlainRequest → Type 0
-MakesPlain name rows request = (command_of (request_for request) ≡ name)
-    × HasWordsOf rows (request_for request)
+MakesPlain name rows request = (plain_command request ≡ name) × HasPlainWords rows request
 
 -- what the command of this name makes of its words, if it makes a request of them
 abbrev pub MadeBy : Text → List Row → Option HooktoolRequest → Type 0

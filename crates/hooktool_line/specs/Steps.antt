@@ -54,28 +54,20 @@ pub record SaysAsk (words : List Text) (question : Question) : Type 0 where
   pub question_is : HasQuestion (matches_of ask words) question
 
 -- The words say this step.
-abbrev pub Says : List Text → Step → Type 0
-Says words (steps.Program path) = words ≡ codes "program" ∷ path.now ∷ []
-Says words (steps.Ask question) = SaysAsk words question
-Says words (steps.Packets path interface) =
+abbrev pub SaysPlain : List Text → PlainStep → Type 0
+SaysPlain words (plain.Program path) = words ≡ codes "program" ∷ path.now ∷ []
+SaysPlain words (plain.Packets path interface) =
     (words ≡ codes "packets" ∷ path.now ∷ codes "interface" ∷ decimal interface ∷ [])
     × (interface ≤ 63)
-Says words (steps.Answers answer) = SaysAnswer words answer
-Says words (steps.Counter index number) =
+SaysPlain words (plain.Answers answer) = SaysAnswer words answer
+SaysPlain words (plain.Counter index number) =
     (words ≡ codes "counter" ∷ decimal index ∷ decimal number ∷ []) × (index ≤ 255)
-Says words (steps.Cell index number) =
+SaysPlain words (plain.Cell index number) =
     (words ≡ codes "cell" ∷ decimal index ∷ decimal number ∷ []) × (index ≤ 63)
 
--- the step that is one without a question
-abbrev pub step_for : PlainStep → Step
-step_for (plain.Program path) = steps.Program path
-step_for (plain.Packets path interface) = steps.Packets path interface
-step_for (plain.Answers answer) = steps.Answers answer
-step_for (plain.Counter index number) = steps.Counter index number
-step_for (plain.Cell index number) = steps.Cell index number
-
-abbrev pub SaysPlain : List Text → PlainStep → Type 0
-SaysPlain words step = Says words (step_for step)
+abbrev pub Says : List Text → Step → Type 0
+Says words (steps.Plain step) = SaysPlain words step
+Says words (steps.Ask question) = SaysAsk words question
 
 -- a word that begins a comment, by #
 abbrev pub is_mark : Text → Bool

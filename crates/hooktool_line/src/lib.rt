@@ -19,6 +19,8 @@ mod wrong_words;
 pub use arrivals::packet_question;
 pub use asked::{Asked, context_of};
 pub use reading::{parse, unread};
-pub use requests::{FuelAsked, HooktoolRequest, PacketSource, Question};
+pub use requests::{FuelAsked, HooktoolRequest, PacketSource, PlainRequest, Question};
 pub use settings::Setting;
-pub use steps::{ExpectedAnswer, LineError, Step, TestLine, WrongLine, read_lines, words_of_lines};
+pub use steps::{
+    ExpectedAnswer, LineError, PlainStep, Step, TestLine, WrongLine, read_lines, words_of_lines,
+};

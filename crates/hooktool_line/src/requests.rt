@@ -9,7 +9,7 @@ ghost use Rattle.clap.specs.declared.error.kind.ErrorKind.TheVariants as kinds;
 ghost use Rattle.hooktool_line.specs.Lists.{HasLists};
 ghost use Rattle.hooktool_line.specs.Questions.{HasAsked, HasQuestion, asked_of, hops_from};
 ghost use Rattle.hooktool_line.specs.Requests.{HasFuel, HasHook, IsHook, IsMade, IsWrong};
-ghost use Rattle.hooktool_line.specs.Requests.{IsWrongWord, MadeBy, Makes, MakesPlain, request_for};
+ghost use Rattle.hooktool_line.specs.Requests.{IsWrongWord, MadeBy, Makes, MakesPlain};
 ghost use Rattle.hooktool_line.specs.Words.{Reads, ReadsOrLacks, ReadsOrTells};
 
 use crate::arguments::error;
@@ -62,9 +62,9 @@ pub struct FuelAsked {
     pub answer: Option<u32>,
 }
 
-/// What the words of a command line ask for.
-#[derive(Drop)]
-pub enum HooktoolRequest<'a> {
+/// A request without a question.
+#[derive(Clone, Copy)]
+pub enum PlainRequest<'a> {
     /// Find statements for code at a hook, and write the object.
     Annotate {
         hook: Hook,
@@ -84,37 +84,20 @@ pub enum HooktoolRequest<'a> {
     Explain {
         object: &'a str,
     },
-    /// Run an object's program on a question.
-    Try {
-        object: &'a str,
-        question: Question<'a>,
-    },
     /// Ask the questions of a file, and compare the answers with those that it expects.
     Test {
         file: &'a str,
     },
 }
 
-/// A request without a question. It is smaller than one that may have a question.
-#[derive(Clone, Copy)]
-enum PlainRequest<'a> {
-    Annotate {
-        hook: Hook,
-        code: &'a str,
+/// What the words of a command line ask for.
+#[derive(Drop)]
+pub enum HooktoolRequest<'a> {
+    Plain(PlainRequest<'a>),
+    /// Run an object's program on a question.
+    Try {
         object: &'a str,
-        fuel: FuelAsked,
-    },
-    Build {
-        file: &'a str,
-        folder: &'a str,
-        hook: Option<Hook>,
-        fuel: FuelAsked,
-    },
-    Explain {
-        object: &'a str,
-    },
-    Test {
-        file: &'a str,
+        question: Question<'a>,
     },
 }
 
@@ -342,38 +325,6 @@ fn try_request<'a>(alloc: Global, matches: &ArgMatches<'a>) -> Result<HooktoolRe
     }
 }
 
-// The same request.
-fn request_for<'a>(plain: PlainRequest<'a>) -> HooktoolRequest<'a>
-    ensures { result ≡ request_for plain.entry }
-{
-    match plain {
-        PlainRequest::Annotate {
-            hook,
-            code,
-            object,
-            fuel,
-        } => HooktoolRequest::Annotate {
-            hook,
-            code,
-            object,
-            fuel,
-        },
-        PlainRequest::Build {
-            file,
-            folder,
-            hook,
-            fuel,
-        } => HooktoolRequest::Build {
-            file,
-            folder,
-            hook,
-            fuel,
-        },
-        PlainRequest::Explain { object } => HooktoolRequest::Explain { object },
-        PlainRequest::Test { file } => HooktoolRequest::Test { file },
-    }
-}
-
 // What a command makes of its words. It makes nothing if there is no such command.
 fn made_by<'a>(
     alloc: Global,
@@ -385,7 +336,7 @@ fn made_by<'a>(
     match name {
         "try" => try_request(alloc, matches),
         _ => match plain_request(name, matches) {
-            Ok(plain) => Ok(request_for(plain)),
+            Ok(plain) => Ok(HooktoolRequest::Plain(plain)),
             Err(wrong) => Err(NotRead::Meaningless(wrong)),
         },
     }

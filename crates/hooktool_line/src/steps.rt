@@ -4,7 +4,7 @@ ghost use Rattle.std.specs.Prelude.{◌≡◌, List, [], ◌∷◌, codes, false
 ghost use Rattle.std.specs.Prelude.{OnOk};
 ghost use Rattle.hooktool_line.specs.Steps.{AddsLine, AreLines, BeginsWith, HasOptions, Says};
 ghost use Rattle.hooktool_line.specs.Steps.{IsWrong, SaysAnswer, SaysPlain, is_blank, is_mark};
-ghost use Rattle.hooktool_line.specs.Steps.{step_for, views, words_of};
+ghost use Rattle.hooktool_line.specs.Steps.{views, words_of};
 
 use crate::arguments::{ASK, command_of};
 use crate::requests::{Question, question_of};
@@ -28,13 +28,11 @@ pub enum ExpectedAnswer {
     NotInstalled,
 }
 
-/// What a line of a test says.
-#[derive(Drop)]
-pub enum Step<'a> {
+/// What a line says that isn't `ask`.
+#[derive(Clone, Copy)]
+pub enum PlainStep<'a> {
     /// `program OBJECT`: from here on its program is asked.
     Program(&'a str),
-    /// `ask`, and the options of `try`.
-    Ask(Question<'a>),
     /// `packets CAPTURE interface I`: each OSPF packet of the capture comes in there.
     Packets { path: &'a str, interface: u16 },
     /// The last run is to have answered this.
@@ -43,6 +41,14 @@ pub enum Step<'a> {
     Counter { index: u8, number: u64 },
     /// `cell J N`: this is to be in the cell.
     Cell { index: u8, number: u64 },
+}
+
+/// What a line of a test says.
+#[derive(Drop)]
+pub enum Step<'a> {
+    Plain(PlainStep<'a>),
+    /// `ask`, and the options of `try`.
+    Ask(Question<'a>),
 }
 
 /// A line of a test, by its number, from 1 on, and its words.
@@ -61,16 +67,6 @@ pub enum LineError {
     /// What is wrong, and what is allowed.
     Words(&'static str),
     Memory,
-}
-
-/// What a line says that isn't `ask`. It is smaller than a step, which may hold a question.
-#[derive(Clone, Copy)]
-enum PlainStep<'a> {
-    Program(&'a str),
-    Packets { path: &'a str, interface: u16 },
-    Answers(ExpectedAnswer),
-    Counter { index: u8, number: u64 },
-    Cell { index: u8, number: u64 },
 }
 
 /// What a name and a number say that is answered.
@@ -144,19 +140,6 @@ fn told_by<'a>(words: &[&'a str]) -> Option<PlainStep<'a>>
     }
 }
 
-/// The same step.
-fn step_for<'a>(plain: PlainStep<'a>) -> Step<'a>
-    ensures { result ≡ step_for plain.entry }
-{
-    match plain {
-        PlainStep::Program(path) => Step::Program(path),
-        PlainStep::Packets { path, interface } => Step::Packets { path, interface },
-        PlainStep::Answers(answer) => Step::Answers(answer),
-        PlainStep::Counter { index, number } => Step::Counter { index, number },
-        PlainStep::Cell { index, number } => Step::Cell { index, number },
-    }
-}
-
 /// What the line `ask` finds in its words, which are options.
 fn options_in<'a>(alloc: Global, words: &'a [&'a str]) -> Result<ArgMatches<'a>, LineError>
     ensures { IfOk result (HasOptions (views words.entry.now)) }
@@ -193,7 +176,7 @@ fn step_of<'a>(alloc: Global, words: &'a [&'a str]) -> Result<Step<'a>, LineErro
         return asked_by(alloc, words);
     }
     match told_by(words) {
-        Some(plain) => Ok(step_for(plain)),
+        Some(plain) => Ok(Step::Plain(plain)),
         None => Err(LineError::Words(text_of(WrongWord::Line))),
     }
 }

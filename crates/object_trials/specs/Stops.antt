@@ -2,6 +2,7 @@
 use Rattle.std.specs.Prelude.{◌≡◌, ◌⊎◌, ℕ, List, Some, slice_get}
 use Rattle.hooktool_line.specs.declared.requests.PacketSource.{PacketSource}
 use Rattle.hooktool_line.specs.declared.requests.PacketSource.TheVariants as packets
+use Rattle.hooktool_line.specs.declared.steps.PlainStep.TheVariants as plain
 use Rattle.hooktool_line.specs.declared.steps.Step.{Step}
 use Rattle.hooktool_line.specs.declared.steps.Step.TheVariants as steps
 use Rattle.hooktool_line.specs.declared.steps.TestLine.{TestLine}
@@ -59,11 +60,11 @@ IsPacketUnread known other error = ⊥
 
 -- The step can't be played, for this reason. What is expected can always be compared.
 abbrev pub Stops : KnownFiles → Step → PlayError → Type 0
-Stops known (steps.Program path) error = IsUnread known path.now error
+Stops known (steps.Plain (plain.Program path)) error = IsUnread known path.now error
     ⊎ IsNoProgram known path.now error
 Stops known (steps.Ask question) error = IsUnasked error
     ⊎ IsPacketUnread known question.packet error
-Stops known (steps.Packets path interface) error = IsUnread known path.now error
+Stops known (steps.Plain (plain.Packets path interface)) error = IsUnread known path.now error
     ⊎ IsNoCapture known path.now error
 Stops known other error = ⊥
 

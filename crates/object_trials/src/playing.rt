@@ -15,7 +15,9 @@ use crate::error::TrialError;
 use crate::files::WholeFiles;
 use crate::stage::{Found, Last, Point, PointResult, Stage};
 use crate::stopped::{PlayError, Stopped};
-use hooktool_line::{ExpectedAnswer, PacketSource, Question, Step, TestLine, packet_question};
+use hooktool_line::{
+    ExpectedAnswer, PacketSource, PlainStep, Question, Step, TestLine, packet_question,
+};
 use maps::{Seat, Shared};
 use std::alloc::{AllocError, Global};
 use whole_files::ReadFault;
@@ -245,7 +247,7 @@ fn play_step<R: WholeFiles + AllocGlobal>(
     ensures fault { IfErr result (Stops R.known step.now) }
 {
     match step {
-        Step::Program(path) => match take_program(rt, stage, path) {
+        Step::Plain(PlainStep::Program(path)) => match take_program(rt, stage, path) {
             Ok(()) => Ok(None),
             Err(error) => Err(error),
         },
@@ -253,17 +255,19 @@ fn play_step<R: WholeFiles + AllocGlobal>(
             Ok(verdict) => Ok(Some(verdict)),
             Err(error) => Err(error),
         },
-        Step::Packets { path, interface } => {
+        Step::Plain(PlainStep::Packets { path, interface }) => {
             match ask_capture(rt, stage, path, *interface, shared, seat) {
                 Ok(verdict) => Ok(Some(verdict)),
                 Err(error) => Err(error),
             }
         }
-        Step::Answers(expected) => Ok(Some(compare_answer(stage.last, *expected))),
-        Step::Counter { index, number } => {
+        Step::Plain(PlainStep::Answers(expected)) => Ok(Some(compare_answer(
+            stage.last, *expected,
+        ))),
+        Step::Plain(PlainStep::Counter { index, number }) => {
             Ok(Some(compare(shared.read(seat, usize::from(*index)), *number)))
         }
-        Step::Cell { index, number } => {
+        Step::Plain(PlainStep::Cell { index, number }) => {
             Ok(Some(compare(cell_at(shared, seat, *index), *number)))
         }
     }

@@ -1,50 +1,20 @@
-use Rattle.std.proofs.Common.{inl, inr, subst, sym}
+use Rattle.std.proofs.Common.{inl, subst, sym}
 use Rattle.hooktool_line.specs.declared.requests.HooktoolRequest.{HooktoolRequest}
 use Rattle.hooktool.specs.Endings.{EndsRequest}
 use Rattle.hooktool.proofs.program.carry_out.Goals as goal
 
-pub returns-in-Annotate : goal.returns-in-Annotate
-returns-in-Annotate g c = subst (λ (request : HooktoolRequest).
+pub returns-in-Plain : goal.returns-in-Plain
+returns-in-Plain g c = subst (λ (request : HooktoolRequest).
     EndsRequest g.R.WholeFiles.known request (g.O.Stream.state c.args.output.now)
-    (g.O.Stream.state c.end.new.output) c.end.result) (sym c.in-Annotate.is)
-    (inl (
-      c.annotate.result,
-      (c.annotate.ensures.made, c.annotate.ensures.fault),
-      c.end.ensures,
-    ))
-
-pub returns-in-Build : goal.returns-in-Build
-returns-in-Build g c = subst (λ (request : HooktoolRequest).
-    EndsRequest g.R.WholeFiles.known request (g.O.Stream.state c.args.output.now)
-    (g.O.Stream.state c.end-in-Build.new.output) c.end-in-Build.result) (sym c.in-Build.is)
-    (inl (
-      c.build.result,
-      (c.build.ensures.made, c.build.ensures.fault),
-      c.end-in-Build.ensures,
-    ))
-
-pub returns-in-Explain : goal.returns-in-Explain
-returns-in-Explain g c = subst (λ (request : HooktoolRequest).
-    EndsRequest g.R.WholeFiles.known request (g.O.Stream.state c.args.output.now)
-    (g.O.Stream.state c.end-in-Explain.new.output) c.end-in-Explain.result) (sym c.in-Explain.is)
-    (inl (
-      c.explain.result,
-      (c.explain.ensures.explained, c.explain.ensures.fault),
-      c.end-in-Explain.ensures,
-    ))
+    (g.O.Stream.state c.carry_out_plain.new.output) c.carry_out_plain.result) (sym c.in-Plain.is)
+    c.carry_out_plain.ensures
 
 pub returns-in-Try : goal.returns-in-Try
 returns-in-Try g c = subst (λ (request : HooktoolRequest). EndsRequest g.R.WholeFiles.known request
-    (g.O.Stream.state c.args.output.now) (g.O.Stream.state c.end-in-Try.new.output)
-    c.end-in-Try.result) (sym c.in-Try.is)
+    (g.O.Stream.state c.args.output.now) (g.O.Stream.state c.end.new.output)
+    c.end.result) (sym c.in-Try.is)
     (inl (
       c.try_question.result,
       (c.try_question.ensures.tried, c.try_question.ensures.fault),
-      c.end-in-Try.ensures,
+      c.end.ensures,
     ))
-
-pub returns-in-Test : goal.returns-in-Test
-returns-in-Test g c = subst (λ (request : HooktoolRequest).
-    EndsRequest g.R.WholeFiles.known request (g.O.Stream.state c.args.output.now)
-    (g.O.Stream.state c.end_test.new.output) c.end_test.result) (sym c.in-Test.is)
-    (inr (c.test.result, c.test.ensures.played, c.test.ensures.fault, c.end_test.ensures))
