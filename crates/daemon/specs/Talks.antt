@@ -65,14 +65,14 @@ reply_of (Some answer) = Ok answer
 -- the end the console is done, and if the input can't be read, that failed.
 abbrev pub IsReply : {Input : Type 0} → Sources → (interfaces : ℕ) → Given
     → (before : Place Input) → Result Reply ConsoleEnd → (after : Place Input) → Type 0
-IsReply s interfaces (given.Line line) before reply after =
+IsReply s interfaces (given.Line line) before outcome after =
     (answer : Option Reply) × IsObeyedFrom s interfaces before (string_bytes line) answer after
-    × (reply ≡ reply_of answer)
-IsReply s interfaces given.Memory before reply after =
-    (reply ≡ Ok reply.Memory) × HasRead before after
-IsReply s interfaces given.End before reply after = (reply ≡ Err Done) × HasRead before after
-IsReply s interfaces given.Failed before reply after =
-    (reply ≡ Err InputFailed) × HasRead before after
+    × (outcome ≡ reply_of answer)
+IsReply s interfaces given.Memory before outcome after =
+    (outcome ≡ Ok reply.Memory) × HasRead before after
+IsReply s interfaces given.End before outcome after = (outcome ≡ Err Done) × HasRead before after
+IsReply s interfaces given.Failed before outcome after =
+    (outcome ≡ Err InputFailed) × HasRead before after
 
 -- the input gave something, and that is answered so
 pub record IsReplied {Input : Type 0} (gives : Gives Input) (fails : Fails Input) (s : Sources)
