@@ -131,33 +131,10 @@ fn try_heads(
     }
 }
 
-/// Finds statements and ranks for the code, in which the turns of loops without a rank are counted.
-/// None are of code that leads to where it has no instruction: counted code may have one there.
-fn annotate_loops(
-    task: &Task<'_>,
-    code: &Code,
-    heads: &mut Heads,
-    turns: u32,
-    unranked: &mut Unranked,
-) -> Result<Annotated, Shortfall>
-    requires code { Spells task.now.bytes.now code.now }
-    requires none { heads.old.slots.items ≡ [] }
-    ensures { IsTurnsOutcome task.now.hook (fuel_of turns task.now.answer) task.now.bytes.now
-        result }
-{
-    let is_inside = stays_inside(code);
-    for _ in 0..MAX_ROUNDS {
-        let outcome = try_heads(task, code, heads, turns, unranked);
-        if !is_inside || !adds_more(heads, &outcome, unranked) {
-            return outcome;
-        }
-    }
-    try_heads(task, code, heads, turns, unranked)
-}
-
 /// Finds statements and ranks as `annotate` does. If a loop has no rank, its turns are counted: the
 /// object has other code, which gives the task's answer instead of more than `turns` turns in all.
-/// Loops that have a rank stay as they are.
+/// Loops that have a rank stay as they are. None are counted of code that leads to where it has no
+/// instruction: counted code may have one there.
 ///
 /// # Errors
 /// As [`annotate`](crate::attempt::annotate), and `Uncounted` if the turns can't be counted.
@@ -175,7 +152,14 @@ pub fn annotate_counted(
         slots: Vec::new(task.alloc),
         lacks_memory: false,
     };
-    annotate_loops(task, code, &mut heads, turns, unranked)
+    let is_inside = stays_inside(code);
+    for _ in 0..MAX_ROUNDS {
+        let outcome = try_heads(task, code, &heads, turns, unranked);
+        if !is_inside || !adds_more(&mut heads, &outcome, unranked) {
+            return outcome;
+        }
+    }
+    try_heads(task, code, &heads, turns, unranked)
 }
 
 /// Has the turns of the loops at these heads counted, up to the greatest number that they take.
