@@ -1,4 +1,4 @@
-"""tools/try-edits --list: how many edits each room has, and the edits of a crate."""
+"""tools/try-edits: --list, how many edits each room has, and the edits of a crate; --fit, whether each can be applied."""
 import pathlib
 import re
 import subprocess
@@ -40,6 +40,17 @@ class TestList(unittest.TestCase):
         ran = listed("elves")
         self.assertEqual(ran.returncode, 2)
         self.assertIn("there is no crate elves", ran.stderr)
+
+
+class TestFit(unittest.TestCase):
+    def test_each_edit_and_each_planted_bug_fits_the_code(self) -> None:
+        for words in (["--all"], ["--all", "--gate"]):
+            ran = subprocess.run([sys.executable, TOP / "tools/try-edits", "--fit", *words], capture_output=True, text=True)
+            self.assertEqual((ran.returncode, ran.stderr), (0, ""), ran.stdout)
+
+    def test_planted_bugs_stand_in_folders_of_crates(self) -> None:
+        folders = sorted(it.name for it in (TOP / "docs/work/open/plants").iterdir())
+        self.assertEqual([it for it in folders if not (TOP / "crates" / it / "more-edits").is_dir()], [])
 
 
 if __name__ == "__main__":
