@@ -1,0 +1,14 @@
+-- Answers on routes.
+use Rattle.std.specs.Prelude.{ℕ, List, map}
+use Rattle.pages.specs.declared.route_answers.Kept.{Kept}
+use Rattle.pages.specs.declared.route_answers.Kept.TheVariants.{Each, AllIn}
+use Rattle.words.specs.declared.route.Route.{Route}
+
+-- each of these routes with the word 0
+abbrev pub all_in : List Route → List (Route × ℕ)
+all_in routes = map (λ route. (route, 0)) routes
+
+-- the answers that are kept so
+abbrev pub answers_of : Kept → List (Route × ℕ)
+answers_of (Each answers) = answers
+answers_of (AllIn routes) = all_in routes
