@@ -1,7 +1,6 @@
 -- Candidates that are kept.
 use Rattle.std.proofs.Common.{◌≡◌, Bool, true, false, ◌&&◌, List, Option, None, Some, refl}
 use Rattle.std.specs.Prelude.{IfSome}
-use Rattle.std.specs.Global.{Vec}
 use Rattle.words.specs.declared.route.Route.{Route}
 use Rattle.area_routes.specs.Kept.{AreInnerBy, StayAnswered}
 use Rattle.candidates.specs.declared.inner.InnerRoutes.{InnerRoutes}
@@ -16,10 +15,9 @@ use Rattle.candidates.specs.Reached.{way_in}
 
 -- what holds of routes that are kept still holds
 pub carried : (P Q : List Route → Type 0) → ((routes : List Route) → P routes → Q routes)
-    → (kept : Option (Vec Route)) → IfSome kept (λ routes. P routes.items)
-    → IfSome kept (λ routes. Q routes.items)
+    → (kept : Option (List Route)) → IfSome kept P → IfSome kept Q
 carried P Q goes_on None is = is
-carried P Q goes_on (Some routes) is = goes_on routes.items is
+carried P Q goes_on (Some routes) is = goes_on routes is
 
 -- and so does what holds of the results from the LSAs of types 1 to 4
 pub inner_carried : InnerRoutesAreKept → (old new : Said) (root : Root) (walk : KeptWalk)

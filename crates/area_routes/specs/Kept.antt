@@ -31,7 +31,7 @@ pub record KeptRoutes : Type 0 where
   -- the graph of the area, if one was built and has followed each event since
   pub graph : Option AreaGraph
   -- the candidates, if calculated since an LSA that they depend on changed
-  pub candidates : Option (Vec Route)
+  pub candidates : Option (List Route)
   -- the results from the LSAs of types 1 to 4, if candidates were calculated since one of those
   -- changed
   pub inner : Option InnerRoutes
@@ -57,7 +57,7 @@ KnowsGraph said start kept = IfSome kept.graph (IsGraphFrom said start)
 -- the candidates that are kept, if any, are those of what the LSAs say
 abbrev pub KnowsCandidates : Said → Root → KeptRoutes → Type 0
 KnowsCandidates said root kept =
-    IfSome kept.candidates (λ candidates. AreCandidates said root candidates.items)
+    IfSome kept.candidates (AreCandidates said root)
 
 -- it is the result from the LSAs of types 1 to 4 by this walk, and can be searched
 pub record AreInnerBy (said : Said) (root : Root) (walk : KeptWalk) (inner : InnerRoutes) : Type 0
@@ -91,16 +91,16 @@ StayAnswered old new root =
     (answers : Answers) → IsStale new root answers → IsStale old root answers
 
 -- if candidates were kept, one of these wasn't among them
-abbrev pub HaveAnother : (kept : Option (Vec Route)) → (now : List Route) → Type 0
-HaveAnother kept now = IfSome kept (λ before. HasAnother before.items now)
+abbrev pub HaveAnother : (kept : Option (List Route)) → (now : List Route) → Type 0
+HaveAnother kept now = IfSome kept (λ before. HasAnother before now)
 
 -- candidates are kept before an event and after it, and each was one before
 pub record BringsNoneNew (old : KeptRoutes) (new : KeptRoutes) : Type 0 where
-  pub before : Vec Route
-  pub now : Vec Route
+  pub before : List Route
+  pub now : List Route
   pub were : old.candidates ≡ Some before
   pub are : new.candidates ≡ Some now
-  pub among : AreAllAmong before.items now.items
+  pub among : AreAllAmong before now
 
 -- All that a walk depends on is unchanged since the moment `before`: it has the same root, and of
 -- the LSAs of the types up to this one, or of all types if there is none, none was added or

@@ -11,13 +11,14 @@ use candidates::InnerRoutes;
 use external_updates::{Followed, update_externals};
 use flooding::Area;
 use kept_routes::Routes;
+use pages::Pages;
 use std::alloc::Global;
 use words::{Route, Second};
 
 /// Candidates after an event, and whether each of them was one before.
 #[derive(Drop)]
 pub struct Next {
-    pub candidates: Vec<Route>,
+    pub candidates: Pages<Route>,
     pub none_new: bool,
 }
 
@@ -30,7 +31,7 @@ fn follow_from(
     before: Second,
     moment: Second,
     inner: &InnerRoutes,
-    routes: Vec<Route>,
+    routes: Pages<Route>,
 ) -> Option<Next>
     requires order { before ≤ moment }
     requires same { SayTheSame (Some 4) (said_at before area.now.committed.database)
@@ -39,14 +40,14 @@ fn follow_from(
     requires inner { AreInnerBy (said_at moment area.now.present.database) walk.now.root walk.now
         inner.now }
     requires routes { AreCandidates (said_at before area.now.committed.database) walk.now.root
-        routes.items }
+        routes }
     ensures candidates { IfSome result (λ next. AreCandidates
-        (said_at moment area.now.present.database) walk.now.root next.candidates.items) }
+        (said_at moment area.now.present.database) walk.now.root next.candidates) }
     ensures none_new { IfSome result (λ next. IsTrue next.none_new → StayAnswered
         (said_at before area.now.committed.database) (said_at moment area.now.present.database)
         walk.now.root) }
     ensures another { IfSome result (λ next. next.none_new ≡ false
-        → HasAnother routes.items next.candidates.items) }
+        → HasAnother routes next.candidates) }
 {
     let mut candidates = routes;
     let db = area.database();
@@ -76,7 +77,7 @@ fn follow_some(
     before: Second,
     moment: Second,
     inner: &InnerRoutes,
-    kept: Option<Vec<Route>>,
+    kept: Option<Pages<Route>>,
 ) -> Option<Next>
     requires order { before ≤ moment }
     requires same { SayTheSame (Some 4) (said_at before area.now.committed.database)
@@ -85,14 +86,14 @@ fn follow_some(
     requires inner { AreInnerBy (said_at moment area.now.present.database) walk.now.root walk.now
         inner.now }
     requires routes { IfSome kept (λ routes. AreCandidates
-        (said_at before area.now.committed.database) walk.now.root routes.items) }
+        (said_at before area.now.committed.database) walk.now.root routes) }
     ensures candidates { IfSome result (λ next. AreCandidates
-        (said_at moment area.now.present.database) walk.now.root next.candidates.items) }
+        (said_at moment area.now.present.database) walk.now.root next.candidates) }
     ensures none_new { IfSome result (λ next. IsTrue next.none_new → StayAnswered
         (said_at before area.now.committed.database) (said_at moment area.now.present.database)
         walk.now.root) }
     ensures another { IfSome result (λ next. next.none_new ≡ false
-        → HaveAnother kept next.candidates.items) }
+        → HaveAnother kept next.candidates) }
 {
     match kept {
         None => None,
@@ -111,7 +112,7 @@ pub fn followed(
     before: Second,
     moment: Second,
     inner: &Option<InnerRoutes>,
-    kept: Option<Vec<Route>>,
+    kept: Option<Pages<Route>>,
 ) -> Option<Next>
     requires order { before ≤ moment }
     requires same { SayTheSame (Some 4) (said_at before area.now.committed.database)
@@ -120,14 +121,14 @@ pub fn followed(
     requires inner { IfSome inner.now (AreInnerBy (said_at moment area.now.present.database)
         walk.now.root walk.now) }
     requires routes { IfSome kept (λ routes. AreCandidates
-        (said_at before area.now.committed.database) walk.now.root routes.items) }
+        (said_at before area.now.committed.database) walk.now.root routes) }
     ensures candidates { IfSome result (λ next. AreCandidates
-        (said_at moment area.now.present.database) walk.now.root next.candidates.items) }
+        (said_at moment area.now.present.database) walk.now.root next.candidates) }
     ensures none_new { IfSome result (λ next. IsTrue next.none_new → StayAnswered
         (said_at before area.now.committed.database) (said_at moment area.now.present.database)
         walk.now.root) }
     ensures another { IfSome result (λ next. next.none_new ≡ false
-        → HaveAnother kept next.candidates.items) }
+        → HaveAnother kept next.candidates) }
 {
     match inner {
         None => None,

@@ -26,10 +26,11 @@ use external_updates::laws::inner_routes_are_kept;
 use flooding::Area;
 use kept_routes::laws::{candidates_are_kept, walks_are_kept};
 use kept_routes::{Routes, leave_candidates, lsas_are_unchanged};
+use pages::{Pages, RouteAnswers};
 use routes::Root;
 use std::alloc::{AllocError, Global};
 use std::marker::Model;
-use tables::{is_stale, rows_of, table};
+use tables::{lacks_answers, rows_of, table_of};
 use words::{Key, Route, RouterId, Second, TableRow};
 
 /// The candidates of a router, and the rows of its table, at one moment.
@@ -63,7 +64,7 @@ pub struct AreaRoutes {
     // the graph of the area, if one was built and has followed each event since
     graph: Option<AreaGraph>,
     // the candidates, if they were calculated since an LSA that they depend on changed
-    candidates: Option<Vec<Route>>,
+    candidates: Option<Pages<Route>>,
     // the results from the LSAs of types 1 to 4, if calculated since one of these changed
     inner: Option<InnerRoutes>,
     // what AS-external-LSAs advertise, if read since one of these changed
@@ -607,7 +608,7 @@ impl AreaRoutes {
         router: RouterId,
         area: &Area,
         moment: Second,
-        answers: &[(Route, u64)],
+        answers: &RouteAnswers,
     )
         requires routes { AreRoutesOf router area.now.present moment self.old }
         ensures walk { self.new.walk ≡ self.old.walk }
@@ -625,7 +626,7 @@ impl AreaRoutes {
     }
 
     /// The candidates at a moment: one route for each prefix that anything in the database offers,
-    /// in the order of the prefixes (RFC 2328, section 16). If they are kept, a copy of them. If
+    /// in the order of the prefixes (RFC 2328, section 16). If they are kept, these are shared. If
     /// there is no valid walk, one is made for this call alone. There are at most 63 links and
     /// 16,384 LSAs.
     ///
@@ -637,15 +638,15 @@ impl AreaRoutes {
         router: RouterId,
         area: &Area,
         moment: Second,
-    ) -> Result<Vec<Route>, AllocError>
+    ) -> Result<Pages<Route>, AllocError>
         requires few { length area.now.present.links ≤ 63 }
         requires size { finite.len area.now.present.database ≤ 16384 }
         requires routes { AreRoutesOf router area.now.present moment self.now }
         ensures { IfOk result (λ candidates.
-            AreCandidatesOf router area.now.present moment candidates.items) }
+            AreCandidatesOf router area.now.present moment candidates) }
     {
         if let Some(candidates) = &self.candidates {
-            let copy = Vec::from_slice(alloc, candidates)?;
+            let copy = candidates.copy()?;
             return Ok(copy);
         }
         let db = area.database();
@@ -653,10 +654,12 @@ impl AreaRoutes {
             let root = root_of(alloc, router, area)?;
             let walk = Routes::new(alloc, db, &root, moment)?;
             let candidates = walk.candidates(alloc, db, moment)?;
-            return Ok(candidates);
+            let pages = Pages::from_slice(alloc, &candidates)?;
+            return Ok(pages);
         }
         let candidates = self.walk.candidates(alloc, db, moment)?;
-        Ok(candidates)
+        let pages = Pages::from_slice(alloc, &candidates)?;
+        Ok(pages)
     }
 
     /// The routing table at a moment: the candidates whose equal route was answered with 0, in the
@@ -670,7 +673,7 @@ impl AreaRoutes {
         router: RouterId,
         area: &Area,
         moment: Second,
-        answers: &[(Route, u64)],
+        answers: &RouteAnswers,
     ) -> Result<Vec<Route>, AllocError>
         requires few { length area.now.present.links ≤ 63 }
         requires size { finite.len area.now.present.database ≤ 16384 }
@@ -679,7 +682,7 @@ impl AreaRoutes {
             IsTableOf router area.now.present moment answers.now table.items) }
     {
         let candidates = self.candidates(alloc, router, area, moment)?;
-        let table = table(alloc, &candidates, answers)?;
+        let table = table_of(&candidates, answers)?;
         Ok(table)
     }
 
@@ -693,7 +696,7 @@ impl AreaRoutes {
         router: RouterId,
         area: &Area,
         moment: Second,
-        answers: &[(Route, u64)],
+        answers: &RouteAnswers,
     ) -> Result<Offered, AllocError>
         requires few { length area.now.present.links ≤ 63 }
         requires size { finite.len area.now.present.database ≤ 16384 }
@@ -701,9 +704,10 @@ impl AreaRoutes {
         ensures { IfOk result (λ offered. AreOffered router area.now.present moment answers.now
             offered.candidates.items offered.rows.items) }
     {
-        let candidates = self.candidates(alloc, router, area, moment)?;
-        let table = table(alloc, &candidates, answers)?;
+        let shared = self.candidates(alloc, router, area, moment)?;
+        let table = table_of(&shared, answers)?;
         let rows = rows_of(alloc, &table)?;
+        let candidates = shared.to_vec()?;
         Ok(Offered { candidates, rows })
     }
 
@@ -715,7 +719,7 @@ impl AreaRoutes {
         router: RouterId,
         area: &Area,
         moment: Second,
-        answers: &[(Route, u64)],
+        answers: &RouteAnswers,
     ) -> Result<bool, AllocError>
         requires behind { self.old.behind ≡ false }
         requires routes { AreRoutesOf router area.now.present moment self.old }
@@ -734,20 +738,21 @@ impl AreaRoutes {
         ensures err { OnErr result (self.new ≡ self.old) }
     {
         if let Some(candidates) = &self.candidates {
-            let lacks = is_stale(alloc, candidates, answers)?;
+            let lacks = lacks_answers(candidates, answers)?;
             return Ok(lacks);
         }
         let made = calculated(alloc, area, &self.walk, moment, &self.externals)?;
-        let lacks = is_stale(alloc, &made.calculated.routes, answers)?;
+        let pages = Pages::from_slice(alloc, &made.calculated.routes)?;
+        let lacks = lacks_answers(&pages, answers)?;
         let Made {
             calculated,
             advertised,
         } = made;
-        let Calculated { inner, routes } = calculated;
+        let Calculated { inner, routes: _ } = calculated;
         let kept = self.externals.take();
         self.externals = kept_or(kept, advertised);
         self.inner = Some(inner);
-        self.candidates = Some(routes);
+        self.candidates = Some(pages);
         Ok(lacks)
     }
 
@@ -765,7 +770,7 @@ impl AreaRoutes {
         router: RouterId,
         area: &Area,
         moment: Second,
-        answers: &[(Route, u64)],
+        answers: &RouteAnswers,
     ) -> Result<bool, AllocError>
         requires few { length area.now.present.links ≤ 63 }
         requires size { finite.len area.now.present.database ≤ 16384 }

@@ -5,3 +5,4 @@ pub mod Under
 pub mod Staying
 pub mod Best
 pub mod Halfway
+pub mod Paged

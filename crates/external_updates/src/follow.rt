@@ -14,6 +14,7 @@ use crate::destination::best_to;
 use crate::keys::keys_under;
 use crate::placing::place;
 use candidates::InnerRoutes;
+use pages::Pages;
 use routes::{Lsdb, Root};
 use std::alloc::{AllocError, Global};
 use words::{Key, Prefix, Route, Second};
@@ -47,17 +48,17 @@ fn renew_by(
     inner: &InnerRoutes,
     prefix: Prefix,
     keys: &[Key],
-    routes: &mut Vec<Route>,
+    routes: &mut Pages<Route>,
 ) -> Result<bool, AllocError>
     requires inner { Knows (said_at moment db.now.present) root.now inner.now }
     requires keys { HaveAllUnder db.now.present prefix keys.now }
-    requires ascend { Ascend routes.old.items }
+    requires ascend { Ascend routes.old }
     ensures renewed { OnOk result (IsRenewed (said_at moment db.now.present) root.now prefix
-        routes.old.items routes.new.items) }
+        routes.old routes.new) }
     ensures among { IfOk result (λ stood. IsTrue stood
-        → AreAllAmong routes.old.items routes.new.items) }
+        → AreAllAmong routes.old routes.new) }
     ensures another { IfOk result (λ stood. stood ≡ false
-        → HasAnotherTo (said_at moment db.now.present) root.now prefix routes.old.items) }
+        → HasAnotherTo (said_at moment db.now.present) root.now prefix routes.old) }
 {
     let best = best_to(alloc, db, root, moment, inner, prefix, keys)?;
     let stood = place(routes, prefix, best)?;
@@ -73,16 +74,16 @@ fn renew(
     moment: Second,
     inner: &InnerRoutes,
     prefix: Prefix,
-    routes: &mut Vec<Route>,
+    routes: &mut Pages<Route>,
 ) -> Result<Option<bool>, AllocError>
     requires inner { Knows (said_at moment db.now.present) root.now inner.now }
-    requires ascend { Ascend routes.old.items }
+    requires ascend { Ascend routes.old }
     ensures renewed { IfOk result (λ done. IsSome done → IsRenewed
-        (said_at moment db.now.present) root.now prefix routes.old.items routes.new.items) }
+        (said_at moment db.now.present) root.now prefix routes.old routes.new) }
     ensures among { IfOk result (λ done. done ≡ Some true
-        → AreAllAmong routes.old.items routes.new.items) }
+        → AreAllAmong routes.old routes.new) }
     ensures another { IfOk result (λ done. done ≡ Some false
-        → HasAnotherTo (said_at moment db.now.present) root.now prefix routes.old.items) }
+        → HasAnotherTo (said_at moment db.now.present) root.now prefix routes.old) }
 {
     let found = keys_under(alloc, db, prefix)?;
     match found {
@@ -103,18 +104,18 @@ fn renew_all(
     moment: Second,
     inner: &InnerRoutes,
     prefixes: &[Prefix],
-    routes: &mut Vec<Route>,
+    routes: &mut Pages<Route>,
 ) -> Result<Option<bool>, AllocError>
     requires inner { Knows (said_at moment db.now.present) root.now inner.now }
-    requires ascend { Ascend routes.old.items }
+    requires ascend { Ascend routes.old }
     ensures halfway { IfOk result (λ done. IsSome done → (old : Said)
-        → AreCandidates old root.now routes.old.items
-        → AreHalfway old (said_at moment db.now.present) root.now prefixes.now routes.new.items) }
+        → AreCandidates old root.now routes.old
+        → AreHalfway old (said_at moment db.now.present) root.now prefixes.now routes.new) }
     ensures among { IfOk result (λ done. done ≡ Some true
-        → AreAllAmong routes.old.items routes.new.items) }
+        → AreAllAmong routes.old routes.new) }
     ensures another { IfOk result (λ done. done ≡ Some false → (old : Said)
-        → AreCandidates old root.now routes.old.items
-        → HasAnother routes.old.items routes.new.items) }
+        → AreCandidates old root.now routes.old
+        → HasAnother routes.old routes.new) }
 {
     let mut none_new = true;
     for prefix in prefixes {
@@ -144,15 +145,15 @@ pub fn update_externals(
     before: Second,
     moment: Second,
     inner: &InnerRoutes,
-    routes: &mut Vec<Route>,
+    routes: &mut Pages<Route>,
 ) -> Result<Followed, AllocError>
     requires order { before ≤ moment }
     requires same { SayTheSame (Some 4)
         (said_at before db.now.committed) (said_at moment db.now.present) }
     requires inner { Knows (said_at moment db.now.present) root.now inner.now }
-    requires routes { AreCandidates (said_at before db.now.committed) root.now routes.old.items }
+    requires routes { AreCandidates (said_at before db.now.committed) root.now routes.old }
     ensures { IfOk result (λ done. HaveFollowed (said_at moment db.now.present) root.now
-        routes.old.items routes.new.items done) }
+        routes.old routes.new done) }
 {
     let keys = changed_keys(alloc, db, before, moment)?;
     let most = FEW_CHANGED.max(routes.len() / 32);

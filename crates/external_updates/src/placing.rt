@@ -1,44 +1,42 @@
 //! Replaces the route for a prefix.
 ghost use Rattle.std.specs.Prelude.{◌≡◌, ◌↔◌, ◌<◌, ◌≤◌, IfOk, IfSome, IsTrue, MatchResult, OnOk};
-ghost use Rattle.std.specs.Prelude.{Some, false, length, slice_get, slice_set};
-ghost use Rattle.std.specs.List.{insert, remove};
+ghost use Rattle.std.specs.Prelude.{Some, false, length, slice_get, slice_index_or};
 ghost use Rattle.external_updates.specs.Placing.{HasStood, IsAnother, IsGap, IsPlaced, IsThere};
 ghost use Rattle.candidates.specs.Borders.{Ascend};
+ghost use Rattle.words.specs.Orders.{network_cmp};
+ghost use Rattle.words.specs.declared.route.Route.{Route as RouteValue};
 
+use pages::Pages;
 use std::alloc::AllocError;
+use std::cmp::Ordering;
 use words::{Prefix, Route};
 
+// How the prefix of the route at this index compares with another one.
+fn order_at(routes: &Pages<Route>, at: usize, prefix: &Prefix) -> Ordering
+    requires { at < length routes.now }
+    ensures { (d : RouteValue)
+        → result ≡ network_cmp (slice_index_or routes.now at d).prefix prefix.now }
+{
+    let part = routes.part_from(at);
+    part[0].prefix.compare(prefix)
+}
+
 // The index of the route for the prefix, or else the index at which to insert it.
-fn index_of(routes: &[Route], prefix: Prefix) -> Result<usize, usize>
+fn index_of(routes: &Pages<Route>, prefix: Prefix) -> Result<usize, usize>
     requires { Ascend routes.now }
     ensures { MatchResult result (IsThere routes.now prefix) (IsGap routes.now prefix) }
 {
-    match routes.binary_search_by(|route| route.prefix.compare(&prefix)) {
-        Ok(at) => Ok(at),
-        Err(at) => Err(at),
+    let mut low = 0;
+    let mut high = routes.len();
+    while low < high {
+        let middle = low + (high - low) / 2;
+        match order_at(routes, middle, &prefix) {
+            Ordering::Less => low = middle + 1,
+            Ordering::Equal => return Ok(middle),
+            Ordering::Greater => high = middle,
+        }
     }
-}
-
-fn take_out(routes: &mut Vec<Route>, at: usize)
-    requires { at < length routes.old.items }
-    ensures { routes.new.items ≡ remove routes.old.items at }
-{
-    let _gone = routes.remove(at);
-}
-
-fn write_over(routes: &mut Vec<Route>, at: usize, route: Route)
-    requires { at < length routes.old.items }
-    ensures { routes.new.items ≡ slice_set routes.old.items at route }
-{
-    routes[at] = route;
-}
-
-fn put_in(routes: &mut Vec<Route>, at: usize, route: Route) -> Result<(), AllocError>
-    requires { at ≤ length routes.old.items }
-    ensures { OnOk result (routes.new.items ≡ insert routes.old.items at route) }
-{
-    routes.insert(at, route)?;
-    Ok(())
+    Err(low)
 }
 
 // Whether both are the same route.
@@ -49,54 +47,60 @@ fn is_same(one: &Route, other: &Route) -> bool
 }
 
 // Whether this route is at this index.
-fn stands_at(routes: &[Route], at: usize, route: &Route) -> bool
+fn stands_at(routes: &Pages<Route>, at: usize, route: &Route) -> bool
     requires { at < length routes.now }
     ensures { IsTrue result ↔ (slice_get routes.now at ≡ Some route.now) }
 {
-    is_same(&routes[at], route)
+    let part = routes.part_from(at);
+    is_same(&part[0], route)
 }
 
 // Replaces the route at this index by another, or removes it. Returns false if the new route
 // differs.
-fn replace(routes: &mut Vec<Route>, prefix: Prefix, at: usize, best: Option<Route>) -> bool
-    requires ascend { Ascend routes.old.items }
-    requires there { IsThere routes.old.items prefix at }
+fn replace(
+    routes: &mut Pages<Route>,
+    prefix: Prefix,
+    at: usize,
+    best: Option<Route>,
+) -> Result<bool, AllocError>
+    requires ascend { Ascend routes.old }
+    requires there { IsThere routes.old prefix at }
     requires its { IfSome best (λ r. r.prefix ≡ prefix) }
-    ensures placed { IsPlaced routes.old.items routes.new.items prefix best }
-    ensures stood { IsTrue result → HasStood routes.old.items best }
-    ensures another { result ≡ false → IsAnother routes.old.items best }
+    ensures placed { OnOk result (IsPlaced routes.old routes.new prefix best) }
+    ensures stood { IfOk result (λ stood. IsTrue stood → HasStood routes.old best) }
+    ensures another { IfOk result (λ stood. stood ≡ false → IsAnother routes.old best) }
 {
     match best {
         None => {
-            take_out(routes, at);
-            true
+            routes.remove(at)?;
+            Ok(true)
         }
         Some(route) => {
-            let stood = stands_at(routes.as_slice(), at, &route);
-            write_over(routes, at, route);
-            stood
+            let stood = stands_at(routes, at, &route);
+            routes.replace(at, route)?;
+            Ok(stood)
         }
     }
 }
 
 // Inserts a route, if there is one, for a prefix that has none. Returns false if one is inserted.
 fn add(
-    routes: &mut Vec<Route>,
+    routes: &mut Pages<Route>,
     prefix: Prefix,
     at: usize,
     best: Option<Route>,
 ) -> Result<bool, AllocError>
-    requires ascend { Ascend routes.old.items }
-    requires gap { IsGap routes.old.items prefix at }
+    requires ascend { Ascend routes.old }
+    requires gap { IsGap routes.old prefix at }
     requires its { IfSome best (λ r. r.prefix ≡ prefix) }
-    ensures placed { OnOk result (IsPlaced routes.old.items routes.new.items prefix best) }
-    ensures stood { IfOk result (λ stood. IsTrue stood → HasStood routes.old.items best) }
-    ensures another { IfOk result (λ stood. stood ≡ false → IsAnother routes.old.items best) }
+    ensures placed { OnOk result (IsPlaced routes.old routes.new prefix best) }
+    ensures stood { IfOk result (λ stood. IsTrue stood → HasStood routes.old best) }
+    ensures another { IfOk result (λ stood. stood ≡ false → IsAnother routes.old best) }
 {
     match best {
         None => Ok(true),
         Some(route) => {
-            put_in(routes, at, route)?;
+            routes.insert(at, route)?;
             Ok(false)
         }
     }
@@ -108,18 +112,18 @@ fn add(
 /// # Errors
 /// `AllocError` if an allocation is refused.
 pub fn place(
-    routes: &mut Vec<Route>,
+    routes: &mut Pages<Route>,
     prefix: Prefix,
     best: Option<Route>,
 ) -> Result<bool, AllocError>
-    requires ascend { Ascend routes.old.items }
+    requires ascend { Ascend routes.old }
     requires its { IfSome best (λ r. r.prefix ≡ prefix) }
-    ensures placed { OnOk result (IsPlaced routes.old.items routes.new.items prefix best) }
-    ensures stood { IfOk result (λ stood. IsTrue stood → HasStood routes.old.items best) }
-    ensures another { IfOk result (λ stood. stood ≡ false → IsAnother routes.old.items best) }
+    ensures placed { OnOk result (IsPlaced routes.old routes.new prefix best) }
+    ensures stood { IfOk result (λ stood. IsTrue stood → HasStood routes.old best) }
+    ensures another { IfOk result (λ stood. stood ≡ false → IsAnother routes.old best) }
 {
-    match index_of(routes.as_slice(), prefix) {
-        Ok(at) => Ok(replace(routes, prefix, at, best)),
+    match index_of(routes, prefix) {
+        Ok(at) => replace(routes, prefix, at, best),
         Err(at) => add(routes, prefix, at, best),
     }
 }

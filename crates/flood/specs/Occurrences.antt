@@ -1,14 +1,9 @@
 -- The event of the router's rules for an event of the code.
-use Rattle.std.specs.Prelude.{ℕ, Bool, true, false, List, map}
-use Rattle.words.specs.declared.route.Route.{Route}
-use Rattle.hooks.specs.Questions.{RouteAnswer}
+use Rattle.std.specs.Prelude.{Bool, true, false}
+pub use Rattle.hooks.specs.VetoAnswers.{words_of}
 use Rattle.event_rules.specs.Routers.{Occurrence}
 use Rattle.flood.specs.declared.event.Event.{Event}
 use Rattle.flood.specs.declared.event.Event.TheVariants as event
-
--- the routes that an `Install` offers, each with the program's answer
-abbrev pub words_of : List RouteAnswer → List (Route × ℕ)
-words_of answers = map (λ (a : RouteAnswer). (a.route, a.word)) answers
 
 abbrev pub occurrence_of : Event → Occurrence
 occurrence_of (event.Packet number bytes) = Occurrence.Packet number bytes

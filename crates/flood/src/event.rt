@@ -2,7 +2,7 @@
 ghost use Rattle.std.specs.Prelude.{◌≡◌, ◌<◌, ◌^◌, IfOk};
 ghost use Rattle.flood.specs.Occurrences.{brings_answers, occurrence_of};
 
-use hooks::{PriceAnswer, TagAnswer, VetoAnswer};
+use hooks::{PriceAnswer, TagAnswer, VetoAnswers};
 use std::alloc::AllocError;
 use words::{Prefix, Sequence};
 
@@ -19,7 +19,7 @@ pub enum Event {
     Withdraw(Prefix),
     /// The routes that were offered, each with the answer whether it is kept out of the routing
     /// table.
-    Install(Sequence<VetoAnswer>),
+    Install(VetoAnswers),
     /// The neighbor at the interface with this number goes Down (LLDown, RFC 2328, section 10.3).
     /// The interface stays up: it goes on sending Hellos, and its network stays announced.
     LinkDown(u16),

@@ -11,11 +11,12 @@ ghost use Rattle.flood.specs.Parts.{HasInterface, IsPartOf, RefusesAs, late_refu
 use crate::clash::clashes;
 use crate::event::{Event, prove_address};
 use event_rules::CoreError;
-use hooks::{PriceAnswer, TagAnswer, VetoAnswer};
+use hooks::{PriceAnswer, TagAnswer, VetoAnswers};
 use packet::{Packet, read};
+use pages::RouteAnswers;
 use procedures::Router;
 use std::alloc::{AllocError, Global};
-use words::{External, Prefix, Route, Sequence};
+use words::{External, Prefix};
 
 /// The own part of an event.
 #[derive(Drop)]
@@ -29,7 +30,7 @@ pub enum Part {
     /// A destination is to be withdrawn.
     Withdraw(Prefix),
     /// The routes that were offered, each with the program's answer.
-    Install(Sequence<(Route, u64)>),
+    Install(RouteAnswers),
     /// The neighbor at the interface with this number goes Down.
     LinkDown(usize),
 }
@@ -62,20 +63,11 @@ fn read_answers(router: &Router, tag: &TagAnswer, price: &PriceAnswer) -> Result
     Ok(Part::Redistribute(price.external(), tag.word(), price.word()))
 }
 
-fn words_of(alloc: Global, answers: &[VetoAnswer]) -> Result<Vec<(Route, u64)>, AllocError>
-    ensures { IfOk result (λ words. words.items ≡ words_of answers.now) }
-{
-    answers
-        .iter()
-        .map(|answer| (answer.route(), answer.word()))
-        .collect(alloc)
-}
-
-fn read_vetoes(alloc: Global, answers: &[VetoAnswer]) -> Result<Part, AllocError>
+fn read_vetoes(alloc: Global, answers: &VetoAnswers) -> Result<Part, AllocError>
     ensures { IfOk result (λ part. part ≡ Part.Install (words_of answers.now)) }
 {
-    let words = words_of(alloc, answers)?;
-    Ok(Part::Install(Sequence::from_vec(words)))
+    let words = answers.words(alloc)?;
+    Ok(Part::Install(words))
 }
 
 /// The own part of an event for a router that accepts its moment and its interface.
@@ -97,7 +89,7 @@ pub fn read_part(router: &Router, alloc: Global, event: &Event) -> Result<Part, 
         Event::Tick => Ok(Part::Tick),
         Event::Redistribute(tag, price) => read_answers(router, tag, price),
         Event::Withdraw(prefix) => Ok(Part::Withdraw(*prefix)),
-        Event::Install(answers) => Ok(read_vetoes(alloc, answers.as_slice())?),
+        Event::Install(answers) => Ok(read_vetoes(alloc, answers)?),
         Event::LinkDown(interface) => Ok(Part::LinkDown(usize::from(*interface))),
     }
 }

@@ -20,6 +20,7 @@ use adjacency::NeighborState;
 use area_routes::{AreaRoutes, Offered};
 use event_rules::{Config, ConfigError, CoreError, Out};
 use lsdb::Lsdb;
+use pages::Pages;
 use procedures::{Router, same_network};
 use std::alloc::{AllocError, Global};
 use std::marker::Model;
@@ -231,11 +232,12 @@ impl Core {
     /// The candidates for the routing table at the moment of the last event (RFC 2328, section 16).
     /// An event calculates no shortest paths itself: if the walk that is kept is no longer valid,
     /// and [`stale`](Core::stale) hasn't made another one since, one is made for this call alone.
+    /// If the candidates are kept, they are shared, and not copied.
     ///
     /// # Errors
     /// `AllocError` if an allocation is refused.
-    pub fn candidates(&self) -> Result<Vec<Route>, AllocError>
-        ensures { IfOk result (λ routes. AreCandidatesNow self.now routes.items) }
+    pub fn candidates(&self) -> Result<Pages<Route>, AllocError>
+        ensures { IfOk result (λ routes. AreCandidatesNow self.now routes) }
     {
         let router = &self.router;
         let made = self

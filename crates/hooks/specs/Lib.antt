@@ -8,5 +8,6 @@ pub mod Laws
 pub mod Refusals
 pub mod Answered
 pub mod Vacant
+pub mod VetoAnswers
 -- names of the crates below for those above
 pub use Rattle.machine.specs as machine

@@ -1,5 +1,5 @@
 //! The answers at hooks without a program.
-ghost use Rattle.std.specs.Prelude.{◌≡◌, ◌↔◌, List, IfOk, IfSome, IsTrue, map};
+ghost use Rattle.std.specs.Prelude.{◌≡◌, ◌↔◌, List, IfSome, IsTrue, map};
 ghost use mathlib.Core.List.{IsPrefix};
 ghost use Rattle.isa.specs.declared.hook.Hook.TheVariants.{Veto};
 ghost use Rattle.left_right.specs.Sides.{view};
@@ -10,23 +10,14 @@ ghost use Rattle.hooks.specs.Questions.{tag_input, price_input, veto_input};
 ghost use Rattle.hooks.specs.Rule.{HasSeen};
 ghost use Rattle.hooks.specs.Vacant.{AreVacancies, IsAnsweredByNone, IsVacant, let_in};
 
-use crate::answer::{PriceAnswer, TagAnswer, VetoAnswer};
+use crate::answer::{PriceAnswer, TagAnswer};
 use crate::asker::Asker;
 use crate::history::Front;
 use crate::rule::{ProgramReader, Sees};
 use crate::value::Vacancies;
-use std::alloc::{AllocError, Global};
+use crate::veto_answers::VetoAnswers;
+use pages::Pages;
 use words::{External, Route, Second};
-
-// Accepts these routes, in order.
-fn let_in(alloc: Global, routes: &[Route], moment: Second) -> Result<Vec<VetoAnswer>, AllocError>
-    ensures { IfOk result (λ answers. answers.items ≡ map (let_in moment) routes.now) }
-{
-    routes
-        .iter()
-        .map(|route| VetoAnswer::new(*route, moment, 0))
-        .collect(alloc)
-}
 
 // The hooks without a program, by one reading; `None` if the published programs can't be read, or
 // are older than those that the asker knows.
@@ -109,29 +100,17 @@ impl Asker {
     /// The answers of `veto` on routes, in order, if one reading shows no program there: each route
     /// is accepted. They are the same whatever the rows, and use no seat. `None` if the hook has a
     /// program, or if the published programs can't be read.
-    ///
-    /// # Errors
-    /// `AllocError` if an allocation is refused.
-    pub fn all_let_in(
-        &mut self,
-        alloc: Global,
-        routes: &[Route],
-        moment: Second,
-    ) -> Result<Option<Vec<VetoAnswer>>, AllocError>
+    pub fn all_let_in(&mut self, routes: Pages<Route>, moment: Second) -> Option<VetoAnswers>
         ensures history { asks_of self.new ≡ asks_of self.old }
         ensures known { IsPrefix (known_to self.old) (known_to self.new) }
-        ensures all { IfOk result (λ o. IfSome o (λ answers.
-            answers.items ≡ map (let_in moment) routes.now)) }
-        ensures answered { IfOk result (λ o. IfSome o (λ answers.
+        ensures all { IfSome result (λ answers. answers ≡ map (let_in moment) routes) }
+        ensures answered { IfSome result (λ answers.
             (route : Route) (rows : List TableRow) → IsAnsweredByNone
-            (known_to self.old) (known_to self.new) (veto_input route moment rows) 0)) }
+            (known_to self.old) (known_to self.new) (veto_input route moment rows) 0) }
     {
         match self.vacancies() {
-            Some(vacancies) if vacancies.veto => {
-                let answers = let_in(alloc, routes, moment)?;
-                Ok(Some(answers))
-            }
-            _ => Ok(None),
+            Some(vacancies) if vacancies.veto => Some(VetoAnswers::all_in(moment, routes)),
+            _ => None,
         }
     }
 }

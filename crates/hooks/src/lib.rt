@@ -25,6 +25,7 @@ mod rule;
 mod slot;
 mod start;
 mod value;
+mod veto_answers;
 mod vetoes;
 
 pub use answer::{PriceAnswer, TagAnswer, VetoAnswer};
@@ -33,6 +34,7 @@ pub use error::HookError;
 pub use loader::{Loader, Notice};
 pub use operation::LoaderOperation;
 pub use start::programs;
+pub use veto_answers::VetoAnswers;
 
 /// The maximum number of askers of one loader.
 pub const MAX_ASKERS: usize = 64;

@@ -4,12 +4,11 @@ ghost use Rattle.flooding.specs.Drafted.{nothing_at};
 
 use crate::router::Router;
 use flooding::Revertible;
+use pages::RouteAnswers;
 use std::alloc::{AllocError, Global};
-use words::{Route, Second, Sequence};
+use words::Second;
 
-fn copy_answers(
-    answers: &Revertible<Sequence<(Route, u64)>>,
-) -> Result<Revertible<Sequence<(Route, u64)>>, AllocError>
+fn copy_answers(answers: &Revertible<RouteAnswers>) -> Result<Revertible<RouteAnswers>, AllocError>
     ensures { IfOk result (λ made. made
         ≡ record { present = answers.now.present; committed = answers.now.present }) }
 {

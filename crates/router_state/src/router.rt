@@ -10,9 +10,10 @@ ghost use Rattle.router_state.specs.Owned.{AreOwn};
 
 use flooding::{Area, Draft, Link, Revertible};
 use keyed_map::KeyedMap;
+use pages::RouteAnswers;
 use std::alloc::{AllocError, Global};
 use std::marker::Model;
-use words::{External, Key, Route, RouterId, Second, Sequence};
+use words::{External, Key, RouterId, Second, Sequence};
 
 /// A router between and within events, its state when it was last committed, and what was drafted
 /// since.
@@ -27,7 +28,7 @@ pub struct Router {
     // when each self-originated LSA was last originated, kept for MinLSInterval
     pub(crate) originated: KeyedMap<Second>,
     // the routes that the last `Install` offered, with the programs' answers
-    pub(crate) answers: Revertible<Sequence<(Route, u64)>>,
+    pub(crate) answers: Revertible<RouteAnswers>,
     pub(crate) moment: Revertible<Second>,
 }
 
@@ -100,7 +101,7 @@ impl Router {
             announced: KeyedMap::new(alloc),
             waiting: KeyedMap::new(alloc),
             originated: KeyedMap::new(alloc),
-            answers: Revertible::new(Sequence::from_vec(Vec::new(alloc))),
+            answers: Revertible::new(RouteAnswers::each(Sequence::from_vec(Vec::new(alloc)))),
             moment: Revertible::new(moment),
         }
     }
@@ -150,10 +151,10 @@ impl Router {
     }
 
     /// The routes that the last `Install` offered, with the programs' answers.
-    pub fn answers(&self) -> &[(Route, u64)]
+    pub fn answers(&self) -> &RouteAnswers
         ensures { result.now ≡ self.now.present.answers }
     {
-        self.answers.get().as_slice()
+        self.answers.get()
     }
 
     /// The moment of the last event.
@@ -164,7 +165,7 @@ impl Router {
     }
 
     /// Replaces the routes and the programs' answers of the last `Install`. It doesn't allocate.
-    pub fn set_answers(&mut self, answers: Sequence<(Route, u64)>)
+    pub fn set_answers(&mut self, answers: RouteAnswers)
         ensures { Makes (after_install answers) self.old self.new }
     {
         self.answers.set(answers);

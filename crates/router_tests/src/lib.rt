@@ -11,6 +11,8 @@ mod looping;
 #[cfg(test)]
 mod maps;
 #[cfg(test)]
+mod paged;
+#[cfg(test)]
 mod tables_of;
 #[cfg(test)]
 mod written;

@@ -8,7 +8,8 @@ use crate::telling::{
     push_neighbors, push_numbers, push_offered, push_owed, push_table,
 };
 use flood::{Config, ConfigError, Core, Event};
-use hooks::{Asker, programs};
+use hooks::{Asker, VetoAnswers, programs};
+use pages::Pages;
 use std::alloc::{AllocError, Global};
 use std::io::{self, BufRead};
 use std::mem::replace;
@@ -46,18 +47,17 @@ fn announcement(
 
 // An Install with no answers.
 fn nothing_installed(alloc: Global) -> Event {
-    Event::Install(Sequence::from_vec(Vec::new(alloc)))
+    Event::Install(VetoAnswers::none(alloc))
 }
 
 // An Install in which each of the candidates is let in.
 fn all_let_in(
-    alloc: Global,
     asker: &mut Asker,
     moment: Second,
-    candidates: &[Route],
+    candidates: Pages<Route>,
 ) -> Result<Option<Event>, AllocError> {
-    match asker.all_let_in(alloc, candidates, moment)? {
-        Some(answers) => Ok(Some(Event::Install(Sequence::from_vec(answers)))),
+    match asker.all_let_in(candidates, moment) {
+        Some(answers) => Ok(Some(Event::Install(answers))),
         None => Err(AllocError),
     }
 }
@@ -83,7 +83,7 @@ impl Stage {
 
     fn install_all(&mut self, moment: Second) -> Result<Option<Event>, AllocError> {
         let candidates = self.core.candidates()?;
-        all_let_in(self.alloc, &mut self.asker, moment, &candidates)
+        all_let_in(&mut self.asker, moment, candidates)
     }
 
     // The event, a packet's with these hex digits; `None` if they are none.

@@ -98,7 +98,7 @@ fn candidates_anew(core: &Core) -> Result<Vec<Route>, AllocError> {
     let copy = core.copy()?;
     let routes = copy.candidates();
     copy.close();
-    routes
+    routes?.to_vec()
 }
 
 /// Adds `candidates N`, and `, others anew` if a router that walks anew has others.
@@ -106,7 +106,7 @@ fn candidates_anew(core: &Core) -> Result<Vec<Route>, AllocError> {
 /// # Errors
 /// `AllocError` if an allocation is refused.
 pub fn push_candidates(text: &mut String, core: &Core) -> Result<(), AllocError> {
-    let kept = core.candidates()?;
+    let kept = core.candidates()?.to_vec()?;
     let anew = candidates_anew(core)?;
     let line = if kept.as_slice() == anew.as_slice() {
         "candidates {}\n"

@@ -6,6 +6,7 @@ use flood::{Core, Event};
 use simulated_networks::{
     InterfaceTimes, LinkEnds, NetworkError, Routers, holds_the_same, prefix, sees_full,
 };
+use std::alloc::AllocError;
 use words::Route;
 
 // In a second there are fewer packets.
@@ -57,9 +58,13 @@ fn some_goes_round(one: &Side<'_>, other: &Side<'_>, routes: &[Route], others: &
     false
 }
 
+fn flat_candidates(core: &Core) -> Result<Vec<Route>, AllocError> {
+    core.candidates()?.to_vec()
+}
+
 // `None` if memory is refused.
 fn some_lead_back(one: &Side<'_>, other: &Side<'_>, routes: &[Route]) -> Option<bool> {
-    match other.core.candidates() {
+    match flat_candidates(&other.core) {
         Ok(others) => Some(some_goes_round(one, other, routes, &others)),
         Err(_) => None,
     }
@@ -67,7 +72,7 @@ fn some_lead_back(one: &Side<'_>, other: &Side<'_>, routes: &[Route]) -> Option<
 
 // `None` if memory is refused.
 fn lead_to_each_other(one: &Side<'_>, other: &Side<'_>) -> Option<bool> {
-    match one.core.candidates() {
+    match flat_candidates(&one.core) {
         Ok(routes) => some_lead_back(one, other, &routes),
         Err(_) => None,
     }

@@ -137,7 +137,7 @@ impl Routers {
     /// `AllocError` if an allocation is refused.
     pub(crate) fn routes(&self, place: usize) -> Result<Vec<Route>, AllocError> {
         if place < self.cores.len() {
-            self.cores[place].candidates()
+            self.cores[place].candidates()?.to_vec()
         } else {
             Ok(Vec::new(self.alloc))
         }

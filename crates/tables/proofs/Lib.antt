@@ -3,5 +3,6 @@ pub mod Halving
 pub mod Adjacent
 pub mod LetIn
 pub mod InTurn
+pub mod InPages
 -- re-exported for the crates above
 pub use Rattle.routes.proofs as routes

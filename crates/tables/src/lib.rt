@@ -6,6 +6,8 @@ mod answered;
 mod lookups;
 mod order;
 mod rows;
+mod shared;
 
 pub use answered::{is_stale, table};
 pub use rows::rows_of;
+pub use shared::{lacks_answers, table_of};

@@ -28,6 +28,7 @@ use crate::turned::TurnError;
 use flood::{Book, BookError, CoreError, Event, NeighborState, Offered};
 use hooks::Notice;
 use maps::Shared;
+use pages::Pages;
 use std::alloc::{AllocError, Global};
 use std::marker::PhantomData;
 use std::sync::atomic::AtomicU64;
@@ -187,8 +188,8 @@ impl<L: Site, B: Taker<L>> Hub<L, B> {
     /// A refresh that then finds a program at `veto` drops them and calls `offered`: the programs
     /// judge candidates beside the rows of the same moment, and meanwhile the lock was released, so
     /// those that are judged may be others.
-    pub(crate) fn candidates<R: Wait>(&self, rt: &R) -> Result<Vec<Route>, AllocError>
-        ensures offered { IfOk result (λ c. (rows : List TableRow) × B.offers c.items rows) }
+    pub(crate) fn candidates<R: Wait>(&self, rt: &R) -> Result<Pages<Route>, AllocError>
+        ensures offered { IfOk result (λ c. (rows : List TableRow) × B.offers c rows) }
         ensures short { OnErr result (IsLacking B.refuses Lack.Memory) }
     {
         let guard = self.book.lock(rt);

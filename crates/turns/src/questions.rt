@@ -20,10 +20,10 @@ use crate::taker::Taker;
 use crate::turned::TurnError;
 use crate::work::Work;
 use flood::{Event, Offered};
-use hooks::{Asker, PriceAnswer, TagAnswer, VetoAnswer};
+use hooks::{Asker, PriceAnswer, TagAnswer, VetoAnswer, VetoAnswers};
 use maps::{Seat, Shared};
 use std::sync::Wait;
-use words::{External, Second, Sequence, TableRow};
+use words::{External, Second, TableRow};
 
 /// The event that this work gives to the book, with the answers of the programs that it needs.
 ///
@@ -237,10 +237,8 @@ fn let_in<L: Site, B: Taker<L>, R: Wait>(
     ensures known { IsPrefix (known_to asker.old) (known_to asker.new) }
 {
     let candidates = hub.candidates(rt)?;
-    let routes = candidates.as_slice();
-    let all = B::all_let_in(asker, *candidates.allocator(), routes, moment)?;
-    match all {
-        Some(answers) => Ok(Event::Install(Sequence::from_vec(answers))),
+    match B::all_let_in(asker, candidates, moment) {
+        Some(answers) => Ok(Event::Install(answers)),
         None => ask_about_candidates(rt, hub, asker, seat, moment),
     }
 }
@@ -264,7 +262,7 @@ fn ask_about_candidates<L: Site, B: Taker<L>, R: Wait>(
 {
     let offered = hub.offered(rt)?;
     let answers = ask_vetoes::<L, B>(&hub.shared, asker, seat, moment, &offered)?;
-    Ok(Event::Install(Sequence::from_vec(answers)))
+    Ok(Event::Install(VetoAnswers::each(answers)))
 }
 
 // The answers on the candidates, in their order.

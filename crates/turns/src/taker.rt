@@ -44,8 +44,9 @@ ghost use Rattle.turns.specs.Turns.{
 };
 
 use flood::{Book, BookError, CoreError, Event, NeighborState, Offered, Origin, Out};
-use hooks::{Asker, HookAnswer, Notice, PriceAnswer, TagAnswer, VetoAnswer};
+use hooks::{Asker, HookAnswer, Notice, PriceAnswer, TagAnswer, VetoAnswer, VetoAnswers};
 use maps::{Seat, Shared};
+use pages::Pages;
 use std::alloc::{AllocError, Global};
 use std::sync::atomic::{AtomicU64, Ordering};
 use std::sync::ledger::Share;
@@ -120,8 +121,8 @@ pub trait Taker<L: Origin> {
     ///
     /// # Errors
     /// `AllocError` if an allocation is refused.
-    fn candidates(&self) -> Result<Vec<Route>, AllocError>
-        ensures offered { IfOk result (λ c. (rows : List TableRow) × offers c.items rows) }
+    fn candidates(&self) -> Result<Pages<Route>, AllocError>
+        ensures offered { IfOk result (λ c. (rows : List TableRow) × offers c rows) }
         ensures short { OnErr result (IsLacking refuses Lack.Memory) };
 
     /// Whether this destination is announced now, or will be as soon as its LSA may be originated,
@@ -226,23 +227,13 @@ pub trait Taker<L: Origin> {
 
     /// The answers on these routes if `veto` has no program: each is let in, by
     /// [`Asker::all_let_in`]. `None` if it has one, or the published programs can't be read.
-    ///
-    /// # Errors
-    /// `AllocError` if an allocation is refused.
-    fn all_let_in(
-        asker: &mut Asker,
-        alloc: Global,
-        routes: &[Route],
-        moment: Second,
-    ) -> Result<Option<Vec<VetoAnswer>>, AllocError>
+    fn all_let_in(asker: &mut Asker, routes: Pages<Route>, moment: Second) -> Option<VetoAnswers>
         ensures history { asks_of asker.new ≡ asks_of asker.old }
         ensures known { IsPrefix (known_to asker.old) (known_to asker.new) }
-        ensures all { IfOk result (λ o. IfSome o (λ answers.
-            answers.items ≡ map (let_in moment) routes.now)) }
-        ensures answered { IfOk result (λ o. IfSome o (λ answers.
+        ensures all { IfSome result (λ answers. answers ≡ map (let_in moment) routes) }
+        ensures answered { IfSome result (λ answers.
             (route : RouteValue) (rows : List TableRow) → IsAnsweredByNone
-            (known_to asker.old) (known_to asker.new) (veto_input route moment rows) 0)) }
-        ensures short { OnErr result (IsLacking refuses Lack.Memory) };
+            (known_to asker.old) (known_to asker.new) (veto_input route moment rows) 0) };
 
     /// Clones a datagram for its event. It stands here, so that a refusal for memory counts
     /// as one of this implementation.
@@ -350,10 +341,10 @@ impl<L: Origin> Taker<L> for Book<L> {
         self.now().offered()
     }
 
-    fn candidates(&self) -> Result<Vec<Route>, AllocError>
-        ensures now { IfOk result (λ c. AreCandidatesNow self.now.current c.items) }
+    fn candidates(&self) -> Result<Pages<Route>, AllocError>
+        ensures now { IfOk result (λ c. AreCandidatesNow self.now.current c) }
         ensures some { IfOk result
-            (λ c. (rows : List TableRow) × IsOfferedBySome L.origin c.items rows) }
+            (λ c. (rows : List TableRow) × IsOfferedBySome L.origin c rows) }
     {
         self.now().candidates()
     }
@@ -417,13 +408,8 @@ impl<L: Origin> Taker<L> for Book<L> {
         asker.vetoes(alloc, routes, moment, rows, shared, seat)
     }
 
-    fn all_let_in(
-        asker: &mut Asker,
-        alloc: Global,
-        routes: &[Route],
-        moment: Second,
-    ) -> Result<Option<Vec<VetoAnswer>>, AllocError> {
-        asker.all_let_in(alloc, routes, moment)
+    fn all_let_in(asker: &mut Asker, routes: Pages<Route>, moment: Second) -> Option<VetoAnswers> {
+        asker.all_let_in(routes, moment)
     }
 
     fn copied(bytes: &Sequence<u8>) -> Result<Sequence<u8>, AllocError> {

@@ -2,11 +2,11 @@
 ghost use Rattle.std.specs.Prelude.{◌≡◌, ◌<◌};
 
 use crate::samples::first;
-use std::alloc::Global;
+use std::alloc::{AllocError, Global};
 use std::marker::Brand;
 use std::sync::ledger::{Blank, Share};
 use std::test::Fail;
-use words::Second;
+use words::{Route, Second};
 use worker::{Book, BookError, ConfigError, Core, Event, Origin, Out, Taker};
 
 // What a book is called for.
@@ -33,9 +33,13 @@ fn number_of(answer: Result<Vec<Out>, BookError>) -> u8 {
     }
 }
 
+fn flat_candidates<L: Origin>(book: &Book<L>) -> Result<Vec<Route>, AllocError> {
+    book.candidates()?.to_vec()
+}
+
 // How many candidates there are, alone as beside the rows.
 fn candidates_of<L: Origin>(book: &Book<L>) -> u8 {
-    match (book.candidates(), book.offered()) {
+    match (flat_candidates(book), book.offered()) {
         (Ok(routes), Ok(offered)) => {
             let is_same = routes.as_slice() == offered.candidates.as_slice();
             let count = u8::try_from(routes.len()).unwrap_or(MEMORY);

@@ -3,8 +3,9 @@ ghost use Rattle.std.specs.Prelude.{◌≡◌, ⊤, None};
 
 use crate::side_by_side::number_of;
 use crate::stage::{Deed, Stage, work_of};
-use hooks::{Asker, HookAnswer, Notice, PriceAnswer, TagAnswer, VetoAnswer};
+use hooks::{Asker, HookAnswer, Notice, PriceAnswer, TagAnswer, VetoAnswer, VetoAnswers};
 use maps::{Seat, Shared};
+use pages::Pages;
 use std::alloc::{AllocError, Global};
 use std::sync::Wait;
 use std::sync::atomic::AtomicU64;
@@ -57,7 +58,7 @@ impl<L: Site> Taker<L> for Tableless<L> {
         Err(AllocError)
     }
 
-    fn candidates(&self) -> Result<Vec<Route>, AllocError> {
+    fn candidates(&self) -> Result<Pages<Route>, AllocError> {
         Err(AllocError)
     }
 
@@ -116,11 +117,10 @@ impl<L: Site> Taker<L> for Tableless<L> {
 
     fn all_let_in(
         _asker: &mut Asker,
-        _alloc: Global,
-        _routes: &[Route],
+        _routes: Pages<Route>,
         _moment: Second,
-    ) -> Result<Option<Vec<VetoAnswer>>, AllocError> {
-        Err(AllocError)
+    ) -> Option<VetoAnswers> {
+        None
     }
 
     fn copied(_bytes: &Sequence<u8>) -> Result<Sequence<u8>, AllocError> {

@@ -4,8 +4,8 @@ ghost use Rattle.flood.specs.Replay.{IsInstalledLast, forgotten_at, without_answ
 
 use crate::book::entry::JournalEntry;
 use crate::event::Event;
+use hooks::VetoAnswers;
 use std::mem::replace;
-use words::Sequence;
 
 /// The last place of a journal that ends with an Install.
 pub fn last_install(journal: &[JournalEntry]) -> Option<usize>
@@ -24,7 +24,7 @@ fn forget(event: &mut Event)
     ensures { event.new ≡ without_answers event.old }
 {
     if let Event::Install(answers) = event {
-        let none = Sequence::from_vec(Vec::new(answers.allocator()));
+        let none = VetoAnswers::none(answers.allocator());
         let _answers = replace(answers, none);
     }
 }

@@ -4,10 +4,11 @@ ghost use Rattle.maps.specs.Words.{IsOf};
 ghost use Rattle.hooks.specs.Known.{IsNew, asks_of, history_of};
 
 use crate::trials::{accepted_in, file_of, one_seat, row};
-use hooks::{Asker, HookError, Loader, MAX_ASKERS, programs};
+use hooks::{Asker, HookError, Loader, MAX_ASKERS, VetoAnswers, programs};
 use machine::Hook;
 use maps::{Seat, Shared};
-use std::alloc::Global;
+use pages::Pages;
+use std::alloc::{AllocError, Global};
 use std::sync::Wait;
 use verifier::Accepted;
 use words::{Address, External, ExternalType, Hops, Prefix, Route, RouteKind, Second, TableRow};
@@ -33,6 +34,10 @@ pub struct Subjects {
     pub routes: [Route; 2],
     /// The table: 192.0.2.0/24 with cost 20.
     pub rows: [TableRow; 1],
+}
+
+fn words_of(alloc: Global, answers: &VetoAnswers) -> Result<Vec<(Route, u64)>, AllocError> {
+    answers.words(alloc)?.to_vec(alloc)
 }
 
 fn route(cost: u32) -> Option<Route> {
@@ -198,12 +203,12 @@ impl<R: Wait + Drop> HookTrial<R> {
     /// How many of two routes are accepted, if `veto` has no program; none that there are if memory
     /// was refused.
     pub fn let_in(&mut self, alloc: Global, of: &Subjects) -> Option<usize> {
-        match self
-            .asker
-            .all_let_in(alloc, &of.routes, Second::new(MOMENT))
-        {
-            Ok(Some(answers)) => Some(answers.len()),
-            Ok(None) => None,
+        let Ok(routes) = Pages::from_slice(alloc, &of.routes) else {
+            return Some(usize::MAX);
+        };
+        let answers = self.asker.all_let_in(routes, Second::new(MOMENT))?;
+        match words_of(alloc, &answers) {
+            Ok(words) => Some(words.len()),
             Err(_) => Some(usize::MAX),
         }
     }

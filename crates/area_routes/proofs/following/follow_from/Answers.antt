@@ -35,16 +35,16 @@ pub update_externals-requires-clause-routes : goal.update_externals-requires-cla
 update_externals-requires-clause-routes c =
     let said = said_at c.args.before c.args.area.now.committed.database in
     subst (λ (d : RouterDatabase). AreCandidates (said_at c.args.before d.committed)
-    c.root-root.result.now c.args.routes.items) (sym c.database-db.ensures)
-    (subst (λ (r : Root). AreCandidates said r c.args.routes.items) (sym c.root-root.ensures)
+    c.root-root.result.now c.args.routes) (sym c.database-db.ensures)
+    (subst (λ (r : Root). AreCandidates said r c.args.routes) (sym c.root-root.ensures)
     c.requires.routes)
 
 pub returns-in-SomeNew-clause-candidates : goal.returns-in-SomeNew-clause-candidates
 returns-in-SomeNew-clause-candidates c =
-    let items = c.update_externals.new.routes.items in
+    let items = c.update_externals.new.routes in
     let here = c.database-db.result.now in
     let done = subst (λ (f : Followed). HaveFollowed (said_at c.args.moment here.present)
-    c.root-root.result.now c.args.routes.items items f) c.in-SomeNew.is c.in-Ok.ensures in
+    c.root-root.result.now c.args.routes items f) c.in-SomeNew.is c.in-Ok.ensures in
     subst (λ (d : RouterDatabase). AreCandidates (said_at c.args.moment d.present)
     c.args.walk.now.root items) c.database-db.ensures
     (subst (λ (r : Root). AreCandidates (said_at c.args.moment here.present) r items)
@@ -52,10 +52,10 @@ returns-in-SomeNew-clause-candidates c =
 
 pub returns-in-NoneNew-clause-candidates : goal.returns-in-NoneNew-clause-candidates
 returns-in-NoneNew-clause-candidates c =
-    let items = c.update_externals.new.routes.items in
+    let items = c.update_externals.new.routes in
     let here = c.database-db.result.now in
     let done = subst (λ (f : Followed). HaveFollowed (said_at c.args.moment here.present)
-    c.root-root.result.now c.args.routes.items items f) c.in-NoneNew.is c.in-Ok.ensures in
+    c.root-root.result.now c.args.routes items f) c.in-NoneNew.is c.in-Ok.ensures in
     subst (λ (d : RouterDatabase). AreCandidates (said_at c.args.moment d.present)
     c.args.walk.now.root items) c.database-db.ensures
     (subst (λ (r : Root). AreCandidates (said_at c.args.moment here.present) r items)
@@ -63,13 +63,13 @@ returns-in-NoneNew-clause-candidates c =
 
 pub returns-in-NoneNew-clause-none_new : goal.returns-in-NoneNew-clause-none_new
 returns-in-NoneNew-clause-none_new c on =
-    let items = c.update_externals.new.routes.items in
+    let items = c.update_externals.new.routes in
     let here = c.database-db.result.now in
     let old = said_at c.args.before c.args.area.now.committed.database in
     let new = said_at c.args.moment c.args.area.now.present.database in
     let done = subst (λ (f : Followed). HaveFollowed (said_at c.args.moment here.present)
-    c.root-root.result.now c.args.routes.items items f) c.in-NoneNew.is c.in-Ok.ensures in
-    stay_answered old new c.args.walk.now.root c.args.routes.items items c.requires.routes
+    c.root-root.result.now c.args.routes items f) c.in-NoneNew.is c.in-Ok.ensures in
+    stay_answered old new c.args.walk.now.root c.args.routes items c.requires.routes
     (returns-in-NoneNew-clause-candidates c) done.1
 
 pub returns-in-SomeNew-clause-none_new : goal.returns-in-SomeNew-clause-none_new
@@ -77,10 +77,10 @@ returns-in-SomeNew-clause-none_new c on = absurd (false≢true on)
 
 pub returns-in-SomeNew-clause-another : goal.returns-in-SomeNew-clause-another
 returns-in-SomeNew-clause-another c off =
-    let items = c.update_externals.new.routes.items in
+    let items = c.update_externals.new.routes in
     let here = c.database-db.result.now in
     let done = subst (λ (f : Followed). HaveFollowed (said_at c.args.moment here.present)
-    c.root-root.result.now c.args.routes.items items f) c.in-SomeNew.is c.in-Ok.ensures in
+    c.root-root.result.now c.args.routes items f) c.in-SomeNew.is c.in-Ok.ensures in
     done.1
 
 pub returns-in-NoneNew-clause-another : goal.returns-in-NoneNew-clause-another

@@ -14,7 +14,7 @@ pub loop-prefix-init : goal.loop-prefix-init
 loop-prefix-init c = record {
   ascend = c.requires.ascend;
   halfway = λ old are. none_yet old (said_at c.args.moment c.args.db.now.present) c.args.root.now
-      c.args.routes.now.items are;
+      c.args.routes.now are;
   among = λ on r t. t;
   another = λ off old are. absurd (let no : true ≡ false = off in cc);
 }
@@ -26,16 +26,16 @@ loop-prefix-preserved c =
     let xs = c.args.prefixes.now in
     let i = c.loop-prefix.prefix-index in
     let x = c.prefix-item.result in
-    let before = c.args.routes.now.items in
-    let routes = c.loop-prefix.routes.items in
+    let before = c.args.routes.now in
+    let routes = c.loop-prefix.routes in
     let split = take_more xs i x c.loop-prefix-test.true
     ∙ ap (λ (y : Network). take i xs ++ y ∷ []) (sym c.prefix-item.is) in
     let renewed = c.in_ok-done.ensures.renewed (ap is_some c.in-Some.is) in
     record {
       ascend = renewed.ascending;
       halfway = λ old are. subst (λ (ps : List Network). AreHalfway old new root ps
-          c.renew.new.routes.items) (sym split)
-          (one_more old new root (take i xs) x routes c.renew.new.routes.items
+          c.renew.new.routes) (sym split)
+          (one_more old new root (take i xs) x routes c.renew.new.routes
           (c.loop-prefix.invariant.halfway old are) renewed);
       among = λ on r t.
           let each = and_parts _ _ (on) in
@@ -56,7 +56,7 @@ loop-prefix-preserved c =
 pub returns-clause-halfway : goal.returns-clause-halfway
 returns-clause-halfway c t old are =
     subst (λ (ps : List Network). AreHalfway old (said_at c.args.moment c.args.db.now.present)
-    c.args.root.now ps c.loop-prefix.routes.items)
+    c.args.root.now ps c.loop-prefix.routes)
     (take_all c.loop-prefix.prefix-index c.args.prefixes.now
     (omega (arith, c.loop-prefix-test.false))) (c.loop-prefix.invariant.halfway old are)
 
@@ -69,7 +69,7 @@ returns-clause-another c is old are =
     let root = c.args.root.now in
     let i = c.loop-prefix.prefix-index in
     let xs = c.args.prefixes.now in
-    all_another old new root (take i xs) c.args.routes.now.items c.loop-prefix.routes.items
+    all_another old new root (take i xs) c.args.routes.now c.loop-prefix.routes
     (c.loop-prefix.invariant.halfway old are)
     (c.loop-prefix.invariant.another (same_Some _ _ is) old are)
 

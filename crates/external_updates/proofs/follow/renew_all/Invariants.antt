@@ -8,12 +8,12 @@ use Rattle.external_updates.proofs.follow.renew_all.Given as goal
 
 abbrev pub invariant-loop-prefix : goal.invariant-loop-prefix
 invariant-loop-prefix l = record {
-  ascend : Ascend l.routes.items;
-  halfway : (old : Said) → AreCandidates old l.root l.fn.routes.items
+  ascend : Ascend l.routes;
+  halfway : (old : Said) → AreCandidates old l.root l.fn.routes
       → AreHalfway old (said_at l.moment l.db.present) l.root (take l.prefix-index l.prefixes)
-      l.routes.items;
-  among : l.none_new ≡ true → AreAllAmong l.fn.routes.items l.routes.items;
-  another : l.none_new ≡ false → (old : Said) → AreCandidates old l.root l.fn.routes.items
+      l.routes;
+  among : l.none_new ≡ true → AreAllAmong l.fn.routes l.routes;
+  another : l.none_new ≡ false → (old : Said) → AreCandidates old l.root l.fn.routes
       → HasAnotherOf (said_at l.moment l.db.present) l.root (take l.prefix-index l.prefixes)
-      l.fn.routes.items;
+      l.fn.routes;
 }

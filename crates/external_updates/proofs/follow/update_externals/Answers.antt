@@ -20,8 +20,7 @@ returns-then-none_new c =
     c.in_ok-keys.ensures in
     let advertised = subst (λ (ps : List Network). AreAllAdvertised old new keys ps)
     (sym c.deref-2.ensures.value) c.in_ok-prefixes.ensures in (
-      all_done old new root c.requires.same keys prefixes others advertised
-          c.renew_all.new.routes.items
+      all_done old new root c.requires.same keys prefixes others advertised c.renew_all.new.routes
           (c.in_ok-done.ensures.halfway (ap is_some c.in-Some.is) old c.requires.routes),
       c.in_ok-done.ensures.among (c.in-Some.is ∙ ap (λ (b : Bool). Some b) c.if-none_new.true),
     )
@@ -37,8 +36,7 @@ returns c =
     c.in_ok-keys.ensures in
     let advertised = subst (λ (ps : List Network). AreAllAdvertised old new keys ps)
     (sym c.deref-2.ensures.value) c.in_ok-prefixes.ensures in (
-      all_done old new root c.requires.same keys prefixes others advertised
-          c.renew_all.new.routes.items
+      all_done old new root c.requires.same keys prefixes others advertised c.renew_all.new.routes
           (c.in_ok-done.ensures.halfway (ap is_some c.in-Some.is) old c.requires.routes),
       c.in_ok-done.ensures.another (c.in-Some.is ∙ ap (λ (b : Bool). Some b) c.if-none_new.false)
           old c.requires.routes,

@@ -7,21 +7,21 @@ use Rattle.external_updates.proofs.placing.add.Goals as goal
 
 pub returns-in-None-clause-placed : goal.returns-in-None-clause-placed
 returns-in-None-clause-placed c =
-    let old = c.args.routes.now.items in
+    let old = c.args.routes.now in
     let prefix = c.args.prefix in
     subst (λ (o : Option Route). IsPlaced old old prefix o) (sym c.in-None.is)
     (as_it_was old prefix c.requires.ascend c.args.at c.requires.gap)
 
-pub returns-in_ok-put_in-in-Some-clause-placed : goal.returns-in_ok-put_in-in-Some-clause-placed
-returns-in_ok-put_in-in-Some-clause-placed c =
-    let old = c.args.routes.now.items in
+pub returns-in_ok-insert-in-Some-clause-placed : goal.returns-in_ok-insert-in-Some-clause-placed
+returns-in_ok-insert-in-Some-clause-placed c =
+    let old = c.args.routes.now in
     let prefix = c.args.prefix in
-    let new = c.put_in.new.routes.items in
+    let new = c.insert.new.self in
     let route = c.in-Some.route in
     let its = subst (λ (o : Option Route). IfSome o (λ r. r.prefix ≡ prefix)) c.in-Some.is
     c.requires.its in
     let placed = subst (λ (ys : List Route). IsPlaced old ys prefix (Some route))
-    (sym c.in_ok-put_in-in-Some.ensures)
+    (sym c.in_ok-insert-in-Some.ensures.ok)
     (put_in old prefix c.requires.ascend c.args.at c.requires.gap route its) in
     subst (λ (o : Option Route). IsPlaced old new prefix o) (sym c.in-Some.is) placed
 
@@ -31,12 +31,12 @@ returns-in-None-clause-stood c on r is = absurd (let no = sym c.in-None.is ∙ i
 pub returns-in-None-clause-another : goal.returns-in-None-clause-another
 returns-in-None-clause-another c off = absurd (let no : true ≡ false = off in cc)
 
-pub returns-in_ok-put_in-in-Some-clause-stood : goal.returns-in_ok-put_in-in-Some-clause-stood
-returns-in_ok-put_in-in-Some-clause-stood c on r is = absurd (let no : false ≡ true = on in cc)
+pub returns-in_ok-insert-in-Some-clause-stood : goal.returns-in_ok-insert-in-Some-clause-stood
+returns-in_ok-insert-in-Some-clause-stood c on r is = absurd (let no : false ≡ true = on in cc)
 
-pub returns-in_ok-put_in-in-Some-clause-another : goal.returns-in_ok-put_in-in-Some-clause-another
-returns-in_ok-put_in-in-Some-clause-another c off =
-    let old = c.args.routes.now.items in
+pub returns-in_ok-insert-in-Some-clause-another : goal.returns-in_ok-insert-in-Some-clause-another
+returns-in_ok-insert-in-Some-clause-another c off =
+    let old = c.args.routes.now in
     let prefix = c.args.prefix in
     let route = c.in-Some.route in
     let its = subst (λ (o : Option Route). IfSome o (λ r. r.prefix ≡ prefix)) c.in-Some.is
@@ -47,5 +47,5 @@ returns-in_ok-put_in-in-Some-clause-another c off =
           its,
     )
 
-pub put_in-requires : goal.put_in-requires
-put_in-requires c = c.requires.gap.within
+pub insert-requires : goal.insert-requires
+insert-requires c = c.requires.gap.within

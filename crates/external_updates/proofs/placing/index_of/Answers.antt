@@ -1,22 +1,44 @@
-use Rattle.std.proofs.Common.{◌≡◌, rules}
-use Rattle.std.proofs.lemmas.Fn.{always_returns_same}
-use Rattle.words.specs.Orders.{network_cmp}
-use Rattle.words.specs.declared.route.Route.{Route}
-use Rattle.candidates.proofs.Ordered.{searchable}
-use Rattle.external_updates.proofs.Networks.{is_gap, is_there}
+use Rattle.std.proofs.Common.{◌∙◌, ℕ, ◌+◌, ◌-◌, ◌/◌, ◌<◌, get_or, length, arith, sym}
+use Rattle.external_updates.proofs.Networks.{less_is, more_is}
+use Rattle.external_updates.proofs.Paged.{from_it_on, is_gap_between, up_to_it}
 use Rattle.external_updates.proofs.placing.index_of.Goals as goal
 
-pub returns-in-Ok : goal.returns-in-Ok
-returns-in-Ok c =
-    let at = c.in-Ok.ensures.position (λ (y : Route). network_cmp y.prefix c.args.prefix)
-    (always_returns_same _ (λ a r. r ≡ network_cmp a.0.now.prefix c.args.prefix) _
-    (λ a r q k. search rules)) in
-    is_there c.args.routes.now c.args.prefix c.in-Ok.at c.in-Ok.ensures.bound at
+pub loop-low-preserved-in-Less : goal.loop-low-preserved-in-Less
+loop-low-preserved-in-Less c =
+    let routes = c.args.routes.now in
+    let prefix = c.args.prefix in
+    let at = c.loop-low.invariant in
+    let inside = at.inside in
+    let test = c.loop-low-test.true in
+    let middle : ℕ = c.loop-low.low + (c.loop-low.high - c.loop-low.low) / 2 in
+    let within : middle < length routes = omega (arith, test, inside) in record {
+      order = omega (arith, test);
+      inside = inside;
+      earlier = up_to_it routes c.requires prefix middle within
+          (λ d. less_is (get_or routes middle d).prefix prefix
+          (sym (c.order_at.ensures d) ∙ c.in-Less.is));
+      later = at.later;
+    }
 
-pub returns-in-Err : goal.returns-in-Err
-returns-in-Err c =
-    let at = c.in-Err.ensures.position (λ (y : Route). network_cmp y.prefix c.args.prefix)
-    (always_returns_same _ (λ a r. r ≡ network_cmp a.0.now.prefix c.args.prefix) _
-    (λ a r q k. search rules)) in
-    is_gap c.args.routes.now c.args.prefix c.in-Err.at c.in-Err.ensures.bound
-    (at (searchable c.args.routes.now c.args.prefix c.requires))
+pub loop-low-preserved : goal.loop-low-preserved
+loop-low-preserved c =
+    let routes = c.args.routes.now in
+    let prefix = c.args.prefix in
+    let at = c.loop-low.invariant in
+    let inside = at.inside in
+    let test = c.loop-low-test.true in
+    let middle : ℕ = c.loop-low.low + (c.loop-low.high - c.loop-low.low) / 2 in
+    let within : middle < length routes = omega (arith, test, inside) in record {
+      order = omega (arith, test);
+      inside = omega (arith, test, inside);
+      earlier = at.earlier;
+      later = from_it_on routes c.requires prefix middle within
+          (λ d. more_is (get_or routes middle d).prefix prefix
+          (sym (c.order_at.ensures d) ∙ c.in-Greater.is));
+    }
+
+pub returns : goal.returns
+returns c =
+    let at = c.loop-low.invariant in
+    is_gap_between c.args.routes.now c.args.prefix c.loop-low.low c.loop-low.high at.inside
+    c.loop-low-test.false at.order at.earlier at.later

@@ -18,10 +18,9 @@ returns-in-Some-clause-lacks c =
     let root = root_by c.args.router c.args.area.now.present.links in
     let is : c.args.self.now.candidates ≡ Some c.in-Some.candidates =
     ap (λ (k : KeptRoutes). k.candidates) (sym c.self.view_is) ∙ c.in-Some.is in
-    let kept = subst (λ (o : Option (Vec Route)). IfSome o
-    (λ routes. AreCandidates said root routes.items)) is c.requires.routes.candidates in
-    c.in_ok-lacks.ensures said root (subst (λ (xs : List Route). AreCandidates said root xs)
-    (sym c.deref.ensures.value) kept)
+    let kept = subst (λ (o : Option (List Route)). IfSome o (AreCandidates said root)) is
+    c.requires.routes.candidates in
+    c.in_ok-lacks.ensures said root kept
 
 pub calculated-requires-clause-walk : goal.calculated-requires-clause-walk
 calculated-requires-clause-walk c =
@@ -44,7 +43,8 @@ returns-clause-lacks c =
     ap (λ (k : KeptRoutes). k.walk.root) c.self.view_is
     ∙ c.requires.routes.walk.root c.requires.behind in
     let are =
-    subst (λ (xs : List Route). AreCandidates said root xs) (sym c.deref-2.ensures.value)
+    subst (λ (xs : List Route). AreCandidates said root xs)
+    (sym (c.in_ok-pages.ensures ∙ c.deref.ensures.value))
     (subst (λ (r : Root). AreCandidates said r items) begins c.in_ok-made.ensures.routes) in
     c.in_ok-lacks-2.ensures said root are
 

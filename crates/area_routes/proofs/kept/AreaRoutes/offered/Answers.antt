@@ -11,11 +11,10 @@ pub returns : goal.returns
 returns c =
     let said = said_at c.args.moment c.args.area.now.present.database in
     let root = root_by c.args.router c.args.area.now.present.links in
-    let are = subst (λ (xs : List Route). AreCandidates said root xs) (sym c.deref.ensures.value)
-    c.in_ok-candidates.ensures in
     record {
-      are_candidates = c.in_ok-candidates.ensures;
+      are_candidates = subst (λ (xs : List Route). AreCandidates said root xs)
+          (sym c.in_ok-candidates.ensures) c.in_ok-shared.ensures;
       table = c.in_ok-table.table.items;
-      is_table = c.in_ok-table.ensures said root are;
-      are_rows = c.in_ok-rows.ensures ∙ ap rows_of c.deref-2.ensures.value;
+      is_table = c.in_ok-table.ensures said root c.in_ok-shared.ensures;
+      are_rows = c.in_ok-rows.ensures ∙ ap rows_of c.deref.ensures.value;
     }

@@ -1,4 +1,4 @@
-use Rattle.std.proofs.Common.{◌≡◌, true, false, Vec, Global, Option, Some, ap, subst, sym, ◌∙◌}
+use Rattle.std.proofs.Common.{◌≡◌, true, false, List, Option, Some, ap, subst, sym, ◌∙◌}
 use mathlib.Core.Bool.{false≢true}
 use Rattle.std.specs.Prelude.{IfSome}
 use Rattle.std.proofs.lemmas.Bool.{and_parts}
@@ -30,16 +30,16 @@ followed-next-requires-clause-routes c =
     let old = said_at c.args.before c.args.area.now.committed.database in
     let knew = subst (λ (k : KeptRoutes). KnowsCandidates old k.walk.root k) (sym c.self.view_is)
     c.requires.candidates in
-    subst (λ (o : Option (Vec Route Global)). IfSome o
-    (λ routes. AreCandidates old c.self.inside.walk.root routes.items))
+    subst (λ (o : Option (List Route)). IfSome o
+    (λ routes. AreCandidates old c.self.inside.walk.root routes))
     (sym c.take-kept.ensures.value) knew
 
 pub returns-clause-candidates : goal.returns-clause-candidates
 returns-clause-candidates c =
     let new = said_at c.args.moment c.args.area.now.present.database in
-    let items = c.in-Some.next.candidates.items in
+    let items = c.in-Some.next.candidates in
     let all = subst (λ (o : Option Next). IfSome o
-    (λ next. AreCandidates new c.self.inside.walk.root next.candidates.items)) c.in-Some.is
+    (λ next. AreCandidates new c.self.inside.walk.root next.candidates)) c.in-Some.is
     c.followed-next.ensures.candidates in
     subst (λ (r : Root). AreCandidates new r items)
     (ap (λ (k : KeptRoutes). k.walk.root) c.self.view_is) all
@@ -66,21 +66,19 @@ returns-clause-answered c answers knew on stale =
 pub returns-clause-none_new : goal.returns-clause-none_new
 returns-clause-none_new c brings =
     let next = c.in-Some.next in
-    let kept : Option (Vec Route Global) = c.take-kept.result in
+    let kept : Option (List Route) = c.take-kept.result in
     let were : kept ≡ Some brings.before =
     c.take-kept.ensures.value ∙ ap (λ (k : KeptRoutes). k.candidates) c.self.view_is
     ∙ brings.were in
     let are : next.candidates ≡ brings.now = same_Some _ _ brings.are in
-    let advertised = subst (λ (o : Option Next). IfSome o
-    (λ n. n.none_new ≡ false → HaveAnother kept n.candidates.items)) c.in-Some.is
+    let told = subst (λ (o : Option Next). IfSome o
+    (λ n. n.none_new ≡ false → HaveAnother kept n.candidates)) c.in-Some.is
     c.followed-next.ensures.another in
-    let another : next.none_new ≡ false → HasAnother brings.before.items brings.now.items = λ off.
-    subst (λ (v : Vec Route Global). HasAnother brings.before.items v.items) are
-    (subst (λ (o : Option (Vec Route Global)). HaveAnother o next.candidates.items) were
-    (advertised off))
-    in
+    let another : next.none_new ≡ false → HasAnother brings.before brings.now = λ off.
+    subst (λ (v : List Route). HasAnother brings.before v) are
+    (subst (λ (o : Option (List Route)). HaveAnother o next.candidates) were (told off)) in
     and_true c.self.inside.answered next.none_new
-    (none_another next.none_new brings.before.items brings.now.items another brings.among)
+    (none_another next.none_new brings.before brings.now another brings.among)
     ∙ ap (λ (k : KeptRoutes). k.answered) c.self.view_is
 
 pub returns-in_default-clause-inner : goal.returns-in_default-clause-inner

@@ -31,8 +31,8 @@ candidates-requires-clause-routes c =
 pub returns : goal.returns
 returns c =
     let r = c.self.inside.router.present in
-    subst (λ (s : Router). AreCandidatesNow s c.in_ok-made.made.items) c.self.view_is
-    (of_router (λ i a m w. AreCandidatesOf i a m c.in_ok-made.made.items) r c.id.result
+    subst (λ (s : Router). AreCandidatesNow s c.in_ok-made.made) c.self.view_is
+    (of_router (λ i a m w. AreCandidatesOf i a m c.in_ok-made.made) r c.id.result
     c.area.result.now.present c.moment.result r.answers
     c.id.ensures (ap (λ (a : RouterArea). a.present) c.area.ensures.parts) c.moment.ensures refl
     c.in_ok-made.ensures)

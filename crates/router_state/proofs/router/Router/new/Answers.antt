@@ -23,7 +23,7 @@ invariant_of-result c =
 pub returns-clause-present : goal.returns-clause-present
 returns-clause-present c =
     let waiting = ap (λ h. keys_of h.present) c.new-3.ensures ∙ no_keys (Unit {0}) in
-    let answers = ap (λ h. h.present) c.new-6.ensures ∙ c.from_vec.ensures
+    let answers = ap (λ h. h.present) c.new-6.ensures ∙ c.each.ensures ∙ c.from_vec.ensures
     ∙ c.new-5.ensures.items in
     λ i. record {
       id = c.args.id;
@@ -38,7 +38,7 @@ returns-clause-present c =
 pub returns-clause-committed : goal.returns-clause-committed
 returns-clause-committed c =
     let waiting = ap (λ h. keys_of h.committed) c.new-3.ensures ∙ no_keys (Unit {0}) in
-    let answers = ap (λ h. h.committed) c.new-6.ensures ∙ c.from_vec.ensures
+    let answers = ap (λ h. h.committed) c.new-6.ensures ∙ c.each.ensures ∙ c.from_vec.ensures
     ∙ c.new-5.ensures.items in
     λ i. record {
       id = c.args.id;

@@ -1,0 +1,39 @@
+use Rattle.std.proofs.Common.{◌≡◌, ◌<◌, true, false, length, refl, arith}
+use Rattle.pages.specs.Answers.{all_in}
+use Rattle.tables.proofs.InTurn.{none_lacks, one_lacks}
+use Rattle.tables.proofs.LetIn.{tells_stale}
+use Rattle.tables.proofs.InPages.{are_met, first_of_part, none_behind}
+use Rattle.tables.proofs.shared.compared.Goals as goal
+
+pub bounds-behind-0 : goal.bounds-behind-0
+bounds-behind-0 c =
+    let size = c.len.ensures in
+    c.part_from-behind.ensures.some (omega (arith, c.if-met-len.false, size))
+
+pub returns-then-met-len : goal.returns-then-met-len
+returns-then-met-len c =
+    let answered = c.args.answered.now in
+    let candidates = c.args.candidates.now in
+    let met = c.met_in_turn-met.result in
+    tells_stale (all_in answered) candidates false (
+      (λ t. absurd (let no : false ≡ true = t in cc)),
+      (λ lacks. absurd (none_lacks (all_in answered) candidates met
+          (let size = c.len.ensures in omega (arith, c.if-met-len.true, size))
+          (are_met answered candidates met c.met_in_turn-met.ensures.each) lacks)),
+    )
+
+pub returns : goal.returns
+returns c said root are =
+    let answered = c.args.answered.now in
+    let candidates = c.args.candidates.now in
+    let met = c.met_in_turn-met.result in
+    let route = c.index-behind-0.result in
+    let size = c.len.ensures in
+    let inside : met < length candidates = omega (arith, c.if-met-len.false, size) in
+    let here = first_of_part candidates met c.part_from-behind.result.now route
+    c.part_from-behind.ensures inside c.index-behind-0.is in
+    let behind = none_behind answered met route (c.is_among_from.ensures c.if-is_among_from.false)
+    in
+    let lacks = one_lacks (all_in answered) candidates met route inside here are.ascending
+    (are_met answered candidates met c.met_in_turn-met.ensures.each) behind in
+    tells_stale (all_in answered) candidates true ((λ t. lacks), (λ any. refl)) said root are

@@ -1,0 +1,147 @@
+//! The table of candidates in pages, and whether it is stale.
+ghost use Rattle.std.specs.Prelude.{◌≡◌, ◌↔◌, ◌<◌, ◌≤◌, ℕ, IfOk, IfSome, IsTrue, Some, false};
+ghost use Rattle.std.specs.Prelude.{length, slice_get};
+ghost use Rattle.pages.specs.Answers.{all_in};
+ghost use Rattle.routes.specs.Candidates.{AreCandidates};
+ghost use Rattle.routes.specs.Said.{Said};
+ghost use Rattle.routes.specs.Tables.{IsStale, IsTable};
+ghost use Rattle.routes.specs.declared.root.Root.{Root};
+ghost use Rattle.words.specs.declared.route.Route.{Route as RouteValue};
+
+use crate::answered::{is_stale, table};
+use pages::{Pages, RouteAnswers};
+use std::alloc::AllocError;
+use words::Route;
+
+/// The routing table, as [`table`] makes it.
+///
+/// # Errors
+/// `AllocError` if an allocation is refused.
+pub fn table_of(candidates: &Pages<Route>, answers: &RouteAnswers) -> Result<Vec<Route>, AllocError>
+    ensures { IfOk result (λ table. (said : Said) (root : Root)
+        → AreCandidates said root candidates.now → IsTable said root answers.now table.items) }
+{
+    let alloc = candidates.allocator();
+    let routes = candidates.to_vec()?;
+    let answers = answers.to_vec(alloc)?;
+    let made = table(alloc, &routes, &answers)?;
+    Ok(made)
+}
+
+/// Whether some candidate's equal route has no answer, as [`is_stale`] tells. Where each candidate
+/// was answered with 0, in turn, each is visited once, and nothing is allocated.
+///
+/// # Errors
+/// `AllocError` if an allocation is refused.
+pub fn lacks_answers(candidates: &Pages<Route>, answers: &RouteAnswers) -> Result<bool, AllocError>
+    ensures { IfOk result (λ stale. (said : Said) (root : Root)
+        → AreCandidates said root candidates.now
+        → (IsTrue stale ↔ IsStale said root answers.now)) }
+{
+    match answers.kept() {
+        Ok(each) => lacks_each(candidates, each),
+        Err(routes) => {
+            if let Some(lacks) = compared(candidates, routes) {
+                return Ok(lacks);
+            }
+            let each = answers.to_vec(candidates.allocator())?;
+            lacks_each(candidates, &each)
+        }
+    }
+}
+
+// The same, where the answers are kept one by one.
+fn lacks_each(candidates: &Pages<Route>, answers: &[(Route, u64)]) -> Result<bool, AllocError>
+    ensures { IfOk result (λ stale. (said : Said) (root : Root)
+        → AreCandidates said root candidates.now
+        → (IsTrue stale ↔ IsStale said root answers.now)) }
+{
+    let alloc = candidates.allocator();
+    let routes = candidates.to_vec()?;
+    let stale = is_stale(alloc, &routes, answers)?;
+    Ok(stale)
+}
+
+// The same, where each of these routes was answered with 0. `None` if that takes a search.
+fn compared(candidates: &Pages<Route>, answered: &Pages<Route>) -> Option<bool>
+    ensures { IfSome result (λ stale. (said : Said) (root : Root)
+        → AreCandidates said root candidates.now
+        → (IsTrue stale ↔ IsStale said root (all_in answered.now))) }
+{
+    let met = met_in_turn(candidates, answered);
+    if met >= candidates.len() {
+        return Some(false);
+    }
+    let behind = candidates.part_from(met);
+    if is_among_from(answered, met, &behind[0]) {
+        return None;
+    }
+    Some(true)
+}
+
+// Whether both are the same route.
+fn is_same(one: &Route, other: &Route) -> bool
+    ensures { IsTrue result ↔ (one.now ≡ other.now) }
+{
+    *one == *other
+}
+
+// How many first routes both have.
+fn same_first(one: &[Route], other: &[Route]) -> usize
+    ensures one { result ≤ length one.now }
+    ensures other { result ≤ length other.now }
+    ensures each { (k : ℕ) (r : RouteValue) → k < result → slice_get one.now k ≡ Some r
+        → slice_get other.now k ≡ Some r }
+{
+    let count = one.len().min(other.len());
+    for at in 0..count {
+        if !is_same(&one[at], &other[at]) {
+            return at;
+        }
+    }
+    count
+}
+
+// The same of lists in pages.
+fn met_in_turn(one: &Pages<Route>, other: &Pages<Route>) -> usize
+    ensures each { (k : ℕ) (r : RouteValue) → k < result → slice_get one.now k ≡ Some r
+        → slice_get other.now k ≡ Some r }
+{
+    let mut met = 0;
+    while met < one.len() {
+        let same = same_first(one.part_from(met), other.part_from(met));
+        if same == 0 {
+            return met;
+        }
+        met += same;
+    }
+    met
+}
+
+// Whether the route is one of these.
+fn has(routes: &[Route], route: &Route) -> bool
+    ensures { result ≡ false → (k : ℕ) → slice_get routes.now k ≡ Some route.now → ⊥ }
+{
+    for other in routes {
+        if is_same(other, route) {
+            return true;
+        }
+    }
+    false
+}
+
+// Whether the route is at this index or after it.
+fn is_among_from(routes: &Pages<Route>, from: usize, route: &Route) -> bool
+    ensures { result ≡ false
+        → (k : ℕ) → from ≤ k → slice_get routes.now k ≡ Some route.now → ⊥ }
+{
+    let mut at = from;
+    while at < routes.len() {
+        let part = routes.part_from(at);
+        if has(part, route) {
+            return true;
+        }
+        at += part.len();
+    }
+    false
+}
