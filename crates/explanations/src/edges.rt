@@ -11,7 +11,7 @@ use object::{Rank, RankTerm};
 use segments::edge::enter;
 use segments::follow::Operands;
 use segments::places::{jump_of, slots_of};
-use segments::target::stated_at;
+use segments::starts::stated_at;
 use transfer::branch::{refined, tested};
 use transfer::straight::straight;
 use verifier::Rule;
@@ -92,7 +92,7 @@ fn push_ranks(
 #[derive(Clone, Copy)]
 pub(crate) struct Ways<'a> {
     pub memory: &'a Memory,
-    pub targets: &'a [Option<SegmentStart<'a, Value>>],
+    pub segment_starts: &'a [Option<SegmentStart<'a, Value>>],
     /// The statement of the slot's segment.
     pub segment: &'a SegmentStart<'a, Value>,
     /// `None` at the entry.
@@ -103,7 +103,7 @@ impl Ways<'_> {
     /// What is wrong on the edge to the slot. Returns whether the slot is stated and something is
     /// wrong.
     pub fn push_to(&self, out: &mut Text, to: usize, state: &AbstractState<Value>) -> bool {
-        if let Some(target) = stated_at(self.targets, to) {
+        if let Some(target) = stated_at(self.segment_starts, to) {
             let is_back = match self.slot {
                 Some(slot) => to <= slot,
                 None => false,

@@ -17,7 +17,7 @@ use isa::{Code, DecodeError, decode};
 use kinds::SegmentStart;
 use object::{Object, ObjectError, Rank, StackBytes, StatedKind as Stated, Statement};
 use object_verdicts::{VerifyError, verify_object};
-use segments::target::targets_of;
+use segments::starts::segment_starts_of;
 use std::alloc::{AllocError, Global};
 use verifier::{Accepted, Refusal, Rule};
 
@@ -115,7 +115,7 @@ fn push_program(page: &mut Page<'_>, program: &Program<'_>) {
     let first = entry_state(program.memory, 512);
     let ways = Ways {
         memory: program.memory,
-        targets: &program.targets,
+        segment_starts: &program.segment_starts,
         segment: &program.entry,
         slot: None,
     };
@@ -136,13 +136,17 @@ fn push_entered(
     refusal: Option<Refusal>,
 ) {
     if object.slots() == code.len() {
-        let targets = targets_of::<Value>(memory.alloc, code.len(), object.statements());
+        let segment_starts = segment_starts_of::<Value>(
+            memory.alloc,
+            code.len(),
+            object.statements(),
+        );
         let program = Program {
             memory,
             code,
             hook: object.hook(),
             live: live_registers(memory, code, object.hook()),
-            targets: memory.list(targets),
+            segment_starts: memory.list(segment_starts),
             entry: SegmentStart {
                 statement: entry,
                 kinds: entry_state(memory, 0).kinds,

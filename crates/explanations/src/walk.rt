@@ -15,7 +15,7 @@ use kinds::{AbstractState, SegmentStart, reset};
 use segments::follow::follow;
 use segments::known::Known;
 use segments::places::check_places;
-use segments::target::stated_at;
+use segments::starts::stated_at;
 use verifier::{Refusal, Rule};
 
 /// A program, and what is the same at all slots.
@@ -25,7 +25,7 @@ pub(crate) struct Program<'a> {
     pub code: &'a Code,
     pub hook: Hook,
     pub live: Vec<Registers>,
-    pub targets: Vec<Option<SegmentStart<'a, Value>>>,
+    pub segment_starts: Vec<Option<SegmentStart<'a, Value>>>,
     /// The statement of the entry.
     pub entry: SegmentStart<'a, Value>,
     /// The slot and the rule by which the verifier refuses it, if it does.
@@ -36,7 +36,7 @@ impl<'a> Program<'a> {
     /// The statement of the segment that begins at the slot, or at the entry.
     fn segment(&self, begun: Option<usize>) -> &SegmentStart<'a, Value> {
         match begun {
-            Some(slot) => stated_at(&self.targets, slot).unwrap_or(&self.entry),
+            Some(slot) => stated_at(&self.segment_starts, slot).unwrap_or(&self.entry),
             None => &self.entry,
         }
     }
@@ -108,8 +108,8 @@ impl Here {
             return true;
         }
         let code = program.code;
-        let targets = program.targets.as_slice();
-        if check_places(code, targets, true, slot, &instruction).is_err() {
+        let segment_starts = program.segment_starts.as_slice();
+        if check_places(code, segment_starts, true, slot, &instruction).is_err() {
             return false;
         }
         let segment = program.segment(self.begun);
@@ -117,7 +117,7 @@ impl Here {
         match follow(
             code,
             program.hook,
-            targets,
+            segment_starts,
             segment,
             before,
             slot,
@@ -146,7 +146,7 @@ impl Here {
             Rule::NotWithin | Rule::Rank => {
                 let ways = Ways {
                     memory: program.memory,
-                    targets: &program.targets,
+                    segment_starts: &program.segment_starts,
                     segment: program.segment(self.begun),
                     slot: Some(slot),
                 };
@@ -177,11 +177,11 @@ impl Here {
         requires here { slice_get program.now.code.now slot ≡ Some (Start instruction) }
     {
         page.turn(slot);
-        if let Some(target) = stated_at(&program.targets, slot) {
-            let rank = target.statement.rank();
+        if let Some(segment) = stated_at(&program.segment_starts, slot) {
+            let rank = segment.statement.rank();
             push_rank(&mut page.here, "    stated, rank ", rank, "\n");
             self.begun = Some(slot);
-            self.known.state = reset(entry_state(program.memory, 512), target);
+            self.known.state = reset(entry_state(program.memory, 512), segment);
             self.known.is_live = true;
         }
         self.push(&mut page.here, program, slot);

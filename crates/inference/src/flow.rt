@@ -8,7 +8,9 @@ use crate::liveness::{Registers, live_registers, reads_frame, target_of};
 use crate::memory::{Memory, element_or};
 use crate::sites::{Sites, sites_of};
 use isa::{Code, Hook, Instruction, Register, Slot, Source, Test, Width};
-use kinds::{AbstractState, Kind, PointerPlace, StackEntry, put, reset, target_of as stated};
+use kinds::{
+    AbstractState, Kind, PointerPlace, StackEntry, put, reset, segment_start_of as stated,
+};
 use object::Statement;
 use segments::places::{jump_of, jumped_near, slots_of};
 use transfer::branch::tested;

@@ -8,7 +8,7 @@ use Rattle.machine.specs.declared.state.State.{State as Machine}
 use Rattle.kinds.specs.declared.state.Kind.{Kind}
 use Rattle.kinds.specs.declared.state.Kind.TheVariants.{Unknown}
 use Rattle.kinds.specs.declared.statement.SegmentStart.{SegmentStart}
-use Rattle.kinds.specs.Meaning.{KindHolds, TargetHolds}
+use Rattle.kinds.specs.Meaning.{KindHolds, SegmentStartHolds}
 use Rattle.kinds.specs.Stated.{GivesStated, HoldsStatement, IsAsStated, IsRead, MeetsStated}
 use Rattle.kinds.specs.Stated.{MeetsStatement}
 
@@ -23,16 +23,17 @@ pub record IsKindOf {D : Type 0} (contains : D → ℕ → Type 0) (gives : Give
 -- the kinds of r0 to r9 are those of the statement
 abbrev pub AreKindsOf : {D : Type 0} → (D → ℕ → Type 0) → GivesStated D → StatementParts
     → SegmentStart D → Type 0
-AreKindsOf contains gives statement target =
+AreKindsOf contains gives statement segment =
     (r : ℕ) → r < 10 → IsKindOf contains gives (get_or statement.kinds r said.Empty)
-    (get_or target.kinds.items r Unknown)
+    (get_or segment.kinds.items r Unknown)
 
 module _ {D : Type 0} (contains : D → ℕ → Type 0) (gives : GivesStated D)
-    (statement : StatementParts) (target : SegmentStart D) (same : target.statement.now ≡ statement)
-    (are : AreKindsOf contains gives statement target) where
-  pub target_holds : (machine : Machine) → HoldsStatement statement machine
-      → TargetHolds contains target machine
-  target_holds machine is = record {
+    (statement : StatementParts) (segment : SegmentStart D)
+    (same : segment.statement.now ≡ statement)
+    (are : AreKindsOf contains gives statement segment) where
+  pub segment_start_holds : (machine : Machine) → HoldsStatement statement machine
+      → SegmentStartHolds contains segment machine
+  segment_start_holds machine is = record {
     eleven = is.eleven;
     whole = is.whole;
     frame = is.frame;
@@ -40,9 +41,9 @@ module _ {D : Type 0} (contains : D → ℕ → Type 0) (gives : GivesStated D)
     stack = rw same is.stack;
   }
 
-  pub target_meets : (machine : Machine) → TargetHolds contains target machine
+  pub segment_start_meets : (machine : Machine) → SegmentStartHolds contains segment machine
       → MeetsStatement contains gives statement machine
-  target_meets machine holds = record {
+  segment_start_meets machine holds = record {
     registers = λ r low. (are r low).meets _ (holds.registers r low);
     stack = rw same at holds.stack;
   }

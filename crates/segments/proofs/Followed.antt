@@ -19,7 +19,7 @@ use Rattle.machine.specs.Steps.{IsAt, Does, Goes}
 use Rattle.machine.specs.Faults.{Stuck}
 use Rattle.kinds.specs.declared.state.AbstractState.{AbstractState}
 use Rattle.kinds.specs.declared.statement.SegmentStart.{SegmentStart}
-use Rattle.kinds.specs.Meaning.{StateHolds, TargetHolds}
+use Rattle.kinds.specs.Meaning.{StateHolds, SegmentStartHolds}
 use Rattle.transfer.specs.declared.branch.Edges.{Edges}
 use Rattle.transfer.specs.Given.{Given, blank, setting_of}
 use Rattle.transfer.specs.Soundness.{IsSound, CanStep}
@@ -27,7 +27,7 @@ use Rattle.transfer.specs.Branches.{IsTested, HoldsBesides, PairHolds}
 use Rattle.transfer.specs.Laws.{CanStepIsFree}
 use Rattle.segments.specs.declared.known.Known.{Known}
 use Rattle.isa.specs.Flow.{Begins, size, slot_at_distance}
-use Rattle.segments.specs.Places.{IsWellPlaced, goes_on, target_at}
+use Rattle.segments.specs.Places.{IsWellPlaced, goes_on, segment_start_at}
 use Rattle.segments.specs.Segments.{Enters, EntersNext, GoesOn, IsFollowed, IsKnown, Knows}
 
 -- what is known says nothing of the slot
@@ -59,32 +59,35 @@ besides contains left right state start now holds = record {
 
 -- a step forward to a slot with a statement
 pub enters_next : {D : Type 0} (contains : D → ℕ → Type 0)
-    (targets : List (Option (SegmentStart D))) (segment target : SegmentStart D) (slot to : ℕ)
-    (start next : Machine) → slot < to → next.slot ≡ to → target_at targets to ≡ Some target
+    (segment_starts : List (Option (SegmentStart D))) (segment target : SegmentStart D)
+    (slot to : ℕ) (start next : Machine) → slot < to → next.slot ≡ to
+    → segment_start_at segment_starts to ≡ Some target
     → Enters contains false segment target start next
-    → EntersNext contains targets segment slot start next
-enters_next contains targets segment target slot to start next less at stated enters =
+    → EntersNext contains segment_starts segment slot start next
+enters_next contains segment_starts segment target slot to start next less at stated enters =
     let forward : nat_le next.slot slot ≡ false = grind (arith, nat_tests) in
-    let there : target_at targets next.slot ≡ Some target = rw at stated in
+    let there : segment_start_at segment_starts next.slot ≡ Some target = rw at stated in
     rw (there, forward) enters
 
 module _ {D : Type 0} (contains : D → ℕ → Type 0) (code : List Slot) (hook : Hook)
-    (targets : List (Option (SegmentStart D))) (segment : SegmentStart D) (slot : ℕ)
+    (segment_starts : List (Option (SegmentStart D))) (segment : SegmentStart D) (slot : ℕ)
     (after : Known D) where
   -- a step to the next slot
   Passes : Instruction → Machine → Machine → Type 0
-  Passes i start next = EntersNext contains targets segment slot start next
-      ⊎ ((target_at targets (slot + size i) ≡ None) × Knows contains segment after start next)
+  Passes i start next = EntersNext contains segment_starts segment slot start next
+      ⊎ ((segment_start_at segment_starts (slot + size i) ≡ None)
+      × Knows contains segment after start next)
 
   behind : (i : Instruction) (start next : Machine) → Begins code (slot + size i)
-      → next.slot ≡ slot + size i → EntersNext contains targets segment slot start next
-      ⊎ ((target_at targets (slot + size i) ≡ None) × Knows contains segment after start next)
-      → GoesOn contains code targets segment slot i after start next
+      → next.slot ≡ slot + size i → EntersNext contains segment_starts segment slot start next
+      ⊎ ((segment_start_at segment_starts (slot + size i) ≡ None)
+      × Knows contains segment after start next)
+      → GoesOn contains code segment_starts segment slot i after start next
   behind i start next begins at passes = record {
     begins = rw at begins;
     goes = ⊎_elim
-        (λ (enters : EntersNext contains targets segment slot start next). inl enters)
-        (λ (through : (target_at targets (slot + size i) ≡ None)
+        (λ (enters : EntersNext contains segment_starts segment slot start next). inl enters)
+        (λ (through : (segment_start_at segment_starts (slot + size i) ≡ None)
         × Knows contains segment after start next). inr (record {
           behind = at;
           unstated = rw at through.0;
@@ -95,14 +98,15 @@ module _ {D : Type 0} (contains : D → ℕ → Type 0) (code : List Slot) (hook
 
   -- an instruction that is neither a jump nor EXIT
   pub goes_straight : (i : Instruction) (state known : AbstractState D) → CanStepIsFree
-      → slice_get code slot ≡ Some (Start i) → IsWellPlaced code targets slot i → goes_on i ≡ true
-      → IsSound contains hook i state known
+      → slice_get code slot ≡ Some (Start i) → IsWellPlaced code segment_starts slot i
+      → goes_on i ≡ true → IsSound contains hook i state known
       → ((start next : Machine) → next.slot ≡ slot + size i
       → IsKnown contains segment known start next
-      → EntersNext contains targets segment slot start next
-      ⊎ ((target_at targets (slot + size i) ≡ None)
+      → EntersNext contains segment_starts segment slot start next
+      ⊎ ((segment_start_at segment_starts (slot + size i) ≡ None)
       × Knows contains segment after start next))
-      → IsFollowed contains code hook targets segment slot i state after
+      → IsFollowed contains code hook segment_starts segment slot i
+      state after
   goes_straight i state known never here placed on sound passes = record {
     free = λ input start now fault at holds stuck. never code hook i now (rw at here)
         (sound.goes code start now holds) input fault stuck;
@@ -118,16 +122,18 @@ module _ {D : Type 0} (contains : D → ℕ → Type 0) (code : List Slot) (hook
   -- the two outcomes of a test
   branch_goes : (width : Width) (test : Test) (left : ℕ) (right : Source) (distance : ℤ)
       (start now next : Machine) → now.slot ≡ slot
-      → IsWellPlaced code targets slot (Branch width test left right distance) → (taken : Bool)
-      → next ≡ (if taken then after_jump now distance else moved_on now)
+      → IsWellPlaced code segment_starts slot (Branch width test left right distance)
+      → (taken : Bool) → next ≡ (if taken then after_jump now distance else moved_on now)
       → (taken ≡ true → next ≡ record now {
         slot = slot_at_distance slot distance;
-      } → EntersNext contains targets segment slot start next)
+      } → EntersNext contains segment_starts segment slot start next)
       → (taken ≡ false → next ≡ record now {
         slot = slot + 1;
-      } → EntersNext contains targets segment slot start next
-      ⊎ ((target_at targets (slot + 1) ≡ None) × Knows contains segment after start next))
-      → GoesOn contains code targets segment slot (Branch width test left right distance) after
+      } → EntersNext contains segment_starts segment slot start next
+      ⊎ ((segment_start_at segment_starts (slot + 1) ≡ None)
+      × Knows contains segment after start next))
+      → GoesOn contains code segment_starts segment slot (Branch width test left right distance)
+      after
       start next
   branch_goes width test left right distance start now next at placed true same enters passes =
       let there : next ≡ record now { slot = slot_at_distance slot distance } = rw at at same in
@@ -140,22 +146,24 @@ module _ {D : Type 0} (contains : D → ℕ → Type 0) (code : List Slot) (hook
   pub goes_by_test : (width : Width) (test : Test) (left : ℕ) (right : Source) (distance : ℤ)
       (state : AbstractState D) (edges : Edges D) → CanStepIsFree
       → slice_get code slot ≡ Some (Start (Branch width test left right distance))
-      → IsWellPlaced code targets slot (Branch width test left right distance)
+      → IsWellPlaced code segment_starts slot (Branch width test left right distance)
       → IsTested contains width test left right state edges
-      → ((start now next : Machine) → TargetHolds contains segment start
+      → ((start now next : Machine) → SegmentStartHolds contains segment start
       → HoldsBesides contains left right state start now
       → IsSomeAnd edges.taken (λ values. PairHolds contains values (held now left)
       (operand now right)) → next ≡ record now {
         slot = slot_at_distance slot distance;
-      } → EntersNext contains targets segment slot start next)
-      → ((start now next : Machine) → TargetHolds contains segment start
+      } → EntersNext contains segment_starts segment slot start next)
+      → ((start now next : Machine) → SegmentStartHolds contains segment start
       → HoldsBesides contains left right state start now
       → IsSomeAnd edges.passed (λ values. PairHolds contains values (held now left)
       (operand now right)) → next ≡ record now {
         slot = slot + 1;
-      } → EntersNext contains targets segment slot start next
-      ⊎ ((target_at targets (slot + 1) ≡ None) × Knows contains segment after start next))
-      → IsFollowed contains code hook targets segment slot (Branch width test left right distance)
+      } → EntersNext contains segment_starts segment slot start next
+      ⊎ ((segment_start_at segment_starts (slot + 1) ≡ None)
+      × Knows contains segment after start next))
+      → IsFollowed contains code hook segment_starts segment slot
+      (Branch width test left right distance)
       state after
   goes_by_test width test left right distance state edges never here placed is_tested enters passes
       = record {
@@ -195,8 +203,8 @@ module _ {D : Type 0} (contains : D → ℕ → Type 0) (code : List Slot) (hook
       → Does i (setting_of code hook input) now label next)
       → ((start now next : Machine) → IsKnown contains segment state start now → next ≡ record now {
         slot = slot_at_distance slot distance;
-      } → EntersNext contains targets segment slot start next)
-      → IsFollowed contains code hook targets segment slot i state after
+      } → EntersNext contains segment_starts segment slot start next)
+      → IsFollowed contains code hook segment_starts segment slot i state after
   goes_by_jump i distance state never here begins does_goes goes_does enters = record {
     free = λ input start now fault at holds stuck.
         let can : CanStep i (setting_of code hook blank) now = (
@@ -220,7 +228,7 @@ module _ {D : Type 0} (contains : D → ℕ → Type 0) (code : List Slot) (hook
       → ((input : Given) (start now : Machine) → StateHolds contains state start now
       → IsAt (setting_of code hook input) now Exit → (fault : Fault)
       → Stuck (setting_of code hook input) now fault → ⊥)
-      → IsFollowed contains code hook targets segment slot Exit state after
+      → IsFollowed contains code hook segment_starts segment slot Exit state after
   goes_nowhere state here free = record {
     free = λ input start now fault at holds stuck. free input start now holds (rw at here) fault
         stuck;

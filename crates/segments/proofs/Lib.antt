@@ -1,4 +1,4 @@
-pub mod Targets
+pub mod SegmentStarts
 pub mod Made
 pub mod Named
 pub mod Followed

@@ -10,11 +10,11 @@ use Rattle.isa.specs.declared.instruction.Instruction.{Instruction}
 use Rattle.isa.specs.Flow.{Begins, BeginsAt, size, jump_target, slot_after}
 use Rattle.isa.proofs.Starts.{same_instruction}
 use Rattle.kinds.specs.declared.statement.SegmentStart.{SegmentStart}
-use Rattle.segments.specs.Places.{goes_on, target_at}
-use Rattle.segments.specs.Stated.{statement_at, AreTargets}
+use Rattle.segments.specs.Places.{goes_on, segment_start_at}
+use Rattle.segments.specs.Stated.{statement_at, AreSegmentStarts}
 use Rattle.segments.specs.Refusals.{JumpsNowhere, IsStray, IsBadTarget, FallsOff, IsCutOff}
 use Rattle.segments.specs.Refusals.{IsUnreached, IsUnstated}
-use Rattle.segments.proofs.Targets.{unstated_of, stated_of}
+use Rattle.segments.proofs.SegmentStarts.{unstated_of, stated_of}
 
 pub some_and : {A : Type 0} {P : A → Type 0} (o : Option A) → IsSomeAnd o P
     → (x : A) × (o ≡ Some x) × P x
@@ -81,17 +81,19 @@ module _ (code : List Slot) (slot : ℕ) (i : Instruction) (here : BeginsAt i co
   unreached statements cut none = record { begins = (i, here); cut_off = cut; unstated = none }
 
   module _ {D : Type 0} (contains : D → ℕ → Type 0) (statements : List StatementParts)
-      (targets : List (Option (SegmentStart D))) (are : AreTargets contains statements targets)
+      (segment_starts : List (Option (SegmentStart D)))
+      (are : AreSegmentStarts contains statements segment_starts)
     where
-      pub met_stated : IfSome (jump_target slot i) (λ to. IsSome (target_at targets to))
-          → IsUnstated code statements slot → ⊥
+      pub met_stated : IfSome (jump_target slot i)
+          (λ to. IsSome (segment_start_at segment_starts to)) → IsUnstated code statements slot → ⊥
       met_stated stated bad =
-          stated_of contains statements targets bad.to are
-          (if_some (λ to. IsSome (target_at targets to)) (jump_target slot i) bad.to stated
+          stated_of contains statements segment_starts bad.to are
+          (if_some (λ to. IsSome (segment_start_at segment_starts to)) (jump_target slot i) bad.to
+          stated
           (jump_of_one bad.instruction bad.to bad.at bad.jumps)) bad.unstated
 
-      pub jumps_unstated : IsSomeAnd (jump_target slot i) (λ to. target_at targets to ≡ None)
-          → IsUnstated code statements slot
+      pub jumps_unstated : IsSomeAnd (jump_target slot i)
+          (λ to. segment_start_at segment_starts to ≡ None) → IsUnstated code statements slot
       jumps_unstated unstated =
           let found = some_and (jump_target slot i) unstated in
           record {
@@ -99,5 +101,5 @@ module _ (code : List Slot) (slot : ℕ) (i : Instruction) (here : BeginsAt i co
             at = here;
             to = found.0;
             jumps = found.1;
-            unstated = unstated_of contains statements targets found.0 are found.2;
+            unstated = unstated_of contains statements segment_starts found.0 are found.2;
           }

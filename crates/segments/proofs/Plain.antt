@@ -69,12 +69,12 @@ beside i state none r = ⊎_elim (λ (filled : IsFilled state r). filled)
     (λ (written : register_written i ≡ Some r). absurd
     (none-some r (sym none ∙ written)))
 
-module _ {D : Type 0} (contains : D → ℕ → Type 0) (targets : List (Option (SegmentStart D)))
+module _ {D : Type 0} (contains : D → ℕ → Type 0) (segment_starts : List (Option (SegmentStart D)))
     (segment : SegmentStart D) where
   -- if more is filled, the edge is plain too
   pub enter_more : (back : Bool) (to : ℕ) (filled more : ℕ → Type 0) → ((r : ℕ) → filled r → more r)
-      → MayEnter contains targets segment back to filled
-      → MayEnter contains targets segment back to more
+      → MayEnter contains segment_starts segment back to filled
+      → MayEnter contains segment_starts segment back to more
   enter_more back to filled more grows may = λ target stated.
       let edge = may target stated in
       record {
@@ -87,9 +87,9 @@ module _ {D : Type 0} (contains : D → ℕ → Type 0) (targets : List (Option 
       }
 
   module _ (slot : ℕ) (i : Instruction) (state : AbstractState D)
-      (here : IsPlainHere contains targets segment slot i state) where
+      (here : IsPlainHere contains segment_starts segment slot i state) where
     pub jump_edge : (to : ℕ) → jump_target slot i ≡ Some to → register_written i ≡ None
-        → MayEnter contains targets segment (nat_le to slot) to (IsFilled state)
+        → MayEnter contains segment_starts segment (nat_le to slot) to (IsFilled state)
     jump_edge to jumps none =
         enter_more (nat_le to slot) to (IsFilledBehind i state) (IsFilled state)
         (beside i state none)
@@ -97,11 +97,11 @@ module _ {D : Type 0} (contains : D → ℕ → Type 0) (targets : List (Option 
 
     pub pass_edge : (after : AbstractState D) (next : ℕ) → slot < next → slot_after slot i ≡ next
         → goes_on i ≡ true → ((r : ℕ) → IsFilledBehind i state r → IsFilled after r)
-        → MayEnter contains targets segment false next (IsFilled after)
+        → MayEnter contains segment_starts segment false next (IsFilled after)
     pass_edge after next less behind on grows =
         let forward : nat_le next slot ≡ false = grind (arith, nat_tests) in
         enter_more false next (IsFilledBehind i state) (IsFilled after) grows
-        (subst (λ back. MayEnter contains targets segment back next (IsFilledBehind i state))
+        (subst (λ back. MayEnter contains segment_starts segment back next (IsFilledBehind i state))
         forward (here.edges next (inr (on, behind))))
 
 -- ---- what remains known

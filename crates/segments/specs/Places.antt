@@ -15,24 +15,26 @@ goes_on instructions.Exit = false
 goes_on other = true
 
 -- what is stated at a slot; the list has an element for each slot of the code
-abbrev pub target_at : {D : Type 0} → List (Option (SegmentStart D)) → ℕ → Option (SegmentStart D)
-target_at targets slot = slice_index_or targets slot None
+abbrev pub segment_start_at : {D : Type 0} → List (Option (SegmentStart D)) → ℕ
+    → Option (SegmentStart D)
+segment_start_at segment_starts slot = slice_index_or segment_starts slot None
 
 -- the start of a segment: the entry, or the statement at a slot
 abbrev pub segment_of : {D : Type 0} → List (Option (SegmentStart D)) → SegmentStart D → Option ℕ
     → SegmentStart D
-segment_of targets entry None = entry
-segment_of targets entry (Some slot) = unwrap_or (target_at targets slot) entry
+segment_of segment_starts entry None = entry
+segment_of segment_starts entry (Some slot) = unwrap_or (segment_start_at segment_starts slot) entry
 
 -- an instruction with a statement begins at the slot
-pub record IsEntry {D : Type 0} (code : List Slot) (targets : List (Option (SegmentStart D)))
+pub record IsEntry {D : Type 0} (code : List Slot) (segment_starts : List (Option (SegmentStart D)))
     (slot : ℕ) : Type 0 where
   pub begins : Begins code slot
-  pub stated : IsSome (target_at targets slot)
+  pub stated : IsSome (segment_start_at segment_starts slot)
 
 -- The slots that may come after the instruction are valid: a jump's target has a statement, and an
 -- instruction that falls through is followed by another.
-pub record IsWellPlaced {D : Type 0} (code : List Slot) (targets : List (Option (SegmentStart D)))
+pub record IsWellPlaced {D : Type 0} (code : List Slot)
+    (segment_starts : List (Option (SegmentStart D)))
     (slot : ℕ) (i : Instruction) : Type 0 where
-  pub jump : IfSome (jump_target slot i) (IsEntry code targets)
+  pub jump : IfSome (jump_target slot i) (IsEntry code segment_starts)
   pub on : goes_on i ≡ true → Begins code (slot + size i)

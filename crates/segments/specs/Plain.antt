@@ -13,7 +13,7 @@ use Rattle.kinds.specs.Plain.{IsFilled, kind_in}
 use Rattle.kinds.specs.Stated.{HasEveryNumber}
 use Rattle.ranks.specs.Lines.{IsConstant}
 use Rattle.transfer.specs.Plain.{IsPlainInstruction, ReadsFilled}
-use Rattle.segments.specs.Places.{goes_on, target_at}
+use Rattle.segments.specs.Places.{goes_on, segment_start_at}
 
 -- the instruction at the slot may lead there, by its jump or by falling through
 abbrev pub LeadsTo : ℕ → Instruction → ℕ → Type 0
@@ -46,21 +46,21 @@ pub record IsPlainEdge {D : Type 0} (contains : D → ℕ → Type 0) (back : Bo
 -- if the slot has a statement, the edge to it is plain
 abbrev pub MayEnter : {D : Type 0} → (D → ℕ → Type 0) → List (Option (SegmentStart D))
     → SegmentStart D → Bool → ℕ → (ℕ → Type 0) → Type 0
-MayEnter {D} contains targets segment back to filled =
-    (target : SegmentStart D) → target_at targets to ≡ Some target
+MayEnter {D} contains segment_starts segment back to filled =
+    (target : SegmentStart D) → segment_start_at segment_starts to ≡ Some target
     → IsPlainEdge contains back segment target filled
 
 -- An instruction of a plain program that doesn't write r10: what it reads is known to be numbers,
 -- and each edge from it is plain.
 pub record IsPlainHere {D : Type 0} (contains : D → ℕ → Type 0)
-    (targets : List (Option (SegmentStart D))) (segment : SegmentStart D)
+    (segment_starts : List (Option (SegmentStart D))) (segment : SegmentStart D)
     (slot : ℕ) (i : Instruction) (state : AbstractState D) : Type 0 where
   pub plain : IsPlainInstruction i
   pub frame : writes_frame i ≡ false
   pub reads : ReadsFilled i state
   pub ten : length state.kinds.items ≡ 10
   pub edges : (to : ℕ) → LeadsTo slot i to
-      → MayEnter contains targets segment (nat_le to slot) to (IsFilledBehind i state)
+      → MayEnter contains segment_starts segment (nat_le to slot) to (IsFilledBehind i state)
 
 -- as many registers as before, and numbers remain numbers
 pub record KeepsNumbers {D : Type 0} (state after : AbstractState D) : Type 0 where

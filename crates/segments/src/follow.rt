@@ -11,20 +11,20 @@ ghost use Rattle.machine.specs.Faults.{Stuck};
 ghost use Rattle.transfer.specs.Given.{Given, setting_of};
 ghost use Rattle.machine.specs.declared.state.State.{State as Machine};
 ghost use Rattle.machine.specs.State.{held, operand};
-ghost use Rattle.kinds.specs.Meaning.{StateHolds, TargetHolds};
+ghost use Rattle.kinds.specs.Meaning.{StateHolds, SegmentStartHolds};
 ghost use Rattle.kinds.specs.Plain.{IsFilled};
 ghost use Rattle.transfer.specs.Branches.{HoldsBesides, PairHolds};
 ghost use Rattle.transfer.specs.Plain.{IsStraight, KeepsFilled};
 ghost use Rattle.transfer.specs.Rules.{IsOfExit};
 ghost use Rattle.segments.specs.Plain.{IsPlainHere, KeepsNumbers, MayEnter};
-ghost use Rattle.segments.specs.Places.{IsWellPlaced, goes_on, target_at};
+ghost use Rattle.segments.specs.Places.{IsWellPlaced, goes_on, segment_start_at};
 ghost use Rattle.segments.specs.Refusals.{IsOfEdge, MayFollow};
 ghost use Rattle.segments.specs.Segments.{EntersNext, IsFollowed, IsKnown, PassesTo};
 
 use crate::edge::enter;
 use crate::known::Known;
 use crate::places::{jumped, jumped_near, slots_of};
-use crate::target::stated_at;
+use crate::starts::stated_at;
 use absdom::Domain;
 use isa::{Code, Hook, Instruction, Register, Source, Test, Width};
 use kinds::{AbstractState, SegmentStart};
@@ -48,21 +48,21 @@ pub struct Operands {
 /// # Errors
 /// As [`enter`].
 pub fn jump_to<'a, D: Domain>(
-    targets: &[Option<SegmentStart<'a, D>>],
+    segment_starts: &[Option<SegmentStart<'a, D>>],
     segment: &SegmentStart<'a, D>,
     state: &AbstractState<D>,
     slot: usize,
     to: usize,
 ) -> Result<(), Rule>
-    requires stated { IsSome (target_at targets.now to) }
+    requires stated { IsSome (segment_start_at segment_starts.now to) }
     ensures enters { IfOk result (λ _. (start next : Machine) → next.slot ≡ to
         → IsKnown D.contains segment.now state.now start next
-        → EntersNext D.contains targets.now segment.now slot start next) }
+        → EntersNext D.contains segment_starts.now segment.now slot start next) }
     ensures named { IfErr result IsOfEdge }
-    ensures plain { MayEnter D.contains targets.now segment.now (nat_le to slot) to
+    ensures plain { MayEnter D.contains segment_starts.now segment.now (nat_le to slot) to
         (IsFilled state.now) → IsOk result }
 {
-    let Some(target) = stated_at(targets, to) else {
+    let Some(target) = stated_at(segment_starts, to) else {
         unreachable!()
     };
     enter(target, to <= slot, segment, state)
@@ -74,7 +74,7 @@ pub fn jump_to<'a, D: Domain>(
 /// # Errors
 /// As [`enter`], if the next slot has a statement.
 pub fn pass_on<'a, D: Domain>(
-    targets: &[Option<SegmentStart<'a, D>>],
+    segment_starts: &[Option<SegmentStart<'a, D>>],
     segment: &SegmentStart<'a, D>,
     state: AbstractState<D>,
     next_slot: usize,
@@ -82,13 +82,14 @@ pub fn pass_on<'a, D: Domain>(
     ensures passes { IfOk result (λ after. (start next : Machine) (slot : ℕ)
         → slot < next_slot → next.slot ≡ next_slot
         → IsKnown D.contains segment.now state start next
-        → PassesTo D.contains targets.now segment.now slot next_slot after start next) }
+        → PassesTo D.contains segment_starts.now segment.now slot next_slot after start next) }
     ensures named { IfErr result IsOfEdge }
-    ensures plain { MayEnter D.contains targets.now segment.now false next_slot (IsFilled state)
+    ensures plain { MayEnter D.contains segment_starts.now segment.now false next_slot
+        (IsFilled state)
         → IsOk result }
     ensures same { IfOk result (λ after. after.state ≡ state) }
 {
-    let Some(target) = stated_at(targets, next_slot) else {
+    let Some(target) = stated_at(segment_starts, next_slot) else {
         return Ok(Known {
             state,
             is_live: true,
@@ -104,7 +105,7 @@ pub fn pass_on<'a, D: Domain>(
 /// Checks that a conditional jump may enter the statement at its target, if its test can hold. The
 /// resulting state serves the other edge, where what it says of the two operands is replaced.
 fn take<'a, D: Domain>(
-    targets: &[Option<SegmentStart<'a, D>>],
+    segment_starts: &[Option<SegmentStart<'a, D>>],
     segment: &SegmentStart<'a, D>,
     state: AbstractState<D>,
     slot: usize,
@@ -112,19 +113,20 @@ fn take<'a, D: Domain>(
     taken: Option<(D, D)>,
     to: usize,
 ) -> Result<AbstractState<D>, Rule>
-    requires stated { IsSome (target_at targets.now to) }
+    requires stated { IsSome (segment_start_at segment_starts.now to) }
     ensures besides { IfOk result (λ after. (start now : Machine)
         → HoldsBesides D.contains operands.now.left operands.now.right state start now
         → HoldsBesides D.contains operands.now.left operands.now.right after start now) }
     ensures enters { IfOk result (λ _. (start now next : Machine)
-        → TargetHolds D.contains segment.now start
+        → SegmentStartHolds D.contains segment.now start
         → HoldsBesides D.contains operands.now.left operands.now.right state start now
         → IsSomeAnd taken (λ values. PairHolds D.contains values (held now operands.now.left)
         (operand now operands.now.right))
         → next ≡ record now { slot = to }
-        → EntersNext D.contains targets.now segment.now slot start next) }
+        → EntersNext D.contains segment_starts.now segment.now slot start next) }
     ensures named { IfErr result IsOfEdge }
-    ensures plain { MayEnter D.contains targets.now segment.now (nat_le to slot) to (IsFilled state)
+    ensures plain { MayEnter D.contains segment_starts.now segment.now (nat_le to slot) to
+        (IsFilled state)
         → IsOk result }
     ensures keeps { IfOk result (KeepsNumbers state) }
 {
@@ -132,13 +134,13 @@ fn take<'a, D: Domain>(
         return Ok(state);
     };
     let there = refined(state, operands.left, operands.right, values);
-    jump_to(targets, segment, &there, slot, to)?;
+    jump_to(segment_starts, segment, &there, slot, to)?;
     Ok(there)
 }
 
 /// Passes the state on to the next slot after a conditional jump, if its test can fail.
 fn stay<'a, D: Domain>(
-    targets: &[Option<SegmentStart<'a, D>>],
+    segment_starts: &[Option<SegmentStart<'a, D>>],
     segment: &SegmentStart<'a, D>,
     state: AbstractState<D>,
     operands: &Operands,
@@ -146,14 +148,15 @@ fn stay<'a, D: Domain>(
     next_slot: usize,
 ) -> Result<Known<D>, Rule>
     ensures passes { IfOk result (λ after. (start now next : Machine) (slot : ℕ)
-        → TargetHolds D.contains segment.now start
+        → SegmentStartHolds D.contains segment.now start
         → HoldsBesides D.contains operands.now.left operands.now.right state start now
         → IsSomeAnd passed (λ values. PairHolds D.contains values (held now operands.now.left)
         (operand now operands.now.right))
         → slot < next_slot → next ≡ record now { slot = next_slot }
-        → PassesTo D.contains targets.now segment.now slot next_slot after start next) }
+        → PassesTo D.contains segment_starts.now segment.now slot next_slot after start next) }
     ensures named { IfErr result IsOfEdge }
-    ensures plain { MayEnter D.contains targets.now segment.now false next_slot (IsFilled state)
+    ensures plain { MayEnter D.contains segment_starts.now segment.now false next_slot
+        (IsFilled state)
         → IsOk result }
     ensures keeps { IfOk result (λ after. KeepsNumbers state after.state) }
 {
@@ -164,7 +167,7 @@ fn stay<'a, D: Domain>(
         });
     };
     let here = refined(state, operands.left, operands.right, values);
-    let after = pass_on(targets, segment, here, next_slot)?;
+    let after = pass_on(segment_starts, segment, here, next_slot)?;
     Ok(after)
 }
 
@@ -172,7 +175,7 @@ fn stay<'a, D: Domain>(
 fn branch<'a, D: Domain>(
     code: &Code,
     hook: Hook,
-    targets: &[Option<SegmentStart<'a, D>>],
+    segment_starts: &[Option<SegmentStart<'a, D>>],
     segment: &SegmentStart<'a, D>,
     state: AbstractState<D>,
     slot: usize,
@@ -184,13 +187,14 @@ fn branch<'a, D: Domain>(
     requires small { slot < 4096 }
     requires here { slice_get code.now slot ≡ Some (Start
         (Instruction.Branch width test operands.now.left operands.now.right distance)) }
-    requires placed { IsWellPlaced code.now targets.now slot
+    requires placed { IsWellPlaced code.now segment_starts.now slot
         (Instruction.Branch width test operands.now.left operands.now.right distance) }
-    ensures followed { IfOk result (IsFollowed D.contains code.now hook targets.now segment.now slot
+    ensures followed { IfOk result
+        (IsFollowed D.contains code.now hook segment_starts.now segment.now slot
         (Instruction.Branch width test operands.now.left operands.now.right distance) state) }
     ensures named { IfErr result (MayFollow hook
         (Instruction.Branch width test operands.now.left operands.now.right distance)) }
-    ensures plain { IsPlainHere D.contains targets.now segment.now slot
+    ensures plain { IsPlainHere D.contains segment_starts.now segment.now slot
         (Instruction.Branch width test operands.now.left operands.now.right distance) state
         → IsOk result }
     ensures keeps { IfOk result (λ after. KeepsNumbers state after.state) }
@@ -199,30 +203,46 @@ fn branch<'a, D: Domain>(
     what_can_step_is_never_stuck();
     let edges = tested(&state, width, test, operands.left, operands.right)?;
     let to = jumped_near(slot, distance);
-    let left = take(targets, segment, state, slot, operands, edges.taken, to)?;
-    let after = stay(targets, segment, left, operands, edges.passed, slot + 1)?;
+    let left = take(
+        segment_starts,
+        segment,
+        state,
+        slot,
+        operands,
+        edges.taken,
+        to,
+    )?;
+    let after = stay(
+        segment_starts,
+        segment,
+        left,
+        operands,
+        edges.passed,
+        slot + 1,
+    )?;
     Ok(after)
 }
 
 /// Checks that an unconditional jump may enter the statement at its target; nothing is known after
 /// it.
 fn leave<'a, D: Domain>(
-    targets: &[Option<SegmentStart<'a, D>>],
+    segment_starts: &[Option<SegmentStart<'a, D>>],
     segment: &SegmentStart<'a, D>,
     state: AbstractState<D>,
     slot: usize,
     to: usize,
 ) -> Result<Known<D>, Rule>
-    requires stated { IsSome (target_at targets.now to) }
+    requires stated { IsSome (segment_start_at segment_starts.now to) }
     ensures enters { IfOk result (λ _. (start now next : Machine)
         → IsKnown D.contains segment.now state start now → next ≡ record now { slot = to }
-        → EntersNext D.contains targets.now segment.now slot start next) }
+        → EntersNext D.contains segment_starts.now segment.now slot start next) }
     ensures named { IfErr result IsOfEdge }
-    ensures plain { MayEnter D.contains targets.now segment.now (nat_le to slot) to (IsFilled state)
+    ensures plain { MayEnter D.contains segment_starts.now segment.now (nat_le to slot) to
+        (IsFilled state)
         → IsOk result }
     ensures same { IfOk result (λ after. after.state ≡ state) }
 {
-    jump_to(targets, segment, &state, slot, to)?;
+    jump_to(segment_starts, segment, &state, slot, to)?;
     Ok(Known {
         state,
         is_live: false,
@@ -252,7 +272,7 @@ fn end<D: Domain>(state: AbstractState<D>) -> Result<Known<D>, Rule>
 fn go_on<'a, D: Domain>(
     code: &Code,
     hook: Hook,
-    targets: &[Option<SegmentStart<'a, D>>],
+    segment_starts: &[Option<SegmentStart<'a, D>>],
     segment: &SegmentStart<'a, D>,
     state: AbstractState<D>,
     slot: usize,
@@ -260,22 +280,23 @@ fn go_on<'a, D: Domain>(
 ) -> Result<Known<D>, Rule>
     requires small { slot < 4096 }
     requires here { slice_get code.now slot ≡ Some (Start instruction) }
-    requires placed { IsWellPlaced code.now targets.now slot instruction }
+    requires placed { IsWellPlaced code.now segment_starts.now slot instruction }
     requires goes_on { goes_on instruction ≡ true }
     requires straight { IsStraight instruction }
     ensures followed { IfOk result
-        (IsFollowed D.contains code.now hook targets.now segment.now slot instruction state) }
+        (IsFollowed D.contains code.now hook segment_starts.now segment.now slot instruction
+        state) }
     ensures named { IfErr result (MayFollow hook instruction) }
-    ensures plain { IsPlainHere D.contains targets.now segment.now slot instruction state
+    ensures plain { IsPlainHere D.contains segment_starts.now segment.now slot instruction state
         → IsOk result }
-    ensures keeps { IsPlainHere D.contains targets.now segment.now slot instruction state
+    ensures keeps { IsPlainHere D.contains segment_starts.now segment.now slot instruction state
         → IfOk result (λ after. KeepsFilled instruction state after.state) }
 {
     // For the prover alone, by what the call ensures.
     what_can_step_is_never_stuck();
     let next_slot = slot + slots_of(&instruction);
     let known = straight(state, hook, instruction)?;
-    let after = pass_on(targets, segment, known, next_slot)?;
+    let after = pass_on(segment_starts, segment, known, next_slot)?;
     Ok(after)
 }
 
@@ -289,7 +310,7 @@ fn go_on<'a, D: Domain>(
 pub fn follow<'a, D: Domain>(
     code: &Code,
     hook: Hook,
-    targets: &[Option<SegmentStart<'a, D>>],
+    segment_starts: &[Option<SegmentStart<'a, D>>],
     segment: &SegmentStart<'a, D>,
     state: AbstractState<D>,
     slot: usize,
@@ -297,13 +318,14 @@ pub fn follow<'a, D: Domain>(
 ) -> Result<Known<D>, Rule>
     requires small { slot < 4096 }
     requires here { slice_get code.now slot ≡ Some (Start instruction) }
-    requires placed { IsWellPlaced code.now targets.now slot instruction }
+    requires placed { IsWellPlaced code.now segment_starts.now slot instruction }
     ensures followed { IfOk result
-        (IsFollowed D.contains code.now hook targets.now segment.now slot instruction state) }
+        (IsFollowed D.contains code.now hook segment_starts.now segment.now slot instruction
+        state) }
     ensures named { IfErr result (MayFollow hook instruction) }
-    ensures plain { IsPlainHere D.contains targets.now segment.now slot instruction state
+    ensures plain { IsPlainHere D.contains segment_starts.now segment.now slot instruction state
         → IsOk result }
-    ensures keeps { IsPlainHere D.contains targets.now segment.now slot instruction state
+    ensures keeps { IsPlainHere D.contains segment_starts.now segment.now slot instruction state
         → IfOk result (λ after. KeepsFilled instruction state after.state) }
 {
     // For the prover alone, by what the calls ensure.
@@ -311,14 +333,14 @@ pub fn follow<'a, D: Domain>(
     instruction.check_ranges();
     match instruction {
         Instruction::Jump { distance } => Ok(leave(
-            targets,
+            segment_starts,
             segment,
             state,
             slot,
             jumped_near(slot, distance),
         )?),
         Instruction::LongJump { distance } => Ok(leave(
-            targets,
+            segment_starts,
             segment,
             state,
             slot,
@@ -333,10 +355,27 @@ pub fn follow<'a, D: Domain>(
         } => {
             let operands = Operands { left, right };
             Ok(branch(
-                code, hook, targets, segment, state, slot, width, test, &operands, distance,
+                code,
+                hook,
+                segment_starts,
+                segment,
+                state,
+                slot,
+                width,
+                test,
+                &operands,
+                distance,
             )?)
         }
         Instruction::Exit => Ok(end(state)?),
-        _ => Ok(go_on(code, hook, targets, segment, state, slot, instruction)?),
+        _ => Ok(go_on(
+            code,
+            hook,
+            segment_starts,
+            segment,
+            state,
+            slot,
+            instruction,
+        )?),
     }
 }

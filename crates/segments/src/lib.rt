@@ -5,4 +5,4 @@ pub mod edge;
 pub mod follow;
 pub mod known;
 pub mod places;
-pub mod target;
+pub mod starts;

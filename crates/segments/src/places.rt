@@ -5,11 +5,11 @@ ghost use Rattle.std.specs.Prelude.{length, slice_get, true};
 ghost use Rattle.object.specs.Statements.{StatementParts};
 ghost use Rattle.isa.specs.declared.code.Slot.TheVariants.{Start};
 ghost use Rattle.isa.specs.Flow.{Begins, size, jump_target, slot_at_distance};
-ghost use Rattle.segments.specs.Places.{IsWellPlaced, goes_on, target_at};
-ghost use Rattle.segments.specs.Stated.{AreTargets};
+ghost use Rattle.segments.specs.Places.{IsWellPlaced, goes_on, segment_start_at};
+ghost use Rattle.segments.specs.Stated.{AreSegmentStarts};
 ghost use Rattle.segments.specs.Refusals.{IsPassedTo, IsPlaceRefusal, IsWellMade};
 
-use crate::target::is_stated;
+use crate::starts::is_stated;
 use absdom::Domain;
 use isa::laws::an_instruction_is_followed;
 use isa::{Code, Instruction, Slot};
@@ -86,12 +86,17 @@ fn jumps_nowhere(code: &Code, to: Option<usize>) -> bool
 }
 
 /// Whether the instruction jumps to a slot without a statement: rule 4.
-fn jumps_unstated<'a, D: Domain>(targets: &[Option<SegmentStart<'a, D>>], to: Option<usize>) -> bool
-    ensures stated { result ≡ false → IfSome to (λ slot. IsSome (target_at targets.now slot)) }
-    ensures unstated { result ≡ true → IsSomeAnd to (λ slot. target_at targets.now slot ≡ None) }
+fn jumps_unstated<'a, D: Domain>(
+    segment_starts: &[Option<SegmentStart<'a, D>>],
+    to: Option<usize>,
+) -> bool
+    ensures stated { result ≡ false
+        → IfSome to (λ slot. IsSome (segment_start_at segment_starts.now slot)) }
+    ensures unstated { result ≡ true
+        → IsSomeAnd to (λ slot. segment_start_at segment_starts.now slot ≡ None) }
 {
     match to {
-        Some(to) => !is_stated(targets, to),
+        Some(to) => !is_stated(segment_starts, to),
         None => false,
     }
 }
@@ -109,16 +114,16 @@ fn falls_off(code: &Code, slot: usize, instruction: &Instruction) -> bool
 
 /// Whether nothing leads to the slot: rule 3.
 fn is_unreached<'a, D: Domain>(
-    targets: &[Option<SegmentStart<'a, D>>],
+    segment_starts: &[Option<SegmentStart<'a, D>>],
     is_passed_to: bool,
     slot: usize,
 ) -> bool
     ensures unreached { result ≡ true
-        → (is_passed_to ≡ false) × (target_at targets.now slot ≡ None) }
+        → (is_passed_to ≡ false) × (segment_start_at segment_starts.now slot ≡ None) }
     ensures reached { result ≡ false
-        → (is_passed_to ≡ true) ⊎ IsSome (target_at targets.now slot) }
+        → (is_passed_to ≡ true) ⊎ IsSome (segment_start_at segment_starts.now slot) }
 {
-    !is_passed_to && !is_stated(targets, slot)
+    !is_passed_to && !is_stated(segment_starts, slot)
 }
 
 /// Checks the slots that may come after the instruction: rules 1 to 4.
@@ -129,15 +134,17 @@ fn is_unreached<'a, D: Domain>(
 /// jumps to a slot without a statement.
 pub fn check_places<'a, D: Domain>(
     code: &Code,
-    targets: &[Option<SegmentStart<'a, D>>],
+    segment_starts: &[Option<SegmentStart<'a, D>>],
     is_passed_to: bool,
     slot: usize,
     instruction: &Instruction,
 ) -> Result<(), Rule>
     requires small { slot < 4096 }
     requires here { slice_get code.now slot ≡ Some (Start instruction.now) }
-    ensures placed { IfOk result (λ _. IsWellPlaced code.now targets.now slot instruction.now) }
-    ensures made { (statements : List StatementParts) → AreTargets D.contains statements targets.now
+    ensures placed { IfOk result
+        (λ _. IsWellPlaced code.now segment_starts.now slot instruction.now) }
+    ensures made { (statements : List StatementParts)
+        → AreSegmentStarts D.contains statements segment_starts.now
         → IsPassedTo is_passed_to code.now slot
         → MatchResult result (λ _. IsWellMade code.now statements slot)
         (IsPlaceRefusal code.now statements slot) }
@@ -153,10 +160,10 @@ pub fn check_places<'a, D: Domain>(
     if falls_off(code, slot, instruction) {
         return Err(Rule::FallsOff);
     }
-    if is_unreached(targets, is_passed_to, slot) {
+    if is_unreached(segment_starts, is_passed_to, slot) {
         return Err(Rule::Unreached);
     }
-    if jumps_unstated(targets, to) {
+    if jumps_unstated(segment_starts, to) {
         return Err(Rule::Unstated);
     }
     Ok(())

@@ -13,8 +13,8 @@ use Rattle.kinds.specs.declared.state.Kind.{Kind}
 use Rattle.kinds.specs.declared.state.Kind.TheVariants.{Pointer, Unknown}
 use Rattle.kinds.specs.declared.state.PointerPlace.TheVariants.{Context}
 use Rattle.kinds.specs.declared.statement.SegmentStart.{SegmentStart}
-use Rattle.kinds.specs.Meaning.{KindHolds, TargetHolds}
-use Rattle.segments.specs.Places.{target_at}
+use Rattle.kinds.specs.Meaning.{KindHolds, SegmentStartHolds}
+use Rattle.segments.specs.Places.{segment_start_at}
 use Rattle.segments.specs.Segments.{Enters}
 
 -- r1 points to the context, and nothing else is known
@@ -43,7 +43,7 @@ none_stated at stated =
 pub entry_holds : {D : Type 0} (contains : D → ℕ → Type 0) (entry : SegmentStart D)
     → entry.statement.now.stack ≡ no_bytes
     → ((r : ℕ) → get_or entry.kinds.items r Unknown ≡ get_or entry_kinds r Unknown)
-    → TargetHolds contains entry start
+    → SegmentStartHolds contains entry start
 entry_holds contains entry stack kinds = record {
   eleven = refl;
   whole = length-replicate 512 stack_bytes.Nothing;
@@ -53,13 +53,14 @@ entry_holds contains entry stack kinds = record {
 }
 
 -- the statement that is found is the one that is there
-pub edge_of : {D : Type 0} (contains : D → ℕ → Type 0) (targets : List (Option (SegmentStart D)))
-    (entry found target : SegmentStart D) → target_at targets 0 ≡ Some found
-    → target_at targets 0 ≡ Some target
-    → ((machine : Machine) → TargetHolds contains entry machine
+pub edge_of : {D : Type 0} (contains : D → ℕ → Type 0)
+    (segment_starts : List (Option (SegmentStart D))) (entry found target : SegmentStart D)
+    → segment_start_at segment_starts 0 ≡ Some found
+    → segment_start_at segment_starts 0 ≡ Some target
+    → ((machine : Machine) → SegmentStartHolds contains entry machine
     → Enters contains false entry found machine machine) → (machine : Machine)
-    → TargetHolds contains entry machine
+    → SegmentStartHolds contains entry machine
     → Enters contains false entry target machine machine
-edge_of {D} contains targets entry found target is_found stated enters machine holds =
+edge_of {D} contains segment_starts entry found target is_found stated enters machine holds =
     subst (λ (t : SegmentStart D). Enters contains false entry t machine machine)
     (same_Some found target (sym is_found ∙ stated)) (enters machine holds)

@@ -24,19 +24,19 @@ use Rattle.kinds.specs.declared.state.Kind.TheVariants as kinds
 use Rattle.kinds.specs.declared.state.AbstractState.{AbstractState}
 use Rattle.kinds.specs.declared.statement.SegmentStart.{SegmentStart}
 use Rattle.machine.specs.declared.state.State.{State as Machine}
-use Rattle.kinds.specs.Meaning.{StateHolds, TargetHolds}
+use Rattle.kinds.specs.Meaning.{StateHolds, SegmentStartHolds}
 use Rattle.kinds.specs.Plain.{IsFilled, IsNumber, kind_in}
 use Rattle.kinds.specs.Stated.{HasEveryNumber, IsRead, any_number}
 use Rattle.transfer.specs.declared.rule.Rule.{Rule}
 use Rattle.transfer.specs.declared.rule.Rule.TheVariants as rules
 use Rattle.transfer.specs.Plain.{KeepsFilled}
 use Rattle.segments.specs.declared.known.Known.{Known}
-use Rattle.segments.specs.Places.{segment_of, target_at}
+use Rattle.segments.specs.Places.{segment_of, segment_start_at}
 use Rattle.segments.specs.Plain.{AsksAtMost, IsFilledBehind, IsPlainEdge, MayEnter}
 use Rattle.segments.specs.Refusals.{IsPlaceRefusal, IsWellMade}
-use Rattle.segments.specs.Stated.{IsTargetOf, statement_at}
+use Rattle.segments.specs.Stated.{IsSegmentStartOf, statement_at}
 use Rattle.isa.proofs.Starts.{same_instruction}
-use Rattle.segments.proofs.Targets.{stated_of, target_of_statement, unstated_of}
+use Rattle.segments.proofs.SegmentStarts.{stated_of, statement_of_segment_start, unstated_of}
 use Rattle.verifier.specs.Plain.{IsEdge, IsFilledAfter, IsFilledAt, is_stated, stays, is_written}
 use Rattle.verifier.specs.Plain.{IsNumberIn, IsPlainStatement, at_entry, at_statement, goes_behind}
 use Rattle.verifier.specs.Plain.{Falls, said_of}
@@ -153,10 +153,10 @@ nothing_filled code statements none slot r zeroth (is_written before i unstated 
 -- ---- the pass
 
 module _ {D : Type 0} (contains : D → ℕ → Type 0) (code : List Slot) (entry_rank : ℕ)
-    (statements : List StatementParts) (targets : List (Option (SegmentStart D)))
-    (program : IsPlainProgram contains code entry_rank statements targets) where
+    (statements : List StatementParts) (segment_starts : List (Option (SegmentStart D)))
+    (program : IsPlainProgram contains code entry_rank statements segment_starts) where
   -- what the target requires of a register
-  asks_at : (s : StatementParts) (target : SegmentStart D) → IsTargetOf contains s target
+  asks_at : (s : StatementParts) (target : SegmentStart D) → IsSegmentStartOf contains s target
       → IsPlainStatement s → (filled : ℕ → Type 0) → ((r : ℕ) → IsNumberIn s r → filled r) → (r : ℕ)
       → AsksAtMost contains (filled r) (kind_in target.kinds.items r)
   asks_at s target is plain filled gives r =
@@ -169,10 +169,11 @@ module _ {D : Type 0} (contains : D → ℕ → Type 0) (code : List Slot) (entr
       (get_or-eq_default target.kinds.items kinds.Unknown (omega (arith, high, is.ten))))
       (cases_lt r 10)
 
-  edge_of : (s : StatementParts) (segment target : SegmentStart D) → IsTargetOf contains s target
-      → IsPlainStatement s → (back : Bool) (filled : ℕ → Type 0)
-      → ((r : ℕ) → IsNumberIn s r → filled r) → (rank : ℕ) → HasRank segment rank
-      → Falls back s.rank.constant rank → IsPlainEdge contains back segment target filled
+  edge_of : (s : StatementParts) (segment target : SegmentStart D)
+      → IsSegmentStartOf contains s target → IsPlainStatement s
+      → (back : Bool) (filled : ℕ → Type 0) → ((r : ℕ) → IsNumberIn s r → filled r) → (rank : ℕ)
+      → HasRank segment rank → Falls back s.rank.constant rank
+      → IsPlainEdge contains back segment target filled
   edge_of s segment target is plain back filled gives rank own falls = record {
     asks = asks_at s target is plain filled gives;
     no_bytes = λ at. rw (is.same, plain.stack) (none_stated at);
@@ -182,26 +183,27 @@ module _ {D : Type 0} (contains : D → ℕ → Type 0) (code : List Slot) (entr
   }
 
   -- at the start of a segment, the stated numbers are known
-  filled_stated : (slot : ℕ) (target : SegmentStart D) (state : AbstractState D)
-      → target_at targets slot ≡ Some target
-      → ((r : ℕ) → r < 10 → kind_in state.kinds.items r ≡ kind_in target.kinds.items r)
+  filled_stated : (slot : ℕ) (segment : SegmentStart D) (state : AbstractState D)
+      → segment_start_at segment_starts slot ≡ Some segment
+      → ((r : ℕ) → r < 10 → kind_in state.kinds.items r ≡ kind_in segment.kinds.items r)
       → (r : ℕ) → IsFilledAt code statements slot r → IsFilled state r
-  filled_stated slot target state there same r (is_stated s is number) =
-      let found = target_of_statement contains statements targets slot target program.are there in
+  filled_stated slot segment state there same r (is_stated s is number) =
+      let found = statement_of_segment_start contains statements segment_starts slot segment
+      program.are there in
       let one : found.0 ≡ s = same_Some _ _ (sym found.1 ∙ is) in
-      let read : IsTargetOf contains s target =
-      subst (λ x. IsTargetOf contains x target) one found.2 in
+      let read : IsSegmentStartOf contains s segment =
+      subst (λ x. IsSegmentStartOf contains x segment) one found.2 in
       record {
         low = number.low;
         number = rw (same r number.low)
-            (number_stated contains (said_of s r) (kind_in target.kinds.items r) number.numbers
+            (number_stated contains (said_of s r) (kind_in segment.kinds.items r) number.numbers
             (read.read r number.low) ((program.plain.states slot s is).registers r number.low)
             number.says);
       }
-  filled_stated slot target state there same r (stays before i none at behind filled) =
-      absurd (stated_of contains statements targets slot program.are (rw there refl) none)
-  filled_stated slot target state there same r (is_written before i none at behind writes) =
-      absurd (stated_of contains statements targets slot program.are (rw there refl) none)
+  filled_stated slot segment state there same r (stays before i none at behind filled) =
+      absurd (stated_of contains statements segment_starts slot program.are (rw there refl) none)
+  filled_stated slot segment state there same r (is_written before i none at behind writes) =
+      absurd (stated_of contains statements segment_starts slot program.are (rw there refl) none)
 
   -- at a slot without a statement, what is filled is filled after the instruction before
   filled_after : OneEndsAtASlot → IsCode code → (slot : ℕ) (i : Instruction) → BeginsAt i code slot
@@ -231,7 +233,7 @@ module _ {D : Type 0} (contains : D → ℕ → Type 0) (code : List Slot) (entr
   pub plain_here : (slot : ℕ) (i : Instruction) → BeginsAt i code slot
       → (segment : SegmentStart D) (known : Known D) → length known.state.kinds.items ≡ 10
       → KnowsPlain code entry_rank statements slot segment known
-      → IsPlainIfLive contains targets segment slot i known
+      → IsPlainIfLive contains segment_starts segment slot i known
   plain_here slot i here segment known ten knows live = record {
     plain = program.plain.instructions slot i here;
     frame = not_true (writes_frame i) (λ writes. program.plain.frame slot (record {
@@ -243,7 +245,8 @@ module _ {D : Type 0} (contains : D → ℕ → Type 0) (code : List Slot) (entr
         (registers_read i) (program.plain.reads slot i here);
     ten = ten;
     edges = λ to leads target there.
-        let found = target_of_statement contains statements targets to target program.are there in
+        let found = statement_of_segment_start contains statements segment_starts to target
+        program.are there in
         let edge : IsEdge code statements slot i to found.0 = record {
           at = here;
           leads = leads;
@@ -290,9 +293,10 @@ module _ {D : Type 0} (contains : D → ℕ → Type 0) (code : List Slot) (entr
 
   -- the entry leads to the statement at slot 0
   pub entry_edge : (entry : SegmentStart D) → HasRank entry entry_rank
-      → MayEnter contains targets entry false 0 (λ r. ⊥)
+      → MayEnter contains segment_starts entry false 0 (λ r. ⊥)
   entry_edge entry has target there =
-      let found = target_of_statement contains statements targets 0 target program.are there in
+      let found = statement_of_segment_start contains statements segment_starts 0 target program.are
+      there in
       let falls : Falls false found.0.rank.constant entry_rank = let below =
       program.plain.entry_falls found.0 found.1 in omega (arith, below) in
       edge_of found.0 entry target found.2 (program.plain.states 0 found.0 found.1) false (λ r. ⊥)
@@ -300,58 +304,62 @@ module _ {D : Type 0} (contains : D → ℕ → Type 0) (code : List Slot) (entr
 
   -- ---- a slot
 
-  knows_stated : (slot : ℕ) (target : SegmentStart D) (known : Known D)
-      → target_at targets slot ≡ Some target
-      → ((r : ℕ) → r < 10 → kind_in known.state.kinds.items r ≡ kind_in target.kinds.items r)
-      → KnowsPlain code entry_rank statements slot target known
-  knows_stated slot target known there same =
-      let found = target_of_statement contains statements targets slot target program.are there in
+  knows_stated : (slot : ℕ) (segment : SegmentStart D) (known : Known D)
+      → segment_start_at segment_starts slot ≡ Some segment
+      → ((r : ℕ) → r < 10 → kind_in known.state.kinds.items r ≡ kind_in segment.kinds.items r)
+      → KnowsPlain code entry_rank statements slot segment known
+  knows_stated slot segment known there same =
+      let found = statement_of_segment_start contains statements segment_starts slot segment
+      program.are there in
       record {
-        filled = λ live. filled_stated slot target known.state there same;
+        filled = λ live. filled_stated slot segment known.state there same;
         constant = rw found.2.same (program.plain.states slot found.0 found.1).rank;
         rank = at_statement found.0 found.1
             (ap (λ (s : StatementParts). s.rank.constant) found.2.same);
       }
 
-  unstated_here : (slot : ℕ) → target_at targets slot ≡ None → statement_at statements slot ≡ None
-  unstated_here slot none = unstated_of contains statements targets slot program.are none
+  unstated_here : (slot : ℕ) → segment_start_at segment_starts slot ≡ None
+      → statement_at statements slot ≡ None
+  unstated_here slot none = unstated_of contains statements segment_starts slot program.are none
 
   arrived_at : (entry : SegmentStart D) (slot : ℕ) (begun here : Option ℕ) (known found : Known D)
-      → ComesPlainly code entry_rank statements slot (segment_of targets entry begun) known
-      → (there : Option (SegmentStart D)) → target_at targets slot ≡ there
+      → ComesPlainly code entry_rank statements slot (segment_of segment_starts entry begun) known
+      → (there : Option (SegmentStart D)) → segment_start_at segment_starts slot ≡ there
       → MatchOption there ((here ≡ begun) × (found ≡ known))
-      (λ target. (here ≡ Some slot) × (found.is_live ≡ true)
-      × ((machine : Machine) → TargetHolds contains target machine
+      (λ segment. (here ≡ Some slot) × (found.is_live ≡ true)
+      × ((machine : Machine) → SegmentStartHolds contains segment machine
       → StateHolds contains found.state machine machine))
-      → ((target : SegmentStart D) → target_at targets slot ≡ Some target
+      → ((segment : SegmentStart D) → segment_start_at segment_starts slot ≡ Some segment
       → (r : ℕ) → r < 10 → kind_in found.state.kinds.items r
-      ≡ kind_in target.kinds.items r)
+      ≡ kind_in segment.kinds.items r)
       → KnowsPlain code entry_rank statements slot
-      (segment_of targets entry here) found
+      (segment_of segment_starts entry here) found
   arrived_at entry slot begun here known found comes None none same kinds_are =
       subst (λ (b : Option ℕ). KnowsPlain code entry_rank statements slot
-      (segment_of targets entry b) found) (sym same.0)
+      (segment_of segment_starts entry b) found) (sym same.0)
       (subst (λ (k : Known D). KnowsPlain code entry_rank statements slot
-      (segment_of targets entry begun) k) (sym same.1) (comes.knows (unstated_here slot none)))
-  arrived_at entry slot begun here known found comes (Some target) there new kinds_are =
-      let same : unwrap_or (target_at targets slot) entry ≡ target = rw there refl in
+      (segment_of segment_starts entry begun) k) (sym same.1)
+      (comes.knows (unstated_here slot none)))
+  arrived_at entry slot begun here known found comes (Some segment) there new kinds_are =
+      let same : unwrap_or (segment_start_at segment_starts slot) entry ≡ segment = rw there refl in
       subst (λ (b : Option ℕ). KnowsPlain code entry_rank statements slot
-      (segment_of targets entry b) found) (sym new.0)
+      (segment_of segment_starts entry b) found) (sym new.0)
       (subst (λ (t : SegmentStart D). KnowsPlain code entry_rank statements slot t found) (sym same)
-      (knows_stated slot target found there (kinds_are target there)))
+      (knows_stated slot segment found there (kinds_are segment there)))
 
   -- a statement, if the slot has one, else what comes from the slot before
   pub arrives : (entry : SegmentStart D) (slot : ℕ) (begun here : Option ℕ) (known found : Known D)
-      → ComesPlainly code entry_rank statements slot (segment_of targets entry begun) known
-      → MatchOption (target_at targets slot) ((here ≡ begun) × (found ≡ known))
-      (λ target. (here ≡ Some slot) × (found.is_live ≡ true)
-      × ((machine : Machine) → TargetHolds contains target machine
+      → ComesPlainly code entry_rank statements slot (segment_of segment_starts entry begun) known
+      → MatchOption (segment_start_at segment_starts slot) ((here ≡ begun) × (found ≡ known))
+      (λ segment. (here ≡ Some slot) × (found.is_live ≡ true)
+      × ((machine : Machine) → SegmentStartHolds contains segment machine
       → StateHolds contains found.state machine machine))
-      → ((target : SegmentStart D) → target_at targets slot ≡ Some target → (r : ℕ)
+      → ((segment : SegmentStart D) → segment_start_at segment_starts slot ≡ Some segment → (r : ℕ)
       → r < 10 → kind_in found.state.kinds.items r
-      ≡ kind_in target.kinds.items r)
+      ≡ kind_in segment.kinds.items r)
       → KnowsPlain code entry_rank statements slot
-      (segment_of targets entry here) found
+      (segment_of segment_starts entry here) found
   arrives entry slot begun here known found comes there kinds_are =
-      arrived_at entry slot begun here known found comes (target_at targets slot) refl there
+      arrived_at entry slot begun here known found comes (segment_start_at segment_starts slot) refl
+      there
       kinds_are

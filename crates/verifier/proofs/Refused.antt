@@ -17,13 +17,13 @@ use Rattle.kinds.specs.declared.statement.SegmentStart.{SegmentStart}
 use Rattle.transfer.specs.declared.rule.Rule.{Rule}
 use Rattle.transfer.specs.declared.rule.Rule.TheVariants as rules
 use Rattle.transfer.specs.Rules.{LacksHelper}
-use Rattle.segments.specs.Places.{goes_on, target_at}
-use Rattle.segments.specs.Stated.{statement_at, AreTargets}
+use Rattle.segments.specs.Places.{goes_on, segment_start_at}
+use Rattle.segments.specs.Stated.{statement_at, AreSegmentStarts}
 use Rattle.segments.specs.Refusals.{JumpsNowhere, IsStray, LacksHelperAt, IsWellMade, IsFirst}
 use Rattle.segments.specs.Refusals.{IsFirstHere, IsPassedTo, IsPlaceRefusal, IsOfEdge, MayFollow}
 use Rattle.segments.specs.Refusals.{MayRefuse}
 use Rattle.isa.proofs.Starts.{same_instruction}
-use Rattle.segments.proofs.Targets.{none_isn't_some, stated_of, unstated_of}
+use Rattle.segments.proofs.SegmentStarts.{none_isn't_some, stated_of, unstated_of}
 use Rattle.verifier.proofs.SegmentLemmas.{none_between, size_some, sizes}
 
 -- what a `?` passes on
@@ -211,8 +211,8 @@ made_inside code statements slot nothing none = record {
 
 module _ {D : Type 0} (contains : D → ℕ → Type 0) (second : WideHasSecondHalf) (code : List Slot)
     (is_code : IsCode code) (statements : List StatementParts)
-    (targets : List (Option (SegmentStart D)))
-    (are : AreTargets contains statements targets)
+    (segment_starts : List (Option (SegmentStart D)))
+    (are : AreSegmentStarts contains statements segment_starts)
     (slot : ℕ) (i : Instruction) (here : BeginsAt i code slot) where
   made_up_to : ((k : ℕ) → k < slot → IsWellMade code statements k) → IsWellMade code statements slot
       → (k : ℕ) → k < slot + 1 → IsWellMade code statements k
@@ -225,8 +225,9 @@ module _ {D : Type 0} (contains : D → ℕ → Type 0) (second : WideHasSecondH
 
   -- the slots up to the next instruction
   pub made_more : ((k : ℕ) → k < slot → IsWellMade code statements k)
-      → IsWellMade code statements slot → (is_wide i ≡ true → target_at targets (slot + 1) ≡ None)
-      → (k : ℕ) → k < slot + size i → IsWellMade code statements k
+      → IsWellMade code statements slot
+      → (is_wide i ≡ true → segment_start_at segment_starts (slot + 1) ≡ None) → (k : ℕ)
+      → k < slot + size i → IsWellMade code statements k
   made_more before this whole k below =
       ⊎_elim
       (λ (low : k < slot + 1). made_up_to before this k low)
@@ -240,13 +241,13 @@ module _ {D : Type 0} (contains : D → ℕ → Type 0) (second : WideHasSecondH
       (made_inside code statements (slot + 1)
       (λ begins. none_between second code slot (slot + 1) i is_code here (omega arith)
       (omega (arith, two.0)) begins)
-      (unstated_of contains statements targets (slot + 1) are (whole two.1))))
+      (unstated_of contains statements segment_starts (slot + 1) are (whole two.1))))
       size_two)
       (cases_lt k (slot + 1))
 
   -- a statement at the second half
   pub split_refused : (hook : Hook) (entry_rank : ℕ)
-      → (is_wide i ≡ true) × IsSome (target_at targets (slot + 1))
+      → (is_wide i ≡ true) × IsSome (segment_start_at segment_starts (slot + 1))
       → MayRefuse hook code entry_rank statements (slot + 1) rules.Target
   split_refused hook entry_rank split =
       ⊎_elim
@@ -255,7 +256,7 @@ module _ {D : Type 0} (contains : D → ℕ → Type 0) (second : WideHasSecondH
       (λ (two : (size i ≡ 2) × (is_wide i ≡ true)).
       inr (record {
         stated = is_some_or_none (statement_at statements (slot + 1))
-            (stated_of contains statements targets (slot + 1) are split.1);
+            (stated_of contains statements segment_starts (slot + 1) are split.1);
         nowhere = λ begins. none_between second code slot (slot + 1) i is_code here (omega arith)
             (omega (arith, two.0)) begins;
       }))

@@ -15,11 +15,12 @@ use Rattle.isa.specs.Laws.{OneEndsAtASlot, WideHasSecondHalf}
 use Rattle.machine.specs.declared.state.State.{State as Machine}
 use Rattle.machine.specs.Steps.{Does}
 use Rattle.kinds.specs.declared.statement.SegmentStart.{SegmentStart}
-use Rattle.kinds.specs.Meaning.{StateHolds, TargetHolds}
+use Rattle.kinds.specs.Meaning.{StateHolds, SegmentStartHolds}
 use Rattle.transfer.specs.Given.{Given, setting_of}
 use Rattle.segments.specs.declared.known.Known.{Known}
-use Rattle.segments.specs.Places.{segment_of, target_at}
-use Rattle.segments.specs.Segments.{Visits, at_entry, at_target, falls, Enters, EntersNext, LeadsOn}
+use Rattle.segments.specs.Places.{segment_of, segment_start_at}
+use Rattle.segments.specs.Segments.{Visits, at_entry, at_statement, falls, Enters, EntersNext}
+use Rattle.segments.specs.Segments.{LeadsOn}
 use Rattle.segments.specs.Segments.{IsFine, Knows, FallsThrough, IsFollowed, IsCurrent}
 use Rattle.segments.specs.Segments.{IsCurrentUnlessStated}
 use Rattle.isa.proofs.Starts.{same_instruction}
@@ -66,24 +67,24 @@ code_begins code is =
     (starts is.whole.instructions))
 
 module _ {D : Type 0} (contains : D → ℕ → Type 0) (code : List Slot) (hook : Hook)
-    (targets : List (Option (SegmentStart D))) (entry : SegmentStart D) where
+    (segment_starts : List (Option (SegmentStart D))) (entry : SegmentStart D) where
   -- a new segment starts at a statement's slot
-  stated_visit : {target other : SegmentStart D} {input : Given} {start now : Machine}
-      → target_at targets now.slot ≡ Some target
-      → Visits contains (setting_of code hook input) targets entry other start now
-      → (target ≡ other) × TargetHolds contains target start × (start ≡ now)
+  stated_visit : {segment other : SegmentStart D} {input : Given} {start now : Machine}
+      → segment_start_at segment_starts now.slot ≡ Some segment
+      → Visits contains (setting_of code hook input) segment_starts entry other start now
+      → (segment ≡ other) × SegmentStartHolds contains segment start × (start ≡ now)
   stated_visit stated (at_entry first unstated holds) =
       absurd (none-some _ (sym unstated ∙ stated))
-  stated_visit {target} {other} {input} {start} stated (at_target other_stated holds) =
-      let same = same_Some target other (sym stated ∙ other_stated) in
-      (same, subst (λ t. TargetHolds contains t start) (sym same) holds, refl)
+  stated_visit {segment} {other} {input} {start} stated (at_statement other_stated holds) =
+      let same = same_Some segment other (sym stated ∙ other_stated) in
+      (same, subst (λ t. SegmentStartHolds contains t start) (sym same) holds, refl)
   stated_visit stated (falls now label i visit is_at does behind unstated) =
       absurd (none-some _ (sym unstated ∙ stated))
 
   -- what is known of a segment's first state
   known_at_start : {segment : SegmentStart D} {known : Known D} {start now : Machine}
-      → known.is_live ≡ true → ((machine : Machine) → TargetHolds contains segment machine
-      → StateHolds contains known.state machine machine) → TargetHolds contains segment start
+      → known.is_live ≡ true → ((machine : Machine) → SegmentStartHolds contains segment machine
+      → StateHolds contains known.state machine machine) → SegmentStartHolds contains segment start
       → start ≡ now → Knows contains segment known start now
   known_at_start {segment} {known} {start} {now} live own holds same = record {
     live = live;
@@ -93,31 +94,31 @@ module _ {D : Type 0} (contains : D → ℕ → Type 0) (code : List Slot) (hook
     };
   }
 
-  pub current_stated : {slot : ℕ} {target : SegmentStart D} {known : Known D}
-      → target_at targets slot ≡ Some target → known.is_live ≡ true
-      → ((machine : Machine) → TargetHolds contains target machine
+  pub current_stated : {slot : ℕ} {segment : SegmentStart D} {known : Known D}
+      → segment_start_at segment_starts slot ≡ Some segment → known.is_live ≡ true
+      → ((machine : Machine) → SegmentStartHolds contains segment machine
       → StateHolds contains known.state machine machine)
-      → IsCurrent contains code hook targets entry slot target known
-  current_stated {slot} {target} {known} stated live own = record {
+      → IsCurrent contains code hook segment_starts entry slot segment known
+  current_stated {slot} {segment} {known} stated live own = record {
     visits = λ input other start now visit there.
-        let here : target_at targets now.slot ≡ Some target = rw there stated in
+        let here : segment_start_at segment_starts now.slot ≡ Some segment = rw there stated in
         let found = stated_visit here visit in
         (found.0, known_at_start live own found.1 found.2);
   }
 
   next_leads : (segment : SegmentStart D) (slot : ℕ) (i : Instruction) (after : Known D)
-      (start next : Machine) → EntersNext contains targets segment slot start next
-      ⊎ FallsThrough contains targets segment slot i after start next
-      → EntersNext contains targets segment slot start next
-      ⊎ ((next.slot ≡ slot + size i) × (target_at targets next.slot ≡ None))
+      (start next : Machine) → EntersNext contains segment_starts segment slot start next
+      ⊎ FallsThrough contains segment_starts segment slot i after start next
+      → EntersNext contains segment_starts segment slot start next
+      ⊎ ((next.slot ≡ slot + size i) × (segment_start_at segment_starts next.slot ≡ None))
   next_leads segment slot i after start next (inl enters) = inl enters
   next_leads segment slot i after start next (inr through) = inr (through.behind, through.unstated)
 
   pub current_fine : {slot : ℕ} {segment : SegmentStart D} (known after : Known D) (i : Instruction)
       → slice_get code slot ≡ Some (Start i)
-      → IsCurrent contains code hook targets entry slot segment known
-      → (known.is_live ≡ true → IsFollowed contains code hook targets segment slot i
-      known.state after) → IsFine contains code hook targets entry slot
+      → IsCurrent contains code hook segment_starts entry slot segment known
+      → (known.is_live ≡ true → IsFollowed contains code hook segment_starts segment slot i
+      known.state after) → IsFine contains code hook segment_starts entry slot
   current_fine {slot} {segment} known after i here current passed = record {
     free = λ input other start now fault visit there stuck.
         let found = current.visits input other start now visit there in
@@ -129,19 +130,21 @@ module _ {D : Type 0} (contains : D → ℕ → Type 0) (code : List Slot) (hook
         subst (λ k. Does k (setting_of code hook input) now label next) same does in
         let goes = (passed found.1.live).goes_on input start now next label there found.1.is_known
         did in
-        let leads : LeadsOn contains code targets segment slot i start next = record {
+        let leads : LeadsOn contains code segment_starts segment slot i start next = record {
           begins = goes.begins;
           leads = next_leads segment slot i after start next goes.goes;
         } in
-        subst (λ (s : SegmentStart D). LeadsOn contains code targets s slot j start next) found.0
-        (subst (λ k. LeadsOn contains code targets segment slot k start next) (sym same) leads);
+        subst (λ (s : SegmentStart D). LeadsOn contains code segment_starts s slot j start next)
+        found.0
+        (subst (λ k. LeadsOn contains code segment_starts segment slot k start next) (sym same)
+        leads);
   }
 
   -- a step to a slot without a statement is no jump
   through_only : (segment : SegmentStart D) (slot : ℕ) (i : Instruction) (after : Known D)
-      (start next : Machine) → target_at targets next.slot ≡ None
-      → EntersNext contains targets segment slot start next
-      ⊎ FallsThrough contains targets segment slot i after start next
+      (start next : Machine) → segment_start_at segment_starts next.slot ≡ None
+      → EntersNext contains segment_starts segment slot start next
+      ⊎ FallsThrough contains segment_starts segment slot i after start next
       → Knows contains segment after start next
   through_only segment slot i after start next unstated (inl enters) =
       absurd (subst (λ o. IsSomeAnd o (λ target. Enters contains (nat_le next.slot slot) segment
@@ -151,17 +154,19 @@ module _ {D : Type 0} (contains : D → ℕ → Type 0) (code : List Slot) (hook
   -- A visit of the next slot comes from the instruction that ends there, and there is only one.
   next_visit : {slot : ℕ} {segment other : SegmentStart D} {input : Given} {start next : Machine}
       (known after : Known D) (i : Instruction) → OneEndsAtASlot → IsCode code
-      → slice_get code slot ≡ Some (Start i) → target_at targets (slot + size i) ≡ None
-      → IsCurrent contains code hook targets entry slot segment known
-      → (known.is_live ≡ true → IsFollowed contains code hook targets segment slot i
-      known.state after) → Visits contains (setting_of code hook input) targets
+      → slice_get code slot ≡ Some (Start i)
+      → segment_start_at segment_starts (slot + size i) ≡ None
+      → IsCurrent contains code hook segment_starts entry slot segment known
+      → (known.is_live ≡ true → IsFollowed contains code hook segment_starts segment
+      slot i
+      known.state after) → Visits contains (setting_of code hook input) segment_starts
       entry other start next → next.slot ≡ slot + size i
       → (segment ≡ other) × Knows contains segment after start next
   next_visit known after i one is_code here unstated current passed (at_entry first still holds)
       there = let some = size_some i in absurd (omega (arith, first, there, some))
   next_visit {slot} {segment} {other} {input} {start} known after i one is_code here unstated
-      current passed (at_target stated holds) there =
-      let still : target_at targets start.slot ≡ None = rw there unstated in
+      current passed (at_statement stated holds) there =
+      let still : segment_start_at segment_starts start.slot ≡ None = rw there unstated in
       absurd (none-some _ (sym still ∙ stated))
   next_visit {slot} {segment} {other} {input} {start} {next} known after i one is_code here unstated
       current passed (falls now label j visit is_at does behind still) there =
@@ -176,9 +181,9 @@ module _ {D : Type 0} (contains : D → ℕ → Type 0) (code : List Slot) (hook
 
   pub next_current : {slot : ℕ} {segment : SegmentStart D} (known after : Known D) (i : Instruction)
       → OneEndsAtASlot → IsCode code → slice_get code slot ≡ Some (Start i)
-      → IsCurrent contains code hook targets entry slot segment known
-      → (known.is_live ≡ true → IsFollowed contains code hook targets segment slot i
-      known.state after) → IsCurrentUnlessStated contains code hook targets entry
+      → IsCurrent contains code hook segment_starts entry slot segment known
+      → (known.is_live ≡ true → IsFollowed contains code hook segment_starts segment slot i
+      known.state after) → IsCurrentUnlessStated contains code hook segment_starts entry
       (slot + size i) segment after
   next_current known after i one is_code here current passed unstated = record {
     visits = λ input other start next visit there. next_visit known after i one is_code here
@@ -187,20 +192,21 @@ module _ {D : Type 0} (contains : D → ℕ → Type 0) (code : List Slot) (hook
 
   -- the entry's slot
   entry_visit : {other : SegmentStart D} {input : Given} {start now : Machine}
-      → target_at targets 0 ≡ None → Visits contains (setting_of code hook input) targets entry
-      other start now → now.slot ≡ 0 → (entry ≡ other) × TargetHolds contains entry start
+      → segment_start_at segment_starts 0 ≡ None
+      → Visits contains (setting_of code hook input) segment_starts entry
+      other start now → now.slot ≡ 0 → (entry ≡ other) × SegmentStartHolds contains entry start
       × (start ≡ now)
   entry_visit unstated (at_entry first still holds) there = (refl, holds, refl)
-  entry_visit {other} {input} {start} unstated (at_target stated holds) there =
-      let still : target_at targets start.slot ≡ None = rw there unstated in
+  entry_visit {other} {input} {start} unstated (at_statement stated holds) there =
+      let still : segment_start_at segment_starts start.slot ≡ None = rw there unstated in
       absurd (none-some _ (sym still ∙ stated))
   entry_visit unstated (falls now label i visit is_at does behind still) there = let some =
       size_some i in absurd (omega (arith, behind, there, some))
 
   pub entry_current : {known : Known D} → known.is_live ≡ true
-      → ((machine : Machine) → TargetHolds contains entry machine
+      → ((machine : Machine) → SegmentStartHolds contains entry machine
       → StateHolds contains known.state machine machine)
-      → IsCurrentUnlessStated contains code hook targets entry 0 entry known
+      → IsCurrentUnlessStated contains code hook segment_starts entry 0 entry known
   entry_current live own unstated = record {
     visits = λ input other start now visit there.
         let found = entry_visit unstated visit there in
@@ -209,46 +215,51 @@ module _ {D : Type 0} (contains : D → ℕ → Type 0) (code : List Slot) (hook
 
   -- a statement, if the slot has one, else what comes from the slot before
   arrived_at : (slot : ℕ) (begun here : Option ℕ) (known found : Known D)
-      → IsCurrentUnlessStated contains code hook targets entry slot (segment_of targets entry begun)
-      known → (stated : Option (SegmentStart D)) → target_at targets slot ≡ stated
+      → IsCurrentUnlessStated contains code hook segment_starts entry slot
+      (segment_of segment_starts entry begun)
+      known → (stated : Option (SegmentStart D)) → segment_start_at segment_starts slot ≡ stated
       → MatchOption stated ((here ≡ begun) × (found ≡ known))
-      (λ target. (here ≡ Some slot) × (found.is_live ≡ true)
-      × ((machine : Machine) → TargetHolds contains target machine
+      (λ segment. (here ≡ Some slot) × (found.is_live ≡ true)
+      × ((machine : Machine) → SegmentStartHolds contains segment machine
       → StateHolds contains found.state machine machine))
-      → IsCurrent contains code hook targets entry slot
-      (segment_of targets entry here) found
+      → IsCurrent contains code hook segment_starts entry slot
+      (segment_of segment_starts entry here) found
   arrived_at slot begun here known found current None unstated same =
-      subst (λ (b : Option ℕ). IsCurrent contains code hook targets entry slot
-      (segment_of targets entry b) found) (sym same.0)
-      (subst (λ (k : Known D). IsCurrent contains code hook targets entry slot
-      (segment_of targets entry begun) k) (sym same.1) (current unstated))
-  arrived_at slot begun here known found current (Some target) stated new =
-      let own : IsCurrent contains code hook targets entry slot target found =
+      subst (λ (b : Option ℕ). IsCurrent contains code hook segment_starts entry slot
+      (segment_of segment_starts entry b) found) (sym same.0)
+      (subst (λ (k : Known D). IsCurrent contains code hook segment_starts entry slot
+      (segment_of segment_starts entry begun) k) (sym same.1) (current unstated))
+  arrived_at slot begun here known found current (Some segment) stated new =
+      let own : IsCurrent contains code hook segment_starts entry slot segment found =
       current_stated stated new.1 new.2 in
-      let same : unwrap_or (target_at targets slot) entry ≡ target = rw stated refl in
-      subst (λ (b : Option ℕ). IsCurrent contains code hook targets entry slot
-      (segment_of targets entry b) found) (sym new.0)
-      (subst (λ (t : SegmentStart D). IsCurrent contains code hook targets entry slot t found)
+      let same : unwrap_or (segment_start_at segment_starts slot) entry ≡ segment =
+      rw stated refl in
+      subst (λ (b : Option ℕ). IsCurrent contains code hook segment_starts entry slot
+      (segment_of segment_starts entry b) found) (sym new.0)
+      (subst (λ (t : SegmentStart D). IsCurrent contains code hook segment_starts entry slot t
+      found)
       (sym same)
       own)
 
   pub arrived : (slot : ℕ) (begun here : Option ℕ) (known found : Known D)
-      → IsCurrentUnlessStated contains code hook targets entry slot (segment_of targets entry begun)
-      known → MatchOption (target_at targets slot) ((here ≡ begun) × (found ≡ known))
-      (λ target. (here ≡ Some slot) × (found.is_live ≡ true)
-      × ((machine : Machine) → TargetHolds contains target machine
+      → IsCurrentUnlessStated contains code hook segment_starts entry slot
+      (segment_of segment_starts entry begun)
+      known → MatchOption (segment_start_at segment_starts slot) ((here ≡ begun) × (found ≡ known))
+      (λ segment. (here ≡ Some slot) × (found.is_live ≡ true)
+      × ((machine : Machine) → SegmentStartHolds contains segment machine
       → StateHolds contains found.state machine machine))
-      → IsCurrent contains code hook targets entry slot
-      (segment_of targets entry here) found
+      → IsCurrent contains code hook segment_starts entry slot
+      (segment_of segment_starts entry here) found
   arrived slot begun here known found current there =
-      arrived_at slot begun here known found current (target_at targets slot) refl there
+      arrived_at slot begun here known found current (segment_start_at segment_starts slot) refl
+      there
 
   -- the slots up to the next instruction
   pub fine_more : WideHasSecondHalf → IsCode code → (slot : ℕ) (i : Instruction)
       → slice_get code slot ≡ Some (Start i)
-      → ((k : ℕ) → k < slot → Begins code k → IsFine contains code hook targets entry k)
-      → IsFine contains code hook targets entry slot → (k : ℕ) → k < slot + size i
-      → Begins code k → IsFine contains code hook targets entry k
+      → ((k : ℕ) → k < slot → Begins code k → IsFine contains code hook segment_starts entry k)
+      → IsFine contains code hook segment_starts entry slot → (k : ℕ) → k < slot + size i
+      → Begins code k → IsFine contains code hook segment_starts entry k
   fine_more second is_code slot i here before this k below begins =
       ⊎_elim
       (λ (low : k < slot). before k low begins)
@@ -256,6 +267,6 @@ module _ {D : Type 0} (contains : D → ℕ → Type 0) (code : List Slot) (hook
       (λ (above : slot < k). absurd (none_between second code slot k i is_code here above below
       begins))
       (λ (same : k ≤ slot). let at : slot ≡ k = omega arith in
-      subst (λ n. IsFine contains code hook targets entry n) at this)
+      subst (λ n. IsFine contains code hook segment_starts entry n) at this)
       (cases_lt slot k))
       (cases_lt k slot)

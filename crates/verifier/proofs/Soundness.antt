@@ -17,17 +17,18 @@ use Rattle.machine.specs.Steps.{Step}
 use Rattle.machine.specs.Faults.{Stuck}
 use Rattle.machine.specs.Runs.{Leads, Run, Safe}
 use Rattle.kinds.specs.declared.statement.SegmentStart.{SegmentStart}
-use Rattle.kinds.specs.Meaning.{TargetHolds}
+use Rattle.kinds.specs.Meaning.{SegmentStartHolds}
 use Rattle.kinds.specs.Stated.{GivesStated, MeetsStatement}
 use Rattle.object.specs.Statements.{StatementParts}
 use Rattle.ranks.specs.Lines.{rank_value}
 use Rattle.regions.specs.declared.Region.{Region}
 use Rattle.regions.specs.Regions.{AreKeptRegions, IsKeptAt}
 use Rattle.transfer.specs.Given.{Given, setting_of}
-use Rattle.segments.specs.Places.{target_at}
-use Rattle.segments.specs.Segments.{Visits, at_entry, at_target, falls, Enters, EntersNext, IsFine}
-use Rattle.segments.specs.Stated.{AreTargets, MeetStatements}
-use Rattle.segments.proofs.Targets.{target_stated}
+use Rattle.segments.specs.Places.{segment_start_at}
+use Rattle.segments.specs.Segments.{Visits, at_entry, at_statement, falls, Enters, EntersNext}
+use Rattle.segments.specs.Segments.{IsFine}
+use Rattle.segments.specs.Stated.{AreSegmentStarts, MeetStatements}
+use Rattle.segments.proofs.SegmentStarts.{segment_start_of_stated}
 use Rattle.segments.proofs.Made.{inside_code, some_and}
 use Rattle.verifier.specs.Kept.{IsKept}
 use Rattle.verifier.specs.Stated.{RunsMeetStatements}
@@ -68,27 +69,30 @@ left_jump slots rank rank' slot to inside inside' below =
 
 -- a visit of a slot with a statement is as stated there
 visited_as_stated : {D : Type 0} (contains : D → ℕ → Type 0) (setting : Setting)
-    (targets : List (Option (SegmentStart D))) (entry segment target : SegmentStart D)
-    (begin now : Machine) → Visits contains setting targets entry segment begin now
-    → target_at targets now.slot ≡ Some target → TargetHolds contains target now
-visited_as_stated contains setting targets entry segment target begin now
+    (segment_starts : List (Option (SegmentStart D))) (entry segment here : SegmentStart D)
+    (begin now : Machine) → Visits contains setting segment_starts entry segment begin now
+    → segment_start_at segment_starts now.slot ≡ Some here → SegmentStartHolds contains here now
+visited_as_stated contains setting segment_starts entry segment here begin now
     (at_entry zeroth unstated holds) stated =
-    absurd (none-some target (sym unstated ∙ stated))
-visited_as_stated contains setting targets entry segment target begin now (at_target is holds)
-    stated = subst (λ t. TargetHolds contains t begin)
-    (same_Some segment target (sym is ∙ stated)) holds
-visited_as_stated contains setting targets entry segment target begin now
+    absurd (none-some here (sym unstated ∙ stated))
+visited_as_stated contains setting segment_starts entry segment here begin now
+    (at_statement is holds)
+    stated = subst (λ t. SegmentStartHolds contains t begin)
+    (same_Some segment here (sym is ∙ stated)) holds
+visited_as_stated contains setting segment_starts entry segment here begin now
     (falls before label i visit at does behind unstated) stated =
-    absurd (none-some target (sym unstated ∙ stated))
+    absurd (none-some here (sym unstated ∙ stated))
 
 module _ {D : Type 0} (contains : D → ℕ → Type 0) (code : List Slot) (hook : Hook)
-    (targets : List (Option (SegmentStart D))) (entry : SegmentStart D) (limit : ℕ) (input : Given)
+    (segment_starts : List (Option (SegmentStart D))) (entry : SegmentStart D) (limit : ℕ)
+    (input : Given)
   where
     -- the machine is in a segment, at an instruction, and has steps left
     record Reached (steps : ℕ) (machine : Machine) : Type 0 where
       segment : SegmentStart D
       begin : Machine
-      visit : Visits contains (setting_of code hook input) targets entry segment begin machine
+      visit : Visits contains (setting_of code hook input) segment_starts entry segment begin
+          machine
       begins : Begins code machine.slot
       bounded : steps + Left (length code) (rank_value segment.statement.now.rank begin)
           machine.slot
@@ -96,7 +100,7 @@ module _ {D : Type 0} (contains : D → ℕ → Type 0) (code : List Slot) (hook
 
     -- a step from there leads there
     reached_next : (steps : ℕ) (now next : Machine) (label : Label)
-        → ((slot : ℕ) → Begins code slot → IsFine contains code hook targets entry slot)
+        → ((slot : ℕ) → Begins code slot → IsFine contains code hook segment_starts entry slot)
         → Reached steps now → Step (setting_of code hook input) now label next
         → Reached (suc steps) next
     reached_next steps now next label fine reached step =
@@ -105,10 +109,11 @@ module _ {D : Type 0} (contains : D → ℕ → Type 0) (code : List Slot) (hook
         let inside = inside_code code now.slot reached.begins in
         let inside' = inside_code code next.slot leads.begins in
         ⊎_elim
-        (λ (enters : EntersNext contains targets reached.segment now.slot reached.begin next).
+        (λ (enters : EntersNext contains segment_starts reached.segment now.slot reached.begin
+        next).
         let target = some_and {P = λ t. Enters contains (nat_le next.slot now.slot)
         reached.segment t
-        reached.begin next} (target_at targets next.slot) enters in
+        reached.begin next} (segment_start_at segment_starts next.slot) enters in
         let less = left_jump (length code)
         (rank_value reached.segment.statement.now.rank reached.begin)
         (rank_value target.0.statement.now.rank next) now.slot next.slot inside inside'
@@ -116,13 +121,13 @@ module _ {D : Type 0} (contains : D → ℕ → Type 0) (code : List Slot) (hook
         let result : Reached (suc steps) next = record {
           segment = target.0;
           begin = next;
-          visit = at_target target.1 target.2.holds;
+          visit = at_statement target.1 target.2.holds;
           begins = leads.begins;
           bounded = omega (arith, less, reached.bounded);
         } in
         result)
         (λ (through : (next.slot ≡ now.slot + size step.instruction)
-        × (target_at targets next.slot ≡ None)).
+        × (segment_start_at segment_starts next.slot ≡ None)).
         let some = size_some step.instruction in
         let less = left_on (length code)
         (rank_value reached.segment.statement.now.rank reached.begin)
@@ -140,9 +145,11 @@ module _ {D : Type 0} (contains : D → ℕ → Type 0) (code : List Slot) (hook
         leads.leads
 
     -- so every run stays there
-    reached_along : ((slot : ℕ) → Begins code slot → IsFine contains code hook targets entry slot)
+    reached_along : ((slot : ℕ) → Begins code slot
+        → IsFine contains code hook segment_starts entry slot)
         → (labels : List Label) (steps : ℕ) (now end : Machine) → Reached steps now
-        → Leads (setting_of code hook input) now labels end → Reached (steps + length labels) end
+        → Leads (setting_of code hook input) now labels end
+        → Reached (steps + length labels) end
     reached_along fine [] steps now end reached same =
         let sum : steps + 0 ≡ steps = omega arith in
         rw sum (subst (λ m. Reached steps m) same reached)
@@ -153,11 +160,12 @@ module _ {D : Type 0} (contains : D → ℕ → Type 0) (code : List Slot) (hook
         rw sum later
 
     -- the entry goes into its own segment, or into the statement of slot 0
-    first_reached : Begins code 0 → TargetHolds contains entry start
-        → ((target : SegmentStart D) → target_at targets 0 ≡ Some target
+    first_reached : Begins code 0 → SegmentStartHolds contains entry start
+        → ((target : SegmentStart D) → segment_start_at segment_starts 0 ≡ Some target
         → Enters contains false entry target start start)
         → (rank_value entry.statement.now.rank start + 1) * length code ≤ limit
-        → (stated : Option (SegmentStart D)) → target_at targets 0 ≡ stated → Reached 0 start
+        → (stated : Option (SegmentStart D))
+        → segment_start_at segment_starts 0 ≡ stated → Reached 0 start
     first_reached begins holds edge room None unstated = record {
       segment = entry;
       begin = start;
@@ -170,7 +178,7 @@ module _ {D : Type 0} (contains : D → ℕ → Type 0) (code : List Slot) (hook
         record {
           segment = target;
           begin = start;
-          visit = at_target stated enters.holds;
+          visit = at_statement stated enters.holds;
           begins = begins;
           bounded = unfold Left in omega (
             arith,
@@ -180,9 +188,9 @@ module _ {D : Type 0} (contains : D → ℕ → Type 0) (code : List Slot) (hook
           );
         }
 
-    pub met : ((slot : ℕ) → Begins code slot → IsFine contains code hook targets entry slot)
-        → Begins code 0 → TargetHolds contains entry start
-        → ((target : SegmentStart D) → target_at targets 0 ≡ Some target
+    pub met : ((slot : ℕ) → Begins code slot → IsFine contains code hook segment_starts entry slot)
+        → Begins code 0 → SegmentStartHolds contains entry start
+        → ((target : SegmentStart D) → segment_start_at segment_starts 0 ≡ Some target
         → Enters contains false entry target start start)
         → (rank_value entry.statement.now.rank start + 1) * length code ≤ limit
         → (m : ℕ) (labels : List Label) (s : Machine)
@@ -192,85 +200,94 @@ module _ {D : Type 0} (contains : D → ℕ → Type 0) (code : List Slot) (hook
     unfolding Left
     met fine begins holds edge room m labels s run =
         let reached = reached_along fine labels 0 start s
-        (first_reached begins holds edge room (target_at targets 0) refl) run.leads in
+        (first_reached begins holds edge room (segment_start_at segment_starts 0) refl) run.leads in
         let inside = inside_code code s.slot reached.begins in (
           omega (arith, run.steps, reached.bounded, inside),
           λ fault stuck. (fine s.slot reached.begins).free input reached.segment reached.begin s
               fault reached.visit refl stuck,
         )
 
-    pub met_stated : ((slot : ℕ) → Begins code slot → IsFine contains code hook targets entry slot)
-        → Begins code 0 → TargetHolds contains entry start
-        → ((target : SegmentStart D) → target_at targets 0 ≡ Some target
+    pub met_stated : ((slot : ℕ) → Begins code slot
+        → IsFine contains code hook segment_starts entry slot) → Begins code 0
+        → SegmentStartHolds contains entry start
+        → ((target : SegmentStart D) → segment_start_at segment_starts 0 ≡ Some target
         → Enters contains false entry target start start)
         → (rank_value entry.statement.now.rank start + 1) * length code ≤ limit
         → (m : ℕ) (labels : List Label) (s : Machine)
-        → Run (setting_of code hook input) m labels s → (target : SegmentStart D)
-        → target_at targets s.slot ≡ Some target
-        → TargetHolds contains target s
-    met_stated fine begins holds edge room m labels s run target stated =
+        → Run (setting_of code hook input) m labels s
+        → (here : SegmentStart D)
+        → segment_start_at segment_starts s.slot ≡ Some here
+        → SegmentStartHolds contains here s
+    met_stated fine begins holds edge room m labels s run here stated =
         let reached = reached_along fine labels 0 start s
-        (first_reached begins holds edge room (target_at targets 0) refl) run.leads in
-        visited_as_stated contains (setting_of code hook input) targets entry reached.segment target
+        (first_reached begins holds edge room (segment_start_at segment_starts 0) refl) run.leads in
+        visited_as_stated contains (setting_of code hook input) segment_starts entry reached.segment
+        here
         reached.begin s reached.visit stated
 
-    pub met_kept : ((slot : ℕ) → Begins code slot → IsFine contains code hook targets entry slot)
-        → Begins code 0 → TargetHolds contains entry start
-        → ((target : SegmentStart D) → target_at targets 0 ≡ Some target
+    pub met_kept : ((slot : ℕ) → Begins code slot
+        → IsFine contains code hook segment_starts entry slot) → Begins code 0
+        → SegmentStartHolds contains entry start
+        → ((target : SegmentStart D) → segment_start_at segment_starts 0 ≡ Some target
         → Enters contains false entry target start start)
         → (rank_value entry.statement.now.rank start + 1) * length code ≤ limit
         → (kept : List Region) → ((slot : ℕ) → Begins code slot
-        → IsKept contains code hook targets entry kept slot)
+        → IsKept contains code hook segment_starts entry kept slot)
         → (m : ℕ) (labels : List Label) (s : Machine)
         → Run (setting_of code hook input) m labels s
         → IsKeptAt (setting_of code hook input) kept s
     met_kept fine begins holds edge room kept keeps m labels s run =
         let reached = reached_along fine labels 0 start s
-        (first_reached begins holds edge room (target_at targets 0) refl) run.leads in
+        (first_reached begins holds edge room (segment_start_at segment_starts 0) refl) run.leads in
         (keeps s.slot reached.begins).keeps input reached.segment reached.begin s reached.visit refl
 
 -- A program that the verifier accepts is safe.
 pub safe_program : {D : Type 0} (contains : D → ℕ → Type 0) (code : List Slot) (hook : Hook)
-    (targets : List (Option (SegmentStart D))) (entry : SegmentStart D) (rank : ℕ) → Begins code 0
-    → TargetHolds contains entry start → rank_value entry.statement.now.rank start ≡ rank
-    → ((target : SegmentStart D) → target_at targets 0 ≡ Some target
+    (segment_starts : List (Option (SegmentStart D))) (entry : SegmentStart D) (rank : ℕ)
+    → Begins code 0 → SegmentStartHolds contains entry start
+    → rank_value entry.statement.now.rank start ≡ rank
+    → ((target : SegmentStart D) → segment_start_at segment_starts 0 ≡ Some target
     → Enters contains false entry target start start)
-    → ((slot : ℕ) → Begins code slot → IsFine contains code hook targets entry slot)
+    → ((slot : ℕ) → Begins code slot
+    → IsFine contains code hook segment_starts entry slot)
     → Safe code hook ((rank + 1) * length code)
-safe_program contains code hook targets entry rank begins holds rank_is edge fine =
-    λ input m labels s run. met contains code hook targets entry ((rank + 1) * length code) input
+safe_program contains code hook segment_starts entry rank begins holds rank_is edge fine =
+    λ input m labels s run. met contains code hook segment_starts entry ((rank + 1) * length code)
+    input
     fine begins holds edge (rw rank_is (omega arith)) m labels s run
 
 -- And the regions that it recorded are those of the program's loads and stores.
 pub kept_regions : {D : Type 0} (contains : D → ℕ → Type 0) (code : List Slot) (hook : Hook)
-    (targets : List (Option (SegmentStart D))) (entry : SegmentStart D) → Begins code 0
-    → TargetHolds contains entry start
-    → ((target : SegmentStart D) → target_at targets 0 ≡ Some target
+    (segment_starts : List (Option (SegmentStart D))) (entry : SegmentStart D) → Begins code 0
+    → SegmentStartHolds contains entry start
+    → ((target : SegmentStart D) → segment_start_at segment_starts 0 ≡ Some target
     → Enters contains false entry target start start)
-    → ((slot : ℕ) → Begins code slot → IsFine contains code hook targets entry slot)
+    → ((slot : ℕ) → Begins code slot → IsFine contains code hook segment_starts entry slot)
     → (kept : List Region) → ((slot : ℕ) → Begins code slot
-    → IsKept contains code hook targets entry kept slot)
+    → IsKept contains code hook segment_starts entry kept slot)
     → AreKeptRegions code hook kept
-kept_regions contains code hook targets entry begins holds edge fine kept keeps =
-    λ input m labels s run. met_kept contains code hook targets entry
+kept_regions contains code hook segment_starts entry begins holds edge fine kept keeps =
+    λ input m labels s run. met_kept contains code hook segment_starts entry
     ((rank_value entry.statement.now.rank start + 1) * length code) input fine begins holds edge
     (omega arith) kept keeps m labels s run
 
 -- And each run that reaches a slot with a statement is as stated there.
 pub runs_as_stated : {D : Type 0} (contains : D → ℕ → Type 0) (gives : GivesStated D)
-    (code : List Slot) (hook : Hook) (targets : List (Option (SegmentStart D)))
-    (entry : SegmentStart D) → Begins code 0 → TargetHolds contains entry start
-    → ((target : SegmentStart D) → target_at targets 0 ≡ Some target
+    (code : List Slot) (hook : Hook) (segment_starts : List (Option (SegmentStart D)))
+    (entry : SegmentStart D) → Begins code 0 → SegmentStartHolds contains entry start
+    → ((target : SegmentStart D) → segment_start_at segment_starts 0 ≡ Some target
     → Enters contains false entry target start start)
-    → ((slot : ℕ) → Begins code slot → IsFine contains code hook targets entry slot)
+    → ((slot : ℕ) → Begins code slot → IsFine contains code hook segment_starts entry slot)
     → (statements : List StatementParts)
-    → AreTargets contains statements targets
-    → MeetStatements contains gives targets
+    → AreSegmentStarts contains statements segment_starts
+    → MeetStatements contains gives segment_starts
     → RunsMeetStatements contains gives code hook statements
-runs_as_stated contains gives code hook targets entry begins holds edge fine statements are meet =
+runs_as_stated contains gives code hook segment_starts entry begins holds edge fine statements are
+    meet =
     λ input n labels machine statement run stated.
-    let there = target_stated contains statements targets machine.slot statement are stated in
-    let as_stated = met_stated contains code hook targets entry
+    let there = segment_start_of_stated contains statements segment_starts machine.slot statement
+    are stated in
+    let as_stated = met_stated contains code hook segment_starts entry
     ((rank_value entry.statement.now.rank start + 1) * length code) input fine begins holds edge
     (omega arith) n labels machine run there.0 there.1 in
     subst (λ s. MeetsStatement contains gives s machine) there.2.same

@@ -9,20 +9,20 @@ use Rattle.ranks.specs.Lines.{IsConstant}
 use Rattle.transfer.specs.Plain.{KeepsFilled}
 use Rattle.segments.specs.declared.known.Known.{Known}
 use Rattle.segments.specs.Plain.{IsPlainHere}
-use Rattle.segments.specs.Stated.{AreTargets, statement_at}
+use Rattle.segments.specs.Stated.{AreSegmentStarts, statement_at}
 use Rattle.verifier.specs.Plain.{IsFilledAt, IsPlain, IsRankAt}
 
--- a plain program, and the list of its targets
+-- a plain program, and the list of its segment starts
 pub record IsPlainProgram {D : Type 0} (contains : D → ℕ → Type 0) (code : List Slot)
     (entry_rank : ℕ) (statements : List StatementParts)
-    (targets : List (Option (SegmentStart D))) : Type 0 where
-  pub are : AreTargets contains statements targets
+    (segment_starts : List (Option (SegmentStart D))) : Type 0 where
+  pub are : AreSegmentStarts contains statements segment_starts
   pub plain : IsPlain code entry_rank statements
 
 -- the rank is this constant
-pub record HasRank {D : Type 0} (target : SegmentStart D) (rank : ℕ) : Type 0 where
-  pub constant : IsConstant target.statement.now.rank
-  pub same : target.statement.now.rank.constant ≡ rank
+pub record HasRank {D : Type 0} (segment : SegmentStart D) (rank : ℕ) : Type 0 where
+  pub constant : IsConstant segment.statement.now.rank
+  pub same : segment.statement.now.rank.constant ≡ rank
 
 -- If the slot may be reached, registers that are filled there are known to hold numbers; and the
 -- segment's rank is the one there.
@@ -45,8 +45,8 @@ pub record ComesPlainly {D : Type 0} (code : List Slot) (entry_rank : ℕ)
 -- if the slot may be reached, the instruction is one of a plain program
 abbrev pub IsPlainIfLive : {D : Type 0} → (D → ℕ → Type 0) → List (Option (SegmentStart D))
     → SegmentStart D → ℕ → Instruction → Known D → Type 0
-IsPlainIfLive contains targets segment slot i known =
-    known.is_live ≡ true → IsPlainHere contains targets segment slot i known.state
+IsPlainIfLive contains segment_starts segment slot i known =
+    known.is_live ≡ true → IsPlainHere contains segment_starts segment slot i known.state
 
 -- the next slot may be reached only if this one may, and then filled registers remain filled
 pub record KeepsPlain {D : Type 0} (i : Instruction) (known after : Known D) : Type 0 where

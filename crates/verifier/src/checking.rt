@@ -15,7 +15,7 @@ use absdom::Domain;
 use actions::actions_of;
 use isa::{Code, Hook};
 use object::Statement;
-use segments::target::targets_of;
+use segments::starts::segment_starts_of;
 use std::alloc::Global;
 use transfer::rule::Rule;
 
@@ -86,10 +86,10 @@ pub fn verify<D: Domain>(
     let bound = bound_of_runs(entry_rank, code.len())?;
     let statement = entry_statement(entry_rank);
     let entry = entry_of::<D>(alloc, &statement)?;
-    let targets = targets_of::<D>(alloc, code.len(), statements)?;
-    let known = enter_start(&targets, &entry, unknown(alloc)?)?;
+    let segment_starts = segment_starts_of::<D>(alloc, code.len(), statements)?;
+    let known = enter_start(&segment_starts, &entry, unknown(alloc)?)?;
     let room = any_regions(alloc, code.len())?;
-    let regions = pass_all(&code, hook, &targets, &entry, known, room)?;
+    let regions = pass_all(&code, hook, &segment_starts, &entry, known, room)?;
     let actions = actions_of(alloc, code.len(), code.slots(), &regions)?;
     Ok(Accepted {
         slots: code.into_slots(),

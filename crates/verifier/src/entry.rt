@@ -3,10 +3,10 @@ ghost use Rattle.std.specs.Prelude.{◌≡◌, ℕ, true, false, length, IfErr, 
 ghost use Rattle.machine.specs.declared.state.State.{State as Machine};
 ghost use Rattle.machine.specs.State.{start};
 ghost use Rattle.object.specs.Sets.{no_bytes};
-ghost use Rattle.kinds.specs.declared.statement.SegmentStart.{SegmentStart as AnyTarget};
-ghost use Rattle.kinds.specs.Meaning.{TargetHolds, StateHolds};
+ghost use Rattle.kinds.specs.declared.statement.SegmentStart.{SegmentStart as AnySegmentStart};
+ghost use Rattle.kinds.specs.Meaning.{SegmentStartHolds, StateHolds};
 ghost use Rattle.ranks.specs.Lines.{IsConstant, rank_value};
-ghost use Rattle.segments.specs.Places.{target_at};
+ghost use Rattle.segments.specs.Places.{segment_start_at};
 ghost use Rattle.segments.specs.Plain.{MayEnter};
 ghost use Rattle.segments.specs.Refusals.{IsOfEdge};
 ghost use Rattle.segments.specs.Segments.{Enters};
@@ -17,7 +17,7 @@ use kinds::{AbstractState, Kind, PointerPlace, SegmentStart, StackEntry, reset};
 use object::{Rank, StackBytes, StatedKind as Stated, Statement};
 use segments::edge::enter;
 use segments::known::Known;
-use segments::target::stated_at;
+use segments::starts::stated_at;
 use std::alloc::{AllocError, Global};
 
 /// What is stated at the start of a run: only the rank.
@@ -48,7 +48,7 @@ pub fn entry_of<'a, D: Domain>(
 ) -> Result<SegmentStart<'a, D>, AllocError>
     requires { statement.now.stack ≡ no_bytes }
     ensures statement { IfOk result (λ entry. entry.statement.now ≡ statement.now) }
-    ensures holds { IfOk result (λ entry. TargetHolds D.contains entry start) }
+    ensures holds { IfOk result (λ entry. SegmentStartHolds D.contains entry start) }
 {
     let mut kinds = Vec::new(alloc);
     kinds.push(Kind::Unknown)?;
@@ -89,23 +89,25 @@ pub fn unknown<D: Domain>(alloc: Global) -> Result<AbstractState<D>, AllocError>
 /// # Errors
 /// As [`enter`], at slot 0.
 pub fn enter_start<'a, D: Domain>(
-    targets: &[Option<SegmentStart<'a, D>>],
+    segment_starts: &[Option<SegmentStart<'a, D>>],
     entry: &SegmentStart<'a, D>,
     room: AbstractState<D>,
 ) -> Result<Known<D>, Refusal>
     ensures live { IfOk result (λ known. known.is_live ≡ true) }
     ensures own { IfOk result (λ known. (machine : Machine)
-        → TargetHolds D.contains entry.now machine
+        → SegmentStartHolds D.contains entry.now machine
         → StateHolds D.contains known.state machine machine) }
-    ensures edge { IfOk result (λ _. (target : AnyTarget D) → target_at targets.now 0 ≡ Some target
-        → (machine : Machine) → TargetHolds D.contains entry.now machine
+    ensures edge { IfOk result
+        (λ _. (target : AnySegmentStart D) → segment_start_at segment_starts.now 0 ≡ Some target
+        → (machine : Machine) → SegmentStartHolds D.contains entry.now machine
         → Enters D.contains false entry.now target machine machine) }
     ensures named { IfErr result (λ refusal. (refusal.slot ≡ 0) × IsOfEdge refusal.rule) }
-    ensures plain { MayEnter D.contains targets.now entry.now false 0 (λ r. ⊥) → IsOk result }
+    ensures plain { MayEnter D.contains segment_starts.now entry.now false 0 (λ r. ⊥)
+        → IsOk result }
     ensures long { IfOk result (λ known. length known.state.kinds.items ≡ length room.kinds.items) }
 {
     let state = reset(room, entry);
-    let Some(target) = stated_at(targets, 0) else {
+    let Some(target) = stated_at(segment_starts, 0) else {
         return Ok(Known {
             state,
             is_live: true,

@@ -13,7 +13,7 @@ pub returns-clause-followed : goal.returns-clause-followed
 returns-clause-followed g c =
     let to : c.jumped_near-to.result ≡ slot_at_distance c.args.slot c.args.distance =
     simp (to_z-of_z w16 c.args.distance c.ranges.distance) at c.jumped_near-to.ensures in
-    goes_by_test g.D.Domain.contains c.args.code.now c.args.hook c.args.targets.now
+    goes_by_test g.D.Domain.contains c.args.code.now c.args.hook c.args.segment_starts.now
     c.args.segment.now c.args.slot c.in_ok-after.after c.args.width c.args.test
     c.args.operands.now.left c.args.operands.now.right c.args.distance c.args.state
     c.in_ok-edges.edges
@@ -39,7 +39,7 @@ returns-in_err-left-clause-plain g c = λ here.
     let to : c.jumped_near-to.result ≡ slot_at_distance c.args.slot c.args.distance =
     simp (to_z-of_z w16 c.args.distance c.ranges.distance) at c.jumped_near-to.ensures in
     never (c.in_err-left.ensures.plain
-    (jump_edge g.D.Domain.contains c.args.targets.now c.args.segment.now c.args.slot
+    (jump_edge g.D.Domain.contains c.args.segment_starts.now c.args.segment.now c.args.slot
     (Branch c.args.width c.args.test c.args.operands.now.left c.args.operands.now.right
     c.args.distance) c.args.state here c.jumped_near-to.result (sym (ap Some to)) refl))
 
@@ -55,7 +55,7 @@ returns-in_err-after-clause-named g c =
 pub returns-in_err-after-clause-plain : goal.returns-in_err-after-clause-plain
 returns-in_err-after-clause-plain g c = λ here.
     never (c.in_err-after.ensures.plain
-    (pass_edge g.D.Domain.contains c.args.targets.now c.args.segment.now c.args.slot
+    (pass_edge g.D.Domain.contains c.args.segment_starts.now c.args.segment.now c.args.slot
     (Branch c.args.width c.args.test c.args.operands.now.left c.args.operands.now.right
     c.args.distance) c.args.state here c.in_ok-left.left (c.args.slot + 1) (omega arith)
     refl refl

@@ -17,7 +17,8 @@ pub returns-in_ok-end-in-Exit-clause-followed : goal.returns-in_ok-end-in-Exit-c
 returns-in_ok-end-in-Exit-clause-followed g c =
     let here : slice_get c.args.code.now c.args.slot ≡ Some (Start Exit) =
     rw (← c.in-Exit.is) c.requires.here in
-    rw c.in-Exit.is (goes_nowhere g.D.Domain.contains c.args.code.now c.args.hook c.args.targets.now
+    rw c.in-Exit.is (goes_nowhere g.D.Domain.contains c.args.code.now c.args.hook
+    c.args.segment_starts.now
     c.args.segment.now c.args.slot c.in_ok-end-in-Exit.field-0 c.args.state here
     (λ input start now holds at fault stuck. c.in_ok-end-in-Exit.ensures.free c.args.code.now
     c.args.hook input start now holds at fault stuck))
@@ -36,7 +37,7 @@ returns-in_err-leave-in-Jump-clause-plain g c = λ here.
     let to : c.jumped_near.result ≡ slot_at_distance c.args.slot c.in-Jump.distance =
     simp (to_z-of_z w16 c.in-Jump.distance ranges) at c.jumped_near.ensures in
     never (c.in_err-leave-in-Jump.ensures.plain
-    (jump_edge g.D.Domain.contains c.args.targets.now c.args.segment.now c.args.slot
+    (jump_edge g.D.Domain.contains c.args.segment_starts.now c.args.segment.now c.args.slot
     c.args.instruction c.args.state here c.jumped_near.result
     (rw c.in-Jump.is (sym (ap Some to))) (rw c.in-Jump.is refl)))
 
@@ -48,9 +49,10 @@ returns-in_ok-leave-in-Jump-clause-followed g c =
     simp (to_z-of_z w16 c.in-Jump.distance ranges) at c.jumped_near.ensures in
     let here : slice_get c.args.code.now c.args.slot ≡ Some (Start (Jump c.in-Jump.distance)) =
     rw (← c.in-Jump.is) c.requires.here in
-    let placed : IsWellPlaced c.args.code.now c.args.targets.now c.args.slot
+    let placed : IsWellPlaced c.args.code.now c.args.segment_starts.now c.args.slot
     (Jump c.in-Jump.distance) = rw (← c.in-Jump.is) c.requires.placed in
-    rw c.in-Jump.is (goes_by_jump g.D.Domain.contains c.args.code.now c.args.hook c.args.targets.now
+    rw c.in-Jump.is (goes_by_jump g.D.Domain.contains c.args.code.now c.args.hook
+    c.args.segment_starts.now
     c.args.segment.now c.args.slot c.in_ok-leave-in-Jump.field-0 (Jump c.in-Jump.distance)
     c.in-Jump.distance c.args.state
     c.what_can_step_is_never_stuck.ensures here placed.jump.begins
@@ -75,7 +77,7 @@ returns-in_err-leave-in-LongJump-clause-plain g c = λ here.
     let to : c.jumped.result ≡ slot_at_distance c.args.slot c.in-LongJump.distance =
     simp (to_z-of_z w32 c.in-LongJump.distance ranges) at c.jumped.ensures in
     never (c.in_err-leave-in-LongJump.ensures.plain
-    (jump_edge g.D.Domain.contains c.args.targets.now c.args.segment.now c.args.slot
+    (jump_edge g.D.Domain.contains c.args.segment_starts.now c.args.segment.now c.args.slot
     c.args.instruction c.args.state here c.jumped.result
     (rw c.in-LongJump.is (sym (ap Some to))) (rw c.in-LongJump.is refl)))
 
@@ -89,10 +91,10 @@ returns-in_ok-leave-in-LongJump-clause-followed g c =
     let here : slice_get c.args.code.now c.args.slot
     ≡ Some (Start (LongJump c.in-LongJump.distance)) =
     rw (← c.in-LongJump.is) c.requires.here in
-    let placed : IsWellPlaced c.args.code.now c.args.targets.now c.args.slot
+    let placed : IsWellPlaced c.args.code.now c.args.segment_starts.now c.args.slot
     (LongJump c.in-LongJump.distance) = rw (← c.in-LongJump.is) c.requires.placed in
     rw c.in-LongJump.is (goes_by_jump g.D.Domain.contains c.args.code.now c.args.hook
-    c.args.targets.now c.args.segment.now c.args.slot c.in_ok-leave-in-LongJump.field-0
+    c.args.segment_starts.now c.args.segment.now c.args.slot c.in_ok-leave-in-LongJump.field-0
     (LongJump c.in-LongJump.distance) c.in-LongJump.distance c.args.state
     c.what_can_step_is_never_stuck.ensures here placed.jump.begins
     (λ input now next label does. does) (λ input now next label goes. goes)

@@ -8,7 +8,7 @@ use Rattle.segments.proofs.follow.go_on.Goals as goal
 
 pub returns-clause-followed : goal.returns-clause-followed
 returns-clause-followed g c = goes_straight g.D.Domain.contains c.args.code.now c.args.hook
-    c.args.targets.now c.args.segment.now c.args.slot c.in_ok-after.after c.args.instruction
+    c.args.segment_starts.now c.args.segment.now c.args.slot c.in_ok-after.after c.args.instruction
     c.args.state c.in_ok-known.known
     c.what_can_step_is_never_stuck.ensures c.requires.here c.requires.placed c.requires.goes_on
     c.in_ok-known.ensures.sound
@@ -30,7 +30,7 @@ returns-in_err-after-clause-plain g c = λ here.
     let behind : slot_after c.args.slot c.args.instruction ≡ c.args.slot + c.slots_of.result =
     rw c.slots_of.ensures.value refl in
     never (c.in_err-after.ensures.plain
-    (pass_edge g.D.Domain.contains c.args.targets.now c.args.segment.now c.args.slot
+    (pass_edge g.D.Domain.contains c.args.segment_starts.now c.args.segment.now c.args.slot
     c.args.instruction c.args.state here c.in_ok-known.known
     (c.args.slot + c.slots_of.result) (omega (arith, c.slots_of.ensures.some)) behind
     c.requires.goes_on

@@ -15,7 +15,8 @@ returns-clause-passes g c = λ start now next slot begins besides passed less sa
 pub returns-in_err-after-clause-plain : goal.returns-in_err-after-clause-plain
 returns-in_err-after-clause-plain g c = λ may.
     never (c.in_err-after.ensures.plain
-    (enter_more g.D.Domain.contains c.args.targets.now c.args.segment.now false c.args.next_slot
+    (enter_more g.D.Domain.contains c.args.segment_starts.now c.args.segment.now false
+    c.args.next_slot
     (IsFilled c.args.state) (IsFilled c.refined-here.result) c.refined-here.ensures.keeps
     may))
 

@@ -16,6 +16,6 @@ returns-clause-enters g c = λ start now next begins besides taken same.
 pub returns-in_err-jump_to-clause-plain : goal.returns-in_err-jump_to-clause-plain
 returns-in_err-jump_to-clause-plain g c = λ may.
     never (c.in_err-jump_to.ensures.plain
-    (enter_more g.D.Domain.contains c.args.targets.now c.args.segment.now
+    (enter_more g.D.Domain.contains c.args.segment_starts.now c.args.segment.now
     (nat_le c.args.to c.args.slot) c.args.to (IsFilled c.args.state)
     (IsFilled c.refined-there.result) c.refined-there.ensures.keeps may))

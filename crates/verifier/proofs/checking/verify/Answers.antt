@@ -16,7 +16,8 @@ pub returns-clause-safe : goal.returns-clause-safe
 returns-clause-safe g c =
     let rank_is : rank_value c.in_ok-entry.entry.statement.now.rank start ≡ c.args.entry_rank =
     rw c.in_ok-entry.ensures.statement (c.entry_statement-statement.ensures.rank start) in
-    safe_program g.D.Domain.contains c.args.code c.args.hook c.in_ok-targets.targets.items
+    safe_program g.D.Domain.contains c.args.code c.args.hook
+    c.in_ok-segment_starts.segment_starts.items
     c.in_ok-entry.entry c.args.entry_rank (code_begins c.args.code c.into_slots.ensures.code)
     c.in_ok-entry.ensures.holds rank_is
     (λ target stated. c.in_ok-known.ensures.edge target (rw c.deref.ensures.value stated) start
@@ -26,12 +27,12 @@ returns-clause-safe g c =
 pub returns-clause-stated : goal.returns-clause-stated
 returns-clause-stated g c =
     runs_as_stated g.D.Domain.contains g.D.Domain.stated_gives c.args.code c.args.hook
-    c.in_ok-targets.targets.items c.in_ok-entry.entry
+    c.in_ok-segment_starts.segment_starts.items c.in_ok-entry.entry
     (code_begins c.args.code c.into_slots.ensures.code) c.in_ok-entry.ensures.holds
     (λ target stated. c.in_ok-known.ensures.edge target (rw c.deref.ensures.value stated) start
     c.in_ok-entry.ensures.holds)
     (rw (← c.deref-2.ensures.value) c.in_ok-regions.ensures.fine) c.args.statements.now
-    c.in_ok-targets.ensures.are c.in_ok-targets.ensures.meet
+    c.in_ok-segment_starts.ensures.are c.in_ok-segment_starts.ensures.meet
 
 pub invariant_of-result : goal.invariant_of-result
 invariant_of-result g c =
@@ -41,13 +42,13 @@ invariant_of-result g c =
     sym (c.in_ok-bound.ensures.value
     ∙ ap (λ n. (c.args.entry_rank + 1) * n) c.len.ensures.value) in
     let safe = safe_program g.D.Domain.contains c.args.code c.args.hook
-    c.in_ok-targets.targets.items c.in_ok-entry.entry c.args.entry_rank
+    c.in_ok-segment_starts.segment_starts.items c.in_ok-entry.entry c.args.entry_rank
     (code_begins c.args.code c.into_slots.ensures.code) c.in_ok-entry.ensures.holds rank_is
     (λ target stated. c.in_ok-known.ensures.edge target (rw c.deref.ensures.value stated) start
     c.in_ok-entry.ensures.holds)
     (rw (← c.deref-2.ensures.value) c.in_ok-regions.ensures.fine) in
     let kept = kept_regions g.D.Domain.contains c.args.code c.args.hook
-    c.in_ok-targets.targets.items c.in_ok-entry.entry
+    c.in_ok-segment_starts.segment_starts.items c.in_ok-entry.entry
     (code_begins c.args.code c.into_slots.ensures.code) c.in_ok-entry.ensures.holds
     (λ target stated. c.in_ok-known.ensures.edge target (rw c.deref.ensures.value stated) start
     c.in_ok-entry.ensures.holds)
@@ -86,7 +87,7 @@ returns-in_err-regions-clause-named g c =
     (λ r. MayRefuse c.args.hook c.args.code c.args.entry_rank c.args.statements.now r.slot
     r.rule) c.from_residual-in_err-regions.ensures.1
     (c.in_err-regions.ensures.named c.args.statements.now c.args.entry_rank
-    (rw c.deref-2.ensures.value c.in_ok-targets.ensures.are))
+    (rw c.deref-2.ensures.value c.in_ok-segment_starts.ensures.are))
 
 pub returns-in_err-regions-clause-first : goal.returns-in_err-regions-clause-first
 returns-in_err-regions-clause-first g c =
@@ -94,7 +95,7 @@ returns-in_err-regions-clause-first g c =
     (λ r. IsFirst c.args.code c.args.statements.now r.slot r.rule)
     c.from_residual-in_err-regions.ensures.1
     (c.in_err-regions.ensures.first c.args.statements.now
-    (rw c.deref-2.ensures.value c.in_ok-targets.ensures.are))
+    (rw c.deref-2.ensures.value c.in_ok-segment_starts.ensures.are))
 
 pub returns-in_err-bound-clause-plain : goal.returns-in_err-bound-clause-plain
 returns-in_err-bound-clause-plain g c = λ plain.
@@ -107,7 +108,7 @@ pub returns-in_err-known-clause-plain : goal.returns-in_err-known-clause-plain
 returns-in_err-known-clause-plain g c = λ plain.
     let program : IsPlainProgram g.D.Domain.contains c.args.code c.args.entry_rank
     c.args.statements.now c.deref.result.now = record {
-      are = rw c.deref.ensures.value c.in_ok-targets.ensures.are;
+      are = rw c.deref.ensures.value c.in_ok-segment_starts.ensures.are;
       plain = plain;
     } in
     let has : HasRank c.in_ok-entry.entry c.args.entry_rank = record {
@@ -122,7 +123,7 @@ pub returns-in_err-regions-clause-plain : goal.returns-in_err-regions-clause-pla
 returns-in_err-regions-clause-plain g c = λ plain.
     let program : IsPlainProgram g.D.Domain.contains c.args.code c.args.entry_rank
     c.args.statements.now c.deref-2.result.now = record {
-      are = rw c.deref-2.ensures.value c.in_ok-targets.ensures.are;
+      are = rw c.deref-2.ensures.value c.in_ok-segment_starts.ensures.are;
       plain = plain;
     } in
     let has : HasRank c.in_ok-entry.entry c.args.entry_rank = record {
@@ -154,8 +155,8 @@ returns-in_err-entry-clause-over g c = λ over.
     absurd (within_bound (c.args.entry_rank + 1) _ (length c.args.code) c.in_ok-bound.bound _
     c.in_ok-bound.ensures.value c.len.ensures.value c.in_ok-bound.ensures.most over)
 
-pub returns-in_err-targets-clause-over : goal.returns-in_err-targets-clause-over
-returns-in_err-targets-clause-over g c = λ over.
+pub returns-in_err-segment_starts-clause-over : goal.returns-in_err-segment_starts-clause-over
+returns-in_err-segment_starts-clause-over g c = λ over.
     absurd (within_bound (c.args.entry_rank + 1) _ (length c.args.code) c.in_ok-bound.bound _
     c.in_ok-bound.ensures.value c.len.ensures.value c.in_ok-bound.ensures.most over)
 

@@ -6,7 +6,8 @@ use Rattle.verifier.proofs.entry.enter_start.Goals as goal
 
 pub returns-in-Ok-clause-edge : goal.returns-in-Ok-clause-edge
 returns-in-Ok-clause-edge g c = λ target stated.
-    edge_of g.D.Domain.contains c.args.targets.now c.args.entry.now c.in-Some.target.now target
+    edge_of g.D.Domain.contains c.args.segment_starts.now c.args.entry.now c.in-Some.target.now
+    target
     c.in-Some.ensures stated
     (λ machine holds. c.in-Ok.ensures.enters machine machine (record {
       begins = holds;
@@ -15,6 +16,6 @@ returns-in-Ok-clause-edge g c = λ target stated.
 
 pub returns-in-Err-clause-plain : goal.returns-in-Err-clause-plain
 returns-in-Err-clause-plain g c = λ may.
-    never (c.in-Err.ensures.plain (enter_more g.D.Domain.contains c.args.targets.now
+    never (c.in-Err.ensures.plain (enter_more g.D.Domain.contains c.args.segment_starts.now
     c.args.entry.now false 0 (λ r. ⊥) (IsFilled c.reset-state.result) (λ r none. absurd none)
     may c.in-Some.target.now c.in-Some.ensures))

@@ -21,12 +21,12 @@ loop-slot-init g c = record {
   fine = λ k none begins. absurd (omega (arith, none));
   kept = λ k none begins. absurd (omega (arith, none));
   long = c.requires.long;
-  current = entry_current g.D.Domain.contains c.args.code.now c.args.hook c.args.targets.now
+  current = entry_current g.D.Domain.contains c.args.code.now c.args.hook c.args.segment_starts.now
       c.args.entry.now c.requires.live c.requires.own;
   place = inr (code_begins c.args.code.now c.slots-is_code.ensures.code);
   passed = passed_to_start c.args.code.now;
   plain = λ statements entry_rank program has. comes_first g.D.Domain.contains c.args.code.now
-      entry_rank statements c.args.targets.now program c.args.entry.now c.args.start has
+      entry_rank statements c.args.segment_starts.now program c.args.entry.now c.args.start has
       c.requires.ten;
   made = λ statements are k none. absurd (omega (arith, none));
 }
@@ -51,12 +51,14 @@ loop-slot-preserved g c =
       c.loop-slot.invariant.long,
     ) in
     record {
-      fine = λ k below begins. fine_more g.D.Domain.contains code c.args.hook c.args.targets.now
+      fine = λ k below begins. fine_more g.D.Domain.contains code c.args.hook
+          c.args.segment_starts.now
           c.args.entry.now c.a_wide_instruction_has_its_second_half.ensures
           c.slots-is_code.ensures.code c.loop-slot.slot c.in-Some-Start.instruction here
           c.loop-slot.invariant.fine this k
           (subst (λ n. k < c.loop-slot.slot + n) c.slots_of-slot.ensures.value below) begins;
-      kept = λ k below begins. kept_more g.D.Domain.contains code c.args.hook c.args.targets.now
+      kept = λ k below begins. kept_more g.D.Domain.contains code c.args.hook
+          c.args.segment_starts.now
           c.args.entry.now c.a_wide_instruction_has_its_second_half.ensures
           c.slots-is_code.ensures.code c.loop-slot.slot c.in-Some-Start.instruction here
           c.loop-slot.regions.items c.in-Ok.next.2 inside c.loop-slot.invariant.kept into k
@@ -64,8 +66,8 @@ loop-slot-preserved g c =
       long = length-set c.loop-slot.regions.items c.loop-slot.slot c.in-Ok.next.2
           ∙ c.loop-slot.invariant.long;
       current = subst (λ n. IsCurrentUnlessStated g.D.Domain.contains code c.args.hook
-          c.args.targets.now c.args.entry.now (c.loop-slot.slot + n)
-          (segment_of c.args.targets.now c.args.entry.now c.in-Ok.next.0) c.in-Ok.next.1)
+          c.args.segment_starts.now c.args.entry.now (c.loop-slot.slot + n)
+          (segment_of c.args.segment_starts.now c.args.entry.now c.in-Ok.next.0) c.in-Ok.next.1)
           (sym c.slots_of-slot.ensures.value)
           (c.in-Ok.ensures.current c.loop-slot.invariant.current);
       place = subst (λ n. (c.loop-slot.slot + n ≡ length code) ⊎ Begins code (c.loop-slot.slot + n))
@@ -79,13 +81,13 @@ loop-slot-preserved g c =
           (sym c.falls_through-is_passed_to.ensures));
       plain = λ statements entry_rank program has.
           subst (λ n. ComesPlainly code entry_rank statements (c.loop-slot.slot + n)
-          (segment_of c.args.targets.now c.args.entry.now c.in-Ok.next.0) c.in-Ok.next.1)
+          (segment_of c.args.segment_starts.now c.args.entry.now c.in-Ok.next.0) c.in-Ok.next.1)
           (sym c.slots_of-slot.ensures.value)
           (c.in-Ok.ensures.keeps statements entry_rank program
           (c.loop-slot.invariant.plain statements entry_rank program has));
       made = λ statements are k below. made_more g.D.Domain.contains
           c.a_wide_instruction_has_its_second_half.ensures code c.slots-is_code.ensures.code
-          statements c.args.targets.now are c.loop-slot.slot c.in-Some-Start.instruction here
+          statements c.args.segment_starts.now are c.loop-slot.slot c.in-Some-Start.instruction here
           (c.loop-slot.invariant.made statements are)
           (c.in-Ok.ensures.made statements are c.loop-slot.invariant.passed)
           (c.splits.ensures.whole c.if-splits.false) k
@@ -121,7 +123,7 @@ returns-then-splits-clause-named g c = λ statements entry_rank are.
       c.in-Some-Start.ensures.value,
     ) in
     split_refused g.D.Domain.contains c.a_wide_instruction_has_its_second_half.ensures
-    c.args.code.now c.slots-is_code.ensures.code statements c.args.targets.now are
+    c.args.code.now c.slots-is_code.ensures.code statements c.args.segment_starts.now are
     c.loop-slot.slot c.in-Some-Start.instruction here
     c.args.hook entry_rank (c.splits.ensures.split c.if-splits.true)
 
@@ -136,7 +138,7 @@ returns-then-splits-clause-first g c = λ statements are.
       c.in-Some-Start.ensures.value,
     ) in
     split_first g.D.Domain.contains c.a_wide_instruction_has_its_second_half.ensures c.args.code.now
-    c.slots-is_code.ensures.code statements c.args.targets.now are c.loop-slot.slot
+    c.slots-is_code.ensures.code statements c.args.segment_starts.now are c.loop-slot.slot
     c.in-Some-Start.instruction here
     (c.loop-slot.invariant.made statements are)
     (c.in-Ok.ensures.made statements are c.loop-slot.invariant.passed)
@@ -158,6 +160,6 @@ returns-then-splits-clause-plain g c = λ statements entry_rank program has.
     ) in
     absurd ((program.plain.made (c.loop-slot.slot + 1)).target
     (split_refused g.D.Domain.contains c.a_wide_instruction_has_its_second_half.ensures
-    c.args.code.now c.slots-is_code.ensures.code statements c.args.targets.now program.are
+    c.args.code.now c.slots-is_code.ensures.code statements c.args.segment_starts.now program.are
     c.loop-slot.slot c.in-Some-Start.instruction here
     c.args.hook entry_rank (c.splits.ensures.split c.if-splits.true)))

@@ -2,7 +2,7 @@ use Rattle.std.proofs.Common.{◌≡◌, ◌⊎◌, ℕ, ◌<◌, ◌-◌, List,
 use Rattle.isa.specs.Flow.{Begins}
 use Rattle.object.specs.Statements.{StatementParts}
 use Rattle.segments.specs.Refusals.{IsPassedTo, IsWellMade}
-use Rattle.segments.specs.Stated.{AreTargets}
+use Rattle.segments.specs.Stated.{AreSegmentStarts}
 use Rattle.segments.specs.Places.{segment_of}
 use Rattle.segments.specs.Segments.{IsFine, IsCurrentUnlessStated}
 use Rattle.verifier.specs.Kept.{IsKept}
@@ -15,20 +15,21 @@ use Rattle.verifier.proofs.pass.pass_all.Given as goal
 abbrev pub invariant-loop-slot : goal.invariant-loop-slot
 invariant-loop-slot g l = record {
   fine : (k : ℕ) → k < l.slot → Begins l.code k
-      → IsFine g.D.Domain.contains l.code l.hook l.targets l.entry k;
+      → IsFine g.D.Domain.contains l.code l.hook l.segment_starts l.entry k;
   kept : (k : ℕ) → k < l.slot → Begins l.code k
-      → IsKept g.D.Domain.contains l.code l.hook l.targets l.entry l.regions.items k;
+      → IsKept g.D.Domain.contains l.code l.hook l.segment_starts l.entry l.regions.items k;
   long : length l.regions.items ≡ length l.code;
-  current : IsCurrentUnlessStated g.D.Domain.contains l.code l.hook l.targets l.entry l.slot
-      (segment_of l.targets l.entry l.begun) l.known;
+  current : IsCurrentUnlessStated g.D.Domain.contains l.code l.hook l.segment_starts l.entry l.slot
+      (segment_of l.segment_starts l.entry l.begun) l.known;
   place : (l.slot ≡ length l.code) ⊎ Begins l.code l.slot;
   passed : IsPassedTo l.is_passed_to l.code l.slot;
   plain : (statements : List StatementParts) (entry_rank : ℕ)
-      → IsPlainProgram g.D.Domain.contains l.code entry_rank statements l.targets
+      → IsPlainProgram g.D.Domain.contains l.code entry_rank statements l.segment_starts
       → HasRank l.entry entry_rank → ComesPlainly l.code entry_rank statements l.slot
-      (segment_of l.targets l.entry l.begun) l.known;
-  made : (statements : List StatementParts) → AreTargets g.D.Domain.contains statements l.targets
-      → (k : ℕ) → k < l.slot → IsWellMade l.code statements k;
+      (segment_of l.segment_starts l.entry l.begun) l.known;
+  made : (statements : List StatementParts)
+      → AreSegmentStarts g.D.Domain.contains statements l.segment_starts → (k : ℕ) → k < l.slot
+      → IsWellMade l.code statements k;
 }
 
 -- the slots that are left

@@ -9,28 +9,31 @@ use Rattle.verifier.proofs.pass.step.Goals as goal
 
 pub returns-clause-fine : goal.returns-clause-fine
 returns-clause-fine g c = λ current.
-    let found = arrived g.D.Domain.contains c.args.code.now c.args.hook c.args.targets.now
+    let found = arrived g.D.Domain.contains c.args.code.now c.args.hook c.args.segment_starts.now
     c.args.entry.now c.args.slot c.args.begun c.arrive-here.result.0 c.args.known
     c.arrive-here.result.1 current c.arrive-here.ensures.arrived in
-    current_fine g.D.Domain.contains c.args.code.now c.args.hook c.args.targets.now c.args.entry.now
+    current_fine g.D.Domain.contains c.args.code.now c.args.hook c.args.segment_starts.now
+    c.args.entry.now
     c.arrive-here.result.1 c.in_ok-after.after c.args.instruction.now c.requires.here found
     c.in_ok-after.ensures.passed
 
 pub returns-clause-kept : goal.returns-clause-kept
 returns-clause-kept g c = λ current.
-    let found = arrived g.D.Domain.contains c.args.code.now c.args.hook c.args.targets.now
+    let found = arrived g.D.Domain.contains c.args.code.now c.args.hook c.args.segment_starts.now
     c.args.entry.now c.args.slot c.args.begun c.arrive-here.result.0 c.args.known
     c.arrive-here.result.1 current c.arrive-here.ensures.arrived in
-    current_into g.D.Domain.contains c.args.code.now c.args.hook c.args.targets.now c.args.entry.now
+    current_into g.D.Domain.contains c.args.code.now c.args.hook c.args.segment_starts.now
+    c.args.entry.now
     c.arrive-here.result.1 c.args.instruction.now c.in_ok-region.region c.requires.here found
     c.in_ok-region.ensures.points
 
 pub returns-clause-current : goal.returns-clause-current
 returns-clause-current g c = λ current.
-    let found = arrived g.D.Domain.contains c.args.code.now c.args.hook c.args.targets.now
+    let found = arrived g.D.Domain.contains c.args.code.now c.args.hook c.args.segment_starts.now
     c.args.entry.now c.args.slot c.args.begun c.arrive-here.result.0 c.args.known
     c.arrive-here.result.1 current c.arrive-here.ensures.arrived in
-    next_current g.D.Domain.contains c.args.code.now c.args.hook c.args.targets.now c.args.entry.now
+    next_current g.D.Domain.contains c.args.code.now c.args.hook c.args.segment_starts.now
+    c.args.entry.now
     c.arrive-here.result.1 c.in_ok-after.after c.args.instruction.now
     c.one_instruction_ends_at_a_slot.ensures c.slots-is_code.ensures.code c.requires.here
     found c.in_ok-after.ensures.passed
@@ -75,29 +78,31 @@ returns-in_err-check_places-clause-plain g c = λ statements entry_rank program 
 
 pub returns-in_err-after-clause-plain : goal.returns-in_err-after-clause-plain
 returns-in_err-after-clause-plain g c = λ statements entry_rank program passed comes.
-    let knows = arrives g.D.Domain.contains c.args.code.now entry_rank statements c.args.targets.now
+    let knows = arrives g.D.Domain.contains c.args.code.now entry_rank statements
+    c.args.segment_starts.now
     program c.args.entry.now c.args.slot c.args.begun c.arrive-here.result.0 c.args.known
     c.arrive-here.result.1 comes c.arrive-here.ensures.arrived
     (c.arrive-here.ensures.kinds comes.ten) in
-    let segment = segment_of c.args.targets.now c.args.entry.now c.arrive-here.result.0 in
+    let segment = segment_of c.args.segment_starts.now c.args.entry.now c.arrive-here.result.0 in
     let ten = c.arrive-here.ensures.ten comes.ten in
     let here = plain_here g.D.Domain.contains c.args.code.now entry_rank statements
-    c.args.targets.now program c.args.slot c.args.instruction.now c.requires.here segment
+    c.args.segment_starts.now program c.args.slot c.args.instruction.now c.requires.here segment
     c.arrive-here.result.1 ten knows in
     never (c.in_err-after.ensures.plain here)
 
 pub returns-clause-keeps : goal.returns-clause-keeps
 returns-clause-keeps g c = λ statements entry_rank program comes.
-    let knows = arrives g.D.Domain.contains c.args.code.now entry_rank statements c.args.targets.now
+    let knows = arrives g.D.Domain.contains c.args.code.now entry_rank statements
+    c.args.segment_starts.now
     program c.args.entry.now c.args.slot c.args.begun c.arrive-here.result.0 c.args.known
     c.arrive-here.result.1 comes c.arrive-here.ensures.arrived
     (c.arrive-here.ensures.kinds comes.ten) in
-    let segment = segment_of c.args.targets.now c.args.entry.now c.arrive-here.result.0 in
+    let segment = segment_of c.args.segment_starts.now c.args.entry.now c.arrive-here.result.0 in
     let ten = c.arrive-here.ensures.ten comes.ten in
     let here = plain_here g.D.Domain.contains c.args.code.now entry_rank statements
-    c.args.targets.now program c.args.slot c.args.instruction.now c.requires.here segment
+    c.args.segment_starts.now program c.args.slot c.args.instruction.now c.requires.here segment
     c.arrive-here.result.1 ten knows in
-    comes_behind g.D.Domain.contains c.args.code.now entry_rank statements c.args.targets.now
+    comes_behind g.D.Domain.contains c.args.code.now entry_rank statements c.args.segment_starts.now
     program c.one_instruction_ends_at_a_slot.ensures c.slots-is_code.ensures.code c.args.slot
     c.args.instruction.now c.requires.here segment c.arrive-here.result.1
     c.in_ok-after.after knows
