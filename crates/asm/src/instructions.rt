@@ -265,7 +265,7 @@ fn operand_of(source: Source) -> Operand
     ensures again { source_of result ≡ Some source }
 {
     // For the prover alone, by what the call ensures.
-    source.check_ranges();
+    source.prove_ranges();
     match source {
         Source::Register(register) => Operand::Register(register),
         Source::Immediate(number) => Operand::Number(Numeral::from_signed(number)),
@@ -280,7 +280,7 @@ pub(crate) fn line_of(instruction: Instruction) -> AssemblyLine
         ≡ Ok instruction }
 {
     // For the prover alone, by what the call ensures.
-    instruction.check_ranges();
+    instruction.prove_ranges();
     match instruction {
         Instruction::Jump { distance } => {
             AssemblyLine::Jump(LabelOrNumber::Number(Numeral::from_signed(i32::from(distance))))
@@ -360,7 +360,7 @@ fn memory_line_of(instruction: Instruction) -> AssemblyLine
         ≡ Ok instruction }
 {
     // For the prover alone, by what the call ensures.
-    instruction.check_ranges();
+    instruction.prove_ranges();
     match instruction {
         Instruction::Load {
             size,
@@ -399,7 +399,7 @@ fn wide_line_of(instruction: Instruction) -> AssemblyLine
         ≡ Ok instruction }
 {
     // For the prover alone, by what the call ensures.
-    instruction.check_ranges();
+    instruction.prove_ranges();
     match instruction {
         Instruction::LoadNumber { target, number } => AssemblyLine::LoadNumber {
             target,

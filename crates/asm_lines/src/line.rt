@@ -132,7 +132,7 @@ impl Operand {
 
     /// For the prover alone: tells it that a register is one of r0 to r10. It does nothing at run
     /// time.
-    fn check_ranges(&self)
+    fn prove_ranges(&self)
         ensures { IsOperand self.now }
     {
         match *self {
@@ -149,7 +149,7 @@ impl Terms {
 
     /// For the prover alone: tells it that the registers are among r0 to r10. It does nothing at
     /// run time.
-    fn check_ranges(&self)
+    fn prove_ranges(&self)
         ensures { AreTerms self.now }
     {
         match *self {
@@ -170,21 +170,21 @@ impl AssemblyLine {
 
     /// For the prover alone: tells it that each register of the line is one of r0 to r10, as its
     /// type guarantees. It does nothing at run time.
-    pub fn check_ranges(&self)
+    pub fn prove_ranges(&self)
         ensures { IsLine self.now }
     {
         match *self {
             AssemblyLine::Arithmetic { target, source, .. } => {
                 let _ = target.number();
-                source.check_ranges();
+                source.prove_ranges();
             }
             AssemblyLine::Branch { left, right, .. } => {
                 let _ = left.number();
-                right.check_ranges();
+                right.prove_ranges();
             }
             AssemblyLine::Store { base, source, .. } => {
                 let _ = base.number();
-                source.check_ranges();
+                source.prove_ranges();
             }
             AssemblyLine::SignExtend { target, source, .. } => {
                 let _ = target.number();
@@ -203,7 +203,7 @@ impl AssemblyLine {
             AssemblyLine::With { register, .. } => {
                 let _ = register.number();
             }
-            AssemblyLine::State { terms, .. } => terms.check_ranges(),
+            AssemblyLine::State { terms, .. } => terms.prove_ranges(),
             _ => {}
         }
     }

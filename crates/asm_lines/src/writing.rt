@@ -632,7 +632,7 @@ pub fn write_line(text: &mut String, line: AssemblyLine, name: &str) -> Result<(
         ++ (line, name.now) ∷ [])) }
 {
     // For the prover alone, by what the call ensures.
-    line.check_ranges();
+    line.prove_ranges();
     write_words(text, line, name)?;
     text.push_str("\n")
 }

@@ -75,7 +75,7 @@ impl CodeBuilder {
         ensures err { OnErr result (self.new ≡ self.old) }
     {
         // For the prover alone, by what the call ensures.
-        instruction.check_ranges();
+        instruction.prove_ranges();
         let is_wide = instruction.is_wide();
         let taken = if is_wide { 2 } else { 1 };
         if self.slots.len() + taken > MAX_SLOTS {

@@ -174,13 +174,13 @@ impl Instruction {
 
     /// For the prover alone: tells it that every part is in the range that its type guarantees. It
     /// does nothing at run time.
-    pub fn check_ranges(&self)
+    pub fn prove_ranges(&self)
         ensures { IsInstruction self.now }
     {
         match *self {
             Instruction::Arithmetic { target, source, .. } => {
                 let _ = target.number();
-                source.check_ranges();
+                source.prove_ranges();
             }
             Instruction::Negate { target, .. } | Instruction::Reorder { target, .. } => {
                 let _ = target.number();
@@ -196,7 +196,7 @@ impl Instruction {
                 ..
             } => {
                 let _ = left.number();
-                right.check_ranges();
+                right.prove_ranges();
             }
             Instruction::Load { .. }
             | Instruction::Store { .. }
@@ -235,7 +235,7 @@ impl Instruction {
                 ..
             } => {
                 let _ = base.number();
-                source.check_ranges();
+                source.prove_ranges();
             }
             Instruction::LoadNumber {
                 target,
@@ -260,7 +260,7 @@ impl Source {
 
     /// For the prover alone: tells it that the number or the register is in the range that its type
     /// guarantees. It does nothing at run time.
-    pub fn check_ranges(&self)
+    pub fn prove_ranges(&self)
         ensures { IsSource self.now }
     {
         match *self {

@@ -23,7 +23,7 @@ impl StatedKind {
 
     /// For the prover alone: tells it that each part is in the range that its type guarantees. It
     /// does nothing at run time.
-    pub fn check_ranges(&self)
+    pub fn prove_ranges(&self)
         ensures { IsKind self.now }
     {
         match self {

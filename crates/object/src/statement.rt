@@ -41,7 +41,7 @@ fn check_kinds(kinds: &[StatedKind])
     ensures { All IsKind kinds.now }
 {
     for kind in kinds {
-        kind.check_ranges();
+        kind.prove_ranges();
     }
 }
 

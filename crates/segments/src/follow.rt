@@ -330,7 +330,7 @@ pub fn follow<'a, D: Domain>(
 {
     // For the prover alone, by what the calls ensure.
     what_can_step_is_never_stuck();
-    instruction.check_ranges();
+    instruction.prove_ranges();
     match instruction {
         Instruction::Jump { distance } => Ok(leave(
             segment_starts,

@@ -8,7 +8,7 @@ use Rattle.asm_lines.proofs.writing.write_line.Goals as goal
 pub returns-clause-reads_back : goal.returns-clause-reads_back
 returns-clause-reads_back c = on_ok c.push_str.result
     (λ e items. text_again (string_bytes c.args.text.now) (string_bytes c.push_str.new.self)
-    c.args.line c.args.name.now items c.in_ok-write_words.ensures.written c.check_ranges.ensures
+    c.args.line c.args.name.now items c.in_ok-write_words.ensures.written c.prove_ranges.ensures
     c.requires
     (append_two (string_bytes c.args.text.now) (string_bytes c.write_words.new.text)
     (string_bytes c.push_str.new.self) (between_spaces (form_of c.args.line c.args.name.now))

@@ -7,7 +7,7 @@ use Rattle.object.proofs.statement.check_kinds.Goals as goal
 pub loop-kind-preserved : goal.loop-kind-preserved
 loop-kind-preserved c =
     All-more IsKind c.args.kinds.now c.loop-kind.kind-index c.kind-item.result c.loop-kind-test.true
-    c.loop-kind.invariant (subst IsKind c.kind-item.is c.check_ranges.ensures)
+    c.loop-kind.invariant (subst IsKind c.kind-item.is c.prove_ranges.ensures)
 
 pub returns : goal.returns
 returns c = All-same IsKind _ _ (sym

@@ -33,7 +33,7 @@ returns-in_err-leave-in-Jump-clause-named g c =
 pub returns-in_err-leave-in-Jump-clause-plain : goal.returns-in_err-leave-in-Jump-clause-plain
 returns-in_err-leave-in-Jump-clause-plain g c = λ here.
     let ranges : IsInstruction (Jump c.in-Jump.distance) =
-    rw c.in-Jump.is at c.check_ranges.ensures in
+    rw c.in-Jump.is at c.prove_ranges.ensures in
     let to : c.jumped_near.result ≡ slot_at_distance c.args.slot c.in-Jump.distance =
     simp (to_z-of_z w16 c.in-Jump.distance ranges) at c.jumped_near.ensures in
     never (c.in_err-leave-in-Jump.ensures.plain
@@ -44,7 +44,7 @@ returns-in_err-leave-in-Jump-clause-plain g c = λ here.
 pub returns-in_ok-leave-in-Jump-clause-followed : goal.returns-in_ok-leave-in-Jump-clause-followed
 returns-in_ok-leave-in-Jump-clause-followed g c =
     let ranges : IsInstruction (Jump c.in-Jump.distance) =
-    rw c.in-Jump.is at c.check_ranges.ensures in
+    rw c.in-Jump.is at c.prove_ranges.ensures in
     let to : c.jumped_near.result ≡ slot_at_distance c.args.slot c.in-Jump.distance =
     simp (to_z-of_z w16 c.in-Jump.distance ranges) at c.jumped_near.ensures in
     let here : slice_get c.args.code.now c.args.slot ≡ Some (Start (Jump c.in-Jump.distance)) =
@@ -73,7 +73,7 @@ pub returns-in_err-leave-in-LongJump-clause-plain :
     goal.returns-in_err-leave-in-LongJump-clause-plain
 returns-in_err-leave-in-LongJump-clause-plain g c = λ here.
     let ranges : IsInstruction (LongJump c.in-LongJump.distance) =
-    rw c.in-LongJump.is at c.check_ranges.ensures in
+    rw c.in-LongJump.is at c.prove_ranges.ensures in
     let to : c.jumped.result ≡ slot_at_distance c.args.slot c.in-LongJump.distance =
     simp (to_z-of_z w32 c.in-LongJump.distance ranges) at c.jumped.ensures in
     never (c.in_err-leave-in-LongJump.ensures.plain
@@ -85,7 +85,7 @@ pub returns-in_ok-leave-in-LongJump-clause-followed :
     goal.returns-in_ok-leave-in-LongJump-clause-followed
 returns-in_ok-leave-in-LongJump-clause-followed g c =
     let ranges : IsInstruction (LongJump c.in-LongJump.distance) =
-    rw c.in-LongJump.is at c.check_ranges.ensures in
+    rw c.in-LongJump.is at c.prove_ranges.ensures in
     let to : c.jumped.result ≡ slot_at_distance c.args.slot c.in-LongJump.distance =
     simp (to_z-of_z w32 c.in-LongJump.distance ranges) at c.jumped.ensures in
     let here : slice_get c.args.code.now c.args.slot

@@ -16,7 +16,7 @@ invariant_of-self c =
     let fits : length c.self.inside.slots.items + c.if-is_wide.taken ≤ 4096 = omega arith in
     elim c.match-push_slots.branch [
       | in-Ok w ↦ part_pushed c.self.inside.slots.items c.push_slots.new.slots.items
-          c.args.instruction c.if-is_wide.taken c.self.invariant c.check_ranges.ensures takes fits
+          c.args.instruction c.if-is_wide.taken c.self.invariant c.prove_ranges.ensures takes fits
           w.in-Ok.ensures.ok
       | in-Err w ↦ rw w.in-Err.ensures.err c.self.invariant
     ]
