@@ -139,13 +139,14 @@ unfolding neighbor_of
 freshly router dd_sequence_start last_heard =
     λ i. record (fresh router dd_sequence_start last_heard) { outstanding = no_keys (Unit {0}) i }
 
-pub starts : (moment router : ℕ) (dd_sequence_start : Option ℕ) (last_heard number : ℕ)
-    → number ≡ (enter_exstart moment (fresh router dd_sequence_start last_heard)).neighbor.sequence
-    → neighbor_of {X = Unit {0}} (started_standing moment router number last_heard)
-    (Some (initial_description number)) finite.empty finite.empty finite.empty finite.empty
+pub starts : (moment router : ℕ) (dd_sequence_start : Option ℕ) (last_heard dd_sequence : ℕ)
+    → dd_sequence ≡ (enter_exstart moment
+    (fresh router dd_sequence_start last_heard)).neighbor.sequence
+    → neighbor_of {X = Unit {0}} (started_standing moment router dd_sequence last_heard)
+    (Some (initial_description dd_sequence)) finite.empty finite.empty finite.empty finite.empty
     ≡ (enter_exstart moment (fresh router dd_sequence_start last_heard)).neighbor
 unfolding neighbor_of
-starts moment router dd_sequence_start last_heard number is =
+starts moment router dd_sequence_start last_heard dd_sequence is =
     λ i. record (fresh router (Some (is i)) last_heard) {
       state = ExStart;
       is_master = true;

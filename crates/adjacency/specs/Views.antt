@@ -73,12 +73,12 @@ fresh_standing router dd_sequence_start last_heard = record {
 }
 
 abbrev pub started_standing : ℕ → ℕ → ℕ → ℕ → Standing
-started_standing moment router number last_heard = record {
+started_standing moment router dd_sequence last_heard = record {
   router = router;
   state = ExStart;
   is_master = true;
-  sequence = number;
-  dd_sequence_start = Some number;
+  sequence = dd_sequence;
+  dd_sequence_start = Some dd_sequence;
   received = None;
   exchanged = None;
   last_heard = last_heard;

@@ -56,7 +56,7 @@ use Rattle.agreement_laws.proofs.AtInterface as interface
 -- ---- what is sent, by interfaces
 
 abbrev pub at_place : ℕ → Content → Send
-at_place number c = record { number = number; content = c }
+at_place number c = record { interface = number; content = c }
 
 in_sends_at : (k : ℕ) (cs : List Content) (number : ℕ) (c : Content)
     → Contains (sends_at k cs) (at_place number c) → (k ≡ number) × Contains cs c
@@ -69,7 +69,7 @@ in_sends_at k (x ∷ cs) number c h =
         → (at_place k x ≡ at_place number c) ⊎ Contains (sends_at k cs) (at_place number c)
         → (k ≡ number) × Contains (x ∷ cs) c
     by_place rest (inl is) =
-        (ap (λ (s : Send). s.number) is, named_first x cs c (ap (λ (s : Send). s.content) is))
+        (ap (λ (s : Send). s.interface) is, named_first x cs c (ap (λ (s : Send). s.content) is))
     by_place rest (inr j) = let r = rest j in (r.0, later_is x cs c r.1)
 
 module _ (g : ℕ → Link → List Content) (number : ℕ) (c : Content) where

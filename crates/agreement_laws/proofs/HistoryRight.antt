@@ -73,7 +73,7 @@ opener = (enter_exstart 3600 (fresh 1 None 3600)).neighbor
 abbrev opened_with : Database → ℕ → EventState
 opened_with db moment = record {
   router = router_with 2 (link_with b (Some opener) (Some 0)) db (times 2) moment;
-  sends = record { number = 1; content = Content.Describes (initial_description 3600) } ∷ [];
+  sends = record { interface = 1; content = Content.Describes (initial_description 3600) } ∷ [];
 }
 
 abbrev pub opened : EventState
@@ -209,10 +209,10 @@ asking_all keys = record {
   router = router_with 2 (link_with b (Some (asking_of keys).neighbor) (Some 0)) finite.empty
       (times 2) 3600;
   sends = record {
-    number = 1;
+    interface = 1;
     content = Content.Describes last_one;
   } ∷ record {
-    number = 1;
+    interface = 1;
     content = Content.Requests keys;
   } ∷ [];
 }

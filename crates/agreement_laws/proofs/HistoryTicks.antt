@@ -52,7 +52,7 @@ module _ (id address : ℕ) (n : Option Neighbor) where
   ticked = record {
     router = router_with id (link_with address n (Some 0)) (database id address) (times id) 0;
     sends = record {
-      number = 1;
+      interface = 1;
       content = Content.SendsHello (hello_on (link_with address n None));
     } ∷ [];
   }

@@ -135,7 +135,7 @@ module _ (old : Router) (moment : ℕ) (start after : EventState) (key : Key) wh
           → Brings (Occurrence.Packet number bytes)
       by_lsas (inl r) =
           inl (WasThere.Brought r.0 (record {
-            number = number;
+            interface = number;
             bytes = bytes;
             packet = own.0;
             is = refl;
@@ -147,25 +147,28 @@ module _ (old : Router) (moment : ℕ) (start after : EventState) (key : Key) wh
           let it : own.0 ≡ b.packet =
           one_packet bytes own.0 b.packet own.1
           (subst (λ (its : List ℕ). PacketText its b.packet)
-          (sym (same_bytes number b.number bytes b.bytes b.is)) b.text) in
+          (sym (same_bytes number b.interface bytes b.bytes b.is)) b.text) in
           none lsa
           (subst (λ (p : Packet). Contains (lsas_brought p.body) lsa) (sym it) b.among) same)
   by_event Occurrence.Tick own =
       inr (λ lsa b same.
-      let no : Occurrence.Tick ≡ Occurrence.Packet b.number b.bytes = b.is in absurd cc)
+      let no : Occurrence.Tick ≡ Occurrence.Packet b.interface b.bytes = b.is in absurd cc)
   by_event (Occurrence.Redistribute tagged tag priced price) own =
       inr (λ lsa b same.
       let no : Occurrence.Redistribute tagged tag priced price
-      ≡ Occurrence.Packet b.number b.bytes = b.is in absurd cc)
+      ≡ Occurrence.Packet b.interface b.bytes = b.is in absurd cc)
   by_event (Occurrence.Withdraw prefix) own =
       inr (λ lsa b same.
-      let no : Occurrence.Withdraw prefix ≡ Occurrence.Packet b.number b.bytes = b.is in absurd cc)
+      let no : Occurrence.Withdraw prefix ≡ Occurrence.Packet b.interface b.bytes = b.is in
+      absurd cc)
   by_event (Occurrence.Install answers) own =
       inr (λ lsa b same.
-      let no : Occurrence.Install answers ≡ Occurrence.Packet b.number b.bytes = b.is in absurd cc)
+      let no : Occurrence.Install answers ≡ Occurrence.Packet b.interface b.bytes = b.is in
+      absurd cc)
   by_event (Occurrence.LinkDown number) own =
       inr (λ lsa b same.
-      let no : Occurrence.LinkDown number ≡ Occurrence.Packet b.number b.bytes = b.is in absurd cc)
+      let no : Occurrence.LinkDown number ≡ Occurrence.Packet b.interface b.bytes = b.is in
+      absurd cc)
 
   -- one was there, or nothing that could meet a request
   pub there_or_not : (event : Occurrence) → OwnPart moment event start after

@@ -73,18 +73,18 @@ module _ (R : Content → Type 0) where
   -- ---- what is sent at the interface
 
   module _ (number : ℕ) (own : ℕ) (sends : List Send)
-      (so : AllByRecursion (λ (s : Send). s.number ≡ number → R s.content) sends) where
+      (so : AllByRecursion (λ (s : Send). s.interface ≡ number → R s.content) sends) where
     at_number : (n : ℕ) → n ≡ number → (xs : List Send)
-        → AllByRecursion (λ (s : Send). s.number ≡ number → R s.content) xs
+        → AllByRecursion (λ (s : Send). s.interface ≡ number → R s.content) xs
         → AllByRecursion R (filter_map (at_interface n) xs)
     at_number n same [] h = tt
-    at_number n same (s ∷ xs) h = by_number (s.number == n) refl (at_number n same xs h.1)
+    at_number n same (s ∷ xs) h = by_number (s.interface == n) refl (at_number n same xs h.1)
       where
-        by_number : (b : Bool) → (s.number == n) ≡ b
+        by_number : (b : Bool) → (s.interface == n) ≡ b
             → AllByRecursion R (filter_map (at_interface n) xs)
             → AllByRecursion R (cons_option (cond b (Some s.content) None)
             (filter_map (at_interface n) xs))
-        by_number true e rest = (h.0 (eqb-true s.number n e ∙ same), rest)
+        by_number true e rest = (h.0 (eqb-true s.interface n e ∙ same), rest)
         by_number false e rest = rest
 
     -- bytes of a packet from this router with contents that were sent
@@ -198,10 +198,10 @@ module _ (R : Content → Type 0) (ranged : (lsa : Lsa) → R (Content.Updates l
 
   -- the bytes encode no other packet
   pub told_in : (number own : ℕ) (sends : List Send)
-      (so : AllByRecursion (λ (s : Send). s.number ≡ number → R s.content) sends) (bytes : List ℕ)
-      → IsLetter R number own sends so bytes → (packet : Packet) → PacketText bytes packet
-      → (name : LsaInstance) → Contains (instances_told packet.body) name
-      → IsOfSent packet.body name
+      (so : AllByRecursion (λ (s : Send). s.interface ≡ number → R s.content) sends)
+      (bytes : List ℕ) → IsLetter R number own sends so bytes → (packet : Packet)
+      → PacketText bytes packet → (name : LsaInstance)
+      → Contains (instances_told packet.body) name → IsOfSent packet.body name
   told_in number own sends so bytes letter packet text name c =
       let b : PacketBody = letter.1 in
       let same : packet_of own b ≡ packet =

@@ -117,7 +117,7 @@ module _ (moment : ℕ) (key : Key) where
 
 module _ (f : Stepping) (content : Content) (n : Neighbor) where
   abbrev at_place : ℕ → Send
-  at_place number = record { number = number; content = content }
+  at_place number = record { interface = number; content = content }
 
   sent_from : (k i : ℕ) (xs : List Link) → neighbor_on (slice_get xs i) ≡ Some n
       → ((link : Link) → link.neighbor ≡ Some n → Contains (f (k + i) link n).sends content)
@@ -131,7 +131,7 @@ module _ (f : Stepping) (content : Content) (n : Neighbor) where
       (subst (λ (o : Option Neighbor). Contains (sends_at k (sent_on (f k x) o)) (at_place k))
       (sym at)
       (mapped (λ c. record {
-        number = k;
+        interface = k;
         content = c;
       }) (f k x n).sends content
       (subst (λ m. Contains (f m x n).sends content) e (so x at)))))
@@ -159,7 +159,7 @@ module _ (f : Stepping) (content : Content) (n : Neighbor) where
 -- a Database Description with the header is sent at the interface
 pub record Describes (sends : List Send) (number : ℕ) (header : Header) : Type 0 where
   pub description : Description
-  pub sent : Contains sends (record { number = number; content = Content.Describes description })
+  pub sent : Contains sends (record { interface = number; content = Content.Describes description })
   pub among : Contains description.headers header
 
 -- if there is a neighbor at the interface, `There`
@@ -191,7 +191,7 @@ module _ (key : Key) (moment : ℕ) (number : ℕ) (There : Type 0) (Of : ℕ �
           record {
             description = k.1.description;
             sent = Contains-append_left sends more (record {
-              number = number;
+              interface = number;
               content = Content.Describes k.1.description;
             }) k.1.sent;
             among = k.1.among;
@@ -623,7 +623,7 @@ module _ (key : Key) (moment : ℕ) (number : ℕ) (There : Type 0) (Of : ℕ �
                     sent = Contains-append_right o.sends
                         (stepping_sends (only_at place
                         (after_description own moment o.area.database d)) o.area.links) (record {
-                          number = number;
+                          interface = number;
                           content = Content.Describes k.0;
                         })
                         (sent_there (only_at place (after_description own moment o.area.database d))

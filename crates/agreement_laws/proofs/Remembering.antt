@@ -303,15 +303,15 @@ module _ (number : ℕ) (Old : LsaInstance → ℕ → Type 0) where
         (instances_in_content s.content)) ended.sends
     ranged = named_sends IsInstance ended.sends t.in_range
 
-    all_sent : AllByRecursion (λ (s : Send). s.number ≡ number → OfSent s.content) ended.sends
+    all_sent : AllByRecursion (λ (s : Send). s.interface ≡ number → OfSent s.content) ended.sends
     all_sent =
-        each_member (λ (s : Send). s.number ≡ number → OfSent s.content) ended.sends
-        (λ s c same. of_content s.number s.content c same
+        each_member (λ (s : Send). s.interface ≡ number → OfSent s.content) ended.sends
+        (λ s c same. of_content s.interface s.content c same
         (of_member (λ (s : Send). AllByRecursion IsInstance (instances_in_content s.content))
         ended.sends ranged s c))
       where
         of_content : (n : ℕ) (says : Content) → Contains ended.sends (record {
-          number = n;
+          interface = n;
           content = says;
         }) → n ≡ number
             → AllByRecursion IsInstance (instances_in_content says) → OfSent says

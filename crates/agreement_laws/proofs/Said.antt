@@ -106,7 +106,7 @@ module _ (P R : Link → Type 0) where
 
 module _ (P : ℕ → Content → Type 0) where
   abbrev OfNumbered : Send → Type 0
-  OfNumbered s = P s.number s.content
+  OfNumbered s = P s.interface s.content
 
   numbered_sent : (number : ℕ) (cs : List Content) → AllByRecursion (P number) cs
       → AllByRecursion OfNumbered (sends_at number cs)
@@ -147,7 +147,7 @@ module _ (old : Router) (moment : ℕ) where
     sends_more : (sends : List Send) → AllByRecursion (OfSend old T) sends
         → AllByRecursion (OfSend old U) sends
     sends_more sends h = each_all (OfSend old T) (OfSend old U)
-        (λ s so. content_more old T U more s.number s.content so) sends h
+        (λ s so. content_more old T U more s.interface s.content so) sends h
 
     pub said_more : (o : Outcome) → IsSaid T o → IsSaid U o
     said_more o h = record {

@@ -221,12 +221,12 @@ module _ (old : Router) (moment : ℕ) (event : Occurrence) where
       updates = λ number lsa c.
           in_words follow (lsa_key lsa) moment (instance_of lsa.header) old event ended.router
           (of_member (OfSend old Held) ended.sends so.sends (record {
-            number = number;
+            interface = number;
             content = Content.Updates lsa;
           }) c);
       acknowledged = λ number h c. why number h
           (of_member (OfSend old Held) ended.sends so.sends (record {
-            number = number;
+            interface = number;
             content = Content.Acknowledges h;
           }) c);
       waiting = λ number h w.
@@ -238,7 +238,7 @@ module _ (old : Router) (moment : ℕ) (event : Occurrence) where
           of_database number (instance_of_header h)
           (of_member (λ (x : Header). OfNamed old Held number (instance_of_header x)) d.headers
           (of_member (OfSend old Held) ended.sends so.sends (record {
-            number = number;
+            interface = number;
             content = Content.Describes d;
           }) c) h among);
       to_describe = to_describe;

@@ -77,7 +77,7 @@ module _ (old : Router) where
   OfContent T number (Content.Acknowledges h) = OfAcknowledged T number h
 
   abbrev pub OfSend : Truth → Send → Type 0
-  OfSend T s = OfContent T s.number s.content
+  OfSend T s = OfContent T s.interface s.content
 
   -- ---- what is still to be said
 

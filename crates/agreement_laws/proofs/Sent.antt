@@ -59,7 +59,7 @@ module _ (d : Description) where
 
   module _ (own : ℕ) (sends : List Send) where
     at_link : (number : ℕ) (link : Link) → Contains sends (record {
-      number = number;
+      interface = number;
       content = Content.Describes d;
     })
         → Contains (outs_at own sends number link) (out_of own number (body.Description d))
@@ -68,13 +68,13 @@ module _ (d : Description) where
         mapped (out_of own number) (bodies link.interface.delay contents) (body.Description d)
         (among_bodies link.interface.delay contents
         (filtered (at_interface number) sends (record {
-          number = number;
+          interface = number;
           content = Content.Describes d;
         }) (Content.Describes d) c
         (ap (λ b. cond b (Some (Content.Describes d)) None) (eq-eqb number number refl))))
 
     out_from : (k i : ℕ) (xs : List Link) (link : Link) → slice_get xs i ≡ Some link
-        → Contains sends (record { number = k + i; content = Content.Describes d })
+        → Contains sends (record { interface = k + i; content = Content.Describes d })
         → Contains (flat_map (λ (e : ℕ × Link). outs_at own sends e.0 e.1) (enumerate_from k xs))
         (out_of own (k + i) (body.Description d))
     out_from k i [] link at c = absurd cc
@@ -83,7 +83,7 @@ module _ (d : Description) where
         Contains-append_left (outs_at own sends k x) _ (out_of own (k + 0) (body.Description d))
         (subst (λ m. Contains (outs_at own sends k x) (out_of own m (body.Description d))) (sym e)
         (at_link k x (subst (λ m. Contains sends (record {
-          number = m;
+          interface = m;
           content = Content.Describes d;
         })) e c)))
     out_from k (suc i) (x ∷ xs) link at c =
@@ -93,19 +93,19 @@ module _ (d : Description) where
         (subst (λ m. Contains (flat_map (λ (g : ℕ × Link). outs_at own sends g.0 g.1)
         (enumerate_from (k + 1) xs)) (out_of own m (body.Description d))) (sym e)
         (out_from (k + 1) i xs link at (subst (λ m. Contains sends (record {
-          number = m;
+          interface = m;
           content = Content.Describes d;
         })) e c)))
 
     -- a Database Description that is sent at one of the interfaces is in a packet there
     pub goes_out : (number : ℕ) (links : List Link) (link : Link) → link_at number links ≡ Some link
-        → Contains sends (record { number = number; content = Content.Describes d })
+        → Contains sends (record { interface = number; content = Content.Describes d })
         → Contains (outs_of own links sends) (out_of own number (body.Description d))
     goes_out zero links link at c = absurd cc
     goes_out (suc i) links link at c =
         let e : suc i ≡ 1 + i = omega arith in
         subst (λ m. Contains (outs_of own links sends) (out_of own m (body.Description d))) (sym e)
         (out_from 1 i links link at (subst (λ m. Contains sends (record {
-          number = m;
+          interface = m;
           content = Content.Describes d;
         })) e c))

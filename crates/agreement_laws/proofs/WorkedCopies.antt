@@ -59,7 +59,8 @@ module _ (old : Router) (moment : ℕ) (event : Occurrence) (instance : Instance
       inr (left last had brings as_new aged)
 
 no_packet : (lsa : Lsa) → BringsLsa Occurrence.Tick lsa → ⊥
-no_packet lsa brought = let no : Occurrence.Tick ≡ Occurrence.Packet brought.number brought.bytes =
+no_packet lsa brought = let no : Occurrence.Tick
+    ≡ Occurrence.Packet brought.interface brought.bytes =
     brought.is in absurd cc
 
 pub worked : WorkedCopies

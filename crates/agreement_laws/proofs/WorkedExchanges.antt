@@ -65,10 +65,10 @@ described r new link moment later from sequence hello_bytes bytes h outs answers
     (out_of r.id 1 (body.Description d)) =
     goes_out d r.id (describes d) 1 run.0.area.links there.0 there.1
     (named_first (record {
-      number = 1;
+      interface = 1;
       content = Content.Describes d;
     }) [] (record {
-      number = 1;
+      interface = 1;
       content = Content.Describes d;
     }) refl) in
     let same : r.id ≡ run.0.id = sym (router_stays (lonely r link) moment

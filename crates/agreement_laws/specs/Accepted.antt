@@ -21,11 +21,11 @@ use Rattle.event_rules.specs.Routers.{Occurrence, Router}
 -- ---- a Description that comes
 
 -- the event's packet is this Description, which came in at this interface from this router
-pub record BringsDescription (event : Occurrence) (number : InterfaceNumber)
+pub record BringsDescription (event : Occurrence) (interface : InterfaceNumber)
     (router : RouterNumber) (d : Description) : Type 0 where
   pub bytes : List ℕ
   pub packet : Packet
-  pub is : event ≡ Occurrence.Packet number bytes
+  pub is : event ≡ Occurrence.Packet interface bytes
   pub text : PacketText bytes packet
   pub from : packet.router ≡ router
   pub says : packet.body ≡ body.Description d
@@ -51,10 +51,10 @@ accepts_description own moment n d =
 -- the event's packet is this Description of the neighbor at this interface, as it is once copies
 -- have come to MaxAge, and is accepted; the neighbor is another router
 pub record AcceptsDescription (old : Router) (moment : Moment) (event : Occurrence)
-    (number : InterfaceNumber) (n : Neighbor) (d : Description) : Type 0 where
-  pub brings : BringsDescription event number n.router d
+    (interface : InterfaceNumber) (n : Neighbor) (d : Description) : Type 0 where
+  pub brings : BringsDescription event interface n.router d
   pub other : is_foreign old.id n.router ≡ true
-  pub there : neighbor_at number (start_event moment old).router.area.links ≡ Some n
+  pub there : neighbor_at interface (start_event moment old).router.area.links ≡ Some n
   pub accepted : accepts_description old.id moment n d ≡ true
 
 -- ---- its headers

@@ -23,11 +23,11 @@ use Rattle.agreement_laws.specs.Accepted.{AcceptsDescription}
 -- ---- turns
 
 -- what is sent, before it is packed
-abbrev pub sends_taken : (number : InterfaceNumber) (heard : List (List ℕ))
-    (before after : Party) → Doing number heard before after → List Send
-sends_taken number heard before after (Doing.Event t) =
+abbrev pub sends_taken : (interface : InterfaceNumber) (heard : List (List ℕ))
+    (before after : Party) → Doing interface heard before after → List Send
+sends_taken interface heard before after (Doing.Event t) =
     (end_event before.router t.moment t.happens.after).sends
-sends_taken number heard before after (Doing.Start b) = []
+sends_taken interface heard before after (Doing.Start b) = []
 
 -- what the router of this side sends in the turn, if it is its turn
 abbrev pub sends_of : (ends : Ends) (side : Side) (before after : Pair) → Turn ends before after

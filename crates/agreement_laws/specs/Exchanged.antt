@@ -32,10 +32,10 @@ conversation_with n = record { router = n.router; attempt = n.dd_sequence_start 
 
 -- the router has this conversation with the neighbor at the interface, which is in Exchange or
 -- later
-pub record Converses (number : InterfaceNumber) (with_it : Conversation) (r : Router)
+pub record Converses (interface : InterfaceNumber) (with_it : Conversation) (r : Router)
     : Type 0 where
   pub neighbor : Neighbor
-  pub there : neighbor_at number r.area.links ≡ Some neighbor
+  pub there : neighbor_at interface r.area.links ≡ Some neighbor
   pub exchanging : is_exchange_or_later neighbor.state ≡ true
   pub is : conversation_with neighbor ≡ with_it
 
@@ -51,48 +51,49 @@ headers_told (body.Update lsas) = map (λ (l : Lsa). l.header) (filter_map lsa_i
 headers_told (body.Acknowledgment headers) = headers
 
 -- the event's packet was received at this interface from this router, and has the header
-pub record Tells (event : Occurrence) (number : InterfaceNumber) (router : RouterNumber)
+pub record Tells (event : Occurrence) (interface : InterfaceNumber) (router : RouterNumber)
     (header : Header) : Type 0 where
   pub bytes : List ℕ
   pub packet : Packet
-  pub is : event ≡ Occurrence.Packet number bytes
+  pub is : event ≡ Occurrence.Packet interface bytes
   pub text : PacketText bytes packet
   pub from : packet.router ≡ router
   pub told : Contains (headers_told packet.body) header
 
 -- a Database Description with the header is sent at the interface
-pub record Describes (own : RouterNumber) (outs : List Out) (number : InterfaceNumber)
+pub record Describes (own : RouterNumber) (outs : List Out) (interface : InterfaceNumber)
     (header : Header) : Type 0 where
   pub description : Description
-  pub sent : Contains outs (out_of own number (body.Description description))
+  pub sent : Contains outs (out_of own interface (body.Description description))
   pub among : Contains description.headers header
 
 -- the event's packet has the header, or the event describes it to the neighbor
-pub data IsExchanged (own : RouterNumber) (step : Step) (number : InterfaceNumber)
+pub data IsExchanged (own : RouterNumber) (step : Step) (interface : InterfaceNumber)
     (router : RouterNumber) (header : Header) : Type 0 where
-  Told : Tells step.event number router header → IsExchanged own step number router header
-  Described : Describes own step.outs number header → IsExchanged own step number router header
+  Told : Tells step.event interface router header → IsExchanged own step interface router header
+  Described : Describes own step.outs interface header
+      → IsExchanged own step interface router header
 
 -- ---- in a run
 
 -- a run from `old` to `new` in which the conversation continues: it is the neighbor's at each point
 abbrev pub GoesOn : InterfaceNumber → Conversation → Router → List Step → Router → Type 0
-GoesOn number with_it old [] new = (new ≡ old) × Converses number with_it old
-GoesOn number with_it old (s ∷ steps) new =
-    Converses number with_it old
+GoesOn interface with_it old [] new = (new ≡ old) × Converses interface with_it old
+GoesOn interface with_it old (s ∷ steps) new =
+    Converses interface with_it old
     × (middle : Router) × Happens old s.moment s.event s.outs middle
-    × GoesOn number with_it middle steps new
+    × GoesOn interface with_it middle steps new
 
 -- the header was exchanged in an event of the run, at the moment of the entry, and the conversation
 -- has continued since
-pub data WasExchanged (number : InterfaceNumber) (with_it : Conversation) (entry : ListEntry)
+pub data WasExchanged (interface : InterfaceNumber) (with_it : Conversation) (entry : ListEntry)
     : Router → List Step → Router → Type 0 where
   Now : (old middle new : Router) (step : Step) (rest : List Step)
       → Happens old step.moment step.event step.outs middle
-      → IsExchanged old.id step number with_it.router entry.header
-      → entry.at ≡ step.moment → GoesOn number with_it middle rest new
-      → WasExchanged number with_it entry old (step ∷ rest) new
+      → IsExchanged old.id step interface with_it.router entry.header
+      → entry.at ≡ step.moment → GoesOn interface with_it middle rest new
+      → WasExchanged interface with_it entry old (step ∷ rest) new
   Later : (old middle new : Router) (step : Step) (rest : List Step)
       → Happens old step.moment step.event step.outs middle
-      → WasExchanged number with_it entry middle rest new
-      → WasExchanged number with_it entry old (step ∷ rest) new
+      → WasExchanged interface with_it entry middle rest new
+      → WasExchanged interface with_it entry old (step ∷ rest) new

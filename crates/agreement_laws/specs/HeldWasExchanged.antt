@@ -25,12 +25,12 @@ use Rattle.agreement_laws.specs.Ranks.{is_at_least}
 
 -- a header of the key was exchanged in the conversation that, with its age now, is at least as new
 -- as the instance
-pub record WasExchangedAsNew (number : InterfaceNumber) (with_it : Conversation) (key : Key)
+pub record WasExchangedAsNew (interface : InterfaceNumber) (with_it : Conversation) (key : Key)
     (instance : Instance) (old : Router) (steps : List Step) (new : Router) : Type 0 where
   pub entry : ListEntry
   pub of_key : key_of entry.header ≡ key
   pub as_new : is_at_least (listed_now new.moment entry) instance ≡ true
-  pub exchanged : WasExchanged number with_it entry old steps new
+  pub exchanged : WasExchanged interface with_it entry old steps new
 
 -- nothing with this key is left to be sent to the neighbor: it is on neither list
 pub record IsNotOwed (n : Neighbor) (key : Key) : Type 0 where
@@ -43,11 +43,11 @@ abbrev pub WhatIsHeldWasExchanged : Type 0
 WhatIsHeldWasExchanged =
     (c : Config) (steps : List Step) (r : Router) → Run (initial c) steps r
     → ClockRunsOn c.start steps
-    → (number : InterfaceNumber) (n : Neighbor) → neighbor_at number r.area.links ≡ Some n
+    → (interface : InterfaceNumber) (n : Neighbor) → neighbor_at interface r.area.links ≡ Some n
     → is_exchange_or_later n.state ≡ true
     → (key : Key) (copy : DatabaseCopy) → finite.get r.area.database key ≡ Some copy
     → IsNotOwed n key
-    → WasExchangedAsNew number (conversation_with n) key (copy_now r.moment copy) (initial c)
+    → WasExchangedAsNew interface (conversation_with n) key (copy_now r.moment copy) (initial c)
     steps r
 
 -- ---- Full neighbors
@@ -64,7 +64,7 @@ is_exchange_done Full = true
 abbrev pub NothingIsLeftToDescribe : Type 0
 NothingIsLeftToDescribe =
     (c : Config) (steps : List Step) (r : Router) → Run (initial c) steps r
-    → (number : InterfaceNumber) (n : Neighbor) → neighbor_at number r.area.links ≡ Some n
+    → (interface : InterfaceNumber) (n : Neighbor) → neighbor_at interface r.area.links ≡ Some n
     → is_exchange_done n.state ≡ true → n.summary ≡ finite.empty
 
 -- so if an instance is held and isn't on the retransmission list of a Full neighbor, one that is at
@@ -73,9 +73,9 @@ abbrev pub WasExchangedWithFullNeighbors : Type 0
 WasExchangedWithFullNeighbors =
     (c : Config) (steps : List Step) (r : Router) → Run (initial c) steps r
     → ClockRunsOn c.start steps
-    → (number : InterfaceNumber) (n : Neighbor) → neighbor_at number r.area.links ≡ Some n
+    → (interface : InterfaceNumber) (n : Neighbor) → neighbor_at interface r.area.links ≡ Some n
     → n.state ≡ Full
     → (key : Key) (copy : DatabaseCopy) → finite.get r.area.database key ≡ Some copy
     → finite.contains_key n.retransmissions key ≡ false
-    → WasExchangedAsNew number (conversation_with n) key (copy_now r.moment copy) (initial c)
+    → WasExchangedAsNew interface (conversation_with n) key (copy_now r.moment copy) (initial c)
     steps r

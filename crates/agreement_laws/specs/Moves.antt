@@ -18,17 +18,18 @@ pub record IsAsBefore (before after : Neighbor) : Type 0 where
   pub summary : after.summary ≡ before.summary
 
 -- what becomes of the exchange with this neighbor, which is at the interface before the event
-pub data BecameOfExchange (event : Occurrence) (number : InterfaceNumber) (n : Neighbor)
+pub data BecameOfExchange (event : Occurrence) (interface : InterfaceNumber) (n : Neighbor)
     (new : Router) : Type 0 where
-  Stands : (m : Neighbor) → neighbor_at number new.area.links ≡ Some m
+  Stands : (m : Neighbor) → neighbor_at interface new.area.links ≡ Some m
       → conversation_with m ≡ conversation_with n → IsAsBefore n m
-      → BecameOfExchange event number n new
-  Moved : (d : Description) → BringsDescription event number n.router d
-      → BecameOfExchange event number n new
+      → BecameOfExchange event interface n new
+  Moved : (d : Description) → BringsDescription event interface n.router d
+      → BecameOfExchange event interface n new
   -- the conversation is over, or isn't in Exchange yet
-  Over : (Converses number (conversation_with n) new → ⊥) → BecameOfExchange event number n new
+  Over : (Converses interface (conversation_with n) new → ⊥)
+      → BecameOfExchange event interface n new
 
 abbrev pub OnlyDescriptionsMoveAnExchange : Type 0
-OnlyDescriptionsMoveAnExchange = OfEachEvent (λ old moment event new. (number : InterfaceNumber)
-    (n : Neighbor) → neighbor_at number old.area.links ≡ Some n
-    → BecameOfExchange event number n new)
+OnlyDescriptionsMoveAnExchange = OfEachEvent (λ old moment event new. (interface : InterfaceNumber)
+    (n : Neighbor) → neighbor_at interface old.area.links ≡ Some n
+    → BecameOfExchange event interface n new)

@@ -50,10 +50,10 @@ interface_of Side.Right ends = ends.right
 -- ---- turns
 
 abbrev pub text_at : InterfaceNumber → Out → Option (List ℕ)
-text_at number out = if out.interface == number then Some out.bytes else None
+text_at interface out = if out.interface == interface then Some out.bytes else None
 
 -- an event of the router; what it receives at its interface to the other one was sent by that one
-pub record TakesEvent (number : InterfaceNumber) (heard : List (List ℕ)) (before after : Party)
+pub record TakesEvent (interface : InterfaceNumber) (heard : List (List ℕ)) (before after : Party)
     : Type 0 where
   pub moment : Moment
   pub event : Occurrence
@@ -61,8 +61,9 @@ pub record TakesEvent (number : InterfaceNumber) (heard : List (List ℕ)) (befo
   pub happens : Happens before.router moment event outs after.router
   -- its clock doesn't go back
   pub clock : before.router.moment ≤ moment
-  pub not_forged : (bytes : List ℕ) → event ≡ Occurrence.Packet number bytes → Contains heard bytes
-  pub sent : after.sent ≡ before.sent ++ filter_map (text_at number) outs
+  pub not_forged : (bytes : List ℕ) → event ≡ Occurrence.Packet interface bytes
+      → Contains heard bytes
+  pub sent : after.sent ≡ before.sent ++ filter_map (text_at interface) outs
   pub began : after.began ≡ before.began
   -- the instances that it sends have their numbers in their ranges, and its packets are encoded
   -- correctly
@@ -79,10 +80,10 @@ pub record BeginsAnew (before after : Party) : Type 0 where
   pub sent : after.sent ≡ before.sent
   pub began : after.began ≡ length before.sent
 
-pub data Doing (number : InterfaceNumber) (heard : List (List ℕ)) (before after : Party) : Type 0
+pub data Doing (interface : InterfaceNumber) (heard : List (List ℕ)) (before after : Party) : Type 0
   where
-    Event : TakesEvent number heard before after → Doing number heard before after
-    Start : BeginsAnew before after → Doing number heard before after
+    Event : TakesEvent interface heard before after → Doing interface heard before after
+    Start : BeginsAnew before after → Doing interface heard before after
 
 -- a turn of one of the two
 pub record Turn (ends : Ends) (before after : Pair) : Type 0 where
@@ -99,8 +100,8 @@ is_same_side Side.Left Side.Right = false
 is_same_side Side.Right Side.Left = false
 is_same_side Side.Right Side.Right = true
 
-abbrev pub event_taken : {number : InterfaceNumber} {heard : List (List ℕ)} {before after : Party}
-    → Doing number heard before after → Option Step
+abbrev pub event_taken : {interface : InterfaceNumber} {heard : List (List ℕ)}
+    {before after : Party} → Doing interface heard before after → Option Step
 event_taken (Doing.Event t) = Some (record { moment = t.moment; event = t.event; outs = t.outs })
 event_taken (Doing.Start b) = None
 

@@ -54,9 +54,9 @@ instances_told (body.Update lsas) = instances_in_update lsas
 instances_told (body.Acknowledgment headers) = map instance_of_header headers
 
 -- the event is the receipt of these bytes, which have the instance
-pub record IsTold (number : InterfaceNumber) (bytes : List ℕ) (name : LsaInstance) (step : Step)
+pub record IsTold (interface : InterfaceNumber) (bytes : List ℕ) (name : LsaInstance) (step : Step)
     : Type 0 where
-  pub is : step.event ≡ Occurrence.Packet number bytes
+  pub is : step.event ≡ Occurrence.Packet interface bytes
   pub packet : Packet
   pub text : PacketText bytes packet
   pub told : Contains (instances_told packet.body) name
@@ -80,25 +80,27 @@ pub record AcknowledgesMaxAge (bytes : List ℕ) (name : LsaInstance) : Type 0 w
 
 -- Why the router may not hold what its packet with this index says: after the turn from `before` to
 -- `after`,
-pub data Forgets (number : InterfaceNumber) (name : LsaInstance) (text : ℕ) (before after : Party)
+pub data Forgets (interface : InterfaceNumber) (name : LsaInstance) (text : ℕ)
+    (before after : Party)
     : Type 0 where
   -- it has no copy, and the packet was sent by then
   Without : IsWithout name.key after.router → text < length after.sent
-      → Forgets number name text before after
+      → Forgets interface name text before after
   -- it has no copy, and an acknowledgment of the instance is delayed
   WithoutWaiting : IsWithout name.key after.router → (header : Header)
-      → Waits number header after.router.area.links → instance_of_header header ≡ name
-      → Forgets number name text before after
+      → Waits interface header after.router.area.links → instance_of_header header ≡ name
+      → Forgets interface name text before after
   -- it has no copy, and the instance is to be described to the other one
   WithoutDescribed : IsWithout name.key after.router
-      → IsToDescribe number name after.router.area.links → Forgets number name text before after
+      → IsToDescribe interface name after.router.area.links
+      → Forgets interface name text before after
   -- it has restarted since it sent the packet
-  BegunAnew : text < after.began → Forgets number name text before after
+  BegunAnew : text < after.began → Forgets interface name text before after
   -- it had no copy before, and the packet acknowledges the instance at MaxAge: there was nothing to
   -- flush
   NothingToFlush : IsWithout name.key before.router → (bytes : List ℕ)
       → slice_get after.sent text ≡ Some bytes → AcknowledgesMaxAge bytes name
-      → Forgets number name text before after
+      → Forgets interface name text before after
 
 -- this is so in some turn of the history
 abbrev pub HasForgotten : (ends : Ends) → Side → LsaInstance → ℕ → (now : Pair)
@@ -147,9 +149,9 @@ pub data Exception (ends : Ends) (side : Side) (with_it : Conversation) (name : 
 -- ---- the law
 
 -- the router of this side is Full with the other one, and the key isn't on the retransmission list
-pub record IsAtRest (number : InterfaceNumber) (key : Key) (r : Router) : Type 0 where
+pub record IsAtRest (interface : InterfaceNumber) (key : Key) (r : Router) : Type 0 where
   pub neighbor : Neighbor
-  pub there : neighbor_at number r.area.links ≡ Some neighbor
+  pub there : neighbor_at interface r.area.links ≡ Some neighbor
   pub full : neighbor.state ≡ Full
   pub acknowledged : finite.contains_key neighbor.retransmissions key ≡ false
 

@@ -23,15 +23,15 @@ pub record NumbersMove (before : Neighbor) (d : Description) (after : Neighbor) 
       → (after.sequence ≡ (before.sequence + 1) % 2 ^ 32) ⊎ (after.sequence ≡ before.sequence)
 
 -- what stands at the interface after an event in which a Description is accepted in Exchange
-pub record HasMoved (number : InterfaceNumber) (n : Neighbor) (d : Description) (new : Router)
+pub record HasMoved (interface : InterfaceNumber) (n : Neighbor) (d : Description) (new : Router)
     : Type 0 where
   pub neighbor : Neighbor
-  pub there : neighbor_at number new.area.links ≡ Some neighbor
+  pub there : neighbor_at interface new.area.links ≡ Some neighbor
   pub same : conversation_with neighbor ≡ conversation_with n
   pub moved : NumbersMove n d neighbor
 
 -- each Description that is accepted in Exchange
 abbrev pub AcceptedDescriptionsMoveNumbers : Type 0
-AcceptedDescriptionsMoveNumbers = OfEachEvent (λ old moment event new. (number : InterfaceNumber)
-    (n : Neighbor) (d : Description) → AcceptsDescription old moment event number n d
-    → n.state ≡ Exchange → HasMoved number n d new)
+AcceptedDescriptionsMoveNumbers = OfEachEvent (λ old moment event new. (interface : InterfaceNumber)
+    (n : Neighbor) (d : Description) → AcceptsDescription old moment event interface n d
+    → n.state ≡ Exchange → HasMoved interface n d new)

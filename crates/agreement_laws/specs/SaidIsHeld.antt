@@ -29,36 +29,37 @@ use Rattle.agreement_laws.specs.CopiesClimb.{BecameOf}
 -- the LSA is sent at the interface in a Link State Update; its age isn't incremented by
 -- InfTransDelay yet
 abbrev pub Updates : List Send → InterfaceNumber → Lsa → Type 0
-Updates sends number lsa =
-    Contains sends (record { number = number; content = Content.Updates lsa })
+Updates sends interface lsa =
+    Contains sends (record { interface = interface; content = Content.Updates lsa })
 
 -- an acknowledgment of the header is sent at the interface
 abbrev pub Acknowledges : List Send → InterfaceNumber → Header → Type 0
-Acknowledges sends number header =
-    Contains sends (record { number = number; content = Content.Acknowledges header })
+Acknowledges sends interface header =
+    Contains sends (record { interface = interface; content = Content.Acknowledges header })
 
 -- the Database Description is sent at the interface
 abbrev pub Describes : List Send → InterfaceNumber → Description → Type 0
-Describes sends number d =
-    Contains sends (record { number = number; content = Content.Describes d })
+Describes sends interface d =
+    Contains sends (record { interface = interface; content = Content.Describes d })
 
 -- the interface has a delayed acknowledgment of the header
-pub record Waits (number : InterfaceNumber) (header : Header) (links : List Link) : Type 0 where
+pub record Waits (interface : InterfaceNumber) (header : Header) (links : List Link) : Type 0 where
   pub link : Link
-  pub there : link_at number links ≡ Some link
+  pub there : link_at interface links ≡ Some link
   pub key : Key
   pub waits : finite.get link.acknowledgments key ≡ Some header
 
 -- an instance is to be described to the neighbor at the interface: it is on the Database summary
 -- list, or in the last Database Description, which may be sent again
-pub data IsToDescribe (number : InterfaceNumber) (name : LsaInstance) (links : List Link) : Type 0
+pub data IsToDescribe (interface : InterfaceNumber) (name : LsaInstance) (links : List Link) :
+    Type 0
   where
-    Listed : (n : Neighbor) (key : Key) (entry : ListEntry) → neighbor_at number links ≡ Some n
+    Listed : (n : Neighbor) (key : Key) (entry : ListEntry) → neighbor_at interface links ≡ Some n
         → finite.get n.summary key ≡ Some entry → instance_of_header entry.header ≡ name
-        → IsToDescribe number name links
-    Last : (n : Neighbor) (d : Description) (header : Header) → neighbor_at number links ≡ Some n
+        → IsToDescribe interface name links
+    Last : (n : Neighbor) (d : Description) (header : Header) → neighbor_at interface links ≡ Some n
         → n.described ≡ Some d → Contains d.headers header → instance_of_header header ≡ name
-        → IsToDescribe number name links
+        → IsToDescribe interface name links
 
 -- the instance, whatever its age
 abbrev pub young : LsaInstance → Instance
@@ -69,47 +70,47 @@ young name = record { sequence = name.sequence; checksum = name.checksum; age = 
 -- the header's instance was received: after an event at the moment, with the router `new` as the
 -- result, for acknowledgments at this interface
 pub data IsReceived (old : Router) (moment : Moment) (event : Occurrence) (new : Router)
-    (number : InterfaceNumber) (header : Header) : Type 0 where
+    (interface : InterfaceNumber) (header : Header) : Type 0 where
   -- its acknowledgment was delayed before the event
-  Waited : Waits number header old.area.links → IsReceived old moment event new number header
+  Waited : Waits interface header old.area.links → IsReceived old moment event new interface header
   -- an instance that is at least as new is held; or it was, and was removed in this event, at
   -- MaxAge
   Held : BecameOf old moment event (instance_of header) (key_of header) new
-      → IsReceived old moment event new number header
+      → IsReceived old moment event new interface header
 
 -- why an acknowledgment is sent
 pub data IsAcknowledged (old : Router) (moment : Moment) (event : Occurrence) (new : Router)
-    (number : InterfaceNumber) (header : Header) : Type 0 where
-  Received : IsReceived old moment event new number header
-      → IsAcknowledged old moment event new number header
+    (interface : InterfaceNumber) (header : Header) : Type 0 where
+  Received : IsReceived old moment event new interface header
+      → IsAcknowledged old moment event new interface header
   -- there was nothing to flush: the header is at MaxAge, and there was no copy before the event
   NothingToFlush : finite.get old.area.database (key_of header) ≡ None
-      → is_max_age header.age ≡ true → IsAcknowledged old moment event new number header
+      → is_max_age header.age ≡ true → IsAcknowledged old moment event new interface header
 
 -- why an instance is described, or is to be
 pub data IsOfDatabase (old : Router) (moment : Moment) (event : Occurrence) (new : Router)
-    (number : InterfaceNumber) (name : LsaInstance) : Type 0 where
+    (interface : InterfaceNumber) (name : LsaInstance) : Type 0 where
   -- it was to be described before the event
-  ToDescribe : IsToDescribe number name old.area.links
-      → IsOfDatabase old moment event new number name
+  ToDescribe : IsToDescribe interface name old.area.links
+      → IsOfDatabase old moment event new interface name
   -- one that is at least as new is held; or it was, and was removed in this event, at MaxAge
   Held : BecameOf old moment event (young name) name.key new
-      → IsOfDatabase old moment event new number name
+      → IsOfDatabase old moment event new interface name
 
 pub record SaysWhatIsHeld (old : Router) (moment : Moment) (event : Occurrence)
     (sends : List Send) (new : Router) : Type 0 where
-  pub updates : (number : InterfaceNumber) (lsa : Lsa) → Updates sends number lsa
+  pub updates : (interface : InterfaceNumber) (lsa : Lsa) → Updates sends interface lsa
       → BecameOf old moment event (instance_of lsa.header) (lsa_key lsa) new
-  pub acknowledged : (number : InterfaceNumber) (header : Header)
-      → Acknowledges sends number header → IsAcknowledged old moment event new number header
-  pub waiting : (number : InterfaceNumber) (header : Header)
-      → Waits number header new.area.links → IsReceived old moment event new number header
-  pub described : (number : InterfaceNumber) (d : Description) (header : Header)
-      → Describes sends number d → Contains d.headers header
-      → IsOfDatabase old moment event new number (instance_of_header header)
-  pub to_describe : (number : InterfaceNumber) (name : LsaInstance)
-      → IsToDescribe number name new.area.links
-      → IsOfDatabase old moment event new number name
+  pub acknowledged : (interface : InterfaceNumber) (header : Header)
+      → Acknowledges sends interface header → IsAcknowledged old moment event new interface header
+  pub waiting : (interface : InterfaceNumber) (header : Header)
+      → Waits interface header new.area.links → IsReceived old moment event new interface header
+  pub described : (interface : InterfaceNumber) (d : Description) (header : Header)
+      → Describes sends interface d → Contains d.headers header
+      → IsOfDatabase old moment event new interface (instance_of_header header)
+  pub to_describe : (interface : InterfaceNumber) (name : LsaInstance)
+      → IsToDescribe interface name new.area.links
+      → IsOfDatabase old moment event new interface name
 
 -- for routers of any run: this is so for each event
 abbrev pub WhatIsSaidIsHeld : Type 0

@@ -20,27 +20,27 @@ use Rattle.agreement_laws.specs.Requests.{AcceptsKey, IsRequested}
 
 -- what becomes of such a request
 pub data StaysRequested (old : Router) (moment : Moment) (event : Occurrence)
-    (number : InterfaceNumber) (n : Neighbor) (key : Key) (entry : ListEntry) (new : Router)
+    (interface : InterfaceNumber) (n : Neighbor) (key : Key) (entry : ListEntry) (new : Router)
     : Type 0 where
-  Stays : IsRequested number (conversation_with n) key entry new
-      → StaysRequested old moment event number n key entry new
+  Stays : IsRequested interface (conversation_with n) key entry new
+      → StaysRequested old moment event interface n key entry new
   -- another Description with a header of the key is accepted
-  Again : AcceptsKey old moment event number n.router key
-      → StaysRequested old moment event number n key entry new
+  Again : AcceptsKey old moment event interface n.router key
+      → StaysRequested old moment event interface n key entry new
   -- the conversation is over
-  Over : (Converses number (conversation_with n) new → ⊥)
-      → StaysRequested old moment event number n key entry new
+  Over : (Converses interface (conversation_with n) new → ⊥)
+      → StaysRequested old moment event interface n key entry new
 
 pub record RequestsStay : Type 0 where
   -- each request
-  pub stays : OfEachEvent (λ old moment event new. (number : InterfaceNumber) (n : Neighbor)
-      → neighbor_at number old.area.links ≡ Some n
+  pub stays : OfEachEvent (λ old moment event new. (interface : InterfaceNumber) (n : Neighbor)
+      → neighbor_at interface old.area.links ≡ Some n
       → (key : Key) (entry : ListEntry) → finite.get n.requests key ≡ Some entry
       → IsForeignAndAbsent old key → BringsNone event key
-      → StaysRequested old moment event number n key entry new)
+      → StaysRequested old moment event interface n key entry new)
   -- each Description that is accepted
-  pub accepted : OfEachEvent (λ old moment event new. (number : InterfaceNumber) (n : Neighbor)
-      (d : Description) → AcceptsDescription old moment event number n d
+  pub accepted : OfEachEvent (λ old moment event new. (interface : InterfaceNumber) (n : Neighbor)
+      (d : Description) → AcceptsDescription old moment event interface n d
       → (h : Header) → IsLastOfItsKey d.headers h → IsForeignAndAbsent old (key_of h)
-      → IsRequested number (conversation_with (two_way_received moment n).neighbor) (key_of h)
+      → IsRequested interface (conversation_with (two_way_received moment n).neighbor) (key_of h)
       (record { header = h; at = moment }) new)

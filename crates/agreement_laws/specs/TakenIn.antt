@@ -32,13 +32,13 @@ pub data WasTakenIn (key : Key) (instance : Instance) : Router → List Step →
 
 -- in none of the steps another Description with a header of the key is accepted; the same one may
 -- come again
-abbrev pub AcceptsNoMore : (number : InterfaceNumber) (with_it : Conversation) → Key
-    → (old : Router) (steps : List Step) (new : Router) → GoesOn number with_it old steps new
+abbrev pub AcceptsNoMore : (interface : InterfaceNumber) (with_it : Conversation) → Key
+    → (old : Router) (steps : List Step) (new : Router) → GoesOn interface with_it old steps new
     → Type 0
-AcceptsNoMore number with_it key old [] new goes = Unit {0}
-AcceptsNoMore number with_it key old (s ∷ steps) new goes =
-    (AcceptsKey old s.moment s.event number with_it.router key → ⊥)
-    × AcceptsNoMore number with_it key goes.1 steps new goes.3
+AcceptsNoMore interface with_it key old [] new goes = Unit {0}
+AcceptsNoMore interface with_it key old (s ∷ steps) new goes =
+    (AcceptsKey old s.moment s.event interface with_it.router key → ⊥)
+    × AcceptsNoMore interface with_it key goes.1 steps new goes.3
 
 -- A run from the start to old, and a Description that is accepted then; since then the conversation
 -- has gone on, no other one with a header of the key was accepted, and by now the neighbor is Full.
@@ -46,10 +46,10 @@ abbrev pub WhatAFullNeighborDescribedWasTakenIn : Type 0
 WhatAFullNeighborDescribedWasTakenIn =
     (c : Config) (earlier : List Step) (old middle new : Router) → Run (initial c) earlier old
     → (step : Step) (rest : List Step) → Happens old step.moment step.event step.outs middle
-    → (number : InterfaceNumber) (n : Neighbor) (d : Description)
-    → AcceptsDescription old step.moment step.event number n d
+    → (interface : InterfaceNumber) (n : Neighbor) (d : Description)
+    → AcceptsDescription old step.moment step.event interface n d
     → (h : Header) → IsLastOfItsKey d.headers h
-    → (with_it : Conversation) → (goes : GoesOn number with_it middle rest new)
-    → AcceptsNoMore number with_it (key_of h) middle rest new goes
-    → (m : Neighbor) → neighbor_at number new.area.links ≡ Some m → m.state ≡ Full
+    → (with_it : Conversation) → (goes : GoesOn interface with_it middle rest new)
+    → AcceptsNoMore interface with_it (key_of h) middle rest new goes
+    → (m : Neighbor) → neighbor_at interface new.area.links ≡ Some m → m.state ≡ Full
     → WasTakenIn (key_of h) (instance_of h) old (step ∷ rest) new

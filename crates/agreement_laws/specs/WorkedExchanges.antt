@@ -43,20 +43,23 @@ pub record WorkedExchanges : Type 0 where
       → WasExchanged 1 with_it (record { header = header; at = later }) (lonely r link)
       (receives moment hello_bytes outs ∷ receives later bytes answers ∷ []) new
   -- an event: each header in a packet from the neighbor is exchanged
-  pub told : (old new : Router) (step : Step) (number : InterfaceNumber) (bytes : List ℕ)
+  pub told : (old new : Router) (step : Step) (interface : InterfaceNumber) (bytes : List ℕ)
       (packet : Packet) → Happens old step.moment step.event step.outs new
-      → step.event ≡ Occurrence.Packet number bytes → PacketText bytes packet
-      → (with_it : Conversation) → packet.router ≡ with_it.router → Converses number with_it new
+      → step.event ≡ Occurrence.Packet interface bytes → PacketText bytes packet
+      → (with_it : Conversation) → packet.router ≡ with_it.router → Converses interface with_it new
       → (header : Header) → Contains (headers_told packet.body) header
-      → WasExchanged number with_it (record { header = header; at = step.moment }) old (step ∷ [])
+      → WasExchanged interface with_it (record {
+        header = header;
+        at = step.moment;
+      }) old (step ∷ [])
       new
   -- Hellos and Link State Requests have no headers
   pub hellos : (hello : Hello) → headers_told (body.Hello hello) ≡ []
   pub requests : (keys : List Key) → headers_told (body.Request keys) ≡ []
   -- without an event nothing is exchanged
-  pub nothing : (old new : Router) (number : InterfaceNumber) (with_it : Conversation)
-      (entry : ListEntry) → WasExchanged number with_it entry old [] new → ⊥
+  pub nothing : (old new : Router) (interface : InterfaceNumber) (with_it : Conversation)
+      (entry : ListEntry) → WasExchanged interface with_it entry old [] new → ⊥
   -- what was exchanged counts only while the conversation continues
-  pub stands : (old new : Router) (steps : List Step) (number : InterfaceNumber)
+  pub stands : (old new : Router) (steps : List Step) (interface : InterfaceNumber)
       (with_it : Conversation) (entry : ListEntry)
-      → WasExchanged number with_it entry old steps new → Converses number with_it new
+      → WasExchanged interface with_it entry old steps new → Converses interface with_it new

@@ -29,15 +29,15 @@ pub record WorkedNeighbors : Type 0 where
   pub lesser_checksum : is_as_new (named (pos 5) 7) (named (pos 5) 8) ≡ false
   pub same : is_as_new (named (pos 5) 7) (named (pos 5) 7) ≡ true
   -- a router that has restarted has lost what it sent before
-  pub begun_anew : (number : InterfaceNumber) (name : LsaInstance) (text : ℕ) (before after : Party)
-      → BeginsAnew before after → text < length before.sent
-      → Forgets number name text before after
+  pub begun_anew : (interface : InterfaceNumber) (name : LsaInstance) (text : ℕ)
+      (before after : Party) → BeginsAnew before after → text < length before.sent
+      → Forgets interface name text before after
   -- a router that has a copy before and after a turn loses nothing in it that it sent since its
   -- start
-  pub kept : (number : InterfaceNumber) (name : LsaInstance) (text : ℕ) (before after : Party)
+  pub kept : (interface : InterfaceNumber) (name : LsaInstance) (text : ℕ) (before after : Party)
       (was is : DatabaseCopy) → finite.get before.router.area.database name.key ≡ Some was
       → finite.get after.router.area.database name.key ≡ Some is → after.began ≤ text
-      → Forgets number name text before after → ⊥
+      → Forgets interface name text before after → ⊥
   -- without turns nothing is lost, and nothing was exchanged
   pub nothing_forgotten : (ends : Ends) (side : Side) (name : LsaInstance) (text : ℕ) (now : Pair)
       (h : IsHistory ends now []) → HasForgotten ends side name text now [] h → ⊥

@@ -120,24 +120,27 @@ module _ (moment number other : ℕ) (lsa : Lsa) (another : Link) (m : Neighbor)
       (no_sends m)).sends
 
   is_sent : Contains (stepping_sends (flood_to moment (Some number) lsa) r.area.links) (record {
-    number = other;
+    interface = other;
     content = Content.Updates lsa;
   })
   is_sent =
       let f = flood_to moment (Some number) lsa in
       let g : (ℕ × Link) → List Send = λ e. sends_at e.0 (sent_on (f e.0 e.1) e.1.neighbor) in
-      let one : record { number = other; content = Content.Updates lsa } ∷ [] ≡ g (other, another) =
+      let one : record {
+        interface = other;
+        content = Content.Updates lsa;
+      } ∷ [] ≡ g (other, another) =
       sym (ap (λ o. sends_at other (sent_on (f other another) o)) there.neighbor_there
       ∙ ap (sends_at other) sends_it) in
       sent_on_link g other r.area.links another (record {
-        number = other;
+        interface = other;
         content = Content.Updates lsa;
       }) there.link_there
       (subst (λ (ss : List Send). Contains ss (record {
-        number = other;
+        interface = other;
         content = Content.Updates lsa;
       })) one (alone (record {
-        number = other;
+        interface = other;
         content = Content.Updates lsa;
       })))
 
@@ -222,7 +225,7 @@ aged_lsa_comes = record {
       (inserted old.area.database (lsa_key lsa) (brought lsa moment None)) in
       subst (λ (q : EventState). HasBrought q.router moment lsa × WaitsAt q.router number lsa
       × IsOwedTo q.router moment other lsa × Contains q.sends (record {
-        number = other;
+        interface = other;
         content = Content.Updates lsa;
       })) own (
         still,

@@ -93,8 +93,8 @@ loads_it : (r new : Router) (link : Link) (n : Neighbor) (moment : ℕ) (bytes :
     → Happens (beside r link (slave n)) moment (Occurrence.Packet 1 bytes) outs new
     → (shown_at new 1 ≡ Some (n.router, Loading))
     × (outs ≡ outs_of r.id (beside r link (slave n)).area.links
-    (record { number = 1; content = Content.Describes (reply moment d.sequence n.summary) }
-    ∷ record { number = 1; content = Content.Requests (key_of h ∷ []) } ∷ []))
+    (record { interface = 1; content = Content.Describes (reply moment d.sequence n.summary) }
+    ∷ record { interface = 1; content = Content.Requests (key_of h ∷ []) } ∷ []))
 loads_it r new link n moment bytes d h outs nothing said known wanted all_said none free event =
     let old : Router = beside r link (slave n) in
     let l : ListEntry = record { header = h; at = moment } in
@@ -144,10 +144,10 @@ loads_it r new link n moment bytes d h outs nothing said known wanted all_said n
       ap (λ s. shown_at s 1) (event.router ∙ ap (λ (q : EventState). q.router) end),
       event.sent ∙ ap (λ (q : EventState). outs_of r.id old.area.links q.sends) end
           ∙ ap (λ (ks : List Key). outs_of r.id old.area.links (record {
-            number = 1;
+            interface = 1;
             content = Content.Describes (reply moment d.sequence n.summary);
           }
-          ∷ record { number = 1; content = Content.Requests ks } ∷ [])) keys,
+          ∷ record { interface = 1; content = Content.Requests ks } ∷ [])) keys,
     )
 
 pub exchange_as_slave : AnExchangeAsSlave

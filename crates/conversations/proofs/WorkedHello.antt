@@ -107,7 +107,7 @@ is_heard_of old new number link moment from bytes h outs rest there none hello e
     let p : EventState = record {
       router = record old { area = record old.area { links = xs } };
       sends = record {
-        number = number;
+        interface = number;
         content = Content.Describes (initial_description (moment % 2 ^ 32));
       }
           ∷ [];

@@ -165,7 +165,7 @@ tick_sends : (r new : Router) (link : Link) (n : Neighbor) (moment : ℕ) (copy 
     → Happens (beside r link (full n)) moment Occurrence.Tick outs new
     → (again more : List Send) × (outs ≡ outs_of r.id (beside r link (full n)).area.links
     (record {
-      number = 1;
+      interface = 1;
       content = Content.Updates (originated_lsa r link n copy);
     }
     ∷ (again ++ (waiting_acknowledgments link ++ more))))
@@ -203,7 +203,7 @@ tick_sends r new link n moment copy outs due event =
     ap (end_event old moment) begun_so
     ∙ ends old moment after (λ i. (link.interface, Some (seen_same i)) ∷ []) refl in
     let content : List Send → List Send = λ rest. record {
-      number = 1;
+      interface = 1;
       content = Content.Updates newly;
     } ∷ rest in
     let in_order : (resent ++ (waiting_acknowledgments link ++ [])) ++ hellos ≡ resent
@@ -218,7 +218,7 @@ tick_sends r new link n moment copy outs due event =
       event.sent ∙ ap (λ (z : EventState). outs_of r.id old.area.links z.sends) end
           ∙ ap (λ rest. outs_of r.id old.area.links (content rest)) in_order
           ∙ ap (λ l. outs_of r.id old.area.links (record {
-            number = 1;
+            interface = 1;
             content = Content.Updates l;
           }
           ∷ (resent ++ (waiting_acknowledgments link ++ hellos)))) as_told,

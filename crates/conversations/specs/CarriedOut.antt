@@ -25,15 +25,15 @@ use Rattle.conversations.specs.WorkedOwn.{beside, loading}
 -- ---- terms
 
 -- the bytes encode this LSA, and this is its case
-pub record IsInCase (moment number : ℕ) (bytes : List ℕ) (lsa : Lsa) (p : EventState)
+pub record IsInCase (moment interface : ℕ) (bytes : List ℕ) (lsa : Lsa) (p : EventState)
     (case : Case) : Type 0 where
   pub is_read : lsa_in bytes ≡ Some lsa
-  pub is_case : case_at moment number lsa p.router.area ≡ case
+  pub is_case : case_at moment interface lsa p.router.area ≡ case
 
 -- in addition this is sent at the interface with this number
 abbrev pub sending_too : InterfaceNumber → Content → EventState → EventState
-sending_too number content p =
-    record p { sends = p.sends ++ (record { number = number; content = content } ∷ []) }
+sending_too interface content p =
+    record p { sends = p.sends ++ (record { interface = interface; content = content } ∷ []) }
 
 -- the copy of this key is marked as sent at this moment
 abbrev pub counting_as_sent : ℕ → Key → EventState → EventState
@@ -50,25 +50,25 @@ having_sent sends r link n = record { router = beside r link n; sends = sends }
 -- nothing changes, and the LSAs after it are processed
 abbrev pub IsSkipped : Case → Type 0
 IsSkipped case =
-    (moment number : ℕ) (bytes : List ℕ) (rest : List (List ℕ)) (lsa : Lsa) (p : EventState)
-    → IsInCase moment number bytes lsa p case
-    → after_lsas moment number (bytes ∷ rest) p ≡ after_lsas moment number rest p
+    (moment interface : ℕ) (bytes : List ℕ) (rest : List (List ℕ)) (lsa : Lsa) (p : EventState)
+    → IsInCase moment interface bytes lsa p case
+    → after_lsas moment interface (bytes ∷ rest) p ≡ after_lsas moment interface rest p
 
 -- a Link State Acknowledgment with its header as received is sent to the sender, and nothing else
 -- changes
 abbrev pub IsAcknowledgedAtOnce : Case → Type 0
 IsAcknowledgedAtOnce case =
-    (moment number : ℕ) (bytes : List ℕ) (rest : List (List ℕ)) (lsa : Lsa) (p : EventState)
-    → IsInCase moment number bytes lsa p case
-    → after_lsas moment number (bytes ∷ rest) p
-    ≡ after_lsas moment number rest (sending_too number (Content.Acknowledges lsa.header) p)
+    (moment interface : ℕ) (bytes : List ℕ) (rest : List (List ℕ)) (lsa : Lsa) (p : EventState)
+    → IsInCase moment interface bytes lsa p case
+    → after_lsas moment interface (bytes ∷ rest) p
+    ≡ after_lsas moment interface rest (sending_too interface (Content.Acknowledges lsa.header) p)
 
 -- ---- the ten cases
 
 pub record EachCaseIsCarriedOut : Type 0 where
-  pub unreadable : (moment number : ℕ) (bytes : List ℕ) (rest : List (List ℕ)) (p : EventState)
+  pub unreadable : (moment interface : ℕ) (bytes : List ℕ) (rest : List (List ℕ)) (p : EventState)
       → lsa_in bytes ≡ None
-      → after_lsas moment number (bytes ∷ rest) p ≡ after_lsas moment number rest p
+      → after_lsas moment interface (bytes ∷ rest) p ≡ after_lsas moment interface rest p
   pub nothing_to_flush : IsAcknowledgedAtOnce Case.NothingToFlush
   pub too_soon : IsSkipped Case.TooSoon
   pub duplicate : IsAcknowledgedAtOnce Case.Duplicate
@@ -76,13 +76,13 @@ pub record EachCaseIsCarriedOut : Type 0 where
   pub sent_just_now : IsSkipped Case.SentJustNow
   -- the copy is sent to the sender with its present age, and marked as sent, without being put on
   -- the retransmission list
-  pub older : (moment number : ℕ) (bytes : List ℕ) (rest : List (List ℕ)) (lsa : Lsa)
+  pub older : (moment interface : ℕ) (bytes : List ℕ) (rest : List (List ℕ)) (lsa : Lsa)
       (p : EventState) (c : DatabaseCopy)
-      → IsInCase moment number bytes lsa p Case.Older
+      → IsInCase moment interface bytes lsa p Case.Older
       → finite.get p.router.area.database (lsa_key lsa) ≡ Some c
-      → after_lsas moment number (bytes ∷ rest) p ≡ after_lsas moment number rest
+      → after_lsas moment interface (bytes ∷ rest) p ≡ after_lsas moment interface rest
       (counting_as_sent moment (lsa_key c.lsa)
-      (sending_too number (Content.Updates (lsa_now moment c)) p))
+      (sending_too interface (Content.Updates (lsa_now moment c)) p))
   -- an LSA of another router from a Full neighbor: it is installed, its acknowledgment is delayed,
   -- the old instance is removed from the sender's retransmission list, and nothing is sent to the
   -- sender

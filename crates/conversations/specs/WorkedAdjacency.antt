@@ -29,7 +29,7 @@ abbrev pub lonely : Router → Link → Router
 lonely r link = record r { area = record r.area { links = record link { neighbor = None } ∷ [] } }
 
 abbrev pub describes : Description → List Send
-describes d = record { number = 1; content = Content.Describes d } ∷ []
+describes d = record { interface = 1; content = Content.Describes d } ∷ []
 
 -- an accepted Hello from this router that lists this one
 pub record IsNamingHello (r : Router) (link : Link) (bytes : List ℕ) (from : ℕ)

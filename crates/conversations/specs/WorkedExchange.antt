@@ -70,5 +70,5 @@ pub record AnExchangeAsSlave : Type 0 where
       → Happens (beside r link (slave n)) moment (Occurrence.Packet 1 bytes) outs new
       → (shown_at new 1 ≡ Some (n.router, Loading))
       × (outs ≡ outs_of r.id (beside r link (slave n)).area.links
-      (record { number = 1; content = Content.Describes (reply moment d.sequence n.summary) }
-      ∷ record { number = 1; content = Content.Requests (key_of h ∷ []) } ∷ []))
+      (record { interface = 1; content = Content.Describes (reply moment d.sequence n.summary) }
+      ∷ record { interface = 1; content = Content.Requests (key_of h ∷ []) } ∷ []))

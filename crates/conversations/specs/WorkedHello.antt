@@ -18,13 +18,13 @@ use Rattle.conversations.specs.WorkedUpdates.{IsAtRest}
 -- moment's number is sent at any interface
 abbrev pub ANeighborIsHeard : Type 0
 ANeighborIsHeard =
-    (old new : Router) (number : ℕ) (link : Link) (moment from : ℕ) (bytes : List ℕ) (h : Hello)
+    (old new : Router) (interface : ℕ) (link : Link) (moment from : ℕ) (bytes : List ℕ) (h : Hello)
     (outs : List Out)
-    → IsAtRest old moment → link_at number old.area.links ≡ Some link → link.neighbor ≡ None
+    → IsAtRest old moment → link_at interface old.area.links ≡ Some link → link.neighbor ≡ None
     → IsNamingHello old link bytes from h
-    → Happens old moment (Occurrence.Packet number bytes) outs new
-    → (shown_at new number ≡ Some (from, ExStart))
+    → Happens old moment (Occurrence.Packet interface bytes) outs new
+    → (shown_at new interface ≡ Some (from, ExStart))
     × (outs ≡ outs_of old.id old.area.links (record {
-      number = number;
+      interface = interface;
       content = Content.Describes (initial_description (moment % 2 ^ 32));
     } ∷ []))

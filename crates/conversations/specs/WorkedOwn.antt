@@ -50,7 +50,7 @@ abbrev pub next_router_lsa : Router → DatabaseCopy → Lsa
 next_router_lsa r own = new_instance (router_key r.id) (Some own) (router_body r.area.links)
 
 abbrev pub sends_update : Lsa → List Send
-sends_update lsa = record { number = 1; content = Content.Updates lsa } ∷ []
+sends_update lsa = record { interface = 1; content = Content.Updates lsa } ∷ []
 
 pub record ALastRequestIsMet : Type 0 where
   -- the next instance has the next sequence number, and age 0

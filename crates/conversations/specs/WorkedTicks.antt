@@ -66,7 +66,7 @@ pub record ATickOriginates : Type 0 where
       → (again more : List Send)
       × (outs ≡ outs_of r.id (beside r link (full n)).area.links
       (record {
-        number = 1;
+        interface = 1;
         content = Content.Updates (originated_lsa r link n copy);
       } ∷ (again ++ (waiting_acknowledgments link ++ more))))
   -- if nothing is due, all delayed acknowledgments are sent

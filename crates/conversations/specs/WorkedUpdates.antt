@@ -31,8 +31,8 @@ pub record IsAtRest (r : Router) (moment : ℕ) : Type 0 where
   pub nothing_ages : NothingAges r moment
 
 -- the interface with this number has this link, and its neighbor is Full
-pub record HasFullNeighbor (r : Router) (number : ℕ) (link : Link) (n : Neighbor) : Type 0 where
-  pub link_there : link_at number r.area.links ≡ Some link
+pub record HasFullNeighbor (r : Router) (interface : ℕ) (link : Link) (n : Neighbor) : Type 0 where
+  pub link_there : link_at interface r.area.links ≡ Some link
   pub neighbor_there : link.neighbor ≡ Some n
   pub is_other : is_foreign r.id n.router ≡ true
   pub is_full : n.state ≡ Full
@@ -45,8 +45,8 @@ pub record IsUpdateWith (bytes : List ℕ) (from : ℕ) (lsa : Lsa) : Type 0 whe
 
 -- the interface with this number has a delayed acknowledgment of the LSA as it was received
 abbrev pub WaitsAt : Router → ℕ → Lsa → Type 0
-WaitsAt r number lsa =
-    (link : Link) × (link_at number r.area.links ≡ Some link)
+WaitsAt r interface lsa =
+    (link : Link) × (link_at interface r.area.links ≡ Some link)
     × (finite.get link.acknowledgments (lsa_key lsa) ≡ Some lsa.header)
 
 -- the router installed it at this moment by flooding; it may have been sent
@@ -61,8 +61,8 @@ HasBrought r moment lsa =
 
 -- only an acknowledgment of the LSA is sent, at the interface with this number
 abbrev pub acknowledges_at_once : ℕ → Lsa → List Send
-acknowledges_at_once number lsa = record {
-  number = number;
+acknowledges_at_once interface lsa = record {
+  interface = interface;
   content = Content.Acknowledges lsa.header;
 } ∷ []
 
@@ -72,15 +72,15 @@ acknowledges_at_once number lsa = record {
 -- same
 abbrev pub ANewLsaComesTwice : Type 0
 ANewLsaComesTwice =
-    (old middle new : Router) (moment number : ℕ) (bytes : List ℕ) (lsa : Lsa) (link : Link)
+    (old middle new : Router) (moment interface : ℕ) (bytes : List ℕ) (lsa : Lsa) (link : Link)
     (n : Neighbor) (outs more : List Out)
-    → IsAtRest old moment → HasFullNeighbor old number link n → requested_entry n (lsa_key lsa)
+    → IsAtRest old moment → HasFullNeighbor old interface link n → requested_entry n (lsa_key lsa)
     ≡ None
     → IsUpdateWith bytes n.router lsa
     → finite.get old.area.database (lsa_key lsa) ≡ None → lsa.header.age < 3600
     → (lsa.header.advertising_router == old.id) ≡ false
-    → Happens old moment (Occurrence.Packet number bytes) outs middle
-    → Happens middle moment (Occurrence.Packet number bytes) more new
-    → HasBrought middle moment lsa × WaitsAt middle number lsa
-    × (more ≡ outs_of middle.id middle.area.links (acknowledges_at_once number lsa))
+    → Happens old moment (Occurrence.Packet interface bytes) outs middle
+    → Happens middle moment (Occurrence.Packet interface bytes) more new
+    → HasBrought middle moment lsa × WaitsAt middle interface lsa
+    × (more ≡ outs_of middle.id middle.area.links (acknowledges_at_once interface lsa))
     × (new ≡ middle)

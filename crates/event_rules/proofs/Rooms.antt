@@ -265,7 +265,7 @@ bodies_few delay cs rooms =
 pub there : (n : ℕ) (sends : List Send) → AllByRecursion (λ (s : Send). HasRoom s.content) sends
     → AllByRecursion HasRoom (filter_map (at_interface n) sends)
 there n [] p = tt
-there n (s ∷ sends) p = by_number (s.number == n) (there n sends p.1)
+there n (s ∷ sends) p = by_number (s.interface == n) (there n sends p.1)
   where
     by_number : (b : Bool) → AllByRecursion HasRoom (filter_map (at_interface n) sends)
         → AllByRecursion HasRoom (cons_option (cond b (Some s.content) None)

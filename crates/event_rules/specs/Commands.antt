@@ -87,4 +87,4 @@ abbrev pub after_install : List (Route × ℕ) → EventState → EventState
 after_install answers p = on_router (λ (r : Router). record r { answers = answers }) p
 
 abbrev pub after_link_down : InterfaceNumber → EventState → EventState
-after_link_down number p = on_area (on_links (change_link number taken_down)) p
+after_link_down interface p = on_area (on_links (change_link interface taken_down)) p

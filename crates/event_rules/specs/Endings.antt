@@ -89,7 +89,7 @@ put_off_router_lsa before p =
 -- ---- Link State Requests (section 10.9)
 
 abbrev pub request_all : Moment → Outcome → Outcome
-request_all moment o = each_neighbor moment (λ number link n. request_next moment n) o
+request_all moment o = each_neighbor moment (λ interface link n. request_next moment n) o
 
 -- ---- removal (section 14)
 

@@ -23,9 +23,9 @@ use Rattle.event_rules.specs.Ticks.{after_tick}
 -- isn't used, since the event is refused unless both answers are for one destination (Refusals,
 -- `clashes`)
 abbrev pub OwnPart : Moment → Occurrence → EventState → EventState → Type 0
-OwnPart moment (Occurrence.Packet number bytes) before after =
+OwnPart moment (Occurrence.Packet interface bytes) before after =
     (packet : Packet) × PacketText bytes packet
-    × (after ≡ after_packet moment number packet before)
+    × (after ≡ after_packet moment interface packet before)
 OwnPart moment Occurrence.Tick before after = after ≡ after_tick moment before
 OwnPart moment (Occurrence.Redistribute tagged tag priced price) before after =
     after ≡ after_redistribute moment priced tag price before
@@ -33,8 +33,8 @@ OwnPart moment (Occurrence.Withdraw prefix) before after =
     after ≡ after_withdraw moment prefix before
 OwnPart moment (Occurrence.Install answers) before after =
     after ≡ after_install answers before
-OwnPart moment (Occurrence.LinkDown number) before after =
-    after ≡ after_link_down number before
+OwnPart moment (Occurrence.LinkDown interface) before after =
+    after ≡ after_link_down interface before
 
 -- from the router `old`, the event at this moment sends these packets and results in the router
 -- `new`

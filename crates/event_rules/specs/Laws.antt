@@ -28,6 +28,6 @@ AnswersLeaveTheArea = (answers : List (Route × ℕ)) (before : EventState)
 -- bytes of a Link State Update that encode no LSA are skipped, and the LSAs after them are
 -- processed
 abbrev pub WhatIsNoLsaIsSkipped : Type 0
-WhatIsNoLsaIsSkipped = (moment number : ℕ) (before : EventState)
-    → (case_in moment number None before ≡ Case.Unreadable)
-    × (after_unread moment number None before ≡ before) × (goes_on Case.Unreadable ≡ true)
+WhatIsNoLsaIsSkipped = (moment interface : ℕ) (before : EventState)
+    → (case_in moment interface None before ≡ Case.Unreadable)
+    × (after_unread moment interface None before ≡ before) × (goes_on Case.Unreadable ≡ true)

@@ -32,32 +32,32 @@ abbrev pub with_neighbor : Neighbor → Link → Link
 with_neighbor n link = record link { neighbor = Some n }
 
 abbrev pub accept_hello : Moment → InterfaceNumber → Step → Outcome → Outcome
-accept_hello moment number s o =
-    sending moment (sends_at number s.sends)
-    (on_links (change_link number (with_neighbor s.neighbor)) o)
+accept_hello moment interface s o =
+    sending moment (sends_at interface s.sends)
+    (on_links (change_link interface (with_neighbor s.neighbor)) o)
 
 abbrev pub receive_hello_on : (own : RouterNumber) → Moment → InterfaceNumber
     → (from : RouterNumber) → Hello → Option Link → Outcome → Outcome
-receive_hello_on own moment number from h None o = o
-receive_hello_on own moment number from h (Some link) o =
+receive_hello_on own moment interface from h None o = o
+receive_hello_on own moment interface from h (Some link) o =
     if accepts own from h link
-    then accept_hello moment number
+    then accept_hello moment interface
     (adjacencies.after_hello moment from (names own h) link.neighbor) o else o
 
 abbrev pub receive_hello : (own : RouterNumber) → Moment → InterfaceNumber
     → (from : RouterNumber) → Hello → Outcome → Outcome
-receive_hello own moment number from h o =
-    receive_hello_on own moment number from h (link_at number o.area.links) o
+receive_hello own moment interface from h o =
+    receive_hello_on own moment interface from h (link_at interface o.area.links) o
 
 -- ---- Link State Requests (section 10.7)
 
 -- the LSAs are sent, without being put on the retransmission list; if one is missing, none is sent
 abbrev pub receive_request : Moment → InterfaceNumber → List Key → Outcome → Outcome
-receive_request moment number keys o =
+receive_request moment interface keys o =
     if list_all (is_there o.area.database) keys
     then sending moment
-    (sends_at number (map Content.Updates (requested_lsas moment o.area.database keys))) o
-    else one_neighbor moment number (adjacencies.mismatch_step moment) o
+    (sends_at interface (map Content.Updates (requested_lsas moment o.area.database keys))) o
+    else one_neighbor moment interface (adjacencies.mismatch_step moment) o
 
 -- ---- Link State Updates (section 13)
 
@@ -75,25 +75,26 @@ after_self_originated Case.SentJustNow moment lsa p = p
 after_self_originated Case.Older moment lsa p = p
 
 abbrev pub after_lsa : Case → Moment → InterfaceNumber → Lsa → EventState → EventState
-after_lsa case moment number lsa p =
-    after_self_originated case moment lsa (on_area (after_case case moment number lsa) p)
+after_lsa case moment interface lsa p =
+    after_self_originated case moment lsa (on_area (after_case case moment interface lsa) p)
 
 -- the case of the LSA in the bytes, or `Unreadable` if they encode none
 abbrev pub case_in : Moment → InterfaceNumber → Option Lsa → EventState → Case
-case_in moment number None p = Case.Unreadable
-case_in moment number (Some lsa) p = case_at moment number lsa p.router.area
+case_in moment interface None p = Case.Unreadable
+case_in moment interface (Some lsa) p = case_at moment interface lsa p.router.area
 
 abbrev pub after_unread : Moment → InterfaceNumber → Option Lsa → EventState → EventState
-after_unread moment number None p = p
-after_unread moment number (Some lsa) p =
-    after_lsa (case_at moment number lsa p.router.area) moment number lsa p
+after_unread moment interface None p = p
+after_unread moment interface (Some lsa) p =
+    after_lsa (case_at moment interface lsa p.router.area) moment interface lsa p
 
 -- the LSAs of a Link State Update in order, up to a bad request
 abbrev pub after_lsas : Moment → InterfaceNumber → List (List ℕ) → EventState → EventState
-after_lsas moment number [] p = p
-after_lsas moment number (bytes ∷ rest) p =
-    let q : EventState = after_unread moment number (lsa_in bytes) p in
-    if goes_on (case_in moment number (lsa_in bytes) p) then after_lsas moment number rest q else q
+after_lsas moment interface [] p = p
+after_lsas moment interface (bytes ∷ rest) p =
+    let q : EventState = after_unread moment interface (lsa_in bytes) p in
+    if goes_on (case_in moment interface (lsa_in bytes) p) then
+    after_lsas moment interface rest q else q
 
 -- ---- the complete packet
 
@@ -104,27 +105,27 @@ is_from from (Some n) = n.router == from
 
 abbrev pub receive_description : RouterNumber → Moment → InterfaceNumber → Description → Outcome
     → Outcome
-receive_description own moment number d o =
-    one_neighbor moment number (after_description own moment o.area.database d) o
+receive_description own moment interface d o =
+    one_neighbor moment interface (after_description own moment o.area.database d) o
 
 abbrev pub receive_acknowledgment : Moment → InterfaceNumber → List Header → Outcome → Outcome
-receive_acknowledgment moment number headers o =
-    one_neighbor moment number (λ n. no_sends (after_acknowledgment moment headers n)) o
+receive_acknowledgment moment interface headers o =
+    one_neighbor moment interface (λ n. no_sends (after_acknowledgment moment headers n)) o
 
 -- a packet that is heard: a Hello of any other router, or another packet from the interface's
 -- neighbor; Link State Requests, Updates and Acknowledgments are ignored before Exchange
 abbrev pub from_neighbor : Moment → InterfaceNumber → RouterNumber → Bool → PacketBody → EventState
     → EventState
-from_neighbor moment number from counts (body.Hello h) p =
-    on_area (receive_hello p.router.id moment number from h) p
-from_neighbor moment number from counts (body.Description d) p =
-    on_area (receive_description p.router.id moment number d) p
-from_neighbor moment number from counts (body.Request keys) p =
-    if counts then on_area (receive_request moment number keys) p else p
-from_neighbor moment number from counts (body.Update lsas) p =
-    if counts then after_lsas moment number lsas p else p
-from_neighbor moment number from counts (body.Acknowledgment headers) p =
-    if counts then on_area (receive_acknowledgment moment number headers) p else p
+from_neighbor moment interface from counts (body.Hello h) p =
+    on_area (receive_hello p.router.id moment interface from h) p
+from_neighbor moment interface from counts (body.Description d) p =
+    on_area (receive_description p.router.id moment interface d) p
+from_neighbor moment interface from counts (body.Request keys) p =
+    if counts then on_area (receive_request moment interface keys) p else p
+from_neighbor moment interface from counts (body.Update lsas) p =
+    if counts then after_lsas moment interface lsas p else p
+from_neighbor moment interface from counts (body.Acknowledgment headers) p =
+    if counts then on_area (receive_acknowledgment moment interface headers) p else p
 
 abbrev pub is_hello : PacketBody → Bool
 is_hello (body.Hello h) = true
@@ -140,8 +141,8 @@ is_heard own packet n =
     is_foreign own packet.router && (is_hello packet.body || is_from packet.router n)
 
 abbrev pub after_packet : Moment → InterfaceNumber → Packet → EventState → EventState
-after_packet moment number packet p =
-    let n : Option Neighbor = neighbor_at number p.router.area.links in
+after_packet moment interface packet p =
+    let n : Option Neighbor = neighbor_at interface p.router.area.links in
     if is_heard p.router.id packet n
-    then from_neighbor moment number packet.router (any_exchange_or_later n) packet.body p
+    then from_neighbor moment interface packet.router (any_exchange_or_later n) packet.body p
     else p

@@ -123,11 +123,12 @@ abbrev pub IsSentText : RouterNumber → PacketBody → Type 0
 IsSentText own says = PacketText (canonical (packet_of own says)) (packet_of own says)
 
 abbrev pub out_of : RouterNumber → InterfaceNumber → PacketBody → Out
-out_of own number says = record { interface = number; bytes = canonical (packet_of own says) }
+out_of own interface says = record { interface = interface; bytes = canonical (packet_of own says) }
 
 abbrev pub outs_at : RouterNumber → List Send → InterfaceNumber → Link → List Out
-outs_at own sends number link =
-    map (out_of own number) (bodies link.interface.delay (filter_map (at_interface number) sends))
+outs_at own sends interface link =
+    map (out_of own interface) (bodies link.interface.delay
+    (filter_map (at_interface interface) sends))
 
 abbrev pub outs_of : RouterNumber → List Link → List Send → List Out
 outs_of own links sends =

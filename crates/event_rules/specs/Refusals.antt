@@ -26,7 +26,7 @@ bad_packet None = None
 bad_packet (Some f) = Some (error.BadPacket f)
 
 abbrev pub is_interface : InterfaceNumber → Router → Bool
-is_interface number r = nat_le 1 number && nat_le number (length r.area.links)
+is_interface interface r = nat_le 1 interface && nat_le interface (length r.area.links)
 
 -- another announced prefix has this Link State ID
 abbrev pub is_taken : Network → Option External → Bool
@@ -41,18 +41,18 @@ clashes old tagged priced =
     || is_taken priced.prefix (finite.get old.announced (external_key old.id priced.prefix))
 
 abbrev pub no_interface : InterfaceNumber → Router → Option CoreError → Option CoreError
-no_interface number old otherwise =
-    if is_interface number old then otherwise else Some error.NoInterface
+no_interface interface old otherwise =
+    if is_interface interface old then otherwise else Some error.NoInterface
 
 abbrev pub of_event : Router → Occurrence → Option CoreError
-of_event old (Occurrence.Packet number bytes) =
-    no_interface number old (bad_packet (fault_of bytes))
+of_event old (Occurrence.Packet interface bytes) =
+    no_interface interface old (bad_packet (fault_of bytes))
 of_event old Occurrence.Tick = None
 of_event old (Occurrence.Redistribute tagged tag priced price) =
     if clashes old tagged priced then Some error.Clash else None
 of_event old (Occurrence.Withdraw prefix) = None
 of_event old (Occurrence.Install answers) = None
-of_event old (Occurrence.LinkDown number) = no_interface number old None
+of_event old (Occurrence.LinkDown interface) = no_interface interface old None
 
 -- the first reason that applies, apart from the limits
 abbrev pub first_refusal : Router → Moment → Occurrence → Option CoreError

@@ -91,4 +91,4 @@ unannounced_router c = with_links c.router (map fresh_link c.interfaces) c.start
 -- the Router ID and the state of the neighbor at the interface with this number, unless it is Down
 -- or there is no such interface
 abbrev pub shown_at : Router → InterfaceNumber → Option (ℕ × NeighborState)
-shown_at r number = named_neighbor (neighbor_at number r.area.links)
+shown_at r interface = named_neighbor (neighbor_at interface r.area.links)

@@ -31,7 +31,7 @@ expire_timers moment link = record link {
 -- ---- what is retransmitted
 
 abbrev pub again : ℕ → Outcome → Stepping
-again moment o number link n =
+again moment o interface link n =
     send_again moment link.interface.retransmit_interval o.area.database n
 
 abbrev pub send_all_again : Moment → Outcome → Outcome

@@ -7,12 +7,12 @@ use Rattle.flood.specs.declared.book.entry.JournalEntry.{JournalEntry}
 -- what an event holds outside of its entry and keeps in the journal: the bytes of a packet. The
 -- answers of an Install don't count: at the next Install they are dropped
 abbrev pub held_by : Event → ℕ
-held_by (event.Packet number bytes) = length bytes
+held_by (event.Packet interface bytes) = length bytes
 held_by event.Tick = 0
 held_by (event.Redistribute tag price) = 0
 held_by (event.Withdraw prefix) = 0
 held_by (event.Install answers) = 0
-held_by (event.LinkDown number) = 0
+held_by (event.LinkDown interface) = 0
 
 -- these bytes, and those of one more event: what it holds, and 256 for its entry; at most 2^64 - 1
 abbrev pub with_event : ℕ → Event → ℕ

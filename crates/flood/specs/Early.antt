@@ -9,12 +9,12 @@ use Rattle.event_rules.specs.Routers.{Occurrence, Router}
 
 -- for the interface of a packet, or of a link that went down
 abbrev pub early_refusal_of : Router → Occurrence → Option CoreError
-early_refusal_of old (Occurrence.Packet number bytes) = no_interface number old None
+early_refusal_of old (Occurrence.Packet interface bytes) = no_interface interface old None
 early_refusal_of old Occurrence.Tick = None
 early_refusal_of old (Occurrence.Redistribute tagged tag priced price) = None
 early_refusal_of old (Occurrence.Withdraw prefix) = None
 early_refusal_of old (Occurrence.Install answers) = None
-early_refusal_of old (Occurrence.LinkDown number) = no_interface number old None
+early_refusal_of old (Occurrence.LinkDown interface) = no_interface interface old None
 
 -- for the moment, and then for the interface
 abbrev pub early_refusal : Router → Moment → Occurrence → Option CoreError

@@ -7,4 +7,4 @@ use Rattle.event_rules.specs.Routers.{Router}
 
 -- what the one at the interface with this number owes; nothing if there is none
 abbrev pub owed_at : Router → InterfaceNumber → ℕ
-owed_at r number = owed_on (neighbor_at number r.area.links)
+owed_at r interface = owed_on (neighbor_at interface r.area.links)

@@ -23,14 +23,14 @@ use Rattle.flood.specs.declared.part.Part.TheVariants as part
 -- ---- its result
 
 abbrev pub after_part : Part → Moment → EventState → EventState
-after_part (part.Packet number packet) moment p =
-    after_packet moment number packet p
+after_part (part.Packet interface packet) moment p =
+    after_packet moment interface packet p
 after_part part.Tick moment p = after_tick moment p
 after_part (part.Redistribute external tag price) moment p =
     after_redistribute moment external tag price p
 after_part (part.Withdraw prefix) moment p = after_withdraw moment prefix p
 after_part (part.Install answers) moment p = after_install answers p
-after_part (part.LinkDown number) moment p = after_link_down number p
+after_part (part.LinkDown interface) moment p = after_link_down interface p
 
 -- it is the own part of this event
 pub record IsPartOf (event : Occurrence) (p : Part) : Type 0 where
@@ -39,12 +39,12 @@ pub record IsPartOf (event : Occurrence) (p : Part) : Type 0 where
 
 -- the packet was received at one of the given number of interfaces
 abbrev pub HasInterface : Part → ℕ → Type 0
-HasInterface (part.Packet number packet) count = (1 ≤ number) × (number ≤ count)
+HasInterface (part.Packet interface packet) count = (1 ≤ interface) × (interface ≤ count)
 HasInterface part.Tick count = Unit {0}
 HasInterface (part.Redistribute external tag price) count = Unit {0}
 HasInterface (part.Withdraw prefix) count = Unit {0}
 HasInterface (part.Install answers) count = Unit {0}
-HasInterface (part.LinkDown number) count = Unit {0}
+HasInterface (part.LinkDown interface) count = Unit {0}
 
 -- ---- the complete event
 
@@ -66,13 +66,13 @@ pub record PartHappens (old : Router) (moment : Moment) (p : Part) (sent : List 
 -- ---- refusals that depend on the bytes, or on the answers
 
 abbrev pub late_refusal : Router → Occurrence → Option CoreError
-late_refusal old (Occurrence.Packet number bytes) = bad_packet (fault_of bytes)
+late_refusal old (Occurrence.Packet interface bytes) = bad_packet (fault_of bytes)
 late_refusal old Occurrence.Tick = None
 late_refusal old (Occurrence.Redistribute tagged tag priced price) =
     if clashes old tagged priced then Some error.Clash else None
 late_refusal old (Occurrence.Withdraw prefix) = None
 late_refusal old (Occurrence.Install answers) = None
-late_refusal old (Occurrence.LinkDown number) = None
+late_refusal old (Occurrence.LinkDown interface) = None
 
 -- the result is the refusal that applies, or that an allocation was refused
 abbrev pub RefusesAs : {X : Type 0} → Option CoreError → Result X CoreError → Type 0

@@ -62,12 +62,12 @@ start_of (Some start) now = start
 
 -- the event, of which an Install has lost its answers
 abbrev pub without_answers : Event → Event
-without_answers (event.Packet number bytes) = event.Packet number bytes
+without_answers (event.Packet interface bytes) = event.Packet interface bytes
 without_answers event.Tick = event.Tick
 without_answers (event.Redistribute tag price) = event.Redistribute tag price
 without_answers (event.Withdraw prefix) = event.Withdraw prefix
 without_answers (event.Install answers) = event.Install []
-without_answers (event.LinkDown number) = event.LinkDown number
+without_answers (event.LinkDown interface) = event.LinkDown interface
 
 -- the journal ends with an Install, which stands at this place
 abbrev pub IsInstalledLast : List JournalEntry → (last : ℕ) → Type 0

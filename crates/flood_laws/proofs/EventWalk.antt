@@ -72,7 +72,7 @@ pub came : {start : EventState} {event : Occurrence} {number : ℕ} {packet : Pa
     → IsHeard start event number packet → (lsa : Lsa) → Contains (lsas_brought packet.body) lsa
     → BringsLsa event lsa
 came {start} {event} {number} {packet} heard lsa among = record {
-  number = number;
+  interface = number;
   bytes = heard.bytes;
   packet = packet;
   is = heard.is;

@@ -688,7 +688,7 @@ module _ (old : Router) (moment : ℕ) (event : Occurrence) (number : ℕ) (befo
         record {
           lsa = lsa;
           brought = record {
-            number = place;
+            interface = place;
             bytes = heard.bytes;
             packet = packet;
             is = heard.is;

@@ -38,7 +38,7 @@ pub at_number : (R : Content → Type 0) (n : ℕ) (sends : List Send)
     → AllByRecursion (λ (s : Send). R s.content) sends
     → AllByRecursion R (filter_map (at_interface n) sends)
 at_number R n [] p = tt
-at_number R n (s ∷ sends) p = by_number (s.number == n) (at_number R n sends p.1)
+at_number R n (s ∷ sends) p = by_number (s.interface == n) (at_number R n sends p.1)
   where
     by_number : (b : Bool) → AllByRecursion R (filter_map (at_interface n) sends)
         → AllByRecursion R (cons_option (cond b (Some s.content) None)
@@ -155,7 +155,7 @@ module _ (K : LsaInstance → Type 0) where
       both (IsOutOf K own) (outs_at own sends n link)
       (flat_map (λ (e : ℕ × Link). outs_at own sends e.0 e.1) (enumerate_from (n + 1) links))
       (mapped_all (out_of own n) (Bears K) (IsOutOf K own) (λ b bears. record {
-        number = n;
+        interface = n;
         says = b;
         is = refl;
         bears = bears;

@@ -72,7 +72,7 @@ module _ (old : Router) (moment number : ℕ) (n : Neighbor) (name : LsaInstance
   not_flooded (IsFlooded.Newer newer st) =
       let b : BringsLsa event newer.lsa = newer.brought in
       of_empty newer.lsa (subst (λ (p : Packet). Contains (lsas_brought p.body) newer.lsa)
-      (sym (is_it b.number b.bytes b.packet b.is b.text)) b.among)
+      (sym (is_it b.interface b.bytes b.packet b.is b.text)) b.among)
   not_flooded (IsFlooded.Originated it st) = it.not_before it.now
   not_flooded (IsFlooded.Aged comes asked) = let no_such : true ≡ false = sym comes ∙ at.young in
       absurd cc

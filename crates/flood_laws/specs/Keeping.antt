@@ -49,13 +49,13 @@ pub record HoldsInstances (r : Router) : Type 0 where
 
 -- the address that a `Redistribute` announces
 abbrev pub AnnouncesAddress : Occurrence → Type 0
-AnnouncesAddress (Occurrence.Packet number bytes) = Unit {0}
+AnnouncesAddress (Occurrence.Packet interface bytes) = Unit {0}
 AnnouncesAddress Occurrence.Tick = Unit {0}
 AnnouncesAddress (Occurrence.Redistribute tagged tag priced price) =
     priced.prefix.address < 2 ^ 32
 AnnouncesAddress (Occurrence.Withdraw prefix) = Unit {0}
 AnnouncesAddress (Occurrence.Install answers) = Unit {0}
-AnnouncesAddress (Occurrence.LinkDown number) = Unit {0}
+AnnouncesAddress (Occurrence.LinkDown interface) = Unit {0}
 
 pub record InstancesStayInRange : Type 0 where
   -- at the start
@@ -83,9 +83,9 @@ WhatIsTakenOffWasTold =
 
 -- all that is sent at an interface
 abbrev pub AreTextsAt : RouterNumber → List Send → InterfaceNumber → Link → Type 0
-AreTextsAt own sends number link =
+AreTextsAt own sends interface link =
     AllByRecursion (IsSentText own)
-    (bodies link.interface.delay (filter_map (at_interface number) sends))
+    (bodies link.interface.delay (filter_map (at_interface interface) sends))
 
 -- at every interface
 abbrev pub AreTexts : RouterNumber → List Link → List Send → Type 0

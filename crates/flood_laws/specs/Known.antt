@@ -50,9 +50,9 @@ Bears K (packets.Acknowledgment headers) = AllByRecursion (λ h. K (instance_of_
 
 -- the canonical encoding of a packet from this router
 pub record IsOutOf (K : LsaInstance → Type 0) (own : ℕ) (out : Out) : Type 0 where
-  pub number : ℕ
+  pub interface : ℕ
   pub says : PacketBody
-  pub is : out ≡ out_of own number says
+  pub is : out ≡ out_of own interface says
   pub bears : Bears K says
 
 pub record HoldsWhatIsKnown (old : Router) (moment : Moment) (event : Occurrence)

@@ -11,12 +11,12 @@ use Rattle.event_rules.specs.Routers.{Occurrence, Router}
 
 -- a `Packet` may bring LSAs, and a `Redistribute` checks the limits only afterwards
 abbrev pub may_exceed : Occurrence → Bool
-may_exceed (Occurrence.Packet number bytes) = true
+may_exceed (Occurrence.Packet interface bytes) = true
 may_exceed Occurrence.Tick = false
 may_exceed (Occurrence.Redistribute tagged tag priced price) = true
 may_exceed (Occurrence.Withdraw prefix) = false
 may_exceed (Occurrence.Install answers) = false
-may_exceed (Occurrence.LinkDown number) = false
+may_exceed (Occurrence.LinkDown interface) = false
 
 -- the announced destinations have keys of AS-external-LSAs
 abbrev pub AnnouncesExternals : Router → Type 0

@@ -29,10 +29,10 @@ lsas_brought (body.Acknowledgment headers) = []
 
 -- the event's Link State Update has this LSA
 pub record BringsLsa (event : Occurrence) (lsa : Lsa) : Type 0 where
-  pub number : InterfaceNumber
+  pub interface : InterfaceNumber
   pub bytes : List ℕ
   pub packet : Packet
-  pub is : event ≡ Occurrence.Packet number bytes
+  pub is : event ≡ Occurrence.Packet interface bytes
   pub text : PacketText bytes packet
   pub among : Contains (lsas_brought packet.body) lsa
 

@@ -23,10 +23,10 @@ use Rattle.flood_laws.specs.NewInstances.{BringsLsa, Originates}
 
 -- in Exchange or later before the event and after it, with the same router: nothing has cleared the
 -- lists
-pub record StaysAdjacent (old new : Router) (number : InterfaceNumber) (before after : Neighbor)
+pub record StaysAdjacent (old new : Router) (interface : InterfaceNumber) (before after : Neighbor)
     : Type 0 where
-  pub was : neighbor_at number old.area.links ≡ Some before
-  pub is : neighbor_at number new.area.links ≡ Some after
+  pub was : neighbor_at interface old.area.links ≡ Some before
+  pub is : neighbor_at interface new.area.links ≡ Some after
   pub same_router : after.router ≡ before.router
   pub from : is_exchange_or_later before.state ≡ true
   pub on : is_exchange_or_later after.state ≡ true
@@ -71,48 +71,48 @@ comes_to_max_age before moment (Some c) is =
     if is_aged_out moment c then not (is_aged_out before c) else is_gone_or_aged moment is
 
 -- the LSA is on the neighbor's request list, or the neighbor describes it in this event
-pub data IsAsked (event : Occurrence) (number : InterfaceNumber) (before : Neighbor) (key : Key)
+pub data IsAsked (event : Occurrence) (interface : InterfaceNumber) (before : Neighbor) (key : Key)
     : Type 0 where
-  Before : finite.contains_key before.requests key ≡ true → IsAsked event number before key
+  Before : finite.contains_key before.requests key ≡ true → IsAsked event interface before key
   Now : (bytes : List ℕ) (packet : Packet) (d : Description)
-      → event ≡ Occurrence.Packet number bytes → PacketText bytes packet
+      → event ≡ Occurrence.Packet interface bytes → PacketText bytes packet
       → packet.body ≡ body.Description d → Contains (map key_of d.headers) key
-      → IsAsked event number before key
+      → IsAsked event interface before key
 
 -- the LSA is flooded in this event, so that its entry is replaced or removed: a newer instance was
 -- received, or originated, and stored; or the copy reached MaxAge, and a newer instance may be
 -- requested of the neighbor
 pub data IsFlooded (old : Router) (moment : Moment) (event : Occurrence) (new : Router)
-    (number : InterfaceNumber) (before : Neighbor) (key : Key) : Type 0 where
+    (interface : InterfaceNumber) (before : Neighbor) (key : Key) : Type 0 where
   Newer : BringsNewer old moment event key
       → is_gone_or_stored moment (finite.get new.area.database key) ≡ true
-      → IsFlooded old moment event new number before key
+      → IsFlooded old moment event new interface before key
   Originated : Originates old moment new key
       → is_gone_or_stored moment (finite.get new.area.database key) ≡ true
-      → IsFlooded old moment event new number before key
+      → IsFlooded old moment event new interface before key
   Aged : comes_to_max_age old.moment moment (finite.get old.area.database key)
       (finite.get new.area.database key) ≡ true
-      → IsAsked event number before key → IsFlooded old moment event new number before key
+      → IsAsked event interface before key → IsFlooded old moment event new interface before key
 
 -- ---- what is removed as acknowledged
 
 -- the instance was on the retransmission list of the neighbor at this interface and no longer is,
 -- although the adjacency wasn't given up and the LSA wasn't flooded
 pub record IsTakenOff (old : Router) (moment : Moment) (event : Occurrence) (new : Router)
-    (number : InterfaceNumber) (before : Neighbor) (name : LsaInstance) : Type 0 where
+    (interface : InterfaceNumber) (before : Neighbor) (name : LsaInstance) : Type 0 where
   pub after : Neighbor
-  pub adjacent : StaysAdjacent old new number before after
+  pub adjacent : StaysAdjacent old new interface before after
   pub stood : owes before name.key ≡ Some name
   pub left : owes after name.key ≡ Some name → ⊥
-  pub not_flooded : IsFlooded old moment event new number before name.key → ⊥
+  pub not_flooded : IsFlooded old moment event new interface before name.key → ⊥
 
 -- the event's packet was received at this interface from this router, and has the instance: it is a
 -- Link State Acknowledgment that identifies it, or a Link State Update that contains it
-pub record IsTold (event : Occurrence) (number : InterfaceNumber) (router : RouterNumber)
+pub record IsTold (event : Occurrence) (interface : InterfaceNumber) (router : RouterNumber)
     (name : LsaInstance) : Type 0 where
   pub bytes : List ℕ
   pub packet : Packet
-  pub is : event ≡ Occurrence.Packet number bytes
+  pub is : event ≡ Occurrence.Packet interface bytes
   pub text : PacketText bytes packet
   pub from : packet.router ≡ router
   pub told : Contains (instances_advertised packet.body) name
@@ -120,5 +120,6 @@ pub record IsTold (event : Occurrence) (number : InterfaceNumber) (router : Rout
 -- what a step removes as acknowledged, the neighbor's packet has
 abbrev pub TakesOffWhatIsTold : Router → Moment → Occurrence → Router → Type 0
 TakesOffWhatIsTold old moment event new =
-    (number : InterfaceNumber) (before : Neighbor) (name : LsaInstance)
-    → IsTakenOff old moment event new number before name → IsTold event number before.router name
+    (interface : InterfaceNumber) (before : Neighbor) (name : LsaInstance)
+    → IsTakenOff old moment event new interface before name
+    → IsTold event interface before.router name

@@ -44,8 +44,8 @@ instances_stored r =
 pub data IsKnown (old : Router) (event : Occurrence) (originated : List LsaInstance)
     (name : LsaInstance) : Type 0 where
   Held : Contains (instances_stored old) name → IsKnown old event originated name
-  Brought : (number : ℕ) (bytes : List ℕ) (packet : Packet) → event ≡ Occurrence.Packet number bytes
-      → PacketText bytes packet
+  Brought : (interface : ℕ) (bytes : List ℕ) (packet : Packet)
+      → event ≡ Occurrence.Packet interface bytes → PacketText bytes packet
       → Contains (instances_received packet.body) name → IsKnown old event originated name
   Originated : Contains originated name → IsKnown old event originated name
 
@@ -113,25 +113,25 @@ known_as router names = map (knows router) names
 
 -- the instances that a router receives in an event
 abbrev pub Brings : Occurrence → List LsaInstance → Type 0
-Brings (Occurrence.Packet number bytes) names =
+Brings (Occurrence.Packet interface bytes) names =
     (packet : Packet) × PacketText bytes packet × (names ≡ instances_received packet.body)
 Brings Occurrence.Tick names = names ≡ []
 Brings (Occurrence.Redistribute tagged tag priced price) names = names ≡ []
 Brings (Occurrence.Withdraw prefix) names = names ≡ []
 Brings (Occurrence.Install answers) names = names ≡ []
-Brings (Occurrence.LinkDown number) names = names ≡ []
+Brings (Occurrence.LinkDown interface) names = names ≡ []
 
 -- the bytes of a packet were sent at the other end of the link at some time; all else may happen at
 -- any time
 abbrev pub MayHappen : Joins → World → InterfaceNumber → Occurrence → Type 0
-MayHappen joins w place (Occurrence.Packet number bytes) =
+MayHappen joins w place (Occurrence.Packet interface bytes) =
     (d : Datagram) × Contains w.sent d
-    × (joins (record { router = place; interface = number }) ≡ Some d.from) × (bytes ≡ d.bytes)
+    × (joins (record { router = place; interface = interface }) ≡ Some d.from) × (bytes ≡ d.bytes)
 MayHappen joins w place Occurrence.Tick = Unit {0}
 MayHappen joins w place (Occurrence.Redistribute tagged tag priced price) = Unit {0}
 MayHappen joins w place (Occurrence.Withdraw prefix) = Unit {0}
 MayHappen joins w place (Occurrence.Install answers) = Unit {0}
-MayHappen joins w place (Occurrence.LinkDown number) = Unit {0}
+MayHappen joins w place (Occurrence.LinkDown interface) = Unit {0}
 
 -- an event of the router at this index
 pub record Lives (joins : Joins) (before : World) (place moment : ℕ) (event : Occurrence)
@@ -198,14 +198,14 @@ pub record AcknowledgedWasReceived : Type 0 where
       → have_names_apart configs ≡ true → list_all in_profile configs ≡ true
       → IsHistory joins (begun_with configs) steps w
       → (place moment : ℕ) (event : Occurrence) → Lives joins w place moment event after
-      → (number : InterfaceNumber) (router : RouterNumber) (name : LsaInstance)
-      → IsTold event number router name → Contains w.known (knows router name)
+      → (interface : InterfaceNumber) (router : RouterNumber) (name : LsaInstance)
+      → IsTold event interface router name → Contains w.known (knows router name)
   -- if an entry is removed from a neighbor's retransmission list, and neither is the adjacency
   -- given up nor the LSA flooded, that neighbor had received or originated the instance
   pub left : (joins : Joins) (configs : List Config) (steps : List World) (w after : World)
       → have_names_apart configs ≡ true → list_all in_profile configs ≡ true
       → IsHistory joins (begun_with configs) steps w
       → (place moment : ℕ) (event : Occurrence) (lives : Lives joins w place moment event after)
-      → (number : InterfaceNumber) (n : Neighbor) (name : LsaInstance)
-      → IsTakenOff lives.old moment event lives.new number n name
+      → (interface : InterfaceNumber) (n : Neighbor) (name : LsaInstance)
+      → IsTakenOff lives.old moment event lives.new interface n name
       → Contains w.known (knows n.router name)

@@ -27,17 +27,17 @@ abbrev pub release_on : Key → Link → Link
 release_on key link = record link { neighbor = remove_retransmission_in key link.neighbor }
 
 abbrev pub without_entry : InterfaceNumber → Key → Router → Router
-without_entry number key r =
+without_entry interface key r =
     record r {
-      area = record r.area { links = change_link number (release_on key) r.area.links };
+      area = record r.area { links = change_link interface (release_on key) r.area.links };
     }
 
 -- a neighbor in Exchange or later has an instance on its retransmission list whose LSA doesn't
 -- reach MaxAge by this moment; and these bytes are a Link State Acknowledgment from it that doesn't
 -- identify that instance
-pub record AcknowledgesAnother (old : Router) (moment : Moment) (number : InterfaceNumber)
+pub record AcknowledgesAnother (old : Router) (moment : Moment) (interface : InterfaceNumber)
     (n : Neighbor) (name : LsaInstance) (bytes : List ℕ) (headers : List Header) : Type 0 where
-  pub there : neighbor_at number old.area.links ≡ Some n
+  pub there : neighbor_at interface old.area.links ≡ Some n
   pub part : is_exchange_or_later n.state ≡ true
   pub owed : owes n name.key ≡ Some name
   pub young : comes_to_max_age old.moment moment (finite.get old.area.database name.key)
@@ -49,9 +49,10 @@ pub record AcknowledgesAnother (old : Router) (moment : Moment) (number : Interf
 -- a step that removes that entry doesn't have the properties of a router's step, whatever it sends
 abbrev pub AnotherAcknowledgmentTakesNothingOff : Type 0
 AnotherAcknowledgmentTakesNothingOff =
-    (old : Router) (moment : Moment) (number : InterfaceNumber) (n : Neighbor)
+    (old : Router) (moment : Moment) (interface : InterfaceNumber) (n : Neighbor)
     (name : LsaInstance) (bytes : List ℕ) (headers : List Header)
-    → AcknowledgesAnother old moment number n name bytes headers
+    → AcknowledgesAnother old moment interface n name bytes headers
     → (outs : List Out) (originated : List LsaInstance)
-    → Keeps old moment (Occurrence.Packet number bytes) outs (without_entry number name.key old)
+    → Keeps old moment (Occurrence.Packet interface bytes) outs
+    (without_entry interface name.key old)
     originated → ⊥

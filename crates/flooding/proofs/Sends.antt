@@ -28,7 +28,8 @@ pub picked_append : (k : ℕ) (xs ys : List Send)
     → filter_map (at_interface k) (xs ++ ys) ≡ filter_map (at_interface k) xs
     ++ filter_map (at_interface k) ys
 picked_append k [] ys = refl
-picked_append k (x ∷ xs) ys = by_number k x (x.number == k) (filter_map (at_interface k) (xs ++ ys))
+picked_append k (x ∷ xs) ys = by_number k x (x.interface == k)
+    (filter_map (at_interface k) (xs ++ ys))
     (filter_map (at_interface k) xs) (filter_map (at_interface k) ys) (picked_append k xs ys)
 
 pub picked_here : (k : ℕ) (cs : List Content) → filter_map (at_interface k) (sends_at k cs) ≡ cs

@@ -11,8 +11,8 @@ abbrev pub nothing_at : List Link → List Drafted
 nothing_at links = map (λ (link : Link). nothing_drafted) links
 
 abbrev pub drafted_at : InterfaceNumber → List Send → Link → Drafted → Drafted
-drafted_at number sends link d =
-    drafting link.interface.delay (filter_map (at_interface number) sends) d
+drafted_at interface sends link d =
+    drafting link.interface.delay (filter_map (at_interface interface) sends) d
 
 -- `n` is the number of the first link
 abbrev pub drafted_from : InterfaceNumber → List Send → List Link → List Drafted → List Drafted

@@ -30,10 +30,10 @@ sent_by f (Some link) = f link
 -- it sends in Link State Updates are marked as sent
 abbrev pub one_link : Moment → InterfaceNumber → (after : Database → Link → Link)
     → (sends : Database → Link → List Content) → Outcome → Outcome
-one_link moment number after sends o =
+one_link moment interface after sends o =
     let db : Database = o.area.database in
-    sending moment (sends_at number (sent_by (sends db) (link_at number o.area.links)))
-    (on_links (change_link number (after db)) o)
+    sending moment (sends_at interface (sent_by (sends db) (link_at interface o.area.links)))
+    (on_links (change_link interface (after db)) o)
 
 -- ---- what a link retransmits
 

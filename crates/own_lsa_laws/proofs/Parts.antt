@@ -513,7 +513,7 @@ copy_kept moment number t (Some c) p h = record {
   externals = h.externals;
   earlier = h.earlier;
   copies = sent_kept moment (full t) p.router (record {
-    number = number;
+    interface = number;
     content = Content.Updates (lsa_now moment c);
   } ∷ []) p.router.area.database
       h.copies;

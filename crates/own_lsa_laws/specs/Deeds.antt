@@ -48,10 +48,10 @@ heard (deed ∷ deeds) = heard_by deed ++ heard deeds
 
 abbrev pub but_ticks : Work → List Work
 but_ticks Tick = []
-but_ticks (Datagram number bytes) = Datagram number bytes ∷ []
+but_ticks (Datagram interface bytes) = Datagram interface bytes ∷ []
 but_ticks (Add external) = Add external ∷ []
 but_ticks (Withdraw prefix) = Withdraw prefix ∷ []
-but_ticks (Down number) = Down number ∷ []
+but_ticks (Down interface) = Down interface ∷ []
 but_ticks Refresh = Refresh ∷ []
 
 abbrev pub given_by : Deed → List Work
@@ -68,10 +68,10 @@ given (deed ∷ deeds) = given_by deed ++ given deeds
 
 abbrev pub tick_of : (before : Option ℕ) → (work : Work) → (ended : ℕ) → Option ℕ
 tick_of before Tick ended = Some ended
-tick_of before (Datagram number bytes) ended = before
+tick_of before (Datagram interface bytes) ended = before
 tick_of before (Add external) ended = before
 tick_of before (Withdraw prefix) ended = before
-tick_of before (Down number) ended = before
+tick_of before (Down interface) ended = before
 tick_of before Refresh ended = before
 
 abbrev pub tick_after : (before : Option ℕ) → Deed → Option ℕ
@@ -95,11 +95,11 @@ EndsWith deeds last = (front : List Deed) × (deeds ≡ front ++ last)
 abbrev pub IsWorkAfter : (earlier : List Deed) → (moment : ℕ) → Work → Type 0
 IsWorkAfter earlier moment Tick =
     EndsWith earlier (Deed.Looks moment ∷ []) × (last_tick None earlier ≢ Some moment)
-IsWorkAfter earlier moment (Datagram number bytes) =
+IsWorkAfter earlier moment (Datagram interface bytes) =
     EndsWith earlier (Deed.Listens (Some bytes) ∷ Deed.Looks moment ∷ [])
 IsWorkAfter earlier moment (Add external) = ⊥
 IsWorkAfter earlier moment (Withdraw prefix) = ⊥
-IsWorkAfter earlier moment (Down number) = ⊥
+IsWorkAfter earlier moment (Down interface) = ⊥
 IsWorkAfter earlier moment Refresh = ⊥
 
 -- It looks at its clock first, and then after it listened, or after a turn with a datagram.
@@ -107,8 +107,8 @@ abbrev pub IsLookingAfter : (earlier : List Deed) → Type 0
 IsLookingAfter earlier =
     (earlier ≡ [])
     ⊎ ((heard : Option (List ℕ)) × EndsWith earlier (Deed.Listens heard ∷ []))
-    ⊎ ((moment : ℕ) × (number : ℕ) × (bytes : List ℕ) × (ended : ℕ)
-    × EndsWith earlier (Deed.Gives moment (Datagram number bytes) ended ∷ []))
+    ⊎ ((moment : ℕ) × (interface : ℕ) × (bytes : List ℕ) × (ended : ℕ)
+    × EndsWith earlier (Deed.Gives moment (Datagram interface bytes) ended ∷ []))
 
 -- It listens after a Tick, or after its clock showed the moment of the last Tick: each second that
 -- it sees has had its Tick by then, except one at which it looks for a datagram's turn.

@@ -10,8 +10,8 @@ use Rattle.received.specs.Outcomes.{Send, at_interface}
 
 -- the draft of what is sent at the interface with this number, which is the link's; each content
 -- fits into a packet
-pub record IsDraftAt (number : InterfaceNumber) (link : Link) (sends : List Send)
+pub record IsDraftAt (interface : InterfaceNumber) (link : Link) (sends : List Send)
     (draft : Drafted) : Type 0 where
   pub drafted : draft
-      ≡ drafting link.interface.delay (filter_map (at_interface number) sends) nothing_drafted
+      ≡ drafting link.interface.delay (filter_map (at_interface interface) sends) nothing_drafted
   pub room : AllByRecursion (λ (s : Send). HasRoom s.content) sends
