@@ -23,7 +23,7 @@ ghost use Rattle.turns.specs.Turns.{
 
 use crate::port::Port;
 use crate::site::Site;
-use crate::taker::{Taken, Taker};
+use crate::taker::{TakeOutcome, Taker};
 use crate::turned::TurnError;
 use flood::{Book, BookError, CoreError, Event, NeighborState, Offered};
 use hooks::Notice;
@@ -119,7 +119,7 @@ impl<L: Site, B: Taker<L>> Hub<L, B> {
         mine: &mut Share<L>,
         moment: Second,
         event: Event,
-    ) -> Result<Taken, BookError>
+    ) -> Result<TakeOutcome, BookError>
         requires { 0 < mine.old.parts }
         ensures ok { IfOk result (λ r.
             IsTaken B.took mine.old.amount moment event r.outs.items r.stale) }
@@ -145,7 +145,7 @@ impl<L: Site, B: Taker<L>> Hub<L, B> {
         moment: Second,
         event: Event,
         changes: u64,
-    ) -> Result<Taken, TurnError>
+    ) -> Result<TakeOutcome, TurnError>
         requires { 0 < mine.old.parts }
         ensures ok { IfOk result (λ r.
             IsTaken B.took mine.old.amount moment event r.outs.items r.stale) }

@@ -24,7 +24,7 @@ pub use gate::{Gate, Open};
 pub use hub::Hub;
 pub use port::Port;
 pub use site::{Site, WorkerSeat};
-pub use taker::{Taken, Taker};
+pub use taker::{TakeOutcome, Taker};
 pub use turned::{TurnError, TurnOutcome};
 pub use turns::turn;
 pub use work::Work;

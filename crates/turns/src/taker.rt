@@ -52,10 +52,11 @@ use std::sync::atomic::{AtomicU64, Ordering};
 use std::sync::ledger::Share;
 use words::{External, Prefix, Route, RouterId, Second, Sequence, TableRow};
 
-/// What an event sends, and whether it left the router stale: some candidate stands in no answer of
-/// the last `Install` then. None if that isn't known, for want of memory.
+/// What comes of taking an event: what is sent, and whether the router is stale after it: some
+/// candidate stands in no answer of the last `Install` then. None if that isn't known, for want of
+/// memory.
 #[derive(Drop)]
-pub struct Taken {
+pub struct TakeOutcome {
     pub outs: Vec<Out>,
     pub stale: Option<bool>,
 }
@@ -95,7 +96,7 @@ pub trait Taker<L: Origin> {
         mine: &mut Share<L>,
         moment: Second,
         event: Event,
-    ) -> Result<Taken, BookError>
+    ) -> Result<TakeOutcome, BookError>
         requires { 0 < mine.old.parts }
         ensures ok { IfOk result (λ t.
             IsTaken took mine.old.amount moment event t.outs.items t.stale) }
@@ -302,7 +303,7 @@ impl<L: Origin> Taker<L> for Book<L> {
         mine: &mut Share<L>,
         moment: Second,
         event: Event,
-    ) -> Result<Taken, BookError>
+    ) -> Result<TakeOutcome, BookError>
         requires { 0 < mine.old.parts }
         ensures now { IfOk result (λ t. Happens
             self.old.current (taken_at event moment self.old.current.moment)
@@ -327,7 +328,7 @@ impl<L: Origin> Taker<L> for Book<L> {
         match self.apply_anew(mine, at, event) {
             Ok(outs) => {
                 let stale = known(self.is_stale());
-                Ok(Taken { outs, stale })
+                Ok(TakeOutcome { outs, stale })
             }
             Err(error) => Err(error),
         }

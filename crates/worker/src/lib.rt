@@ -24,6 +24,6 @@ pub use sockets::waiting::{Ear, ListensAt, SystemPoller, Waits};
 pub use sockets::wire::{BindsSockets, SystemSockets, Wire, bind_each, bind_each_with};
 pub use turns::{
     Book, BookError, Config, ConfigError, Core, CoreError, Event, Gate, Hub, Interface,
-    NeighborState, Offered, Open, Origin, Out, Port, Site, Taken, Taker, TurnError, TurnOutcome,
-    Work, WorkerSeat, turn,
+    NeighborState, Offered, Open, Origin, Out, Port, Site, TakeOutcome, Taker, TurnError,
+    TurnOutcome, Work, WorkerSeat, turn,
 };

@@ -12,7 +12,8 @@ use std::sync::atomic::AtomicU64;
 use std::sync::ledger::Share;
 use words::{External, ExternalType, Prefix, Route, RouterId, Second, Sequence, TableRow};
 use worker::{
-    Book, BookError, Event, Hub, NeighborState, Offered, Open, Port, Site, Taken, Taker, Work, turn,
+    Book, BookError, Event, Hub, NeighborState, Offered, Open, Port, Site, TakeOutcome, Taker,
+    Work, turn,
 };
 
 // A book that is refused memory for its table and its candidates. Only what an announcement needs
@@ -50,7 +51,7 @@ impl<L: Site> Taker<L> for Tableless<L> {
         mine: &mut Share<L>,
         moment: Second,
         event: Event,
-    ) -> Result<Taken, BookError> {
+    ) -> Result<TakeOutcome, BookError> {
         self.book.take(mine, moment, event)
     }
 
