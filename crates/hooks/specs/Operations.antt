@@ -28,10 +28,11 @@ pub record Program : Type 0 where
 abbrev pub program_of : verifier.Program → Program
 program_of p = record { code = p.code; hook = p.hook; bound = p.bound; regions = p.regions }
 
--- the verifier accepts it
-abbrev pub IsAccepted : Program → Type 0
-IsAccepted p =
-    verifier.IsAccepted (record {
+-- its code is well made, and each run of it is safe and ends within the bound, as of every
+-- `Accepted`; nothing is said of a call of `verify`
+abbrev pub IsSafeProgram : Program → Type 0
+IsSafeProgram p =
+    verifier.IsSafeProgram (record {
       code = p.code;
       hook = p.hook;
       bound = p.bound;
@@ -68,7 +69,7 @@ default_of Veto input = 0
 -- the word of a run, with these labels, of an accepted program at its hook
 pub record RunsTo (program : Program) (input : Given) (labels : List Label)
     (word : ℕ) : Type 0 where
-  pub accepted : IsAccepted program
+  pub accepted : IsSafeProgram program
   pub used : ℕ
   pub within : used ≤ program.bound
   pub ends : Ends (setting_of program.code program.hook input) used labels word
@@ -83,7 +84,7 @@ Answers operations input labels word =
     (λ program. RunsTo program input labels word)
 
 -- the input belongs to some hook: its first four bytes are a hook's number
-abbrev pub IsAsked : Given → Type 0
-IsAsked input =
+abbrev pub HasHookNumber : Given → Type 0
+HasHookNumber input =
     (1 ≤ number_of (slice_range input.context 0 4))
     × (number_of (slice_range input.context 0 4) ≤ 4)

@@ -6,7 +6,7 @@ ghost use Rattle.left_right.specs.Sides.{view};
 ghost use Rattle.machine.specs.Given.{given_by};
 ghost use Rattle.maps.specs.Words.{IsOf};
 ghost use Rattle.hooks.specs.Answered.{IsAnswered};
-ghost use Rattle.hooks.specs.Operations.{IsAsked};
+ghost use Rattle.hooks.specs.Operations.{HasHookNumber};
 ghost use Rattle.hooks.specs.Rule.{HasSeen};
 
 use crate::history::Front;
@@ -45,7 +45,7 @@ fn ask_by(
     shared: &Shared,
     seat: &mut Seat,
 ) -> (ProgramReader, Option<HookAnswer>)
-    requires asked { IsAsked (given_by input.now) }
+    requires asked { HasHookNumber (given_by input.now) }
     requires table { IsOf shared.now seat.old }
     requires same { HasSeen front.old.seen.book (view reader.place) }
     ensures same { (front.new.seen.book ≡ front.old.seen.book)
@@ -84,7 +84,7 @@ impl Asker {
     /// Runs the program that is attached at the input's hook. Never blocks or allocates. `None` if
     /// the published programs can't be read, or are older than those that the asker knows.
     pub fn ask(&mut self, input: &Input, shared: &Shared, seat: &mut Seat) -> Option<HookAnswer>
-        requires asked { IsAsked (given_by input.now) }
+        requires asked { HasHookNumber (given_by input.now) }
         requires table { IsOf shared.now seat.old }
         ensures history { asks_of self.new ≡ asks_of self.old }
         ensures unread { IfNone result ((known_to self.new ≡ known_to self.old)

@@ -3,7 +3,7 @@ ghost use Rattle.std.specs.Prelude.{◌≡◌, ◌+◌, ◌≤◌, length, slice
 ghost use Rattle.isa.specs.Hooks.{hook_number};
 ghost use Rattle.machine.specs.Given.{given_by};
 ghost use Rattle.machine.specs.Memory.{number_of};
-ghost use Rattle.hooks.specs.Operations.{IsAsked, default_of};
+ghost use Rattle.hooks.specs.Operations.{HasHookNumber, default_of};
 
 use machine::{Hook, Input};
 
@@ -23,7 +23,7 @@ fn number_of(bytes: &[u8]) -> u64
 
 /// The hook whose number is in the first four bytes of the context.
 pub fn hook_of(input: &Input) -> Hook
-    requires { IsAsked (given_by input.now) }
+    requires { HasHookNumber (given_by input.now) }
     ensures { number_of (slice_range input.now.context 0 4) ≡ hook_number result }
 {
     match number_of(&input.context[0..4]) {

@@ -9,7 +9,7 @@ ghost use Rattle.maps.specs.Words.{IsOf, SeatView};
 ghost use Rattle.helpers.specs.Seats.{SeatMakes};
 ghost use Rattle.hooks.specs.Answered.{AreAnswered, IsVetoAnswered};
 ghost use Rattle.hooks.specs.declared.operation.LoaderOperation.{LoaderOperation};
-ghost use Rattle.hooks.specs.Operations.{leaves, Answers, IsAsked};
+ghost use Rattle.hooks.specs.Operations.{leaves, Answers, HasHookNumber};
 ghost use Rattle.hooks.specs.Shown.{published_operations, Stands, after_operation, vacant};
 ghost use Rattle.hooks.specs.Vacant.{AreVacancies};
 
@@ -74,7 +74,7 @@ impl Programs {
 
     /// Runs the program at the input's hook. Never blocks or allocates.
     pub fn answer(&self, input: &Input, shared: &Shared, seat: &mut Seat) -> u64
-        requires asked { IsAsked (given_by input.now) }
+        requires asked { HasHookNumber (given_by input.now) }
         requires stands { Stands self.now }
         requires table { IsOf shared.now seat.old }
         ensures answered { (labels : List Label) × SeatMakes seat.old labels seat.new
