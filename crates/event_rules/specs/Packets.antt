@@ -116,16 +116,16 @@ receive_acknowledgment moment interface headers o =
 -- neighbor; Link State Requests, Updates and Acknowledgments are ignored before Exchange
 abbrev pub from_neighbor : Moment → InterfaceNumber → RouterNumber → Bool → PacketBody → EventState
     → EventState
-from_neighbor moment interface from counts (body.Hello h) p =
+from_neighbor moment interface from exchange_or_later (body.Hello h) p =
     on_area (receive_hello p.router.id moment interface from h) p
-from_neighbor moment interface from counts (body.Description d) p =
+from_neighbor moment interface from exchange_or_later (body.Description d) p =
     on_area (receive_description p.router.id moment interface d) p
-from_neighbor moment interface from counts (body.Request keys) p =
-    if counts then on_area (receive_request moment interface keys) p else p
-from_neighbor moment interface from counts (body.Update lsas) p =
-    if counts then after_lsas moment interface lsas p else p
-from_neighbor moment interface from counts (body.Acknowledgment headers) p =
-    if counts then on_area (receive_acknowledgment moment interface headers) p else p
+from_neighbor moment interface from exchange_or_later (body.Request keys) p =
+    if exchange_or_later then on_area (receive_request moment interface keys) p else p
+from_neighbor moment interface from exchange_or_later (body.Update lsas) p =
+    if exchange_or_later then after_lsas moment interface lsas p else p
+from_neighbor moment interface from exchange_or_later (body.Acknowledgment headers) p =
+    if exchange_or_later then on_area (receive_acknowledgment moment interface headers) p else p
 
 abbrev pub is_hello : PacketBody → Bool
 is_hello (body.Hello h) = true

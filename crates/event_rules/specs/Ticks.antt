@@ -65,8 +65,9 @@ send_hellos moment o =
 
 abbrev pub after_tick : Moment → EventState → EventState
 after_tick moment p =
-    let no_sends : EventState =
+    let after_timers : EventState =
     on_router (forget_originations moment) (on_area (on_links (map (expire_timers moment))) p) in
-    let renewed : EventState = originate_due moment (due_keys moment no_sends.router) no_sends in
+    let renewed : EventState = originate_due moment (due_keys moment after_timers.router)
+    after_timers in
     on_area (λ o. send_hellos moment (send_acknowledgments moment (send_all_again moment o)))
     renewed
