@@ -67,7 +67,7 @@ use Rattle.event_rules.specs.Ticks.{send_acknowledgments, send_hellos, settled_e
 use Rattle.event_rules.specs.Ticks.{with_hello_sent, without_acknowledgments}
 use Rattle.flood_laws.specs.NewInstances.{lsas_brought}
 use Rattle.flood_laws.specs.TakenOff.{BringsNewer, IsAsked, IsTold, comes_to_max_age}
-use Rattle.flood_laws.specs.TakenOff.{is_gone_or_aged, is_gone_or_stored, owes}
+use Rattle.flood_laws.specs.TakenOff.{is_gone_or_aged, is_gone_or_stored, owed_instance}
 use Rattle.event_rules.proofs.Walk.{Invariant, outcome}
 use Rattle.flood_laws.proofs.EventWalk.{IsHeard, IsKeptToo}
 use Rattle.flood_laws.proofs.Limits.{AreExternal, new_key, tied_key, wanted_type}

@@ -41,7 +41,7 @@ use Rattle.adjacency.specs.Retransmissions.{update_again}
 use Rattle.adjacency.proofs.Kept.{chosen}
 use Rattle.received.specs.Holds.{Holds}
 use Rattle.event_rules.specs.LsaInstances.{LsaInstance, instance_of_header}
-use Rattle.flood_laws.specs.TakenOff.{listed_instance, owes}
+use Rattle.flood_laws.specs.TakenOff.{listed_instance, owed_instance}
 use Rattle.flood_laws.proofs.Flooding.{flooding_so}
 use Rattle.flood_laws.proofs.Limits.{tied_key}
 use Rattle.flood_laws.proofs.Lists.{later_is}
@@ -80,7 +80,7 @@ module _ (key : Key) (name : LsaInstance) (Asked : Type 0) where
   -- is on the request list now, counts as requested
   abbrev pub Owing : Neighbor → Type 0
   Owing m = (is_exchange_or_later m.state ≡ false)
-      ⊎ ((owes m key ≡ Some name) × (finite.contains_key m.requests key ≡ true → Asked))
+      ⊎ ((owed_instance m key ≡ Some name) × (finite.contains_key m.requests key ≡ true → Asked))
 
   abbrev OfStep : Step → Type 0
   OfStep s = Owing s.neighbor
@@ -206,7 +206,7 @@ module _ (key : Key) (name : LsaInstance) (Asked : Type 0) where
   -- ---- Database Descriptions, from Exchange on
 
   abbrev Has : Neighbor → Type 0
-  Has m = (owes m key ≡ Some name) × (finite.contains_key m.requests key ≡ true → Asked)
+  Has m = (owed_instance m key ≡ Some name) × (finite.contains_key m.requests key ≡ true → Asked)
 
   put_there : (r : ByKey ListEntry) (k : Key) (x : ListEntry)
       → finite.contains_key (finite.insert r k x) key ≡ true

@@ -38,8 +38,8 @@ listed_instance key (Some l) =
     Some (record { key = key; sequence = l.header.sequence; checksum = l.header.checksum })
 
 -- the instance of this key on the neighbor's retransmission list
-abbrev pub owes : Neighbor → Key → Option LsaInstance
-owes n key = listed_instance key (finite.get n.retransmissions key)
+abbrev pub owed_instance : Neighbor → Key → Option LsaInstance
+owed_instance n key = listed_instance key (finite.get n.retransmissions key)
 
 -- ---- what flooding does to entries
 
@@ -102,8 +102,8 @@ pub record IsTakenOff (old : Router) (moment : Moment) (event : Occurrence) (new
     (interface : InterfaceNumber) (before : Neighbor) (name : LsaInstance) : Type 0 where
   pub after : Neighbor
   pub adjacent : StaysAdjacent old new interface before after
-  pub stood : owes before name.key ≡ Some name
-  pub left : owes after name.key ≡ Some name → ⊥
+  pub stood : owed_instance before name.key ≡ Some name
+  pub left : owed_instance after name.key ≡ Some name → ⊥
   pub not_flooded : IsFlooded old moment event new interface before name.key → ⊥
 
 -- the event's packet was received at this interface from this router, and has the instance: it is a

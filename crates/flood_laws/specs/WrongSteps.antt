@@ -14,7 +14,7 @@ use Rattle.received.specs.Links.{Link, change_link, neighbor_at}
 use Rattle.event_rules.specs.declared.model.Out.{Out}
 use Rattle.event_rules.specs.LsaInstances.{LsaInstance, instance_of_header}
 use Rattle.event_rules.specs.Routers.{Occurrence, Router}
-use Rattle.flood_laws.specs.TakenOff.{comes_to_max_age, owes}
+use Rattle.flood_laws.specs.TakenOff.{comes_to_max_age, owed_instance}
 use Rattle.flood_laws.specs.Worlds.{Keeps}
 
 -- the key is removed from the retransmission list of the neighbor at this interface, and nothing
@@ -39,7 +39,7 @@ pub record AcknowledgesAnother (old : Router) (moment : Moment) (interface : Int
     (n : Neighbor) (name : LsaInstance) (bytes : List ℕ) (headers : List Header) : Type 0 where
   pub there : neighbor_at interface old.area.links ≡ Some n
   pub part : is_exchange_or_later n.state ≡ true
-  pub owed : owes n name.key ≡ Some name
+  pub owed : owed_instance n name.key ≡ Some name
   pub young : comes_to_max_age old.moment moment (finite.get old.area.database name.key)
       (finite.get old.area.database name.key) ≡ false
   pub text : PacketText bytes
