@@ -12,7 +12,8 @@ use Rattle.lsdb.specs.Keys.{ByKey, key_cmp}
 use Rattle.adjacency.specs.Neighbors.{Neighbor, is_exchange_or_later}
 use Rattle.received.specs.Holds.{Holds}
 use Rattle.event_rules.specs.Events.{Step}
-use Rattle.event_rules.specs.LsaInstances.{LsaInstance, instance_of_header, instance_of_lsa}
+use Rattle.event_rules.specs.InstanceIdentities.{InstanceIdentity, instance_of_header}
+use Rattle.event_rules.specs.InstanceIdentities.{instance_of_lsa}
 use Rattle.event_rules.specs.Routers.{Occurrence, Router}
 use Rattle.agreement_laws.specs.Exchanged.{Conversation, Describes, conversation_with}
 use Rattle.agreement_laws.specs.HeldWasExchanged.{is_exchange_done}
@@ -81,7 +82,8 @@ module _ (ends : Ends) (side : Side) (with_it : Conversation) (header : Header) 
 
 -- ---- what was said
 
-module _ (ends : Ends) (side : Side) (with_it : Conversation) (bytes : List ℕ) (name : LsaInstance)
+module _ (ends : Ends) (side : Side) (with_it : Conversation) (bytes : List ℕ)
+    (name : InstanceIdentity)
   where
     in_step : (now : Pair) (earlier : List Pair) (h : IsHistory ends now earlier)
         → InConversation ends side with_it
@@ -164,7 +166,7 @@ module _ (ends : Ends) (now : Pair) (earlier : List Pair) (history : IsHistory e
     abbrev other : Router
     other = (party (other_side side) now).router
 
-    abbrev name : LsaInstance
+    abbrev name : InstanceIdentity
     name = instance_of_lsa copy.lsa
 
     abbrev n : Neighbor
@@ -175,11 +177,12 @@ module _ (ends : Ends) (now : Pair) (earlier : List Pair) (history : IsHistory e
         history
 
     own : Remembers (interface_of side ends) (party side now)
-        (λ (name : LsaInstance) (text : ℕ). HasForgotten ends side name text now earlier history)
+        (λ (name : InstanceIdentity) (text : ℕ). HasForgotten ends side name text now earlier
+        history)
     own = remembers ends side now earlier history
 
     its : Remembers (interface_of (other_side side) ends) (party (other_side side) now)
-        (λ (name : LsaInstance) (text : ℕ). HasForgotten ends (other_side side) name text now
+        (λ (name : InstanceIdentity) (text : ℕ). HasForgotten ends (other_side side) name text now
         earlier
         history)
     its = remembers ends (other_side side) now earlier history

@@ -22,8 +22,9 @@ use Rattle.adjacency.specs.Contents.{Content}
 use Rattle.received.specs.Links.{Link}
 use Rattle.received.specs.Outcomes.{Send, at_interface}
 use Rattle.event_rules.specs.declared.model.Out.{Out}
-use Rattle.event_rules.specs.LsaInstances.{LsaInstance, instance_of_header, instance_of_lsa}
-use Rattle.event_rules.specs.LsaInstances.{instances_in_update}
+use Rattle.event_rules.specs.InstanceIdentities.{InstanceIdentity, instance_of_header}
+use Rattle.event_rules.specs.InstanceIdentities.{instance_of_lsa}
+use Rattle.event_rules.specs.InstanceIdentities.{instances_in_update}
 use Rattle.event_rules.specs.Packing.{bodies, out_of, outs_at, outs_of, packet_of}
 use Rattle.event_rules.specs.Packing.{sent_lsa, IsSentText}
 use Rattle.event_rules.proofs.Rooms.{both, mapped_all, paired_all}
@@ -135,7 +136,7 @@ module _ (R : Content → Type 0) where
 module _ (R : Content → Type 0) (ranged : (lsa : Lsa) → R (Content.Updates lsa)
     → IsInstance (instance_of_lsa lsa)) where
   -- an LSA that was sent, or a header that was acknowledged
-  pub data IsOfSent (b : PacketBody) (name : LsaInstance) : Type 0 where
+  pub data IsOfSent (b : PacketBody) (name : InstanceIdentity) : Type 0 where
     OfUpdate : (lsa : Lsa) → R (Content.Updates lsa) → instance_of_lsa lsa ≡ name → IsOfSent b name
     OfDescription : (d : Description) (header : Header) → Contains d.headers header
         → R (Content.Describes d) → instance_of_header header ≡ name → IsOfSent b name
@@ -143,7 +144,7 @@ module _ (R : Content → Type 0) (ranged : (lsa : Lsa) → R (Content.Updates l
         → Contains headers header → R (Content.Acknowledges header) → instance_of_header header
         ≡ name → IsOfSent b name
 
-  in_update : (b : PacketBody) (delay : ℕ) (lsas : List (List ℕ)) (name : LsaInstance)
+  in_update : (b : PacketBody) (delay : ℕ) (lsas : List (List ℕ)) (name : InstanceIdentity)
       → AllByRecursion (IsTextOfSent R delay) lsas → Contains (instances_in_update lsas) name
       → IsOfSent b name
   in_update b delay [] name h c = absurd (of_empty name c)
@@ -168,7 +169,7 @@ module _ (R : Content → Type 0) (ranged : (lsa : Lsa) → R (Content.Updates l
           by_place (inr more) = others more
       by_fault (Some f) others k = others k
 
-  header_of : (headers : List Header) (name : LsaInstance)
+  header_of : (headers : List Header) (name : InstanceIdentity)
       → Contains (map instance_of_header headers) name → (h : Header) × Contains headers h
       × (instance_of_header h ≡ name)
   header_of [] name c = absurd (of_empty name c)
@@ -183,7 +184,7 @@ module _ (R : Content → Type 0) (ranged : (lsa : Lsa) → R (Content.Updates l
       by_place others (inl is) = (header, named_first header headers header refl, is)
       by_place others (inr k) = let it = others k in (it.0, later_is header headers it.0 it.1, it.2)
 
-  in_body : (delay : ℕ) (b : PacketBody) (name : LsaInstance) → BearsSent R delay b
+  in_body : (delay : ℕ) (b : PacketBody) (name : InstanceIdentity) → BearsSent R delay b
       → Contains (instances_told b) name → IsOfSent b name
   in_body delay (body.Hello h) name bears c = absurd (of_empty name c)
   in_body delay (body.Description d) name bears c = let it = header_of d.headers name c in
@@ -200,7 +201,7 @@ module _ (R : Content → Type 0) (ranged : (lsa : Lsa) → R (Content.Updates l
   pub told_in : (number own : ℕ) (sends : List Send)
       (so : AllByRecursion (λ (s : Send). s.interface ≡ number → R s.content) sends)
       (bytes : List ℕ) → IsLetter R number own sends so bytes → (packet : Packet)
-      → PacketText bytes packet → (name : LsaInstance)
+      → PacketText bytes packet → (name : InstanceIdentity)
       → Contains (instances_told packet.body) name → IsOfSent packet.body name
   told_in number own sends so bytes letter packet text name c =
       let b : PacketBody = letter.1 in

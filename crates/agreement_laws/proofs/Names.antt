@@ -6,7 +6,7 @@ use Rattle.std.specs.Ordering.{bool_cmp, int_cmp, is_ge, nat_cmp, ordering_rever
 use Rattle.std.specs.FinMap.{int_cmp-IsAntisymmetric, nat_cmp-IsAntisymmetric}
 use Rattle.lsdb.specs.Order.{is_max_age}
 use Rattle.lsdb.specs.declared.order.Instance.{Instance}
-use Rattle.event_rules.specs.LsaInstances.{LsaInstance}
+use Rattle.event_rules.specs.InstanceIdentities.{InstanceIdentity}
 use Rattle.agreement_laws.specs.NeighborsAgree.{is_as_new}
 use Rattle.agreement_laws.specs.Ranks.{compare_ranks, is_at_least}
 use Rattle.agreement_laws.specs.SaidIsHeld.{young}
@@ -28,12 +28,13 @@ pub at_any_age : (a b : Instance) → is_at_least a b ≡ true → is_at_least (
 at_any_age a b e = without_flags (int_cmp a.sequence b.sequence) (nat_cmp a.checksum b.checksum)
     (is_max_age a.age) (is_max_age b.age) e
 
-pub as_new_on : (a b c : LsaInstance) → is_as_new a b ≡ true → is_as_new b c ≡ true → is_as_new a c
+pub as_new_on : (a b c : InstanceIdentity) → is_as_new a b ≡ true → is_as_new b c ≡ true
+    → is_as_new a c
     ≡ true
 as_new_on a b c more less = at_least_on follow.total (young a) (young b) (young c) more less
 
 -- two with one key that are each at least as new as the other are the same
-pub same_instance : (a b : LsaInstance) → a.key ≡ b.key → is_as_new a b ≡ true → is_as_new b a
+pub same_instance : (a b : InstanceIdentity) → a.key ≡ b.key → is_as_new a b ≡ true → is_as_new b a
     ≡ true → a ≡ b
 same_instance a b key there back =
     let equal : compare_ranks (young a) (young b) ≡ Equal =

@@ -25,7 +25,8 @@ use Rattle.event_rules.specs.declared.model.Config.{Config}
 use Rattle.event_rules.specs.Endings.{end_event}
 use Rattle.event_rules.specs.EventState.{EventState, flood_from_nobody, on_router}
 use Rattle.event_rules.specs.Events.{Happens, Run, Step, initial}
-use Rattle.event_rules.specs.LsaInstances.{LsaInstance, instance_of_header, instance_of_lsa}
+use Rattle.event_rules.specs.InstanceIdentities.{InstanceIdentity, instance_of_header}
+use Rattle.event_rules.specs.InstanceIdentities.{instance_of_lsa}
 use Rattle.event_rules.specs.Originations.{flush, flush_copy, has_max_sequence, has_room}
 use Rattle.event_rules.specs.Originations.{may_originate}
 use Rattle.event_rules.specs.Originations.{new_instance, originate, originate_body, put_off}
@@ -168,7 +169,7 @@ nothing_waits c number h w =
     ∙ sym (ap (λ (m : ByKey Header). finite.get m w.key) its) ∙ w.waits in absurd cc
 
 -- nor is there a neighbor to which anything is to be described
-nothing_is_left : (c : Config) (number : ℕ) (name : LsaInstance)
+nothing_is_left : (c : Config) (number : ℕ) (name : InstanceIdentity)
     → IsToDescribe number name (initial c).area.links → ⊥
 nothing_is_left c number name (IsToDescribe.Listed n key l at there is) = let no : None ≡ Some n =
     sym (begins_alone c number).0 ∙ at in cc
@@ -177,18 +178,18 @@ nothing_is_left c number name (IsToDescribe.Last n d header at there among is) =
 
 -- ---- what is kept
 
-pub record Remembers (number : ℕ) (p : Party) (Old : LsaInstance → ℕ → Type 0) : Type 0 where
+pub record Remembers (number : ℕ) (p : Party) (Old : InstanceIdentity → ℕ → Type 0) : Type 0 where
   pub life : Life p.router
   pub told : (text : ℕ) (bytes : List ℕ) → slice_get p.sent text ≡ Some bytes → (packet : Packet)
-      → PacketText bytes packet → (name : LsaInstance) → Contains (instances_told packet.body) name
-      → HoldsAsNew p.router name ⊎ Old name text
+      → PacketText bytes packet → (name : InstanceIdentity)
+      → Contains (instances_told packet.body) name → HoldsAsNew p.router name ⊎ Old name text
   pub waits : (h : Header) → Waits number h p.router.area.links
       → HoldsAsNew p.router (instance_of_header h) ⊎ ((text : ℕ) → Old (instance_of_header h) text)
-  pub left : (name : LsaInstance) → IsToDescribe number name p.router.area.links
+  pub left : (name : InstanceIdentity) → IsToDescribe number name p.router.area.links
       → HoldsAsNew p.router name ⊎ ((text : ℕ) → Old name text)
 
-module _ (number : ℕ) (Old : LsaInstance → ℕ → Type 0) where
-  abbrev With : Party → Party → LsaInstance → ℕ → Type 0
+module _ (number : ℕ) (Old : InstanceIdentity → ℕ → Type 0) where
+  abbrev With : Party → Party → InstanceIdentity → ℕ → Type 0
   With p q name text = Forgets number name text p q ⊎ Old name text
 
   -- ---- an event
@@ -216,7 +217,7 @@ module _ (number : ℕ) (Old : LsaInstance → ℕ → Type 0) where
     }
 
     -- what was held is still held, or there is none
-    still : (name : LsaInstance) → HoldsAsNew p.router name → HoldsAsNew q.router name
+    still : (name : InstanceIdentity) → HoldsAsNew p.router name → HoldsAsNew q.router name
         ⊎ IsWithout name.key q.router
     still name has = by_copy (copies_climb p.router t.moment t.event t.outs q.router t.happens order
         name.key has.copy has.there)
@@ -241,7 +242,7 @@ module _ (number : ℕ) (Old : LsaInstance → ℕ → Type 0) where
     })
     became x (BecameOf.IsGone last had new aged none off) = inr none
 
-    as_young : (name : LsaInstance) → BecameOf p.router t.moment t.event (young name) name.key
+    as_young : (name : InstanceIdentity) → BecameOf p.router t.moment t.event (young name) name.key
         q.router → HoldsAsNew q.router name ⊎ IsWithout name.key q.router
     as_young name (BecameOf.IsHeld c at new) = inl (record {
       copy = c;
@@ -255,13 +256,14 @@ module _ (number : ℕ) (Old : LsaInstance → ℕ → Type 0) where
     within : (text : ℕ) (bytes : List ℕ) → slice_get q.sent text ≡ Some bytes → text < length q.sent
     within text bytes at = place_within q.sent text bytes at
 
-    or_forgotten : (name : LsaInstance) (text : ℕ) → text < length q.sent → HoldsAsNew q.router name
-        ⊎ IsWithout name.key q.router → HoldsAsNew q.router name ⊎ With p q name text
+    or_forgotten : (name : InstanceIdentity) (text : ℕ) → text < length q.sent
+        → HoldsAsNew q.router name ⊎ IsWithout name.key q.router
+        → HoldsAsNew q.router name ⊎ With p q name text
     or_forgotten name text lt (inl has) = inl has
     or_forgotten name text lt (inr none) = inr (inl (Forgets.Without none lt))
 
-    old_text : (name : LsaInstance) (text : ℕ) → text < length q.sent → HoldsAsNew p.router name
-        ⊎ Old name text → HoldsAsNew q.router name ⊎ With p q name text
+    old_text : (name : InstanceIdentity) (text : ℕ) → text < length q.sent
+        → HoldsAsNew p.router name ⊎ Old name text → HoldsAsNew q.router name ⊎ With p q name text
     old_text name text lt (inl has) = or_forgotten name text lt (still name has)
     old_text name text lt (inr old) = inr (inr old)
 
@@ -278,8 +280,10 @@ module _ (number : ℕ) (Old : LsaInstance → ℕ → Type 0) where
         by_old (inr old) = inr old
     received x (IsReceived.Held b) = inl (became x b)
 
-    of_database : (name : LsaInstance) → IsOfDatabase p.router t.moment t.event q.router number name
-        → (HoldsAsNew q.router name ⊎ IsWithout name.key q.router) ⊎ ((text : ℕ) → Old name text)
+    of_database : (name : InstanceIdentity)
+        → IsOfDatabase p.router t.moment t.event q.router number name
+        → (HoldsAsNew q.router name ⊎ IsWithout name.key q.router)
+        ⊎ ((text : ℕ) → Old name text)
     of_database name (IsOfDatabase.ToDescribe left) = by_old (h.left name left)
       where
         by_old : HoldsAsNew p.router name ⊎ ((text : ℕ) → Old name text)
@@ -336,10 +340,10 @@ module _ (number : ℕ) (Old : LsaInstance → ℕ → Type 0) where
 
     module _ (text : ℕ) (bytes : List ℕ) (at : slice_get q.sent text ≡ Some bytes) (packet : Packet)
         (written : PacketText bytes packet) where
-      of_update : (lsa : Lsa) → OfSent (Content.Updates lsa) → (name : LsaInstance)
+      of_update : (lsa : Lsa) → OfSent (Content.Updates lsa) → (name : InstanceIdentity)
           → instance_of_lsa lsa ≡ name → HoldsAsNew q.router name ⊎ With p q name text
       of_update lsa so name is =
-          subst (λ (n : LsaInstance). HoldsAsNew q.router n ⊎ With p q n text) is
+          subst (λ (n : InstanceIdentity). HoldsAsNew q.router n ⊎ With p q n text) is
           (or_forgotten (instance_of_lsa lsa) text (within text bytes at)
           (became lsa.header so.0))
 
@@ -350,19 +354,19 @@ module _ (number : ℕ) (Old : LsaInstance → ℕ → Type 0) where
       by_reason x (inl so) = or_forgotten (instance_of_header x) text (within text bytes at) so
       by_reason x (inr old) = inr (inr (old text))
 
-      of_sent : (name : LsaInstance) → IsOfSent OfSent (λ lsa so. so.1) packet.body name
+      of_sent : (name : InstanceIdentity) → IsOfSent OfSent (λ lsa so. so.1) packet.body name
           → HoldsAsNew q.router name ⊎ With p q name text
       of_sent name (IsOfSent.OfUpdate lsa so is) = of_update lsa so name is
       of_sent name (IsOfSent.OfDescription d x among so is) =
-          subst (λ (n : LsaInstance). HoldsAsNew q.router n ⊎ With p q n text) is
+          subst (λ (n : InstanceIdentity). HoldsAsNew q.router n ⊎ With p q n text) is
           (by_reason x (of_database (instance_of_header x) (so x among)))
       of_sent name (IsOfSent.OfAcknowledgment headers x body among (IsAcknowledged.Received r) is) =
-          subst (λ (n : LsaInstance). HoldsAsNew q.router n ⊎ With p q n text) is
+          subst (λ (n : InstanceIdentity). HoldsAsNew q.router n ⊎ With p q n text) is
           (by_reason x (received x r))
       of_sent name (IsOfSent.OfAcknowledgment headers x body among
           (IsAcknowledged.NothingToFlush none aged) is) =
           inr (inl (Forgets.NothingToFlush
-          (subst (λ (n : LsaInstance). IsWithout n.key p.router) is none) bytes at
+          (subst (λ (n : InstanceIdentity). IsWithout n.key p.router) is none) bytes at
           (record {
             packet = packet;
             text = written;
@@ -375,7 +379,7 @@ module _ (number : ℕ) (Old : LsaInstance → ℕ → Type 0) where
           })))
 
       told_by : (slice_get p.sent text ≡ Some bytes)
-          ⊎ Contains (filter_map (text_at number) t.outs) bytes → (name : LsaInstance)
+          ⊎ Contains (filter_map (text_at number) t.outs) bytes → (name : InstanceIdentity)
           → Contains (instances_told packet.body) name → HoldsAsNew q.router name
           ⊎ With p q name text
       told_by (inl before) name c = old_text name text (within text bytes at)
@@ -398,7 +402,7 @@ module _ (number : ℕ) (Old : LsaInstance → ℕ → Type 0) where
         by_reason (inl (inr none)) = inr (λ text. inl (Forgets.WithoutWaiting none x w refl))
         by_reason (inr old) = inr (λ text. inr (old text))
 
-    left_for : (name : LsaInstance) → IsToDescribe number name q.router.area.links
+    left_for : (name : InstanceIdentity) → IsToDescribe number name q.router.area.links
         → HoldsAsNew q.router name ⊎ ((text : ℕ) → With p q name text)
     left_for name left = by_reason (of_database name (said.to_describe number name left))
       where
@@ -454,12 +458,13 @@ module _ (number : ℕ) (Old : LsaInstance → ℕ → Type 0) where
         left = λ name l. more_waits name (h.left name l);
       })
     where
-      more : (name : LsaInstance) (text : ℕ) → HoldsAsNew p.router name ⊎ Old name text
+      more : (name : InstanceIdentity) (text : ℕ) → HoldsAsNew p.router name ⊎ Old name text
           → HoldsAsNew p.router name ⊎ With p p name text
       more name text (inl has) = inl has
       more name text (inr old) = inr (inr old)
 
-      more_waits : (name : LsaInstance) → HoldsAsNew p.router name ⊎ ((text : ℕ) → Old name text)
+      more_waits : (name : InstanceIdentity)
+          → HoldsAsNew p.router name ⊎ ((text : ℕ) → Old name text)
           → HoldsAsNew p.router name ⊎ ((text : ℕ) → With p p name text)
       more_waits name (inl has) = inl has
       more_waits name (inr old) = inr (λ text. inr (old text))
@@ -507,7 +512,7 @@ first_remembers number p b = record {
 
 pub remembers : (ends : Ends) (side : Side) (now : Pair) (earlier : List Pair)
     (h : IsHistory ends now earlier) → Remembers (interface_of side ends) (party side now)
-    (λ (name : LsaInstance) (text : ℕ). HasForgotten ends side name text now earlier h)
+    (λ (name : InstanceIdentity) (text : ℕ). HasForgotten ends side name text now earlier h)
 remembers ends Side.Left now [] h = first_remembers ends.left now.left h.0
 remembers ends Side.Right now [] h = first_remembers ends.right now.right h.1
 remembers ends side now (before ∷ earlier) h =
@@ -516,19 +521,22 @@ remembers ends side now (before ∷ earlier) h =
   where
     by_turn : (event : Option Step) → Turns ends side before now event
         → Remembers (interface_of side ends) (party side before)
-        (λ (name : LsaInstance) (text : ℕ). HasForgotten ends side name text before earlier h.1)
-        → Remembers (interface_of side ends) (party side now)
-        (λ (name : LsaInstance) (text : ℕ). HasForgotten ends side name text now
+        (λ (name : InstanceIdentity) (text : ℕ). HasForgotten ends side name text before earlier
+        h.1) → Remembers (interface_of side ends) (party side now)
+        (λ (name : InstanceIdentity) (text : ℕ). HasForgotten ends side name text now
         (before ∷ earlier) h)
     by_turn event (inl t) was =
         after_event (interface_of side ends)
-        (λ (name : LsaInstance) (text : ℕ). HasForgotten ends side name text before earlier h.1)
+        (λ (name : InstanceIdentity) (text : ℕ). HasForgotten ends side name text before earlier
+        h.1)
         (party (other_side side) before).sent (party side before) (party side now) t.0 was
     by_turn event (inr (none, inl b)) was =
         after_start (interface_of side ends)
-        (λ (name : LsaInstance) (text : ℕ). HasForgotten ends side name text before earlier h.1)
+        (λ (name : InstanceIdentity) (text : ℕ). HasForgotten ends side name text before earlier
+        h.1)
         (party side before) (party side now) b was
     by_turn event (inr (none, inr same)) was =
         unchanged (interface_of side ends)
-        (λ (name : LsaInstance) (text : ℕ). HasForgotten ends side name text before earlier h.1)
+        (λ (name : InstanceIdentity) (text : ℕ). HasForgotten ends side name text before earlier
+        h.1)
         (party side before) (party side now) same was

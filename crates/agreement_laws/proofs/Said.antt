@@ -41,7 +41,7 @@ use Rattle.received.proofs.Roomy.{joined}
 use Rattle.event_rules.specs.Commands.{taken_down}
 use Rattle.event_rules.specs.Endings.{flood_if_aged, link_loading_done, stays}
 use Rattle.event_rules.specs.EventState.{flood_from_nobody}
-use Rattle.event_rules.specs.LsaInstances.{instance_of_lsa}
+use Rattle.event_rules.specs.InstanceIdentities.{instance_of_lsa}
 use Rattle.event_rules.specs.Hellos.{accepts, hello_is_due, hello_on, names}
 use Rattle.event_rules.specs.Originations.{install_and_flood, new_instance}
 use Rattle.event_rules.specs.Packets.{accept_hello, receive_hello_on, requested_lsas, with_neighbor}

@@ -16,7 +16,7 @@ use Rattle.adjacency.proofs.Maps.{AllIn, IfThere}
 use Rattle.received.specs.Holds.{Holds}
 use Rattle.received.specs.Links.{Link, link_at, neighbor_at, neighbor_on}
 use Rattle.received.specs.Outcomes.{Outcome}
-use Rattle.event_rules.specs.LsaInstances.{LsaInstance, instance_of_header}
+use Rattle.event_rules.specs.InstanceIdentities.{InstanceIdentity, instance_of_header}
 use Rattle.event_rules.specs.declared.model.Out.{Out}
 use Rattle.event_rules.specs.Endings.{end_event, start_event}
 use Rattle.event_rules.specs.EventState.{EventState}
@@ -189,7 +189,7 @@ module _ (old : Router) (moment : ℕ) (event : Occurrence) where
     why number h (inl so) = IsAcknowledged.Received (received number h so)
     why number h (inr nothing) = IsAcknowledged.NothingToFlush nothing.0 nothing.1
 
-    of_database : (number : ℕ) (name : LsaInstance) → OfNamed old Held number name
+    of_database : (number : ℕ) (name : InstanceIdentity) → OfNamed old Held number name
         → IsOfDatabase old moment event ended.router number name
     of_database number name (inl left) = IsOfDatabase.ToDescribe left
     of_database number name (inr held) =
@@ -204,7 +204,7 @@ module _ (old : Router) (moment : ℕ) (event : Occurrence) where
         by_link None h is = absurd cc
         by_link (Some link) h is = subst (Holds (OfNeighbor old Held number)) is h.neighbor
 
-    to_describe : (number : ℕ) (name : LsaInstance)
+    to_describe : (number : ℕ) (name : InstanceIdentity)
         → IsToDescribe number name ended.router.area.links
         → IsOfDatabase old moment event ended.router number name
     to_describe number name (IsToDescribe.Listed n key l at there is) =

@@ -40,7 +40,8 @@ use Rattle.received.specs.Links.{Link}
 use Rattle.received.specs.Outcomes.{Send}
 use Rattle.received.proofs.Roomy.{joined}
 use Rattle.event_rules.specs.Endings.{loading_done_on}
-use Rattle.event_rules.specs.LsaInstances.{LsaInstance, instance_of_header, instance_of_lsa}
+use Rattle.event_rules.specs.InstanceIdentities.{InstanceIdentity, instance_of_header}
+use Rattle.event_rules.specs.InstanceIdentities.{instance_of_lsa}
 use Rattle.event_rules.specs.Routers.{Router}
 use Rattle.event_rules.specs.Ticks.{settled_exchange}
 use Rattle.flood_laws.proofs.Flooding.{flooding_so}
@@ -62,7 +63,7 @@ module _ (old : Router) where
   OfAcknowledged T number h = OfReceived T number h
       ⊎ ((finite.get old.area.database (key_of h) ≡ None) × (is_max_age h.age ≡ true))
 
-  abbrev pub OfNamed : Truth → ℕ → LsaInstance → Type 0
+  abbrev pub OfNamed : Truth → ℕ → InstanceIdentity → Type 0
   OfNamed T number name = IsToDescribe number name old.area.links ⊎ T name.key (young name)
 
   abbrev pub OfDescription : Truth → ℕ → Description → Type 0
@@ -111,7 +112,8 @@ module _ (old : Router) where
     acknowledged_more number h (inl received) = inl (received_more number h received)
     acknowledged_more number h (inr nothing) = inr nothing
 
-    named_more : (number : ℕ) (name : LsaInstance) → OfNamed T number name → OfNamed U number name
+    named_more : (number : ℕ) (name : InstanceIdentity) → OfNamed T number name
+        → OfNamed U number name
     named_more number name (inl left) = inl left
     named_more number name (inr so) = inr (more name.key (young name) so)
 

@@ -16,7 +16,7 @@ use Rattle.received.specs.Holds.{Holds}
 use Rattle.received.specs.Links.{neighbor_at}
 use Rattle.event_rules.specs.declared.model.Config.{Config}
 use Rattle.event_rules.specs.Events.{Step, initial}
-use Rattle.event_rules.specs.LsaInstances.{instance_of_header, instance_of_lsa}
+use Rattle.event_rules.specs.InstanceIdentities.{instance_of_header, instance_of_lsa}
 use Rattle.event_rules.specs.Routers.{Occurrence, Router}
 use Rattle.flood_laws.specs.InOrder.{IsInOrder}
 use Rattle.flood_laws.proofs.Lists.{later_is, of_cons, of_empty}

@@ -20,7 +20,8 @@ use Rattle.event_rules.specs.declared.model.Config.{Config}
 use Rattle.event_rules.specs.Endings.{start_event}
 use Rattle.event_rules.specs.Events.{Step, initial}
 use Rattle.event_rules.specs.Hellos.{is_foreign}
-use Rattle.event_rules.specs.LsaInstances.{LsaInstance, instance_of_header, instance_of_lsa}
+use Rattle.event_rules.specs.InstanceIdentities.{InstanceIdentity, instance_of_header}
+use Rattle.event_rules.specs.InstanceIdentities.{instance_of_lsa}
 use Rattle.event_rules.specs.Routers.{Router}
 use Rattle.flood_laws.specs.InOrder.{IsInOrder}
 use Rattle.flood_laws.proofs.Always.{full_request_nothing}
@@ -64,7 +65,7 @@ pub record Laws : Type 0 where
   pub requested : WhatIsAcceptedIsRequested
   pub stay : RequestsStay
 
-module _ (laws : Laws) (ends : Ends) (side : Side) (name : LsaInstance) where
+module _ (laws : Laws) (ends : Ends) (side : Side) (name : InstanceIdentity) where
   abbrev number : ℕ
   number = interface_of side ends
 
@@ -136,7 +137,7 @@ module _ (laws : Laws) (ends : Ends) (side : Side) (name : LsaInstance) where
 
     -- held as new as what is as new as the name
     held_as : (copy : DatabaseCopy) → finite.get q.area.database key ≡ Some copy
-        → (i : LsaInstance) → is_as_new (instance_of_lsa copy.lsa) i ≡ true
+        → (i : InstanceIdentity) → is_as_new (instance_of_lsa copy.lsa) i ≡ true
         → is_as_new i name ≡ true → Result
     held_as copy there i more new =
         inr (inl (record {
@@ -403,7 +404,7 @@ module _ (laws : Laws) (ends : Ends) (side : Side) (name : LsaInstance) where
         (neighbor_at number (party side now).router.area.links) refl
 
 -- it is so in every history
-fine : (laws : Laws) (ends : Ends) (side : Side) (name : LsaInstance) (now : Pair)
+fine : (laws : Laws) (ends : Ends) (side : Side) (name : InstanceIdentity) (now : Pair)
     (earlier : List Pair) (h : IsHistory ends now earlier)
     → Holds (Fine laws ends side name now earlier h)
     (neighbor_at (interface_of side ends) (party side now).router.area.links)

@@ -10,7 +10,7 @@ use Rattle.packet.specs.declared.model.PacketBody.TheVariants as body
 use Rattle.packet.specs.declared.model.Packet.{Packet}
 use Rattle.packet.specs.Text.{canonical}
 use Rattle.adjacency.specs.Adjacencies.{initial_description}
-use Rattle.event_rules.specs.LsaInstances.{instance_of_lsa}
+use Rattle.event_rules.specs.InstanceIdentities.{instance_of_lsa}
 use Rattle.event_rules.specs.Originations.{router_key}
 use Rattle.event_rules.specs.Routers.{Occurrence}
 use Rattle.flood_laws.proofs.Taken.{named_first}

@@ -5,15 +5,15 @@ use Rattle.std.specs.FinMap as finite
 use Rattle.lsdb.specs.Copies.{DatabaseCopy}
 use Rattle.lsdb.specs.Headers.{Header}
 use Rattle.event_rules.specs.Events.{Step}
-use Rattle.event_rules.specs.LsaInstances.{LsaInstance}
+use Rattle.event_rules.specs.InstanceIdentities.{InstanceIdentity}
 use Rattle.agreement_laws.specs.Exchanged.{Conversation, Converses, Describes}
 use Rattle.agreement_laws.specs.NeighborHistories.{Ends, IsHistory, Pair, Party, Side, event_taken}
 use Rattle.agreement_laws.specs.NeighborHistories.{interface_of, party}
 use Rattle.agreement_laws.specs.NeighborsAgree.{Forgets, InConversation}
 use Rattle.agreement_laws.specs.WorkedNeighbors.{WorkedNeighbors}
 
-kept : (number : ℕ) (name : LsaInstance) (text : ℕ) (before after : Party) (was is : DatabaseCopy)
-    → finite.get before.router.area.database name.key ≡ Some was
+kept : (number : ℕ) (name : InstanceIdentity) (text : ℕ) (before after : Party)
+    (was is : DatabaseCopy) → finite.get before.router.area.database name.key ≡ Some was
     → finite.get after.router.area.database name.key ≡ Some is → after.began ≤ text
     → Forgets number name text before after → ⊥
 kept number name text before after was is had has since (Forgets.Without none sent) = let no : None

@@ -6,7 +6,7 @@ use Rattle.std.specs.List.{Contains}
 use Rattle.lsdb.specs.Headers.{Header, key_of}
 use Rattle.packet.specs.declared.model.Description.{Description}
 use Rattle.adjacency.specs.declared.state.NeighborState.TheVariants.{Full}
-use Rattle.event_rules.specs.LsaInstances.{LsaInstance, instance_of_header}
+use Rattle.event_rules.specs.InstanceIdentities.{InstanceIdentity, instance_of_header}
 use Rattle.agreement_laws.specs.Exchanged.{Conversation, conversation_with}
 use Rattle.agreement_laws.specs.NeighborHistories.{Ends, IsHistory, Pair, Side, other_side, party}
 use Rattle.agreement_laws.specs.NeighborsAgree.{HoldsAsNew, is_as_new}
@@ -15,7 +15,7 @@ use Rattle.agreement_laws.specs.Held.{WasLost}
 use Rattle.agreement_laws.specs.BothDone.{BothDone, NumbersServeOnce}
 
 -- each header of its key in the Descriptions of the conversation names an instance as new
-abbrev pub AreDescribedAsNew : (ends : Ends) → Side → Conversation → LsaInstance → (now : Pair)
+abbrev pub AreDescribedAsNew : (ends : Ends) → Side → Conversation → InstanceIdentity → (now : Pair)
     (earlier : List Pair) → IsHistory ends now earlier → Type 0
 AreDescribedAsNew ends side with_it name now earlier h =
     (d : Description) → IsOf ends side with_it d now earlier h
@@ -29,7 +29,7 @@ WhatWasDescribedIsHeld =
     (h : IsHistory ends now earlier)
     → (both : BothDone ends side now earlier h) → both.its.neighbor.state ≡ Full
     → NumbersServeOnce ends side (conversation_with both.mine.neighbor) now earlier h
-    → (name : LsaInstance)
+    → (name : InstanceIdentity)
     → AreDescribedAsNew ends side (conversation_with both.mine.neighbor) name now earlier h
     → (d : Description) → IsOf ends side (conversation_with both.mine.neighbor) d now earlier h
     → (g : Header) → Contains d.headers g → key_of g ≡ name.key

@@ -12,7 +12,7 @@ use Rattle.adjacency.specs.declared.state.NeighborState.TheVariants.{Full}
 use Rattle.adjacency.specs.Neighbors.{Neighbor}
 use Rattle.received.specs.Links.{neighbor_at}
 use Rattle.event_rules.specs.Events.{Step}
-use Rattle.event_rules.specs.LsaInstances.{LsaInstance, instance_of_header}
+use Rattle.event_rules.specs.InstanceIdentities.{InstanceIdentity, instance_of_header}
 use Rattle.event_rules.specs.Routers.{Occurrence, Router}
 use Rattle.flood_laws.specs.NewInstances.{BringsLsa}
 use Rattle.agreement_laws.specs.Exchanged.{Conversation, Converses, conversation_with}
@@ -33,7 +33,7 @@ pub record HasAccepted (ends : Ends) (side : Side) (with_it : Conversation) (key
   pub of_key : key_of header ≡ key
 
 -- each header of its key that was accepted in the conversation names one as new
-abbrev pub AreAsNew : (ends : Ends) → Side → Conversation → LsaInstance → (now : Pair)
+abbrev pub AreAsNew : (ends : Ends) → Side → Conversation → InstanceIdentity → (now : Pair)
     (earlier : List Pair) → IsHistory ends now earlier → Type 0
 AreAsNew ends side with_it name now earlier h =
     (d : Description) → IsAccepted ends side with_it d now earlier h
@@ -75,7 +75,7 @@ WhatWasAcceptedIsHeld =
     (ends : Ends) (side : Side) (now : Pair) (earlier : List Pair)
     (h : IsHistory ends now earlier) → (n : Neighbor)
     → neighbor_at (interface_of side ends) (party side now).router.area.links ≡ Some n
-    → n.state ≡ Full → (name : LsaInstance)
+    → n.state ≡ Full → (name : InstanceIdentity)
     → AreAsNew ends side (conversation_with n) name now earlier h
     → HasAccepted ends side (conversation_with n) name.key now earlier h
     → HoldsAsNew (party side now).router name

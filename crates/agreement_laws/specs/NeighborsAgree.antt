@@ -20,8 +20,9 @@ use Rattle.adjacency.specs.declared.state.NeighborState.TheVariants.{Full}
 use Rattle.adjacency.specs.Neighbors.{Neighbor}
 use Rattle.received.specs.Links.{neighbor_at}
 use Rattle.event_rules.specs.Events.{Step}
-use Rattle.event_rules.specs.LsaInstances.{LsaInstance, instance_of_header, instance_of_lsa}
-use Rattle.event_rules.specs.LsaInstances.{instances_in_update}
+use Rattle.event_rules.specs.InstanceIdentities.{InstanceIdentity, instance_of_header}
+use Rattle.event_rules.specs.InstanceIdentities.{instance_of_lsa}
+use Rattle.event_rules.specs.InstanceIdentities.{instances_in_update}
 use Rattle.event_rules.specs.Routers.{Occurrence, Router}
 use Rattle.agreement_laws.specs.Exchanged.{Conversation, Converses, Describes, conversation_with}
 use Rattle.agreement_laws.specs.NeighborHistories.{Ends, InSomeTurn, InSomeTurnSince, IsHistory}
@@ -33,11 +34,11 @@ use Rattle.agreement_laws.specs.SaidIsHeld.{IsToDescribe, Waits, young}
 -- ---- instances, whatever their ages
 
 -- `a` is at least as new as `b`: by the sequence number, then the checksum
-abbrev pub is_as_new : LsaInstance → LsaInstance → Bool
+abbrev pub is_as_new : InstanceIdentity → InstanceIdentity → Bool
 is_as_new a b = is_at_least (young a) (young b)
 
 -- the router holds an instance of the key that is at least as new
-pub record HoldsAsNew (r : Router) (name : LsaInstance) : Type 0 where
+pub record HoldsAsNew (r : Router) (name : InstanceIdentity) : Type 0 where
   pub copy : DatabaseCopy
   pub there : finite.get r.area.database name.key ≡ Some copy
   pub as_new : is_as_new (instance_of_lsa copy.lsa) name ≡ true
@@ -46,7 +47,7 @@ pub record HoldsAsNew (r : Router) (name : LsaInstance) : Type 0 where
 
 -- the instances in a packet: in a Database Description, a Link State Update or a Link State
 -- Acknowledgment
-abbrev pub instances_told : PacketBody → List LsaInstance
+abbrev pub instances_told : PacketBody → List InstanceIdentity
 instances_told (body.Hello h) = []
 instances_told (body.Description d) = map instance_of_header d.headers
 instances_told (body.Request keys) = []
@@ -54,7 +55,8 @@ instances_told (body.Update lsas) = instances_in_update lsas
 instances_told (body.Acknowledgment headers) = map instance_of_header headers
 
 -- the event is the receipt of these bytes, which have the instance
-pub record IsTold (interface : InterfaceNumber) (bytes : List ℕ) (name : LsaInstance) (step : Step)
+pub record IsTold (interface : InterfaceNumber) (bytes : List ℕ) (name : InstanceIdentity)
+    (step : Step)
     : Type 0 where
   pub is : step.event ≡ Occurrence.Packet interface bytes
   pub packet : Packet
@@ -68,7 +70,7 @@ abbrev pub IsWithout : Key → Router → Type 0
 IsWithout key r = finite.get r.area.database key ≡ None
 
 -- the bytes acknowledge the instance at MaxAge
-pub record AcknowledgesMaxAge (bytes : List ℕ) (name : LsaInstance) : Type 0 where
+pub record AcknowledgesMaxAge (bytes : List ℕ) (name : InstanceIdentity) : Type 0 where
   pub packet : Packet
   pub text : PacketText bytes packet
   pub headers : List Header
@@ -80,7 +82,7 @@ pub record AcknowledgesMaxAge (bytes : List ℕ) (name : LsaInstance) : Type 0 w
 
 -- Why the router may not hold what its packet with this index says: after the turn from `before` to
 -- `after`,
-pub data Forgets (interface : InterfaceNumber) (name : LsaInstance) (text : ℕ)
+pub data Forgets (interface : InterfaceNumber) (name : InstanceIdentity) (text : ℕ)
     (before after : Party)
     : Type 0 where
   -- it has no copy, and the packet was sent by then
@@ -103,7 +105,7 @@ pub data Forgets (interface : InterfaceNumber) (name : LsaInstance) (text : ℕ)
       → Forgets interface name text before after
 
 -- this is so in some turn of the history
-abbrev pub HasForgotten : (ends : Ends) → Side → LsaInstance → ℕ → (now : Pair)
+abbrev pub HasForgotten : (ends : Ends) → Side → InstanceIdentity → ℕ → (now : Pair)
     (earlier : List Pair) → IsHistory ends now earlier → Type 0
 HasForgotten ends side name text now earlier h =
     InSomeTurn ends (λ (before after : Pair) (t : Turn ends before after).
@@ -124,7 +126,7 @@ InConversation ends side with_it Such now earlier h =
 
 -- The router of this side is in the conversation, and has this instance: why the other one may hold
 -- none that is at least as new.
-pub data Exception (ends : Ends) (side : Side) (with_it : Conversation) (name : LsaInstance)
+pub data Exception (ends : Ends) (side : Side) (with_it : Conversation) (name : InstanceIdentity)
     (now : Pair) (earlier : List Pair) (h : IsHistory ends now earlier) : Type 0 where
   -- it described one that is at least as new to the other one
   Described : (header : Header) → key_of header ≡ name.key
@@ -136,7 +138,7 @@ pub data Exception (ends : Ends) (side : Side) (with_it : Conversation) (name : 
   -- the other one sent one that is at least as new, in a Database Description, a Link State Update
   -- or a Link State Acknowledgment, and has lost it: it did send these bytes, and each time has
   -- lost what they say
-  Forgotten : (bytes : List ℕ) (told : LsaInstance) → told.key ≡ name.key
+  Forgotten : (bytes : List ℕ) (told : InstanceIdentity) → told.key ≡ name.key
       → is_as_new told name ≡ true
       → InConversation ends side with_it
       (λ (own : RouterNumber) (step : Step). IsTold (interface_of side ends) bytes told step)

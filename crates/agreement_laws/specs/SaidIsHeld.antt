@@ -19,7 +19,7 @@ use Rattle.received.specs.Outcomes.{Send}
 use Rattle.event_rules.specs.declared.model.Out.{Out}
 use Rattle.event_rules.specs.Endings.{end_event}
 use Rattle.event_rules.specs.Events.{Happens}
-use Rattle.event_rules.specs.LsaInstances.{LsaInstance, instance_of_header}
+use Rattle.event_rules.specs.InstanceIdentities.{InstanceIdentity, instance_of_header}
 use Rattle.event_rules.specs.Routers.{Occurrence, Router}
 use Rattle.flood_laws.specs.InOrder.{IsInOrder}
 use Rattle.agreement_laws.specs.CopiesClimb.{BecameOf}
@@ -51,7 +51,7 @@ pub record Waits (interface : InterfaceNumber) (header : Header) (links : List L
 
 -- an instance is to be described to the neighbor at the interface: it is on the Database summary
 -- list, or in the last Database Description, which may be sent again
-pub data IsToDescribe (interface : InterfaceNumber) (name : LsaInstance) (links : List Link) :
+pub data IsToDescribe (interface : InterfaceNumber) (name : InstanceIdentity) (links : List Link) :
     Type 0
   where
     Listed : (n : Neighbor) (key : Key) (entry : ListEntry) → neighbor_at interface links ≡ Some n
@@ -62,7 +62,7 @@ pub data IsToDescribe (interface : InterfaceNumber) (name : LsaInstance) (links 
         → IsToDescribe interface name links
 
 -- the instance, whatever its age
-abbrev pub young : LsaInstance → Instance
+abbrev pub young : InstanceIdentity → Instance
 young name = record { sequence = name.sequence; checksum = name.checksum; age = 0 }
 
 -- ---- why it is said
@@ -89,7 +89,7 @@ pub data IsAcknowledged (old : Router) (moment : Moment) (event : Occurrence) (n
 
 -- why an instance is described, or is to be
 pub data IsOfDatabase (old : Router) (moment : Moment) (event : Occurrence) (new : Router)
-    (interface : InterfaceNumber) (name : LsaInstance) : Type 0 where
+    (interface : InterfaceNumber) (name : InstanceIdentity) : Type 0 where
   -- it was to be described before the event
   ToDescribe : IsToDescribe interface name old.area.links
       → IsOfDatabase old moment event new interface name
@@ -108,7 +108,7 @@ pub record SaysWhatIsHeld (old : Router) (moment : Moment) (event : Occurrence)
   pub described : (interface : InterfaceNumber) (d : Description) (header : Header)
       → Describes sends interface d → Contains d.headers header
       → IsOfDatabase old moment event new interface (instance_of_header header)
-  pub to_describe : (interface : InterfaceNumber) (name : LsaInstance)
+  pub to_describe : (interface : InterfaceNumber) (name : InstanceIdentity)
       → IsToDescribe interface name new.area.links
       → IsOfDatabase old moment event new interface name
 

@@ -7,7 +7,7 @@ use Rattle.lsdb.specs.Copies.{DatabaseCopy}
 use Rattle.agreement_laws.specs.NeighborHistories.{Ends, IsHistory, Pair, Side, interface_of}
 use Rattle.agreement_laws.specs.NeighborHistories.{other_side, party}
 use Rattle.agreement_laws.specs.NeighborsAgree.{HoldsAsNew, IsAtRest}
-use Rattle.event_rules.specs.LsaInstances.{instance_of_lsa}
+use Rattle.event_rules.specs.InstanceIdentities.{instance_of_lsa}
 
 -- a history after which a router is Full with the other one, holds a copy, and doesn't have it on
 -- the retransmission list

@@ -6,7 +6,7 @@ use Rattle.words.specs.Numbers.{InterfaceNumber, RouterNumber}
 use Rattle.lsdb.specs.Copies.{DatabaseCopy}
 use Rattle.lsdb.specs.Headers.{Header}
 use Rattle.event_rules.specs.Events.{Step}
-use Rattle.event_rules.specs.LsaInstances.{LsaInstance}
+use Rattle.event_rules.specs.InstanceIdentities.{InstanceIdentity}
 use Rattle.agreement_laws.specs.Exchanged.{Conversation, Converses, Describes}
 use Rattle.agreement_laws.specs.NeighborHistories.{BeginsAnew, Ends, IsHistory, Pair, Party, Side}
 use Rattle.agreement_laws.specs.NeighborHistories.{Turn, event_of, interface_of, is_same_side}
@@ -14,7 +14,7 @@ use Rattle.agreement_laws.specs.NeighborHistories.{party}
 use Rattle.agreement_laws.specs.NeighborsAgree.{Forgets, HasForgotten, InConversation}
 use Rattle.agreement_laws.specs.NeighborsAgree.{is_as_new}
 
-abbrev pub named : ℤ → ℕ → LsaInstance
+abbrev pub named : ℤ → ℕ → InstanceIdentity
 named sequence checksum = record {
   key = record { ls_type = 5; link_state_id = 1; advertising_router = 2 };
   sequence = sequence;
@@ -29,18 +29,19 @@ pub record WorkedNeighbors : Type 0 where
   pub lesser_checksum : is_as_new (named (pos 5) 7) (named (pos 5) 8) ≡ false
   pub same : is_as_new (named (pos 5) 7) (named (pos 5) 7) ≡ true
   -- a router that has restarted has lost what it sent before
-  pub begun_anew : (interface : InterfaceNumber) (name : LsaInstance) (text : ℕ)
+  pub begun_anew : (interface : InterfaceNumber) (name : InstanceIdentity) (text : ℕ)
       (before after : Party) → BeginsAnew before after → text < length before.sent
       → Forgets interface name text before after
   -- a router that has a copy before and after a turn loses nothing in it that it sent since its
   -- start
-  pub kept : (interface : InterfaceNumber) (name : LsaInstance) (text : ℕ) (before after : Party)
-      (was is : DatabaseCopy) → finite.get before.router.area.database name.key ≡ Some was
+  pub kept : (interface : InterfaceNumber) (name : InstanceIdentity) (text : ℕ)
+      (before after : Party) (was is : DatabaseCopy)
+      → finite.get before.router.area.database name.key ≡ Some was
       → finite.get after.router.area.database name.key ≡ Some is → after.began ≤ text
       → Forgets interface name text before after → ⊥
   -- without turns nothing is lost, and nothing was exchanged
-  pub nothing_forgotten : (ends : Ends) (side : Side) (name : LsaInstance) (text : ℕ) (now : Pair)
-      (h : IsHistory ends now []) → HasForgotten ends side name text now [] h → ⊥
+  pub nothing_forgotten : (ends : Ends) (side : Side) (name : InstanceIdentity) (text : ℕ)
+      (now : Pair) (h : IsHistory ends now []) → HasForgotten ends side name text now [] h → ⊥
   pub nothing_exchanged : (ends : Ends) (side : Side) (with_it : Conversation)
       (header : Header) (now : Pair) (h : IsHistory ends now [])
       → InConversation ends side with_it (λ (own : RouterNumber) (step : Step).

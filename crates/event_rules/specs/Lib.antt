@@ -9,7 +9,7 @@ pub mod Endings
 pub mod Packing
 pub mod Events
 pub mod Refusals
-pub mod LsaInstances
+pub mod InstanceIdentities
 pub mod Laws
 pub mod Numbers
 pub mod PackingLaws

@@ -20,7 +20,7 @@ use Rattle.event_rules.specs.declared.model.Out.{Out}
 use Rattle.event_rules.specs.Endings.{end_event, start_event}
 use Rattle.event_rules.specs.EventState.{EventState}
 use Rattle.event_rules.specs.Events.{Happens, Run, Step, initial}
-use Rattle.event_rules.specs.LsaInstances.{LsaInstance, instance_of_lsa}
+use Rattle.event_rules.specs.InstanceIdentities.{InstanceIdentity, instance_of_lsa}
 use Rattle.event_rules.specs.Originations.{due_keys, external_key, is_due, wanted_keys}
 use Rattle.event_rules.specs.Routers.{Occurrence, Router}
 use Rattle.flood_laws.specs.Retransmissions.{AreOfTheDatabase, IsOfCopy}
@@ -136,7 +136,7 @@ order_begun old moment order = record {
 -- ---- the law
 
 module _ (old : Router) (moment : ℕ) (event : Occurrence) (new : Router) (number : ℕ)
-    (before : Neighbor) (name : LsaInstance) (order : IsInOrder old)
+    (before : Neighbor) (name : InstanceIdentity) (order : IsInOrder old)
     (taken : IsTakenOff old moment event new number before name) where
   -- the copy of the entry
   record HasCopy : Type 0 where
@@ -184,7 +184,7 @@ module _ (old : Router) (moment : ℕ) (event : Occurrence) (new : Router) (numb
 module _ (old : Router) (moment : ℕ) (event : Occurrence) (outs : List Out) (new : Router)
     (happens : Happens old moment event outs new) (order : IsInOrder old) (number : ℕ)
     (before : Neighbor)
-    (name : LsaInstance) (taken : IsTakenOff old moment event new number before name) where
+    (name : InstanceIdentity) (taken : IsTakenOff old moment event new number before name) where
   abbrev p : EventState
   p = end_event old moment happens.after
 

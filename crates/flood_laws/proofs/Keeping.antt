@@ -39,9 +39,10 @@ use Rattle.event_rules.specs.declared.model.Out.{Out}
 use Rattle.event_rules.specs.Endings.{end_event}
 use Rattle.event_rules.specs.Events.{Happens, Run, Step, initial}
 use Rattle.event_rules.specs.EventState.{EventState}
-use Rattle.event_rules.specs.LsaInstances.{LsaInstance, instance_of_header, instance_of_lsa}
-use Rattle.event_rules.specs.LsaInstances.{instances_advertised, instances_in_update}
-use Rattle.event_rules.specs.LsaInstances.{instances_received}
+use Rattle.event_rules.specs.InstanceIdentities.{InstanceIdentity, instance_of_header}
+use Rattle.event_rules.specs.InstanceIdentities.{instance_of_lsa}
+use Rattle.event_rules.specs.InstanceIdentities.{instances_advertised, instances_in_update}
+use Rattle.event_rules.specs.InstanceIdentities.{instances_received}
 use Rattle.event_rules.specs.Originations.{external_key, has_max_sequence, new_instance}
 use Rattle.event_rules.specs.Originations.{next_sequence, router_key}
 use Rattle.event_rules.specs.Packing.{IsSentText, bodies, out_of, outs_at}
@@ -110,8 +111,8 @@ name_read l is =
 
 -- ---- what is sent is what is received
 
-module _ (K : LsaInstance → Type 0) where
-  abbrev Named : LsaInstance → Type 0
+module _ (K : InstanceIdentity → Type 0) where
+  abbrev Named : InstanceIdentity → Type 0
   Named name = K name × IsInstance name
 
   update_tells : (lsas : List (List ℕ)) → AllByRecursion (IsTextOf Named) lsas
@@ -138,9 +139,10 @@ module _ (K : LsaInstance → Type 0) where
       mapped_all instance_of_header (λ h. Named (instance_of_header h)) K (λ h k. k.0) headers bears
 
 -- each packet that is sent is from this router, and each instance in it is known
-module _ (old : Router) (event : Occurrence) (originated : List LsaInstance) (sends : List Send)
+module _ (old : Router) (event : Occurrence) (originated : List InstanceIdentity)
+    (sends : List Send)
   where
-    abbrev Known : LsaInstance → Type 0
+    abbrev Known : InstanceIdentity → Type 0
     Known name = Named (IsKnown old event originated) name
 
     lawful_out : (n : ℕ) (b : PacketBody) → Bears Known b × IsSentText old.id b
@@ -332,10 +334,10 @@ module _ (old : Router) (moment : ℕ) (event : Occurrence) (outs : List Out) (n
         })
 
     module _ (order : IsInOrder old) where
-      abbrev New : LsaInstance → Type 0
+      abbrev New : InstanceIdentity → Type 0
       New name = IsNewInstance old moment event new name
 
-      abbrev names : List LsaInstance
+      abbrev names : List InstanceIdentity
       names = instances_stored p.router ++ instances_in_sends p.sends
 
       why : AllByRecursion (IsExplained old event New) names
@@ -344,7 +346,7 @@ module _ (old : Router) (moment : ℕ) (event : Occurrence) (outs : List Out) (n
       pub keeps_what_is_known : TakesOffWhatIsTold old moment event new
           → AreTexts old.id old.area.links p.sends → KeepsWhatIsKnown old moment event outs new
       keeps_what_is_known taken texts =
-          let originated : List LsaInstance = new_ones old event New names why in
+          let originated : List InstanceIdentity = new_ones old event New names why in
           let known : AllByRecursion (Known old event originated p.sends) names =
           paired_all (IsKnown old event originated) IsInstance names
           (all_known old event New names why) leaves.holds in
@@ -439,12 +441,12 @@ events_keep_what_is_known old moment event outs new happens address order holds 
 pub only_what_is_known : EventsHoldOnlyWhatIsKnown
 only_what_is_known old moment event outs new happens order =
     let p : EventState = end_event old moment happens.after in
-    let names : List LsaInstance = instances_stored p.router ++ instances_in_sends p.sends in
-    let New : LsaInstance → Type 0 = λ name. IsNewInstance old moment event new name in
+    let names : List InstanceIdentity = instances_stored p.router ++ instances_in_sends p.sends in
+    let New : InstanceIdentity → Type 0 = λ name. IsNewInstance old moment event new name in
     let why : AllByRecursion (IsExplained old event New) names =
     all_explained old moment event outs new happens order in
-    let originated : List LsaInstance = new_ones old event New names why in
-    let K : LsaInstance → Type 0 = IsKnown old event originated in
+    let originated : List InstanceIdentity = new_ones old event New names why in
+    let K : InstanceIdentity → Type 0 = IsKnown old event originated in
     let known : AllByRecursion K names = all_known old event New names why in
     record {
       originated = originated;

@@ -30,8 +30,9 @@ use Rattle.event_rules.specs.Endings.{end_event}
 use Rattle.event_rules.specs.Events.{Happens, initial}
 use Rattle.flood_laws.specs.InOrder.{AnnouncesItsOwn}
 use Rattle.flood_laws.specs.Known.{instances_in_content, instances_in_send, instances_in_sends}
-use Rattle.event_rules.specs.LsaInstances.{LsaInstance, instance_of_lsa, instance_of_header}
-use Rattle.event_rules.specs.LsaInstances.{instances_received, instances_in_update}
+use Rattle.event_rules.specs.InstanceIdentities.{InstanceIdentity, instance_of_lsa}
+use Rattle.event_rules.specs.InstanceIdentities.{instance_of_header}
+use Rattle.event_rules.specs.InstanceIdentities.{instances_received, instances_in_update}
 use Rattle.event_rules.specs.Originations.{external_key, has_max_sequence, new_instance, router_key}
 use Rattle.event_rules.specs.EventState.{EventState}
 use Rattle.event_rules.specs.Routers.{Occurrence, Router, fresh_link, unannounced_router}
@@ -76,7 +77,7 @@ pub each_all : {X : Type 0} (P Q : X → Type 0) → ((x : X) → P x → Q x) �
 each_all P Q so [] h = tt
 each_all P Q so (x ∷ xs) h = (so x h.0, each_all P Q so xs h.1)
 
-pub named_sends : (K : LsaInstance → Type 0) (sends : List Send)
+pub named_sends : (K : InstanceIdentity → Type 0) (sends : List Send)
     → AllByRecursion K (instances_in_sends sends)
     → AllByRecursion (λ (s : Send). AllByRecursion K (instances_in_content s.content)) sends
 named_sends K [] h = tt
@@ -88,8 +89,8 @@ named_sends K (s ∷ sends) h = (
 -- ---- a property of an instance, for all that has instances
 
 -- together with a property of its key
-module _ (K : LsaInstance → Type 0) (P : Key → Type 0)
-    (so : (name : LsaInstance) → K name → P name.key) (count : ℕ) where
+module _ (K : InstanceIdentity → Type 0) (P : Key → Type 0)
+    (so : (name : InstanceIdentity) → K name → P name.key) (count : ℕ) where
   abbrev pub named_by : Telling
   named_by = record {
     of_lsa = λ lsa. K (instance_of_lsa lsa);
@@ -101,12 +102,12 @@ module _ (K : LsaInstance → Type 0) (P : Key → Type 0)
     count = count;
   }
 
-  values_named : {X : Type 0} (f : X → LsaInstance) (es : List (Key × X))
+  values_named : {X : Type 0} (f : X → InstanceIdentity) (es : List (Key × X))
       → AllByRecursion (OfEntry (λ k x. K (f x))) es → AllByRecursion K (map f (map (λ e. e.1) es))
   values_named f [] h = tt
   values_named f (e ∷ es) h = (h.0, values_named f es h.1)
 
-  named_values : {X : Type 0} (f : X → LsaInstance) (es : List (Key × X))
+  named_values : {X : Type 0} (f : X → InstanceIdentity) (es : List (Key × X))
       → AllByRecursion K (map f (map (λ e. e.1) es)) → AllByRecursion (OfEntry (λ k x. K (f x))) es
   named_values f [] h = tt
   named_values f (e ∷ es) h = (h.0, named_values f es h.1)
@@ -220,8 +221,8 @@ module _ (K : LsaInstance → Type 0) (P : Key → Type 0)
 
 -- ---- why an instance is known
 
-pub data IsExplained (old : Router) (event : Occurrence) (N : LsaInstance → Type 0)
-    (name : LsaInstance) : Type 0 where
+pub data IsExplained (old : Router) (event : Occurrence) (N : InstanceIdentity → Type 0)
+    (name : InstanceIdentity) : Type 0 where
   Held : Contains (instances_stored old) name → IsExplained old event N name
   Brought : (number : ℕ) (bytes : List ℕ) (packet : Packet) → event ≡ Occurrence.Packet number bytes
       → PacketText bytes packet → Contains (instances_received packet.body) name
@@ -229,18 +230,18 @@ pub data IsExplained (old : Router) (event : Occurrence) (N : LsaInstance → Ty
   New : N name → IsExplained old event N name
 
 -- N holds of new instances
-module _ (old : Router) (event : Occurrence) (N : LsaInstance → Type 0) where
-  new_one : (name : LsaInstance) → IsExplained old event N name → Option LsaInstance
+module _ (old : Router) (event : Occurrence) (N : InstanceIdentity → Type 0) where
+  new_one : (name : InstanceIdentity) → IsExplained old event N name → Option InstanceIdentity
   new_one name (IsExplained.Held c) = None
   new_one name (IsExplained.Brought number bytes packet is text c) = None
   new_one name (IsExplained.New n) = Some name
 
-  pub new_ones : (names : List LsaInstance) → AllByRecursion (IsExplained old event N) names
-      → List LsaInstance
+  pub new_ones : (names : List InstanceIdentity) → AllByRecursion (IsExplained old event N) names
+      → List InstanceIdentity
   new_ones [] h = []
   new_ones (name ∷ names) h = cons_option (new_one name h.0) (new_ones names h.1)
 
-  pub all_new : (names : List LsaInstance) (h : AllByRecursion (IsExplained old event N) names)
+  pub all_new : (names : List InstanceIdentity) (h : AllByRecursion (IsExplained old event N) names)
       → AllByRecursion N (new_ones names h)
   unfolding new_ones new_one
   all_new [] h = tt
@@ -252,14 +253,15 @@ module _ (old : Router) (event : Occurrence) (N : LsaInstance → Type 0) where
       with_first (IsExplained.Brought number bytes packet is text c) rest = rest
       with_first (IsExplained.New n) rest = (n, rest)
 
-  known_more : (more : List LsaInstance) (x name : LsaInstance) → IsKnown old event more name
-      → IsKnown old event (x ∷ more) name
+  known_more : (more : List InstanceIdentity) (x name : InstanceIdentity)
+      → IsKnown old event more name → IsKnown old event (x ∷ more) name
   known_more more x name (IsKnown.Held c) = IsKnown.Held c
   known_more more x name (IsKnown.Brought number bytes packet is text c) =
       IsKnown.Brought number bytes packet is text c
   known_more more x name (IsKnown.Originated c) = IsKnown.Originated (later_is x more name c)
 
-  pub all_known : (names : List LsaInstance) (h : AllByRecursion (IsExplained old event N) names)
+  pub all_known : (names : List InstanceIdentity)
+      (h : AllByRecursion (IsExplained old event N) names)
       → AllByRecursion (IsKnown old event (new_ones names h)) names
   unfolding new_ones new_one
   all_known [] h = tt
@@ -300,8 +302,8 @@ announces t r all key e is = (subst (IfThere (IsOwn t r.id) key) is (all key)).0
 -- ---- an event
 
 -- a property of instances and of their keys
-module _ (Q : LsaInstance → Type 0) (P : Key → Type 0)
-    (so : (name : LsaInstance) → Q name → P name.key) where
+module _ (Q : InstanceIdentity → Type 0) (P : Key → Type 0)
+    (so : (name : InstanceIdentity) → Q name → P name.key) where
   -- it holds of what is held before the event, of what the event brings, and of new instances
   pub record Enters (old : Router) (event : Occurrence) : Type 0 where
     pub own : P (router_key old.id)
@@ -355,7 +357,7 @@ module _ (Q : LsaInstance → Type 0) (P : Key → Type 0)
           announced = λ key e is. (subst (IfThere (IsOwn t old.id) key) is (end.announced.1 key)).1;
         }
 
-abbrev Any : LsaInstance → Type 0
+abbrev Any : InstanceIdentity → Type 0
 Any name = Unit {0}
 
 own_left : (old : Router) (moment : ℕ) (event : Occurrence) (outs : List Out) (new : Router)

@@ -54,8 +54,9 @@ use Rattle.event_rules.specs.Endings.{link_loading_done, loading_done_on, start_
 use Rattle.event_rules.specs.Endings.{flood_if_aged}
 use Rattle.event_rules.specs.EventState.{EventState, flood_from_nobody}
 use Rattle.event_rules.specs.Hellos.{accepts, names}
-use Rattle.event_rules.specs.LsaInstances.{LsaInstance, instance_of_header, instance_of_lsa}
-use Rattle.event_rules.specs.LsaInstances.{instances_advertised}
+use Rattle.event_rules.specs.InstanceIdentities.{InstanceIdentity, instance_of_header}
+use Rattle.event_rules.specs.InstanceIdentities.{instance_of_lsa}
+use Rattle.event_rules.specs.InstanceIdentities.{instances_advertised}
 use Rattle.event_rules.specs.Originations.{forget_originations, install_and_flood, interval_is_over}
 use Rattle.event_rules.specs.Originations.{is_recent, new_instance}
 use Rattle.event_rules.specs.Packets.{accept_hello, is_from, receive_acknowledgment}
@@ -222,7 +223,7 @@ aged_at_once m = let e : age_at 3600 m m ≡ 3600 = omega arith in ap (λ a. a =
 -- ---- the entry
 
 module _ (old : Router) (moment : ℕ) (event : Occurrence) (number : ℕ) (before : Neighbor)
-    (name : LsaInstance) (copy : DatabaseCopy)
+    (name : InstanceIdentity) (copy : DatabaseCopy)
     (there : finite.get old.area.database name.key ≡ Some copy)
     (is_it : instance_of_lsa copy.lsa ≡ name) where
   abbrev key : Key
@@ -431,7 +432,7 @@ module _ (old : Router) (moment : ℕ) (event : Occurrence) (number : ℕ) (befo
   times_became a t u so (HasAged c at like aged young asked) = HasAged c at like aged young asked
 
   named_key : (c : DatabaseCopy) → instance_of_lsa c.lsa ≡ name → lsa_key c.lsa ≡ key
-  named_key c e = ap (λ (m : LsaInstance). m.key) e
+  named_key c e = ap (λ (m : InstanceIdentity). m.key) e
 
   with_key : (c : DatabaseCopy) → instance_of_lsa c.lsa ≡ name → record {
     key = key;
@@ -609,10 +610,10 @@ module _ (old : Router) (moment : ℕ) (event : Occurrence) (number : ℕ) (befo
   newer_before c x like newer = by_age like.age
     where
       sequences : c.lsa.header.sequence ≡ copy.lsa.header.sequence
-      sequences = ap (λ (m : LsaInstance). m.sequence) (like.name_is ∙ sym is_it)
+      sequences = ap (λ (m : InstanceIdentity). m.sequence) (like.name_is ∙ sym is_it)
 
       checksums : c.lsa.header.checksum ≡ copy.lsa.header.checksum
-      checksums = ap (λ (m : LsaInstance). m.checksum) (like.name_is ∙ sym is_it)
+      checksums = ap (λ (m : InstanceIdentity). m.checksum) (like.name_is ∙ sym is_it)
 
       by_numbers : is_max_age (age_now moment c) ≡ true
           → is_newer (instance_of x) (copy_now moment copy) ≡ true

@@ -48,7 +48,8 @@ use Rattle.event_rules.specs.Endings.{stays}
 use Rattle.event_rules.specs.Events.{Happens}
 use Rattle.event_rules.specs.EventState.{EventState, flood_from_nobody}
 use Rattle.event_rules.specs.Hellos.{accepts, names}
-use Rattle.event_rules.specs.LsaInstances.{LsaInstance, instance_of_lsa, instances_received}
+use Rattle.event_rules.specs.InstanceIdentities.{InstanceIdentity, instance_of_lsa}
+use Rattle.event_rules.specs.InstanceIdentities.{instances_received}
 use Rattle.event_rules.specs.Originations.{forget_originations, install_and_flood, interval_is_over}
 use Rattle.event_rules.specs.Originations.{new_instance, next_sequence}
 use Rattle.event_rules.specs.Packets.{accept_hello, receive_hello_on, requested_lsas}
@@ -122,7 +123,7 @@ numbers_marked moment (s ∷ more) db k =
 module _ (old : Router) (moment : ℕ) (event : Occurrence) where
   -- ---- why an instance is known, given the moments of the router's originations
 
-  pub record IsNew (t : ByKey ℕ) (name : LsaInstance) : Type 0 where
+  pub record IsNew (t : ByKey ℕ) (name : InstanceIdentity) : Type 0 where
     own : name.key.advertising_router ≡ old.id
     now : finite.get t name.key ≡ Some moment
     not_before : finite.get old.originated name.key ≡ Some moment → ⊥
@@ -131,7 +132,7 @@ module _ (old : Router) (moment : ℕ) (event : Occurrence) where
     says : LsaBody
     is : instance_of_lsa (new_instance name.key copy says) ≡ name
 
-  abbrev Why : ByKey ℕ → LsaInstance → Type 0
+  abbrev Why : ByKey ℕ → InstanceIdentity → Type 0
   Why t name = IsExplained old event (IsNew t) name
 
   abbrev T : ByKey ℕ → Telling
@@ -140,7 +141,7 @@ module _ (old : Router) (moment : ℕ) (event : Occurrence) where
   abbrev Follows : ByKey ℕ → ByKey ℕ → Type 0
   Follows t u = (k : Key) → finite.get t k ≡ Some moment → finite.get u k ≡ Some moment
 
-  why_more : (t u : ByKey ℕ) → Follows t u → (name : LsaInstance) → Why t name → Why u name
+  why_more : (t u : ByKey ℕ) → Follows t u → (name : InstanceIdentity) → Why t name → Why u name
   why_more t u so name (IsExplained.Held c) = IsExplained.Held c
   why_more t u so name (IsExplained.Brought number bytes packet is text c) =
       IsExplained.Brought number bytes packet is text c
@@ -616,7 +617,7 @@ all_explained old moment event outs new happens order =
     (held_named (IsExplained old event (IsNew old moment event t)) (λ key. Unit {0}) (λ name k. tt)
     (length old.area.links) p.router p.sends ends.whole)
   where
-    explained : (name : LsaInstance) → IsExplained old event
+    explained : (name : InstanceIdentity) → IsExplained old event
         (IsNew old moment event (end_event old moment happens.after).router.originated) name
         → IsExplained old event (λ name. IsNewInstance old moment event new name) name
     explained name (IsExplained.Held c) = IsExplained.Held c

@@ -40,7 +40,7 @@ use Rattle.adjacency.specs.Retransmissions.{repeats_description, request_again, 
 use Rattle.adjacency.specs.Retransmissions.{update_again}
 use Rattle.adjacency.proofs.Kept.{chosen}
 use Rattle.received.specs.Holds.{Holds}
-use Rattle.event_rules.specs.LsaInstances.{LsaInstance, instance_of_header}
+use Rattle.event_rules.specs.InstanceIdentities.{InstanceIdentity, instance_of_header}
 use Rattle.flood_laws.specs.TakenOff.{listed_instance, owed_instance}
 use Rattle.flood_laws.proofs.Flooding.{flooding_so}
 use Rattle.flood_laws.proofs.Limits.{tied_key}
@@ -75,7 +75,7 @@ left_there m k key e = left_of (same_key key k) (finite.get m key)
 
 -- ---- the entry
 
-module _ (key : Key) (name : LsaInstance) (Asked : Type 0) where
+module _ (key : Key) (name : InstanceIdentity) (Asked : Type 0) where
   -- the adjacency was given up; or the instance is still on the retransmission list and, if its key
   -- is on the request list now, counts as requested
   abbrev pub Owing : Neighbor → Type 0
@@ -168,7 +168,7 @@ module _ (key : Key) (name : LsaInstance) (Asked : Type 0) where
       (not false && passes moment lsa (request_of m lsa)) got not_got
       (λ e. inl (inr (
         ap (listed_instance key) (put_same (finite.remove w.retransmissions (lsa_key lsa))
-            (lsa_key lsa) key entry same) ∙ ap (λ (x : LsaInstance). Some x) is,
+            (lsa_key lsa) key entry same) ∙ ap (λ (x : InstanceIdentity). Some x) is,
         asks,
       )))
       (λ e. inr (h.1 (subst (λ (k : Key). finite.contains_key m.requests k ≡ true)

@@ -14,7 +14,7 @@ use Rattle.adjacency.specs.Contents.{Content}
 use Rattle.received.specs.Links.{Link}
 use Rattle.received.specs.Outcomes.{Send, at_interface}
 use Rattle.flood_laws.specs.Known.{Bears, IsOutOf, IsTextOf, instances_in_content}
-use Rattle.event_rules.specs.LsaInstances.{LsaInstance}
+use Rattle.event_rules.specs.InstanceIdentities.{InstanceIdentity}
 use Rattle.event_rules.specs.Packing.{acknowledgments, bodies, descriptions}
 use Rattle.event_rules.specs.Packing.{first_key, header_size, hellos, in_key_order, lsa_size}
 use Rattle.event_rules.specs.Packing.{out_of, outs_at, packed_groups, requests, sent_lsa, update_of}
@@ -122,7 +122,7 @@ module _ (R : Content → Type 0) (P : PacketBody → Type 0) (delay : ℕ) (pac
 
 -- ---- the instances in packets
 
-module _ (K : LsaInstance → Type 0) where
+module _ (K : InstanceIdentity → Type 0) where
   abbrev LsaInstances : Content → Type 0
   LsaInstances c = AllByRecursion K (instances_in_content c)
 

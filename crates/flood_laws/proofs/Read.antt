@@ -9,8 +9,9 @@ use Rattle.lsa.specs.declared.fault.LsaFault.{LsaFault}
 use Rattle.lsa.proofs.Headers.{header-reads_back}
 use Rattle.lsdb.specs.Headers.{Header, Lsa}
 use Rattle.flood_laws.specs.Known.{UpdatesTellWhatTheyBear}
-use Rattle.event_rules.specs.LsaInstances.{LsaInstance, instance_of_lsa, instance_of_header}
-use Rattle.event_rules.specs.LsaInstances.{instances_in_update}
+use Rattle.event_rules.specs.InstanceIdentities.{InstanceIdentity, instance_of_lsa}
+use Rattle.event_rules.specs.InstanceIdentities.{instance_of_header}
+use Rattle.event_rules.specs.InstanceIdentities.{instances_in_update}
 use Rattle.flood_laws.proofs.Known.{of_member}
 use Rattle.flood_laws.proofs.Lists.{later_is}
 
@@ -34,7 +35,8 @@ all_told [] h = tt
 all_told (l ∷ ls) h = with_first (lsa_in (text l)) (read_name l h.0)
     (further (instances_in_update (map (λ m. text m) ls)) (all_told ls h.1))
   where
-    further : (names : List LsaInstance) → AllByRecursion (Contains (map instance_of_lsa ls)) names
+    further : (names : List InstanceIdentity)
+        → AllByRecursion (Contains (map instance_of_lsa ls)) names
         → AllByRecursion (Contains (map instance_of_lsa (l ∷ ls))) names
     further [] c = tt
     further (name ∷ names) c = (

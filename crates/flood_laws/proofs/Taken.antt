@@ -16,7 +16,7 @@ use Rattle.lsdb.specs.Order.{compare_ages, is_max_age}
 use Rattle.adjacency.specs.Neighbors.{Neighbor}
 use Rattle.received.specs.Cases.{Case, case_of_readable, first_case, is_wrapping}
 use Rattle.received.specs.Cases.{is_on_senders_list, was_requested}
-use Rattle.event_rules.specs.LsaInstances.{LsaInstance, instance_of_header}
+use Rattle.event_rules.specs.InstanceIdentities.{InstanceIdentity, instance_of_header}
 
 -- ---- one entry
 
@@ -29,7 +29,7 @@ equal_parts Equal Greater t e = absurd (cc)
 equal_parts Greater s t e = absurd (cc)
 
 -- the same instance, with this key
-pub same_name : (moment : ℕ) (h : Header) (l : ListEntry) (name : LsaInstance)
+pub same_name : (moment : ℕ) (h : Header) (l : ListEntry) (name : InstanceIdentity)
     → same_as_listed moment h l ≡ true
     → record {
       key = key_of h;

@@ -13,7 +13,8 @@ use Rattle.packet.proofs.Whole.{one_packet}
 use Rattle.event_rules.specs.declared.model.Config.{Config}
 use Rattle.event_rules.specs.Events.{initial}
 use Rattle.event_rules.specs.Routers.{Occurrence, Router}
-use Rattle.event_rules.specs.LsaInstances.{LsaInstance, instances_received, instances_advertised}
+use Rattle.event_rules.specs.InstanceIdentities.{InstanceIdentity, instances_received}
+use Rattle.event_rules.specs.InstanceIdentities.{instances_advertised}
 use Rattle.flood_laws.specs.Worlds.{AcknowledgedWasReceived, Brings, Datagram, IsHistory, IsKnown}
 use Rattle.flood_laws.specs.Worlds.{IsLawfulOut, Joins, Knowledge, Lives, Restarts, World}
 use Rattle.flood_laws.specs.Worlds.{WorldStep, all_known, begun_with, known_as, knows}
@@ -63,15 +64,15 @@ changed_place (z ∷ zs) (suc i) (suc j) x y e = changed_place zs i j x y e
 -- ---- an invariant of a world
 
 record IsKnowing (w : World) : Type 0 where
-  held : (place : ℕ) (r : Router) → slice_get w.routers place ≡ Some r → (name : LsaInstance)
+  held : (place : ℕ) (r : Router) → slice_get w.routers place ≡ Some r → (name : InstanceIdentity)
       → Contains (instances_stored r) name → Contains w.known (knows r.id name)
   told : (d : Datagram) → Contains w.sent d → (packet : Packet) → PacketText d.bytes packet
-      → (name : LsaInstance) → Contains (instances_advertised packet.body) name
+      → (name : InstanceIdentity) → Contains (instances_advertised packet.body) name
       → Contains w.known (knows packet.router name)
 
 -- at the beginning
 known_at : (rs : List Router) (place : ℕ) (r : Router) → slice_get rs place ≡ Some r
-    → (name : LsaInstance) → Contains (instances_stored r) name
+    → (name : InstanceIdentity) → Contains (instances_stored r) name
     → Contains (all_known rs) (knows r.id name)
 known_at [] place r e name c = absurd (cc)
 known_at (s ∷ rs) zero r e name c =
@@ -95,7 +96,7 @@ knows_first configs = record {
 module _ (joins : Joins) (w : World) (knowing : IsKnowing w) where
   -- what an event makes known
   learnt : (place moment : ℕ) (event : Occurrence) (after : World)
-      (l : Lives joins w place moment event after) (name : LsaInstance)
+      (l : Lives joins w place moment event after) (name : InstanceIdentity)
       → IsKnown l.old event l.originated name
       → Contains (w.known ++ known_as l.old.id (l.brought ++ l.originated))
       (knows l.old.id name)
@@ -129,7 +130,7 @@ module _ (joins : Joins) (w : World) (knowing : IsKnowing w) where
       more : List Knowledge
       more = known_as l.old.id (l.brought ++ l.originated)
 
-      held_by : (p : ℕ) (r : Router) (name : LsaInstance) → Contains (instances_stored r) name
+      held_by : (p : ℕ) (r : Router) (name : InstanceIdentity) → Contains (instances_stored r) name
           → (l.new ≡ r) ⊎ (slice_get w.routers p ≡ Some r)
           → Contains (w.known ++ more) (knows r.id name)
       held_by p r name c (inl same) =
@@ -142,12 +143,12 @@ module _ (joins : Joins) (w : World) (knowing : IsKnowing w) where
           Contains-append_left w.known more (knows r.id name) (knowing.held p r there name c)
 
       held_after : (p : ℕ) (r : Router) → slice_get (set w.routers place l.new) p ≡ Some r
-          → (name : LsaInstance) → Contains (instances_stored r) name
+          → (name : InstanceIdentity) → Contains (instances_stored r) name
           → Contains (w.known ++ more) (knows r.id name)
       held_after p r e name c = held_by p r name c (changed_place w.routers place p l.new r e)
 
-      told_by : (d : Datagram) (packet : Packet) → PacketText d.bytes packet → (name : LsaInstance)
-          → Contains (instances_advertised packet.body) name
+      told_by : (d : Datagram) (packet : Packet) → PacketText d.bytes packet
+          → (name : InstanceIdentity) → Contains (instances_advertised packet.body) name
           → Contains w.sent d ⊎ Contains (map (sent_from place) l.outs) d
           → Contains (w.known ++ more) (knows packet.router name)
       told_by d packet text name c (inl before) =
@@ -166,7 +167,7 @@ module _ (joins : Joins) (w : World) (knowing : IsKnowing w) where
           name) (sym same) c))))
 
       told_after : (d : Datagram) → Contains (w.sent ++ map (sent_from place) l.outs) d
-          → (packet : Packet) → PacketText d.bytes packet → (name : LsaInstance)
+          → (packet : Packet) → PacketText d.bytes packet → (name : InstanceIdentity)
           → Contains (instances_advertised packet.body) name
           → Contains (w.known ++ more) (knows packet.router name)
       told_after d c packet text name told =
@@ -185,7 +186,7 @@ module _ (joins : Joins) (w : World) (knowing : IsKnowing w) where
       more : List Knowledge
       more = known_as (initial s.config).id (instances_stored (initial s.config))
 
-      held_by : (p : ℕ) (r : Router) (name : LsaInstance) → Contains (instances_stored r) name
+      held_by : (p : ℕ) (r : Router) (name : InstanceIdentity) → Contains (instances_stored r) name
           → (initial s.config ≡ r) ⊎ (slice_get w.routers p ≡ Some r)
           → Contains (w.known ++ more) (knows r.id name)
       held_by p r name c (inl same) =
@@ -197,13 +198,14 @@ module _ (joins : Joins) (w : World) (knowing : IsKnowing w) where
           Contains-append_left w.known more (knows r.id name) (knowing.held p r there name c)
 
       held_after : (p : ℕ) (r : Router)
-          → slice_get (set w.routers place (initial s.config)) p ≡ Some r → (name : LsaInstance)
-          → Contains (instances_stored r) name → Contains (w.known ++ more) (knows r.id name)
+          → slice_get (set w.routers place (initial s.config)) p ≡ Some r
+          → (name : InstanceIdentity) → Contains (instances_stored r) name
+          → Contains (w.known ++ more) (knows r.id name)
       held_after p r e name c = held_by p r name c
           (changed_place w.routers place p (initial s.config) r e)
 
       told_after : (d : Datagram) → Contains w.sent d → (packet : Packet)
-          → PacketText d.bytes packet → (name : LsaInstance)
+          → PacketText d.bytes packet → (name : InstanceIdentity)
           → Contains (instances_advertised packet.body) name
           → Contains (w.known ++ more) (knows packet.router name)
       told_after d c packet text name told =
@@ -229,7 +231,7 @@ history_knows joins (next ∷ rest) w last h knowing =
 heard_known : (joins : Joins) (w : World) → IsKnowing w
     → (place number : ℕ) (bytes : List ℕ) (packet : Packet)
     → MayHappen joins w place (Occurrence.Packet number bytes) → PacketText bytes packet
-    → (name : LsaInstance) → Contains (instances_advertised packet.body) name
+    → (name : InstanceIdentity) → Contains (instances_advertised packet.body) name
     → Contains w.known (knows packet.router name)
 heard_known joins w knowing place number bytes packet may text name told =
     knowing.told may.0 may.1 packet (subst (λ bs. PacketText bs packet) may.3 text) name told
@@ -237,7 +239,7 @@ heard_known joins w knowing place number bytes packet may text name told =
 told_known : (joins : Joins) (configs : List Config) (steps : List World) (w after : World)
     → IsHistory joins (begun_with configs) steps w → (place moment : ℕ) (event : Occurrence)
     → Lives joins w place moment event after
-    → (number : ℕ) (router : RouterNumber) (name : LsaInstance)
+    → (number : ℕ) (router : RouterNumber) (name : InstanceIdentity)
     → IsTold event number router name → Contains w.known (knows router name)
 told_known joins configs steps w after history place moment event l number router name told =
     let knowing : IsKnowing w = history_knows joins steps (begun_with configs) w history

@@ -15,7 +15,7 @@ use Rattle.adjacency.proofs.Kept.{chosen}
 use Rattle.received.specs.Links.{Link, neighbor_at}
 use Rattle.received.proofs.Flooded.{removed}
 use Rattle.event_rules.specs.declared.model.Out.{Out}
-use Rattle.event_rules.specs.LsaInstances.{LsaInstance, instances_advertised}
+use Rattle.event_rules.specs.InstanceIdentities.{InstanceIdentity, instances_advertised}
 use Rattle.event_rules.specs.Routers.{Occurrence, Router}
 use Rattle.flood_laws.specs.NewInstances.{BringsLsa, lsas_brought}
 use Rattle.flood_laws.specs.TakenOff.{IsFlooded, IsTakenOff, IsTold, listed_instance}
@@ -38,7 +38,8 @@ same_bytes : (a b : ℕ) (bytes others : List ℕ)
 unfolding bytes_of
 same_bytes a b bytes others e = ap (bytes_of bytes) e
 
-module _ (old : Router) (moment number : ℕ) (n : Neighbor) (name : LsaInstance) (bytes : List ℕ)
+module _ (old : Router) (moment number : ℕ) (n : Neighbor) (name : InstanceIdentity)
+    (bytes : List ℕ)
     (headers : List Header)
     (at : AcknowledgesAnother old moment number n name bytes headers) where
   abbrev new : Router
@@ -94,7 +95,7 @@ module _ (old : Router) (moment number : ℕ) (n : Neighbor) (name : LsaInstance
     not_flooded = not_flooded;
   }
 
-  pub never_kept : (outs : List Out) (originated : List LsaInstance)
+  pub never_kept : (outs : List Out) (originated : List InstanceIdentity)
       → Keeps old moment event outs new originated → ⊥
   never_kept outs originated keeps =
       let told : IsTold event number n.router name = keeps.taken number n name taken_off in

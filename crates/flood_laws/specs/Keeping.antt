@@ -14,7 +14,7 @@ use Rattle.event_rules.specs.declared.model.Config.{Config}
 use Rattle.event_rules.specs.declared.model.Out.{Out}
 use Rattle.event_rules.specs.Endings.{end_event}
 use Rattle.event_rules.specs.Events.{Happens, Run, Step, initial}
-use Rattle.event_rules.specs.LsaInstances.{LsaInstance}
+use Rattle.event_rules.specs.InstanceIdentities.{InstanceIdentity}
 use Rattle.event_rules.specs.Packing.{IsSentText, bodies}
 use Rattle.event_rules.specs.Routers.{Occurrence, Router}
 use Rattle.flood_laws.specs.InOrder.{AnnouncesItsOwn, IsInOrder}
@@ -26,7 +26,7 @@ use Rattle.flood_laws.specs.Worlds.{Keeps, instances_stored}
 pub record KeepsWhatIsKnown (old : Router) (moment : Moment) (event : Occurrence)
     (outs : List Out) (new : Router) : Type 0 where
   -- what the event originates
-  pub originated : List LsaInstance
+  pub originated : List InstanceIdentity
   pub keeps : Keeps old moment event outs new originated
 
 -- ---- The numbers of a Rust value are in their ranges; those of a clause may be any numbers.
@@ -36,7 +36,7 @@ pub record IsLsaKey (key : Key) : Type 0 where
   pub link_state_id : key.link_state_id < 2 ^ 32
   pub advertising_router : key.advertising_router < 2 ^ 32
 
-pub record IsInstance (name : LsaInstance) : Type 0 where
+pub record IsInstance (name : InstanceIdentity) : Type 0 where
   pub key : IsLsaKey name.key
   pub sequence : FitsSigned w32 name.sequence
   pub checksum : name.checksum < 2 ^ 16
@@ -44,7 +44,7 @@ pub record IsInstance (name : LsaInstance) : Type 0 where
 -- the numbers of what a router holds and announces
 pub record HoldsInstances (r : Router) : Type 0 where
   pub id : r.id < 2 ^ 32
-  pub held : (name : LsaInstance) → Contains (instances_stored r) name → IsInstance name
+  pub held : (name : InstanceIdentity) → Contains (instances_stored r) name → IsInstance name
   pub announced : (key : Key) (e : External) → finite.get r.announced key ≡ Some e → IsLsaKey key
 
 -- the address that a `Redistribute` announces

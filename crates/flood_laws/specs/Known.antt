@@ -12,8 +12,9 @@ use Rattle.adjacency.specs.Contents.{Content}
 use Rattle.received.specs.Outcomes.{Send}
 use Rattle.event_rules.specs.declared.model.Out.{Out}
 use Rattle.event_rules.specs.Events.{Happens}
-use Rattle.event_rules.specs.LsaInstances.{LsaInstance, instance_of_lsa, instance_of_header}
-use Rattle.event_rules.specs.LsaInstances.{instances_in_update}
+use Rattle.event_rules.specs.InstanceIdentities.{InstanceIdentity, instance_of_lsa}
+use Rattle.event_rules.specs.InstanceIdentities.{instance_of_header}
+use Rattle.event_rules.specs.InstanceIdentities.{instances_in_update}
 use Rattle.event_rules.specs.Packing.{out_of}
 use Rattle.event_rules.specs.Routers.{Occurrence, Router}
 use Rattle.flood_laws.specs.InOrder.{IsInOrder}
@@ -21,27 +22,27 @@ use Rattle.flood_laws.specs.NewInstances.{IsNewInstance}
 use Rattle.flood_laws.specs.Worlds.{IsKnown, instances_stored}
 
 -- the instances that a Link State Update or Acknowledgment will contain
-abbrev pub instances_in_content : Content → List LsaInstance
+abbrev pub instances_in_content : Content → List InstanceIdentity
 instances_in_content (Content.SendsHello hello) = []
 instances_in_content (Content.Describes d) = []
 instances_in_content (Content.Requests keys) = []
 instances_in_content (Content.Updates lsa) = instance_of_lsa lsa ∷ []
 instances_in_content (Content.Acknowledges header) = instance_of_header header ∷ []
 
-abbrev pub instances_in_send : Send → List LsaInstance
+abbrev pub instances_in_send : Send → List InstanceIdentity
 instances_in_send s = instances_in_content s.content
 
-abbrev pub instances_in_sends : List Send → List LsaInstance
+abbrev pub instances_in_sends : List Send → List InstanceIdentity
 instances_in_sends sends = flat_map instances_in_send sends
 
 -- the bytes of an LSA whose instance K holds of
-pub record IsTextOf (K : LsaInstance → Type 0) (bytes : List ℕ) : Type 0 where
+pub record IsTextOf (K : InstanceIdentity → Type 0) (bytes : List ℕ) : Type 0 where
   pub lsa : Lsa
   pub is : bytes ≡ text lsa
   pub known : K (instance_of_lsa lsa)
 
 -- the contents of a Link State Update or Acknowledgment
-abbrev pub Bears : (LsaInstance → Type 0) → PacketBody → Type 0
+abbrev pub Bears : (InstanceIdentity → Type 0) → PacketBody → Type 0
 Bears K (packets.Hello h) = Unit {0}
 Bears K (packets.Description d) = Unit {0}
 Bears K (packets.Request keys) = Unit {0}
@@ -49,7 +50,7 @@ Bears K (packets.Update lsas) = AllByRecursion (IsTextOf K) lsas
 Bears K (packets.Acknowledgment headers) = AllByRecursion (λ h. K (instance_of_header h)) headers
 
 -- the canonical encoding of a packet from this router
-pub record IsOutOf (K : LsaInstance → Type 0) (own : ℕ) (out : Out) : Type 0 where
+pub record IsOutOf (K : InstanceIdentity → Type 0) (own : ℕ) (out : Out) : Type 0 where
   pub interface : ℕ
   pub says : PacketBody
   pub is : out ≡ out_of own interface says
@@ -58,11 +59,11 @@ pub record IsOutOf (K : LsaInstance → Type 0) (own : ℕ) (out : Out) : Type 0
 pub record HoldsWhatIsKnown (old : Router) (moment : Moment) (event : Occurrence)
     (outs : List Out) (new : Router) : Type 0 where
   -- the instances that the event originates
-  pub originated : List LsaInstance
+  pub originated : List InstanceIdentity
   pub same_router : new.id ≡ old.id
-  pub is_new : (name : LsaInstance) → Contains originated name
+  pub is_new : (name : InstanceIdentity) → Contains originated name
       → IsNewInstance old moment event new name
-  pub held : (name : LsaInstance) → Contains (instances_stored new) name
+  pub held : (name : InstanceIdentity) → Contains (instances_stored new) name
       → IsKnown old event originated name
   pub sent : (out : Out) → Contains outs out → IsOutOf (IsKnown old event originated) old.id out
 
@@ -75,5 +76,5 @@ EventsHoldOnlyWhatIsKnown =
 -- a Link State Update of LSAs whose header fields are in their ranges contains only those LSAs
 abbrev pub UpdatesTellWhatTheyBear : Type 0
 UpdatesTellWhatTheyBear = (lsas : List Lsa) → AllByRecursion (λ l. IsHeader l.header) lsas
-    → (name : LsaInstance) → Contains (instances_in_update (map (λ l. text l) lsas)) name
+    → (name : InstanceIdentity) → Contains (instances_in_update (map (λ l. text l) lsas)) name
     → Contains (map instance_of_lsa lsas) name

@@ -13,7 +13,7 @@ use Rattle.packet.specs.declared.model.PacketBody.{PacketBody}
 use Rattle.packet.specs.declared.model.PacketBody.TheVariants as body
 use Rattle.packet.specs.declared.model.Packet.{Packet}
 use Rattle.packet.specs.Text.{PacketText}
-use Rattle.event_rules.specs.LsaInstances.{LsaInstance, instance_of_lsa}
+use Rattle.event_rules.specs.InstanceIdentities.{InstanceIdentity, instance_of_lsa}
 use Rattle.event_rules.specs.Originations.{new_instance}
 use Rattle.event_rules.specs.Routers.{Occurrence, Router}
 
@@ -65,7 +65,7 @@ pub data IsLastCopy (old : Router) (moment : Moment) (event : Occurrence) (key :
 -- a new instance that the router originates in the event, with the sequence number after that of
 -- the last copy
 pub record IsNewInstance (old : Router) (moment : Moment) (event : Occurrence) (new : Router)
-    (name : LsaInstance) : Type 0 where
+    (name : InstanceIdentity) : Type 0 where
   pub originates : Originates old moment new name.key
   pub copy : Option DatabaseCopy
   pub last : IsLastCopy old moment event name.key copy

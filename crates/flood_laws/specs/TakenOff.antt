@@ -15,7 +15,7 @@ use Rattle.packet.specs.declared.model.Packet.{Packet}
 use Rattle.packet.specs.Text.{PacketText}
 use Rattle.adjacency.specs.Neighbors.{Neighbor, is_exchange_or_later}
 use Rattle.received.specs.Links.{neighbor_at}
-use Rattle.event_rules.specs.LsaInstances.{LsaInstance, instances_advertised}
+use Rattle.event_rules.specs.InstanceIdentities.{InstanceIdentity, instances_advertised}
 use Rattle.event_rules.specs.Routers.{Occurrence, Router}
 use Rattle.flood_laws.specs.NewInstances.{BringsLsa, Originates}
 
@@ -32,13 +32,13 @@ pub record StaysAdjacent (old new : Router) (interface : InterfaceNumber) (befor
   pub on : is_exchange_or_later after.state ≡ true
 
 -- the instance of a list entry with this key
-abbrev pub listed_instance : Key → Option ListEntry → Option LsaInstance
+abbrev pub listed_instance : Key → Option ListEntry → Option InstanceIdentity
 listed_instance key None = None
 listed_instance key (Some l) =
     Some (record { key = key; sequence = l.header.sequence; checksum = l.header.checksum })
 
 -- the instance of this key on the neighbor's retransmission list
-abbrev pub owed_instance : Neighbor → Key → Option LsaInstance
+abbrev pub owed_instance : Neighbor → Key → Option InstanceIdentity
 owed_instance n key = listed_instance key (finite.get n.retransmissions key)
 
 -- ---- what flooding does to entries
@@ -99,7 +99,7 @@ pub data IsFlooded (old : Router) (moment : Moment) (event : Occurrence) (new : 
 -- the instance was on the retransmission list of the neighbor at this interface and no longer is,
 -- although the adjacency wasn't given up and the LSA wasn't flooded
 pub record IsTakenOff (old : Router) (moment : Moment) (event : Occurrence) (new : Router)
-    (interface : InterfaceNumber) (before : Neighbor) (name : LsaInstance) : Type 0 where
+    (interface : InterfaceNumber) (before : Neighbor) (name : InstanceIdentity) : Type 0 where
   pub after : Neighbor
   pub adjacent : StaysAdjacent old new interface before after
   pub stood : owed_instance before name.key ≡ Some name
@@ -109,7 +109,7 @@ pub record IsTakenOff (old : Router) (moment : Moment) (event : Occurrence) (new
 -- the event's packet was received at this interface from this router, and has the instance: it is a
 -- Link State Acknowledgment that identifies it, or a Link State Update that contains it
 pub record IsTold (event : Occurrence) (interface : InterfaceNumber) (router : RouterNumber)
-    (name : LsaInstance) : Type 0 where
+    (name : InstanceIdentity) : Type 0 where
   pub bytes : List ℕ
   pub packet : Packet
   pub is : event ≡ Occurrence.Packet interface bytes
@@ -120,6 +120,6 @@ pub record IsTold (event : Occurrence) (interface : InterfaceNumber) (router : R
 -- what a step removes as acknowledged, the neighbor's packet has
 abbrev pub TakesOffWhatIsTold : Router → Moment → Occurrence → Router → Type 0
 TakesOffWhatIsTold old moment event new =
-    (interface : InterfaceNumber) (before : Neighbor) (name : LsaInstance)
+    (interface : InterfaceNumber) (before : Neighbor) (name : InstanceIdentity)
     → IsTakenOff old moment event new interface before name
     → IsTold event interface before.router name

@@ -14,25 +14,26 @@ use Rattle.received.specs.Links.{Link}
 use Rattle.event_rules.specs.declared.model.Config.{Config}
 use Rattle.event_rules.specs.declared.model.Out.{Out}
 use Rattle.event_rules.specs.Events.{initial}
-use Rattle.event_rules.specs.LsaInstances.{LsaInstance, instance_of_lsa, instance_of_header}
-use Rattle.event_rules.specs.LsaInstances.{instances_received, instances_advertised}
+use Rattle.event_rules.specs.InstanceIdentities.{InstanceIdentity, instance_of_lsa}
+use Rattle.event_rules.specs.InstanceIdentities.{instance_of_header}
+use Rattle.event_rules.specs.InstanceIdentities.{instances_received, instances_advertised}
 use Rattle.event_rules.specs.Routers.{Occurrence, Router, in_profile}
 use Rattle.flood_laws.specs.NewInstances.{IsNewInstance}
 use Rattle.flood_laws.specs.TakenOff.{IsTakenOff, IsTold, TakesOffWhatIsTold}
 
 -- ---- what a router holds
 
-abbrev pub instances_on_list : Option Neighbor → List LsaInstance
+abbrev pub instances_on_list : Option Neighbor → List InstanceIdentity
 instances_on_list None = []
 instances_on_list (Some n) =
     map (λ (l : ListEntry). instance_of_header l.header) (finite.values n.retransmissions)
 
-abbrev pub instances_on_link : Link → List LsaInstance
+abbrev pub instances_on_link : Link → List InstanceIdentity
 instances_on_link link =
     instances_on_list link.neighbor ++ map instance_of_header (finite.values link.acknowledgments)
 
 -- in its database, on its retransmission lists and among its delayed acknowledgments
-abbrev pub instances_stored : Router → List LsaInstance
+abbrev pub instances_stored : Router → List InstanceIdentity
 instances_stored r =
     map (λ c. instance_of_lsa c.lsa) (finite.values r.area.database)
     ++ flat_map instances_on_link r.area.links
@@ -41,8 +42,8 @@ instances_stored r =
 
 -- the instance was held before, was received in the event's Link State Update, or is one of the
 -- router's own that it originates
-pub data IsKnown (old : Router) (event : Occurrence) (originated : List LsaInstance)
-    (name : LsaInstance) : Type 0 where
+pub data IsKnown (old : Router) (event : Occurrence) (originated : List InstanceIdentity)
+    (name : InstanceIdentity) : Type 0 where
   Held : Contains (instances_stored old) name → IsKnown old event originated name
   Brought : (interface : ℕ) (bytes : List ℕ) (packet : Packet)
       → event ≡ Occurrence.Packet interface bytes → PacketText bytes packet
@@ -50,22 +51,22 @@ pub data IsKnown (old : Router) (event : Occurrence) (originated : List LsaInsta
   Originated : Contains originated name → IsKnown old event originated name
 
 -- the packet is from the router itself, and each instance in it is known
-pub record IsLawfulOut (old : Router) (event : Occurrence) (originated : List LsaInstance)
+pub record IsLawfulOut (old : Router) (event : Occurrence) (originated : List InstanceIdentity)
     (out : Out) : Type 0 where
   pub packet : Packet
   pub text : PacketText out.bytes packet
   pub own : packet.router ≡ old.id
-  pub known : (name : LsaInstance) → Contains (instances_advertised packet.body) name
+  pub known : (name : InstanceIdentity) → Contains (instances_advertised packet.body) name
       → IsKnown old event originated name
 
 -- all properties of a router's step that acknowledgments rely on
 pub record Keeps (old : Router) (moment : ℕ) (event : Occurrence) (outs : List Out) (new : Router)
-    (originated : List LsaInstance) : Type 0 where
+    (originated : List InstanceIdentity) : Type 0 where
   pub same_router : new.id ≡ old.id
   -- the originated instances are new instances of the router's own LSAs
-  pub is_new : (name : LsaInstance) → Contains originated name
+  pub is_new : (name : InstanceIdentity) → Contains originated name
       → IsNewInstance old moment event new name
-  pub held : (name : LsaInstance) → Contains (instances_stored new) name
+  pub held : (name : InstanceIdentity) → Contains (instances_stored new) name
       → IsKnown old event originated name
   pub sent : (out : Out) → Contains outs out → IsLawfulOut old event originated out
   -- if an instance is removed from a retransmission list as acknowledged, the event's packet from
@@ -86,7 +87,7 @@ pub record Datagram : Type 0 where
 -- the router with this Router ID has received or originated the instance
 pub record Knowledge : Type 0 where
   pub router : ℕ
-  pub name : LsaInstance
+  pub name : InstanceIdentity
 
 -- the routers, all packets that were ever sent, and all instances that were ever received or
 -- originated, before and after restarts
@@ -105,14 +106,14 @@ sent_from place o = record {
   bytes = o.bytes;
 }
 
-abbrev pub knows : RouterNumber → LsaInstance → Knowledge
+abbrev pub knows : RouterNumber → InstanceIdentity → Knowledge
 knows router name = record { router = router; name = name }
 
-abbrev pub known_as : RouterNumber → List LsaInstance → List Knowledge
+abbrev pub known_as : RouterNumber → List InstanceIdentity → List Knowledge
 known_as router names = map (knows router) names
 
 -- the instances that a router receives in an event
-abbrev pub Brings : Occurrence → List LsaInstance → Type 0
+abbrev pub Brings : Occurrence → List InstanceIdentity → Type 0
 Brings (Occurrence.Packet interface bytes) names =
     (packet : Packet) × PacketText bytes packet × (names ≡ instances_received packet.body)
 Brings Occurrence.Tick names = names ≡ []
@@ -141,9 +142,9 @@ pub record Lives (joins : Joins) (before : World) (place moment : ℕ) (event : 
   pub may : MayHappen joins before place event
   pub outs : List Out
   pub new : Router
-  pub brought : List LsaInstance
+  pub brought : List InstanceIdentity
   pub brings : Brings event brought
-  pub originated : List LsaInstance
+  pub originated : List InstanceIdentity
   pub keeps : Keeps old moment event outs new originated
   pub is : after ≡ record {
     routers = slice_set before.routers place new;
@@ -198,7 +199,7 @@ pub record AcknowledgedWasReceived : Type 0 where
       → have_names_apart configs ≡ true → list_all in_profile configs ≡ true
       → IsHistory joins (begun_with configs) steps w
       → (place moment : ℕ) (event : Occurrence) → Lives joins w place moment event after
-      → (interface : InterfaceNumber) (router : RouterNumber) (name : LsaInstance)
+      → (interface : InterfaceNumber) (router : RouterNumber) (name : InstanceIdentity)
       → IsTold event interface router name → Contains w.known (knows router name)
   -- if an entry is removed from a neighbor's retransmission list, and neither is the adjacency
   -- given up nor the LSA flooded, that neighbor had received or originated the instance
@@ -206,6 +207,6 @@ pub record AcknowledgedWasReceived : Type 0 where
       → have_names_apart configs ≡ true → list_all in_profile configs ≡ true
       → IsHistory joins (begun_with configs) steps w
       → (place moment : ℕ) (event : Occurrence) (lives : Lives joins w place moment event after)
-      → (interface : InterfaceNumber) (n : Neighbor) (name : LsaInstance)
+      → (interface : InterfaceNumber) (n : Neighbor) (name : InstanceIdentity)
       → IsTakenOff lives.old moment event lives.new interface n name
       → Contains w.known (knows n.router name)

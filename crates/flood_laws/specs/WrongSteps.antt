@@ -12,7 +12,7 @@ use Rattle.adjacency.specs.Neighbors.{Neighbor, is_exchange_or_later}
 use Rattle.adjacency.specs.Retransmissions.{remove_retransmission}
 use Rattle.received.specs.Links.{Link, change_link, neighbor_at}
 use Rattle.event_rules.specs.declared.model.Out.{Out}
-use Rattle.event_rules.specs.LsaInstances.{LsaInstance, instance_of_header}
+use Rattle.event_rules.specs.InstanceIdentities.{InstanceIdentity, instance_of_header}
 use Rattle.event_rules.specs.Routers.{Occurrence, Router}
 use Rattle.flood_laws.specs.TakenOff.{comes_to_max_age, owed_instance}
 use Rattle.flood_laws.specs.Worlds.{Keeps}
@@ -36,7 +36,7 @@ without_entry interface key r =
 -- reach MaxAge by this moment; and these bytes are a Link State Acknowledgment from it that doesn't
 -- identify that instance
 pub record AcknowledgesAnother (old : Router) (moment : Moment) (interface : InterfaceNumber)
-    (n : Neighbor) (name : LsaInstance) (bytes : List ℕ) (headers : List Header) : Type 0 where
+    (n : Neighbor) (name : InstanceIdentity) (bytes : List ℕ) (headers : List Header) : Type 0 where
   pub there : neighbor_at interface old.area.links ≡ Some n
   pub part : is_exchange_or_later n.state ≡ true
   pub owed : owed_instance n name.key ≡ Some name
@@ -50,9 +50,9 @@ pub record AcknowledgesAnother (old : Router) (moment : Moment) (interface : Int
 abbrev pub AnotherAcknowledgmentTakesNothingOff : Type 0
 AnotherAcknowledgmentTakesNothingOff =
     (old : Router) (moment : Moment) (interface : InterfaceNumber) (n : Neighbor)
-    (name : LsaInstance) (bytes : List ℕ) (headers : List Header)
+    (name : InstanceIdentity) (bytes : List ℕ) (headers : List Header)
     → AcknowledgesAnother old moment interface n name bytes headers
-    → (outs : List Out) (originated : List LsaInstance)
+    → (outs : List Out) (originated : List InstanceIdentity)
     → Keeps old moment (Occurrence.Packet interface bytes) outs
     (without_entry interface name.key old)
     originated → ⊥

@@ -7,24 +7,24 @@ use Rattle.received.specs.lsdb.Headers.{Header, Lsa, key_of}
 use Rattle.packet.specs.declared.model.PacketBody.{PacketBody}
 use Rattle.packet.specs.declared.model.PacketBody.TheVariants as body
 
--- an instance of an LSA, whatever its age
-pub record LsaInstance : Type 0 where
+-- what identifies an instance of an LSA, whatever its age
+pub record InstanceIdentity : Type 0 where
   pub key : Key
   pub sequence : ℤ
   pub checksum : ℕ
 
-abbrev pub instance_of_header : Header → LsaInstance
+abbrev pub instance_of_header : Header → InstanceIdentity
 instance_of_header h = record { key = key_of h; sequence = h.sequence; checksum = h.checksum }
 
-abbrev pub instance_of_lsa : Lsa → LsaInstance
+abbrev pub instance_of_lsa : Lsa → InstanceIdentity
 instance_of_lsa lsa = instance_of_header lsa.header
 
 -- the LSAs of a Link State Update that can be parsed
-abbrev pub instances_in_update : List (List ℕ) → List LsaInstance
+abbrev pub instances_in_update : List (List ℕ) → List InstanceIdentity
 instances_in_update lsas = map instance_of_lsa (filter_map lsa_in lsas)
 
 -- the instances that a Link State Update contains
-abbrev pub instances_received : PacketBody → List LsaInstance
+abbrev pub instances_received : PacketBody → List InstanceIdentity
 instances_received (body.Hello h) = []
 instances_received (body.Description d) = []
 instances_received (body.Request keys) = []
@@ -32,7 +32,7 @@ instances_received (body.Update lsas) = instances_in_update lsas
 instances_received (body.Acknowledgment headers) = []
 
 -- the instances that a Link State Update or Acknowledgment identifies
-abbrev pub instances_advertised : PacketBody → List LsaInstance
+abbrev pub instances_advertised : PacketBody → List InstanceIdentity
 instances_advertised (body.Hello h) = []
 instances_advertised (body.Description d) = []
 instances_advertised (body.Request keys) = []
