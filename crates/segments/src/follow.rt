@@ -29,7 +29,7 @@ use absdom::Domain;
 use isa::{Code, Hook, Instruction, Register, Source, Test, Width};
 use kinds::{AbstractState, SegmentStart};
 use transfer::branch::{refined, tested};
-use transfer::exit::answers;
+use transfer::exit::check_answer;
 use transfer::laws::{
     a_sound_instruction_is_met, an_answer_is_never_stuck, what_can_step_is_never_stuck,
 };
@@ -261,7 +261,7 @@ fn end<D: Domain>(state: AbstractState<D>) -> Result<Known<D>, Rule>
 {
     // For the prover alone, by what the call ensures.
     an_answer_is_never_stuck(&state);
-    answers(&state)?;
+    check_answer(&state)?;
     Ok(Known {
         state,
         is_live: false,
@@ -305,8 +305,8 @@ fn go_on<'a, D: Domain>(
 ///
 /// # Errors
 /// The first rule that the instruction, or an edge from it, may break: as [`straight`] for one that
-/// falls through, as [`tested`](transfer::branch::tested) for a conditional jump, as [`answers`]
-/// for EXIT; then as [`enter`], of the edge that is taken first.
+/// falls through, as [`tested`](transfer::branch::tested) for a conditional jump, as
+/// [`check_answer`] for EXIT; then as [`enter`], of the edge that is taken first.
 pub fn follow<'a, D: Domain>(
     code: &Code,
     hook: Hook,
