@@ -21,7 +21,8 @@ use Rattle.agreement_laws.specs.NeighborHistories.{Ends, IsHistory, Pair, Party,
 use Rattle.agreement_laws.specs.NeighborHistories.{event_of, interface_of, other_side, party}
 use Rattle.agreement_laws.specs.NeighborHistories.{text_at}
 use Rattle.agreement_laws.specs.NeighborsAgree.{Exception, HasForgotten, HoldsAsNew, InConversation}
-use Rattle.agreement_laws.specs.NeighborsAgree.{IsAtRest, IsTold, NeighborsAgreeOnWhatWasRenewed}
+use Rattle.agreement_laws.specs.NeighborsAgree.{IsFullAndAcknowledged, BringsInstance}
+use Rattle.agreement_laws.specs.NeighborsAgree.{NeighborsAgreeOnWhatWasRenewed}
 use Rattle.agreement_laws.specs.NeighborsAgree.{is_as_new}
 use Rattle.agreement_laws.specs.Ranks.{is_at_least}
 use Rattle.agreement_laws.proofs.Describing.{held, instance_at}
@@ -47,7 +48,8 @@ module _ (ends : Ends) (side : Side) (with_it : Conversation) (header : Header) 
   abbrev InPacket : (bytes : List ℕ) (now : Pair) (earlier : List Pair) → IsHistory ends now earlier
       → Type 0
   InPacket bytes now earlier h = InConversation ends side with_it
-      (λ (own : ℕ) (step : Step). IsTold number bytes (instance_of_header header) step) now earlier
+      (λ (own : ℕ) (step : Step). BringsInstance number bytes (instance_of_header header) step) now
+      earlier
       h
 
   split : (now : Pair) (earlier : List Pair) (h : IsHistory ends now earlier)
@@ -87,20 +89,21 @@ module _ (ends : Ends) (side : Side) (with_it : Conversation) (bytes : List ℕ)
   where
     in_step : (now : Pair) (earlier : List Pair) (h : IsHistory ends now earlier)
         → InConversation ends side with_it
-        (λ (own : ℕ) (step : Step). IsTold (interface_of side ends) bytes name step) now earlier h
-        → (step : Step) × IsTold (interface_of side ends) bytes name step
+        (λ (own : ℕ) (step : Step). BringsInstance (interface_of side ends) bytes name step) now
+        earlier h → (step : Step) × BringsInstance (interface_of side ends) bytes name step
     in_step now [] h k = absurd k
     in_step now (before ∷ earlier) h k = by_turn (λ more. in_step before earlier h.1 more) k.1
       where
         by_turn : (InConversation ends side with_it
-            (λ (own : ℕ) (step : Step). IsTold (interface_of side ends) bytes name step) before
-            earlier h.1 → (step : Step) × IsTold (interface_of side ends) bytes name step)
+            (λ (own : ℕ) (step : Step). BringsInstance (interface_of side ends) bytes name step)
+            before
+            earlier h.1 → (step : Step) × BringsInstance (interface_of side ends) bytes name step)
             → ((step : Step) × (event_of ends side before now h.0 ≡ Some step)
-            × IsTold (interface_of side ends) bytes name step)
+            × BringsInstance (interface_of side ends) bytes name step)
             ⊎ InConversation ends side with_it
-            (λ (own : ℕ) (step : Step). IsTold (interface_of side ends) bytes name
+            (λ (own : ℕ) (step : Step). BringsInstance (interface_of side ends) bytes name
             step) before earlier h.1 → (step : Step)
-            × IsTold (interface_of side ends) bytes name step
+            × BringsInstance (interface_of side ends) bytes name step
         by_turn rest (inl e) = (e.0, e.2)
         by_turn rest (inr more) = rest more
 
@@ -134,20 +137,21 @@ module _ (ends : Ends) (side : Side) (with_it : Conversation) (bytes : List ℕ)
 
     was_sent : (now : Pair) (earlier : List Pair) (h : IsHistory ends now earlier)
         → InConversation ends side with_it
-        (λ (own : ℕ) (step : Step). IsTold (interface_of side ends) bytes name step) now earlier h
-        → Contains (party (other_side side) now).sent bytes
+        (λ (own : ℕ) (step : Step). BringsInstance (interface_of side ends) bytes name step) now
+        earlier h → Contains (party (other_side side) now).sent bytes
     was_sent now [] h k = absurd k
     was_sent now (before ∷ earlier) h k =
         still_sent (other_side side) before now h.0
         (by_turn (λ more. was_sent before earlier h.1 more) k.1)
       where
         by_turn : (InConversation ends side with_it
-            (λ (own : ℕ) (step : Step). IsTold (interface_of side ends) bytes name step) before
+            (λ (own : ℕ) (step : Step). BringsInstance (interface_of side ends) bytes name step)
+            before
             earlier h.1 → Contains (party (other_side side) before).sent bytes)
             → ((step : Step) × (event_of ends side before now h.0 ≡ Some step)
-            × IsTold (interface_of side ends) bytes name step)
+            × BringsInstance (interface_of side ends) bytes name step)
             ⊎ InConversation ends side with_it
-            (λ (own : ℕ) (step : Step). IsTold (interface_of side ends) bytes name
+            (λ (own : ℕ) (step : Step). BringsInstance (interface_of side ends) bytes name
             step) before earlier h.1
             → Contains (party (other_side side) before).sent bytes
         by_turn rest (inl e) = came before now h.0 e.0 e.1 e.2.is
@@ -156,7 +160,7 @@ module _ (ends : Ends) (side : Side) (with_it : Conversation) (bytes : List ℕ)
 -- ---- if one holds an instance, the other does
 
 module _ (ends : Ends) (now : Pair) (earlier : List Pair) (history : IsHistory ends now earlier)
-    (side : Side) (key : Key) (at_rest : IsAtRest (interface_of side ends) key
+    (side : Side) (key : Key) (at_rest : IsFullAndAcknowledged (interface_of side ends) key
     (party side now).router)
     (copy : DatabaseCopy) (there : finite.get (party side now).router.area.database key ≡ Some copy)
   where
@@ -303,8 +307,8 @@ module _ (ends : Ends) (now : Pair) (earlier : List Pair) (history : IsHistory e
 -- ---- so both hold the same
 
 module _ (ends : Ends) (now : Pair) (earlier : List Pair) (history : IsHistory ends now earlier)
-    (key : Key) (left : IsAtRest ends.left key now.left.router)
-    (right : IsAtRest ends.right key now.right.router)
+    (key : Key) (left : IsFullAndAcknowledged ends.left key now.left.router)
+    (right : IsFullAndAcknowledged ends.right key now.right.router)
     (a b : DatabaseCopy) (a_there : finite.get now.left.router.area.database key ≡ Some a)
     (b_there : finite.get now.right.router.area.database key ≡ Some b) where
   abbrev Same : Type 0

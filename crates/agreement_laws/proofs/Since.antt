@@ -26,7 +26,7 @@ use Rattle.agreement_laws.specs.Exchanged.{Conversation, Converses, Describes, I
 use Rattle.agreement_laws.specs.Exchanged.{conversation_with, headers_told}
 use Rattle.agreement_laws.specs.NeighborHistories.{Ends, IsHistory, Pair, Party, Side, TakesEvent}
 use Rattle.agreement_laws.specs.NeighborHistories.{event_of, interface_of, other_side, party}
-use Rattle.agreement_laws.specs.NeighborsAgree.{InConversation, IsTold, instances_told}
+use Rattle.agreement_laws.specs.NeighborsAgree.{InConversation, BringsInstance, instances_told}
 use Rattle.agreement_laws.proofs.Describing.{held}
 use Rattle.agreement_laws.proofs.Remembering.{Turns, life_order, remembers, step_taken, turn_of}
 use Rattle.agreement_laws.proofs.Runs.{IsSettled, Then, after_event, begins_alone, more_said}
@@ -38,7 +38,7 @@ use Rattle.agreement_laws.proofs.Walk as walk
 -- the router described it, or the other one's packet has it
 abbrev pub Exchanged : ℕ → Header → ℕ → Step → Type 0
 Exchanged number header own step = Describes own step.outs number header
-    ⊎ ((bytes : List ℕ) × IsTold number bytes (instance_of_header header) step)
+    ⊎ ((bytes : List ℕ) × BringsInstance number bytes (instance_of_header header) step)
 
 renamed : (lsas : List Lsa) (header : Header) → Contains (map (λ (l : Lsa). l.header) lsas) header
     → Contains (map instance_of_lsa lsas) (instance_of_header header)

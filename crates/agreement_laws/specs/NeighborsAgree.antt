@@ -55,7 +55,7 @@ instances_told (body.Update lsas) = instances_in_update lsas
 instances_told (body.Acknowledgment headers) = map instance_of_header headers
 
 -- the event is the receipt of these bytes, which have the instance
-pub record IsTold (interface : InterfaceNumber) (bytes : List ℕ) (name : InstanceIdentity)
+pub record BringsInstance (interface : InterfaceNumber) (bytes : List ℕ) (name : InstanceIdentity)
     (step : Step)
     : Type 0 where
   pub is : step.event ≡ Occurrence.Packet interface bytes
@@ -139,9 +139,9 @@ pub data Exception (ends : Ends) (side : Side) (with_it : Conversation) (name : 
   -- or a Link State Acknowledgment, and has lost it: it did send these bytes, and each time has
   -- lost what they say
   Forgotten : (bytes : List ℕ) (told : InstanceIdentity) → told.key ≡ name.key
-      → is_as_new told name ≡ true
-      → InConversation ends side with_it
-      (λ (own : RouterNumber) (step : Step). IsTold (interface_of side ends) bytes told step)
+      → is_as_new told name ≡ true → InConversation ends side with_it
+      (λ (own : RouterNumber) (step : Step). BringsInstance (interface_of side ends) bytes told
+      step)
       now earlier h
       → Contains (party (other_side side) now).sent bytes
       → ((text : ℕ) → slice_get (party (other_side side) now).sent text ≡ Some bytes
@@ -151,25 +151,26 @@ pub data Exception (ends : Ends) (side : Side) (with_it : Conversation) (name : 
 -- ---- the law
 
 -- the router of this side is Full with the other one, and the key isn't on the retransmission list
-pub record IsAtRest (interface : InterfaceNumber) (key : Key) (r : Router) : Type 0 where
-  pub neighbor : Neighbor
-  pub there : neighbor_at interface r.area.links ≡ Some neighbor
-  pub full : neighbor.state ≡ Full
-  pub acknowledged : finite.contains_key neighbor.retransmissions key ≡ false
+pub record IsFullAndAcknowledged (interface : InterfaceNumber) (key : Key) (r : Router) : Type 0
+  where
+    pub neighbor : Neighbor
+    pub there : neighbor_at interface r.area.links ≡ Some neighbor
+    pub full : neighbor.state ≡ Full
+    pub acknowledged : finite.contains_key neighbor.retransmissions key ≡ false
 
 pub record NeighborsAgreeOnWhatWasRenewed : Type 0 where
   -- if one of them holds an instance, the other holds one that is at least as new
   pub held : (ends : Ends) (now : Pair) (earlier : List Pair) (h : IsHistory ends now earlier)
       → (side : Side) (key : Key)
-      → (at_rest : IsAtRest (interface_of side ends) key (party side now).router)
+      → (at_rest : IsFullAndAcknowledged (interface_of side ends) key (party side now).router)
       → (copy : DatabaseCopy) → finite.get (party side now).router.area.database key ≡ Some copy
       → HoldsAsNew (party (other_side side) now).router (instance_of_lsa copy.lsa)
       ⊎ Exception ends side (conversation_with at_rest.neighbor) (instance_of_lsa copy.lsa)
       now earlier h
   -- so if this applies to both, they hold the same instance
   pub same : (ends : Ends) (now : Pair) (earlier : List Pair) (h : IsHistory ends now earlier)
-      → (key : Key) (left : IsAtRest ends.left key now.left.router)
-      → (right : IsAtRest ends.right key now.right.router)
+      → (key : Key) (left : IsFullAndAcknowledged ends.left key now.left.router)
+      → (right : IsFullAndAcknowledged ends.right key now.right.router)
       → (a b : DatabaseCopy) → finite.get now.left.router.area.database key ≡ Some a
       → finite.get now.right.router.area.database key ≡ Some b
       → (instance_of_lsa a.lsa ≡ instance_of_lsa b.lsa)

@@ -6,7 +6,7 @@ use Rattle.words.specs.declared.key.Key.{Key}
 use Rattle.lsdb.specs.Copies.{DatabaseCopy}
 use Rattle.agreement_laws.specs.NeighborHistories.{Ends, IsHistory, Pair, Side, interface_of}
 use Rattle.agreement_laws.specs.NeighborHistories.{other_side, party}
-use Rattle.agreement_laws.specs.NeighborsAgree.{HoldsAsNew, IsAtRest}
+use Rattle.agreement_laws.specs.NeighborsAgree.{HoldsAsNew, IsFullAndAcknowledged}
 use Rattle.event_rules.specs.InstanceIdentities.{instance_of_lsa}
 
 -- a history after which a router is Full with the other one, holds a copy, and doesn't have it on
@@ -18,7 +18,7 @@ pub record AHistoryMeetsThePremises : Type 0 where
   pub history : IsHistory ends now earlier
   pub side : Side
   pub key : Key
-  pub at_rest : IsAtRest (interface_of side ends) key (party side now).router
+  pub at_rest : IsFullAndAcknowledged (interface_of side ends) key (party side now).router
   pub copy : DatabaseCopy
   pub there : finite.get (party side now).router.area.database key ≡ Some copy
   -- the other one doesn't have it: it was described to it, and is requested now
