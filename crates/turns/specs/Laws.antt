@@ -18,10 +18,10 @@ use Rattle.turns.specs.declared.work.Work.TheVariants as work
 abbrev pub CountReachesNoEvent : Type 0
 CountReachesNoEvent =
     (origin : Router) (known now : List LoaderOperation) (events : ℕ) (moment : Moment)
-    (number : InterfaceNumber) (bytes : List ℕ) (outs : List Out) (stale : Option Bool)
+    (interface : InterfaceNumber) (bytes : List ℕ) (outs : List Out) (stale : Option Bool)
     → TakesFor (IsOfferedBySome origin) (took_from origin) known now events moment
-    (work.Datagram number bytes) outs stale
-    ↔ Sends origin events moment (event.Packet number bytes) outs stale
+    (work.Datagram interface bytes) outs stale
+    ↔ Sends origin events moment (event.Packet interface bytes) outs stale
 
 -- If a table is offered, the answers of an announcement are beside the rows of one that is: those
 -- for which none was asked are the same beside each.

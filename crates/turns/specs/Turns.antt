@@ -91,12 +91,12 @@ Offers = List Route → List TableRow → Type 0
 -- When a book takes an event that it is given at a moment: an `Install` at the moment of the
 -- router's last event, if this is later; everything else at the moment itself.
 abbrev pub taken_at : Event → Moment → (last : Moment) → Moment
-taken_at (event.Packet number bytes) moment last = moment
+taken_at (event.Packet interface bytes) moment last = moment
 taken_at event.Tick moment last = moment
 taken_at (event.Redistribute tag price) moment last = moment
 taken_at (event.Withdraw prefix) moment last = moment
 taken_at (event.Install answers) moment last = max moment last
-taken_at (event.LinkDown number) moment last = moment
+taken_at (event.LinkDown interface) moment last = moment
 
 -- The clock has come to its end: the later of this moment and that of the last event of a book, of
 -- which `own` is so, is past all moments. An `Install`, which is taken at the later of the two,
@@ -219,20 +219,20 @@ AreVetoes known now moment rows routes answers =
 -- word that the programs answer of it; or they are as before, if it got no reading.
 abbrev pub IsCounted : Refuses → (before now : List LoaderOperation) → (old new : SeatView)
     → InterfaceNumber → Moment → (packet : List ℕ) → Type 0
-IsCounted refuses before now old new number moment packet =
+IsCounted refuses before now old new interface moment packet =
     ((now ≡ before) × (new ≡ old)
-    × refuses.lacks (Lack.Reading (count_input number moment packet)))
-    ⊎ ((word : ℕ) × IsAnswered before now old new (count_input number moment packet) word)
+    × refuses.lacks (Lack.Reading (count_input interface moment packet)))
+    ⊎ ((word : ℕ) × IsAnswered before now old new (count_input interface moment packet) word)
 
 -- if the work is a datagram, that is counted
 abbrev pub CountsFor : Refuses → (before now : List LoaderOperation) → (old new : SeatView) → Work
     → Moment → Type 0
-CountsFor refuses before now old new (work.Datagram number bytes) moment =
-    IsCounted refuses before now old new number moment bytes
+CountsFor refuses before now old new (work.Datagram interface bytes) moment =
+    IsCounted refuses before now old new interface moment bytes
 CountsFor refuses before now old new work.Tick moment = Unit {0}
 CountsFor refuses before now old new (work.Add external) moment = Unit {0}
 CountsFor refuses before now old new (work.Withdraw prefix) moment = Unit {0}
-CountsFor refuses before now old new (work.Down number) moment = Unit {0}
+CountsFor refuses before now old new (work.Down interface) moment = Unit {0}
 CountsFor refuses before now old new work.Refresh moment = Unit {0}
 
 -- If the work is a datagram, that is counted, by a port that had such a seat and knew the first of
@@ -245,11 +245,12 @@ HasCountedFor refuses before after old w moment =
 
 -- if the work is a datagram, the programs at `count` were asked about it
 abbrev pub AsksFor : Took → Moment → Work → Type 0
-AsksFor took moment (work.Datagram number bytes) = took.asked (count_input number moment bytes)
+AsksFor took moment (work.Datagram interface bytes) =
+    took.asked (count_input interface moment bytes)
 AsksFor took moment work.Tick = Unit {0}
 AsksFor took moment (work.Add external) = Unit {0}
 AsksFor took moment (work.Withdraw prefix) = Unit {0}
-AsksFor took moment (work.Down number) = Unit {0}
+AsksFor took moment (work.Down interface) = Unit {0}
 AsksFor took moment work.Refresh = Unit {0}
 
 -- ---- the event of a work
@@ -287,12 +288,13 @@ IsRedistribute offers known now external moment e =
 -- these operations when it began to ask, and knows the others then
 abbrev pub IsEventOfWork : Offers → (known now : List LoaderOperation) → Work → Moment → Event
     → Type 0
-IsEventOfWork offers known now (work.Datagram number bytes) moment e = e ≡ event.Packet number bytes
+IsEventOfWork offers known now (work.Datagram interface bytes) moment e =
+    e ≡ event.Packet interface bytes
 IsEventOfWork offers known now work.Tick moment e = e ≡ event.Tick
 IsEventOfWork offers known now (work.Add external) moment e =
     IsRedistribute offers known now external moment e
 IsEventOfWork offers known now (work.Withdraw prefix) moment e = e ≡ event.Withdraw prefix
-IsEventOfWork offers known now (work.Down number) moment e = e ≡ event.LinkDown number
+IsEventOfWork offers known now (work.Down interface) moment e = e ≡ event.LinkDown interface
 IsEventOfWork offers known now work.Refresh moment e = IsInstall offers known now moment e
 
 -- the work's event was given at this moment, by a port with this number of events until then, sent
@@ -330,12 +332,12 @@ AsksOfRoutes moment input =
 -- What a work is refused for before its event is given. A datagram has no question, but is copied;
 -- a Tick, a withdrawal and a link's end need neither a reading nor memory.
 abbrev pub RefusesQuestions : Refuses → Work → Moment → TurnError → Type 0
-RefusesQuestions refuses (work.Datagram number bytes) moment error = LacksMemory refuses error
+RefusesQuestions refuses (work.Datagram interface bytes) moment error = LacksMemory refuses error
 RefusesQuestions refuses work.Tick moment error = ⊥
 RefusesQuestions refuses (work.Add external) moment error =
     LacksReading refuses (AsksOf external moment) error ⊎ LacksMemory refuses error
 RefusesQuestions refuses (work.Withdraw prefix) moment error = ⊥
-RefusesQuestions refuses (work.Down number) moment error = ⊥
+RefusesQuestions refuses (work.Down interface) moment error = ⊥
 RefusesQuestions refuses work.Refresh moment error =
     LacksReading refuses (AsksOfRoutes moment) error ⊎ LacksMemory refuses error
 

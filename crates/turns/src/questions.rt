@@ -50,15 +50,22 @@ pub fn make_event<L: Site, B: Taker<L>, R: Wait>(
     ensures known { IsPrefix (known_to asker.old) (known_to asker.new) }
 {
     match work {
-        Work::Datagram(number, bytes) => {
+        Work::Datagram(interface, bytes) => {
             // Without a reading of the programs the datagram isn't counted, and taken all the same.
-            let _passed = B::count(asker, *number, moment, bytes.as_slice(), &hub.shared, seat);
-            Ok(Event::Packet(*number, B::copied(bytes)?))
+            let _answer = B::count(
+                asker,
+                *interface,
+                moment,
+                bytes.as_slice(),
+                &hub.shared,
+                seat,
+            );
+            Ok(Event::Packet(*interface, B::copied(bytes)?))
         }
         Work::Tick => Ok(Event::Tick),
         Work::Add(external) => make_redistribute(rt, hub, asker, seat, moment, external),
         Work::Withdraw(prefix) => Ok(Event::Withdraw(*prefix)),
-        Work::Down(number) => Ok(Event::LinkDown(*number)),
+        Work::Down(interface) => Ok(Event::LinkDown(*interface)),
         Work::Refresh => make_install(rt, hub, asker, seat, moment),
     }
 }
