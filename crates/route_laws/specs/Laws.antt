@@ -4,7 +4,7 @@ use Rattle.std.specs.List.{Contains}
 use Rattle.words.specs.declared.route.Route.{Route}
 use Rattle.routes.specs.Candidates.{AreCandidates, IsCandidate}
 use Rattle.routes.specs.Paths.{Way}
-use Rattle.routes.specs.Tables.{Answers, IsAnswered, IsLetIn, IsStale, IsTable}
+use Rattle.routes.specs.Tables.{Answers, HasAnswer, IsLetIn, IsStale, IsTable}
 use Rattle.routes.specs.declared.root.Root.{Root}
 use Rattle.routes.specs.Said.{Said}
 use Rattle.routes.specs.Routes.{IsForwarded}
@@ -53,4 +53,4 @@ abbrev pub AnswersToAllAreNotStale : Type 0
 AnswersToAllAreNotStale =
     (said : Said) (root : Root) (answers : Answers) (routes : List Route)
     → AreCandidates said root routes
-    → ((r : Route) → Contains routes r → IsAnswered answers r) → IsStale said root answers → ⊥
+    → ((r : Route) → Contains routes r → HasAnswer answers r) → IsStale said root answers → ⊥

@@ -18,8 +18,8 @@ abbrev pub IsLetIn : Answers → Route → Type 0
 IsLetIn answers r = Contains answers (r, 0)
 
 -- an equal route is among the answers
-abbrev pub IsAnswered : Answers → Route → Type 0
-IsAnswered answers r = (word : ℕ) × Contains answers (r, word)
+abbrev pub HasAnswer : Answers → Route → Type 0
+HasAnswer answers r = (word : ℕ) × Contains answers (r, word)
 
 -- exactly the candidates that were let in, in the order of their prefixes
 pub record IsTable (said : Said) (root : Root) (answers : Answers)
@@ -29,4 +29,4 @@ pub record IsTable (said : Said) (root : Root) (answers : Answers)
 
 -- some candidate has no answer, so that the program is to be asked again
 abbrev pub IsStale : Said → Root → Answers → Type 0
-IsStale said root answers = (r : Route) × IsCandidate said root r × (IsAnswered answers r → ⊥)
+IsStale said root answers = (r : Route) × IsCandidate said root r × (HasAnswer answers r → ⊥)

@@ -12,7 +12,7 @@ use Rattle.std.proofs.lemmas.Bool.{cases_lt}
 use Rattle.std.proofs.lemmas.Cmp.{tied_itself}
 use Rattle.std.proofs.lemmas.List.Sorted.{searchable_from_sorted}
 use Rattle.words.specs.declared.route.Route.{Route}
-use Rattle.routes.specs.Tables.{Answers, IsAnswered, IsLetIn}
+use Rattle.routes.specs.Tables.{Answers, HasAnswer, IsLetIn}
 use Rattle.routes.proofs.Listed.{other_default}
 use Rattle.tables.specs.Orders.{answer_cmp, route_cmp}
 use Rattle.tables.proofs.Ordered.{answers_exact, answers_total, by_route, routes_exact}
@@ -65,7 +65,7 @@ lets_in answers route up (Err at) range result = (
 pub tells_answered : (answers : Answers) (route : Route) → IsSorted answer_cmp answers
     → (r : Result ℕ ℕ) → IsSearchInRange r (length answers)
     → IsBinarySearchResult (λ (y : Route × ℕ). route_cmp y.0 route) answers r
-    → IsTrue (is_ok r) ↔ IsAnswered answers route
+    → IsTrue (is_ok r) ↔ HasAnswer answers route
 tells_answered answers route up (Ok at) range result = (
   λ t.
       let h = found routes_total (λ (y : Route × ℕ). y.0) answers (by_route answers up) route

@@ -7,7 +7,7 @@ use Rattle.std.proofs.lemmas.Option.{get_or_from_slice_get, same_Some, slice_get
 use Rattle.std.proofs.lemmas.Option.{slice_get_within}
 use Rattle.words.specs.declared.route.Route.{Route}
 use Rattle.routes.specs.Routes.{IsBefore}
-use Rattle.routes.specs.Tables.{Answers, IsAnswered}
+use Rattle.routes.specs.Tables.{Answers, HasAnswer}
 use Rattle.routes.proofs.OneMore.{never_itself}
 use Rattle.tables.specs.Parts.{Ascend, LacksAnswers, StandsAt}
 
@@ -38,7 +38,7 @@ module _ (answers : Answers) (routes : List Route) (met : ℕ) (route : Route)
     (within : met < length routes) (here : route ≡ get_or routes met route) (up : Ascend routes)
     (each : AreMet answers routes met)
     (behind : (k : ℕ) → met ≤ k → StandsAt answers k route → ⊥) where
-  unanswered : IsAnswered answers route → ⊥
+  unanswered : HasAnswer answers route → ⊥
   unanswered (word, (k, inside, is)) =
       let answer : Route × ℕ = (route, word) in
       let stands : slice_get answers k ≡ Some answer =

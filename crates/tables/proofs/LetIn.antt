@@ -11,7 +11,7 @@ use Rattle.words.specs.declared.route.Route.{Route}
 use Rattle.routes.specs.Candidates.{AreCandidates}
 use Rattle.routes.specs.Routes.{IsBefore}
 use Rattle.routes.specs.Said.{Said}
-use Rattle.routes.specs.Tables.{Answers, IsAnswered, IsLetIn, IsStale, IsTable}
+use Rattle.routes.specs.Tables.{Answers, HasAnswer, IsLetIn, IsStale, IsTable}
 use Rattle.routes.specs.declared.root.Root.{Root}
 use Rattle.routes.proofs.Listed.{other_default}
 use Rattle.tables.specs.Parts.{AreLetIn, Ascend, LacksAnswers}
@@ -89,13 +89,13 @@ module _ (answers : Answers) (routes : List Route) (n : ℕ) (route : Route)
     ascending = of.ascending;
   }
 
-  pub answered_more : IsAnswered answers route
-      → ((r : Route) → IsAmong routes n r → IsAnswered answers r) → (r : Route)
-      → IsAmong routes (n + 1) r → IsAnswered answers r
+  pub answered_more : HasAnswer answers route
+      → ((r : Route) → IsAmong routes n r → HasAnswer answers r) → (r : Route)
+      → IsAmong routes (n + 1) r → HasAnswer answers r
   answered_more ok all r h =
       elim (split r h) [
         | inl old ↦ all r old
-        | inr e ↦ subst (IsAnswered answers) e ok
+        | inr e ↦ subst (HasAnswer answers) e ok
       ]
 
 -- ---- of all routes, and of candidates

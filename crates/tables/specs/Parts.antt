@@ -3,7 +3,7 @@ use Rattle.std.specs.Prelude.{◌≡◌, ℕ, List, Some, slice_get, ◌↔◌}
 use Rattle.std.specs.List.{AllPairs, Contains}
 use Rattle.words.specs.declared.route.Route.{Route}
 use Rattle.routes.specs.Routes.{IsBefore}
-use Rattle.routes.specs.Tables.{Answers, IsAnswered, IsLetIn}
+use Rattle.routes.specs.Tables.{Answers, HasAnswer, IsLetIn}
 
 abbrev pub Ascend : List Route → Type 0
 Ascend routes = AllPairs (λ (a : Route) (b : Route). IsBefore a.prefix b.prefix) routes
@@ -15,7 +15,7 @@ pub record AreLetIn (answers : Answers) (routes part : List Route) : Type 0 wher
 
 -- some route has no answer
 abbrev pub LacksAnswers : Answers → List Route → Type 0
-LacksAnswers answers routes = (r : Route) × Contains routes r × (IsAnswered answers r → ⊥)
+LacksAnswers answers routes = (r : Route) × Contains routes r × (HasAnswer answers r → ⊥)
 
 -- the answer to this route is at this index
 abbrev pub StandsAt : Answers → ℕ → Route → Type 0

@@ -1,7 +1,7 @@
 //! Answers to routes: the next one in turn, or one that is found by binary search.
 ghost use Rattle.std.specs.Prelude.{◌≡◌, ◌↔◌, IsTrue};
 ghost use Rattle.std.specs.List.Sorted.{IsSorted};
-ghost use Rattle.routes.specs.Tables.{IsAnswered, IsLetIn};
+ghost use Rattle.routes.specs.Tables.{HasAnswer, IsLetIn};
 ghost use Rattle.tables.specs.Orders.{answer_cmp};
 
 use crate::order::{compare_answers, compare_routes};
@@ -28,7 +28,7 @@ pub fn is_let_in(answers: &[(Route, u64)], next: usize, route: &Route) -> (bool,
 /// the next route begins, as for [`is_let_in`].
 pub fn is_answered(answers: &[(Route, u64)], next: usize, route: &Route) -> (bool, usize)
     requires { IsSorted answer_cmp answers.now }
-    ensures { IsTrue result.0 ↔ IsAnswered answers.now route.now }
+    ensures { IsTrue result.0 ↔ HasAnswer answers.now route.now }
 {
     if next < answers.len() && is_of(&answers[next], route) {
         return (true, next + 1);
