@@ -6,7 +6,7 @@ ghost use Rattle.procedures.specs.Full.{full_routers};
 ghost use Rattle.procedures.specs.EndingParts.{loading_done_then_originate, loading_done_then_put_off};
 ghost use Rattle.procedures.specs.Making.{RouterDoes, interfaces_of};
 
-use crate::telling::{full_routers, has_changed, is_untold};
+use crate::telling::{full_routers, has_changed, is_outdated};
 use router_state::{Router, originate_or_put_off};
 use std::alloc::{AllocError, Global};
 use words::{RouterId, Second, router_key};
@@ -24,8 +24,8 @@ fn originate_router_lsa(
         → full_routers old ≡ before.now
         → RouterDoes (originate_router_lsa old moment) router.old router.new result }
 {
-    let untold = is_untold(router, alloc, moment, before)?;
-    if !untold {
+    let outdated = is_outdated(router, alloc, moment, before)?;
+    if !outdated {
         return Ok(());
     }
     let key = router_key(router.id());

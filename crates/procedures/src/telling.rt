@@ -68,17 +68,17 @@ pub fn has_changed(
 ///
 /// # Errors
 /// `AllocError` if an allocation is refused.
-pub fn is_untold(
+pub fn is_outdated(
     router: &Router,
     alloc: Global,
     moment: Second,
     before: &[Option<RouterId>],
 ) -> Result<bool, AllocError>
     requires before { length before.now ≡ length router.now.present.area.links }
-    ensures { IfOk result (λ untold. (old : List Link)
+    ensures { IfOk result (λ outdated. (old : List Link)
         → interfaces_of old ≡ interfaces_of router.now.present.area.links
         → full_routers old ≡ before.now
-        → untold ≡ (links_differ old router.now.present.area.links
+        → outdated ≡ (links_differ old router.now.present.area.links
         && not (is_current moment router.now.present))) }
 {
     let differ = has_changed(router, alloc, before)?;
