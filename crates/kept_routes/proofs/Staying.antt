@@ -25,7 +25,7 @@ use Rattle.candidates.specs.Borders.{IsFlagged}
 use Rattle.candidates.specs.Ways.{AreWays, Ways}
 use Rattle.candidates.specs.Reached.{way_in}
 use Rattle.routes.specs.lsdb.Changes.{ContentsAgree}
-use Rattle.routes.specs.lsdb.Silence.{SaysNoMore}
+use Rattle.routes.specs.lsdb.Unchanged.{IsContentUnchanged}
 use Rattle.kept_routes.specs.Externals.{AreOldOrLeftOut, IsUnreached, LeaveCandidates, OfferTheSame}
 use Rattle.kept_routes.specs.Externals.{OffersNothing}
 use Rattle.kept_routes.specs.Laws.{CandidatesAreKept}
@@ -134,7 +134,7 @@ module _ (before moment : ℕ) (old new : Database) (walk : KeptWalk) where
 
   module _ (order : before ≤ moment)
       (says : (key : Key) → Counts key
-      → SaysNoMore before moment (finite.get old key) (finite.get new key))
+      → IsContentUnchanged before moment (finite.get old key) (finite.get new key))
       (aged : AreOldOrLeftOut before moment new walk (aged_keys moment new)) where
     counted : (key : Key) → Counts key → was key ≡ is key
     counted key counts =

@@ -151,7 +151,7 @@ pub fn leave_candidates(
         db.now.present walk.now → IsTrue same) }
 {
     let rule = OfNoAccount { db, walk, moment };
-    if !db.keeps_others(alloc, &rule, before, moment)? {
+    if !db.others_are_unchanged(alloc, &rule, before, moment)? {
         return Ok(false);
     }
     // Within one moment no LSA reaches MaxAge.

@@ -36,7 +36,7 @@ pub fn lsas_are_unchanged(
     ensures left { IfOk result (λ same. IsTrue same
         ↔ AreLeft last_type before moment db.now.committed db.now.present) }
 {
-    if !db.keeps(alloc, last_type, moment)? {
+    if !db.is_unchanged(alloc, last_type, moment)? {
         return Ok(false);
     }
     // Within one moment no LSA reaches MaxAge.

@@ -317,13 +317,13 @@ impl Lsdb {
     ///
     /// # Errors
     /// `AllocError` if an allocation for the bytes of LSAs, which are compared, is refused.
-    pub fn keeps(
+    pub fn is_unchanged(
         &self,
         alloc: Global,
         last_type: Option<u32>,
         moment: Second,
     ) -> Result<bool, AllocError>
-        ensures { IfOk result (λ keeps. IsTrue keeps ↔ ((key : KeyValue) → IsUpTo last_type key
+        ensures { IfOk result (λ same. IsTrue same ↔ ((key : KeyValue) → IsUpTo last_type key
             → ContentsAgree moment
             (finite.get self.now.committed key) (finite.get self.now.present key))) }
     {

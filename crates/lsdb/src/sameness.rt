@@ -3,7 +3,7 @@ ghost use Rattle.std.specs.Prelude.{◌≡◌, ◌≤◌, ◌↔◌, ◌⊎◌, 
 ghost use Rattle.std.specs.Prelude.{option_copied};
 ghost use Rattle.lsdb.specs.Changes.{HaveNoMaxAge, HaveOneAge, ContentsAgree, header_length};
 ghost use Rattle.lsdb.specs.Copies.{said_by};
-ghost use Rattle.lsdb.specs.Silence.{SaysNoMore, StaysSilent};
+ghost use Rattle.lsdb.specs.Unchanged.{IsContentUnchanged, StaysWithoutContents};
 
 use crate::plain_bodies::are_plainly_one;
 use crate::stored::StoredLsa;
@@ -109,7 +109,7 @@ fn behind_header(text: &[u8]) -> &[u8]
 ///
 /// # Errors
 /// `AllocError` if an allocation for their bytes, which are compared, is refused.
-pub fn says_no_more(
+pub fn is_content_unchanged(
     alloc: Global,
     before: Second,
     moment: Second,
@@ -117,9 +117,9 @@ pub fn says_no_more(
     new: Option<&StoredLsa>,
 ) -> Result<bool, AllocError>
     ensures { IfOk result (λ no_more. IsTrue no_more
-        ↔ SaysNoMore before moment (option_copied old.entry) (option_copied new.entry)) }
+        ↔ IsContentUnchanged before moment (option_copied old.entry) (option_copied new.entry)) }
 {
-    if stays_silent(before, moment, old, new) {
+    if stays_without_contents(before, moment, old, new) {
         return Ok(true);
     }
     contents_agree(alloc, moment, old, new)
@@ -127,23 +127,23 @@ pub fn says_no_more(
 
 // Whether neither the earlier copy at the moment `before` nor the present one at `moment` has a
 // body that counts.
-fn stays_silent(
+fn stays_without_contents(
     before: Second,
     moment: Second,
     old: Option<&StoredLsa>,
     new: Option<&StoredLsa>,
 ) -> bool
-    ensures { IsTrue result ↔ StaysSilent before moment
+    ensures { IsTrue result ↔ StaysWithoutContents before moment
         (option_copied old.entry) (option_copied new.entry) }
 {
-    if !is_silent(before, old) {
+    if !has_no_contents(before, old) {
         return false;
     }
-    is_silent(moment, new)
+    has_no_contents(moment, new)
 }
 
 // Whether the copy has no body that counts at the moment: it doesn't exist, or is at MaxAge.
-fn is_silent(moment: Second, copy: Option<&StoredLsa>) -> bool
+fn has_no_contents(moment: Second, copy: Option<&StoredLsa>) -> bool
     ensures { IsTrue result ↔ (said_by moment (option_copied copy.entry) ≡ None) }
 {
     match copy {

@@ -3,11 +3,11 @@ ghost use Rattle.std.specs.Prelude.{◌≡◌, ◌↔◌, IfOk, IsTrue, false, s
 ghost use Rattle.std.specs.FinMap as finite;
 ghost use Rattle.keyed_map.specs.Slots.{keys_from};
 ghost use Rattle.lsdb.specs.Changes.{ContentsAgree};
-ghost use Rattle.lsdb.specs.Silence.{SaysNoMore};
+ghost use Rattle.lsdb.specs.Unchanged.{IsContentUnchanged};
 ghost use Rattle.words.specs.declared.key.Key.{Key as KeyValue};
 
 use super::Lsdb;
-use crate::sameness::says_no_more;
+use crate::sameness::is_content_unchanged;
 use crate::stored::StoredLsa;
 use keyed_map::ChangeTest;
 use std::alloc::{AllocError, Global};
@@ -38,17 +38,17 @@ fn counts_by<T: KeyRule>(rule: &T, alloc: Global, key: &Key) -> Result<bool, All
 // Whether the copies of the keys that count have the bodies that they had, or none that counts
 // (missing, or at MaxAge) before and now.
 #[derive(Drop)]
-struct OthersSayNoMore<'a, T> {
+struct OthersAreUnchanged<'a, T> {
     rule: &'a T,
     before: Second,
     moment: Second,
 }
 
-impl<'a, T: KeyRule> ChangeTest<StoredLsa> for OthersSayNoMore<'a, T> {
-    ghost use Rattle.lsdb.specs.Silence.{SaysNoMore};
+impl<'a, T: KeyRule> ChangeTest<StoredLsa> for OthersAreUnchanged<'a, T> {
+    ghost use Rattle.lsdb.specs.Unchanged.{IsContentUnchanged};
 
     ghost same = { λ a key old new. (T.leaves_out a.rule.now key → ⊥)
-        → SaysNoMore a.before a.moment old new };
+        → IsContentUnchanged a.before a.moment old new };
 
     ghost counted = { λ a key. T.leaves_out a.rule.now key → ⊥ };
 
@@ -63,35 +63,36 @@ impl<'a, T: KeyRule> ChangeTest<StoredLsa> for OthersSayNoMore<'a, T> {
         old: Option<&StoredLsa>,
         new: Option<&StoredLsa>,
     ) -> Result<bool, AllocError> {
-        says_no_more(alloc, self.before, self.moment, old, new)
+        is_content_unchanged(alloc, self.before, self.moment, old, new)
     }
 }
 
 impl Lsdb {
     /// Whether each copy whose key counts has the contents at the moment that the copy of its key
-    /// had when the database was last committed, as `keeps` compares them (RFC 2328, section 13.2).
+    /// had when the database was last committed, as `is_unchanged` compares them (RFC 2328, section
+    /// 13.2).
     /// A key that had no copy then, or one that had MaxAge at the moment `before`, may have none
     /// now, or one at MaxAge. It visits the edits since then.
     ///
     /// # Errors
     /// `AllocError` if an allocation for the rule, or for the bytes of LSAs, which are compared, is
     /// refused.
-    pub fn keeps_others<T: KeyRule>(
+    pub fn others_are_unchanged<T: KeyRule>(
         &self,
         alloc: Global,
         rule: &T,
         before: Second,
         moment: Second,
     ) -> Result<bool, AllocError>
-        ensures same { IfOk result (λ keeps. IsTrue keeps → (key : KeyValue)
-            → (T.leaves_out rule.now key → ⊥) → SaysNoMore before moment
+        ensures same { IfOk result (λ same. IsTrue same → (key : KeyValue)
+            → (T.leaves_out rule.now key → ⊥) → IsContentUnchanged before moment
             (finite.get self.now.committed key) (finite.get self.now.present key)) }
-        ensures kept { IfOk result (λ keeps. ((key : KeyValue)
+        ensures kept { IfOk result (λ same. ((key : KeyValue)
             → (T.leaves_out rule.now key → ⊥) → ContentsAgree moment
             (finite.get self.now.committed key) (finite.get self.now.present key))
-            → IsTrue keeps) }
+            → IsTrue same) }
     {
-        let test = OthersSayNoMore {
+        let test = OthersAreUnchanged {
             rule,
             before,
             moment,

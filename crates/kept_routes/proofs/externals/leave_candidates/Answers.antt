@@ -13,7 +13,7 @@ returns-clause-same c =
     let keys = c.deref.ensures.value ∙ c.in_ok-keys.ensures in
     IfOk-weaker c.are_old_or_left_out.result _ _ (λ are is t.
     offer_the_same c.args.before c.args.moment old new walk c.requires.order
-    (c.in_ok-keeps_others.ensures.same c.if-not-branch.false)
+    (c.in_ok-others_are_unchanged.ensures.same c.if-not-branch.false)
     (subst (AreOldOrLeftOut c.args.before c.args.moment new walk) keys (is.0 t))
     c.requires.walk) c.are_old_or_left_out.ensures
 
@@ -28,7 +28,7 @@ returns-clause-left c =
 
 pub returns-then-not-branch-clause-left : goal.returns-then-not-branch-clause-left
 returns-then-not-branch-clause-left c left =
-    sym c.if-not-branch.true ∙ c.in_ok-keeps_others.ensures.kept
+    sym c.if-not-branch.true ∙ c.in_ok-others_are_unchanged.ensures.kept
     (others_keep c.args.before c.args.moment c.args.db.now.committed c.args.db.now.present
     c.args.walk.now left)
 
@@ -38,6 +38,6 @@ returns-then-count-clause-same c = λ t.
     let new = c.args.db.now.present in
     let walk = c.args.walk.now in
     offer_the_same c.args.before c.args.moment old new walk c.requires.order
-    (c.in_ok-keeps_others.ensures.same c.if-not-branch.false)
+    (c.in_ok-others_are_unchanged.ensures.same c.if-not-branch.false)
     (within_one_moment c.args.before c.args.moment old new walk _ cc)
     c.requires.walk

@@ -10,7 +10,7 @@ returns-clause-same c = λ t.
     let keys = c.deref.ensures.value ∙ c.in_ok-keys.ensures in
     all_same c.args.last_type c.args.before c.args.moment old new c.requires
     (all_left c.args.last_type c.args.before c.args.moment old new
-    (c.in_ok-keeps.ensures.0 c.if-not-branch.false)
+    (c.in_ok-is_unchanged.ensures.0 c.if-not-branch.false)
     (subst (AreOld c.args.last_type c.args.before c.args.moment new) keys (c.are_old.ensures.0 t)))
 
 pub returns-clause-left : goal.returns-clause-left
@@ -19,7 +19,7 @@ returns-clause-left c =
     let new = c.args.db.now.present in
     let keys = c.deref.ensures.value ∙ c.in_ok-keys.ensures in (
       (λ t. all_left c.args.last_type c.args.before c.args.moment old new
-          (c.in_ok-keeps.ensures.0 c.if-not-branch.false)
+          (c.in_ok-is_unchanged.ensures.0 c.if-not-branch.false)
           (subst (AreOld c.args.last_type c.args.before c.args.moment new) keys
           (c.are_old.ensures.0 t))),
       (λ left. c.are_old.ensures.1 (olds_all c.args.last_type c.args.before c.args.moment old new
@@ -30,7 +30,7 @@ pub returns-then-not-branch-clause-left : goal.returns-then-not-branch-clause-le
 returns-then-not-branch-clause-left c = (
   (λ t. absurd cc),
   (λ left. sym c.if-not-branch.true
-      ∙ c.in_ok-keeps.ensures.1 (keeps_all c.args.last_type c.args.before c.args.moment
+      ∙ c.in_ok-is_unchanged.ensures.1 (keeps_all c.args.last_type c.args.before c.args.moment
       c.args.db.now.committed c.args.db.now.present left)),
 )
 
@@ -40,7 +40,7 @@ returns-then-count-clause-same c = λ t.
     let new = c.args.db.now.present in
     all_same c.args.last_type c.args.before c.args.moment old new c.requires
     (all_left c.args.last_type c.args.before c.args.moment old new
-    (c.in_ok-keeps.ensures.0 c.if-not-branch.false)
+    (c.in_ok-is_unchanged.ensures.0 c.if-not-branch.false)
     (all_old_within c.args.last_type c.args.before c.args.moment new _ cc))
 
 pub returns-then-count-clause-left : goal.returns-then-count-clause-left
@@ -48,7 +48,7 @@ returns-then-count-clause-left c =
     let old = c.args.db.now.committed in
     let new = c.args.db.now.present in (
       (λ t. all_left c.args.last_type c.args.before c.args.moment old new
-          (c.in_ok-keeps.ensures.0 c.if-not-branch.false)
+          (c.in_ok-is_unchanged.ensures.0 c.if-not-branch.false)
           (all_old_within c.args.last_type c.args.before c.args.moment new _ cc)),
       (λ left. refl),
     )

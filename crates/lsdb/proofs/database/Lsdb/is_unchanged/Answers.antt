@@ -4,7 +4,7 @@ use Rattle.std.specs.FinMap as finite
 use Rattle.lsdb.specs.Changes.{ContentsAgree}
 use Rattle.lsdb.specs.Kept.{RouterDatabase}
 use Rattle.lsdb.proofs.Changes.{says_as_itself}
-use Rattle.lsdb.proofs.database.Lsdb.keeps.Goals as goal
+use Rattle.lsdb.proofs.database.Lsdb.is_unchanged.Goals as goal
 
 pub keeps-requires : goal.keeps-requires
 keeps-requires c key o of = says_as_itself c.args.moment o
