@@ -10,9 +10,9 @@ use Rattle.area_routes.specs.Offers.{root_by}
 use Rattle.candidates.specs.Inner.{AreInner, AreSearchable}
 use Rattle.candidates.specs.declared.inner.InnerRoutes.{InnerRoutes}
 use Rattle.external_updates.specs.Placing.{AreAllAmong, HasAnother}
-use Rattle.kept_routes.specs.Externals.{LeaveCandidates}
+use Rattle.kept_routes.specs.Externals.{AreOfferingLsasUnchanged}
 use Rattle.kept_routes.specs.Kept.{IsWalkOf, KeptWalk}
-use Rattle.kept_routes.specs.Sameness.{AreLeft}
+use Rattle.kept_routes.specs.Sameness.{AreLsasUnchanged}
 use Rattle.candidates.specs.Externals.{AreExternals}
 use Rattle.candidates.specs.declared.externals.ExternalAdvertisement.{ExternalAdvertisement}
 use Rattle.routes.specs.Candidates.{AreCandidates}
@@ -105,27 +105,29 @@ pub record BringsNoneNew (old : KeptRoutes) (new : KeptRoutes) : Type 0 where
 -- All that a walk depends on is unchanged since the moment `before`: it has the same root, and of
 -- the LSAs of the types up to this one, or of all types if there is none, none was added or
 -- removed, reached MaxAge or changed its contents (section 13.2).
-pub record HasStayed (last_type : Option ℕ) (before : Moment) (moment : Moment)
+pub record AreWalkInputsUnchanged (last_type : Option ℕ) (before : Moment) (moment : Moment)
     (router : RouterNumber) (old : Area) (new : Area) (walk : KeptWalk) : Type 0 where
   pub root : walk.root ≡ root_by router new.links
-  pub lsas : AreLeft last_type before moment old.database new.database
+  pub lsas : AreLsasUnchanged last_type before moment old.database new.database
 
 -- All that the candidates depend on is unchanged since the moment `before`: the walk has the same
 -- root, and the only LSAs that were added or removed, reached MaxAge or changed their contents are
 -- AS-external-LSAs that offer nothing, whatever they say (section 16.4).
-pub record HaveStayed (before : Moment) (moment : Moment) (router : RouterNumber)
+pub record AreCandidateInputsUnchanged (before : Moment) (moment : Moment) (router : RouterNumber)
     (old : Area) (new : Area) (walk : KeptWalk) : Type 0 where
   pub root : walk.root ≡ root_by router new.links
-  pub lsas : LeaveCandidates before moment old.database new.database walk
+  pub lsas : AreOfferingLsasUnchanged before moment old.database new.database walk
 
 -- no walk is made over an event, and a walk remains valid if and only if all that it depends on is
 -- unchanged
 pub record KeepsWalkUnlessChanged (before : Moment) (moment : Moment) (router : RouterNumber)
     (old : Area) (new : Area) (kept : KeptRoutes) (next : KeptRoutes) : Type 0 where
   pub walk : next.walk ≡ kept.walk
-  pub serves : kept.behind ≡ false → HasStayed (Some 2) before moment router old new kept.walk
+  pub serves : kept.behind ≡ false → AreWalkInputsUnchanged (Some 2) before moment router old new
+      kept.walk
       → next.behind ≡ false
-  pub falls : (HasStayed (Some 2) before moment router old new kept.walk → ⊥) → next.behind ≡ true
+  pub falls : (AreWalkInputsUnchanged (Some 2) before moment router old new kept.walk → ⊥)
+      → next.behind ≡ true
   pub lags : kept.behind ≡ true → next.behind ≡ true
 
 -- walk, candidates and the results from the LSAs of types 1 to 4 are the router's at the moment

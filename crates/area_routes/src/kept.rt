@@ -2,7 +2,8 @@
 ghost use Rattle.std.specs.Prelude.{◌≡◌, ◌+◌, ◌≤◌, ◌↔◌, ◌&&◌, None, Some, false, length, min, IfOk};
 ghost use Rattle.std.specs.Prelude.{IfSome, IsSome, IsTrue, OnErr, OnOk, true};
 ghost use Rattle.std.specs.FinMap as finite;
-ghost use Rattle.area_routes.specs.Kept.{AreKept, AreRoutesOf, HaveStayed, KnowsAnswered};
+ghost use Rattle.area_routes.specs.Kept.{AreKept, AreRoutesOf, AreCandidateInputsUnchanged};
+ghost use Rattle.area_routes.specs.Kept.{KnowsAnswered};
 ghost use Rattle.area_routes.specs.Kept.{KnowsCandidates, KnowsInner, KnowsWalk};
 ghost use Rattle.area_routes.specs.Kept.{KeepsWalkUnlessChanged};
 ghost use Rattle.area_routes.specs.Kept.{AreInnerBy, AreOffersOf, AreOfOthers, BringsNoneNew};
@@ -10,9 +11,9 @@ ghost use Rattle.area_routes.specs.Kept.{ExternalsSayTheSame, KnowsExternals, Kn
 ghost use Rattle.candidates.specs.Externals.{AreExternals};
 ghost use Rattle.area_routes.specs.Offers.{AreCandidatesOf, AreOffered, IsStaleOf, IsTableOf};
 ghost use Rattle.area_routes.specs.Offers.{root_by};
-ghost use Rattle.kept_routes.specs.Externals.{LeaveCandidates, OfferTheSame};
+ghost use Rattle.kept_routes.specs.Externals.{AreOfferingLsasUnchanged, OfferTheSame};
 ghost use Rattle.kept_routes.specs.Kept.{IsWalkOf};
-ghost use Rattle.kept_routes.specs.Sameness.{AreLeft, SayTheSame};
+ghost use Rattle.kept_routes.specs.Sameness.{AreLsasUnchanged, SayTheSame};
 ghost use Rattle.routes.specs.Candidates.{AreCandidates};
 ghost use Rattle.routes.specs.Said.{Said, said_at};
 ghost use Rattle.routes.specs.Tables.{Answers};
@@ -25,7 +26,7 @@ use external_updates::changed_keys;
 use external_updates::laws::inner_routes_are_kept;
 use flooding::Area;
 use kept_routes::laws::{candidates_are_kept, walks_are_kept};
-use kept_routes::{Routes, leave_candidates, lsas_are_unchanged};
+use kept_routes::{Routes, lsas_are_unchanged, offering_lsas_are_unchanged};
 use pages::{Pages, RouteAnswers};
 use routes::Root;
 use std::alloc::{AllocError, Global};
@@ -102,11 +103,11 @@ fn leaves_candidates(
     ensures same { IfOk result (λ same. IsTrue same → OfferTheSame
         (said_at before area.now.committed.database) (said_at moment area.now.present.database)
         walk.now.root) }
-    ensures left { IfOk result (λ same. LeaveCandidates before moment
+    ensures left { IfOk result (λ same. AreOfferingLsasUnchanged before moment
         area.now.committed.database area.now.present.database walk.now → IsTrue same) }
 {
     let db = area.database();
-    let same = leave_candidates(alloc, db, walk, before, moment)?;
+    let same = offering_lsas_are_unchanged(alloc, db, walk, before, moment)?;
     Ok(same)
 }
 
@@ -122,7 +123,7 @@ fn area_lsas_are_unchanged(
     requires { before ≤ moment }
     ensures same { IfOk result (λ same. IsTrue same → SayTheSame last_type
         (said_at before area.now.committed.database) (said_at moment area.now.present.database)) }
-    ensures left { IfOk result (λ same. IsTrue same ↔ AreLeft last_type before moment
+    ensures left { IfOk result (λ same. IsTrue same ↔ AreLsasUnchanged last_type before moment
         area.now.committed.database area.now.present.database) }
 {
     let db = area.database();
@@ -316,7 +317,8 @@ impl AreaRoutes {
         // If the only LSAs of any type for which that happened are external ones that offer
         // nothing, what is known of the candidates and of the answers is unchanged too.
         ensures candidates { OnOk result (self.old.behind ≡ false
-            → HaveStayed before moment router area.now.committed area.now.present self.old.walk
+            → AreCandidateInputsUnchanged before moment router area.now.committed area.now.present
+            self.old.walk
             → self.new ≡ record self.old {
               externals = self.new.externals;
               graph = self.new.graph;
@@ -399,7 +401,8 @@ impl AreaRoutes {
         ensures walks { OnOk result (KeepsWalkUnlessChanged before moment router
             area.now.committed area.now.present self.old self.new) }
         ensures candidates { OnOk result (self.old.behind ≡ false
-            → HaveStayed before moment router area.now.committed area.now.present self.old.walk
+            → AreCandidateInputsUnchanged before moment router area.now.committed area.now.present
+            self.old.walk
             → self.new ≡ self.old) }
         ensures none_new { OnOk result (BringsNoneNew self.old self.new
             → self.new.answered ≡ self.old.answered) }

@@ -15,7 +15,7 @@ use Rattle.routes.specs.lsdb.Changes.{HaveNoMaxAge, HaveOneAge, IsUpTo, Contents
 use Rattle.routes.specs.lsdb.Copies.{Database, DatabaseCopy, aged_keys, is_aged_out}
 use Rattle.routes.specs.Said.{said_at, said_by}
 use Rattle.kept_routes.specs.Ages.{AreOld}
-use Rattle.kept_routes.specs.Sameness.{AreLeft, SayTheSame}
+use Rattle.kept_routes.specs.Sameness.{AreLsasUnchanged, SayTheSame}
 use Rattle.routes.proofs.Listed.{other_default}
 use Rattle.routes.proofs.Lists.{first_is, later_is}
 use Rattle.words.specs.declared.key.Key.{Key}
@@ -143,7 +143,7 @@ says_same before moment order (Some a) (Some b) same old =
     ]
 
 pub all_same : (last_type : Option ℕ) (before moment : ℕ) (old new : Database) → before ≤ moment
-    → AreLeft last_type before moment old new
+    → AreLsasUnchanged last_type before moment old new
     → SayTheSame last_type (said_at before old) (said_at moment new)
 all_same last_type before moment old new order left key of =
     says_same before moment order (finite.get old key) (finite.get new key) (left key of).same
@@ -156,7 +156,7 @@ pub all_left : (last_type : Option ℕ) (before moment : ℕ) (old new : Databas
     → ((key : Key) → IsUpTo last_type key
     → ContentsAgree moment (finite.get old key) (finite.get new key))
     → AreOld last_type before moment new (aged_keys moment new)
-    → AreLeft last_type before moment old new
+    → AreLsasUnchanged last_type before moment old new
 all_left last_type before moment old new same old_ones key of = record {
   same = same key of;
   old_copy = λ copy is aged. old_ones key
@@ -165,11 +165,11 @@ all_left last_type before moment old new same old_ones key of = record {
 }
 
 pub keeps_all : (last_type : Option ℕ) (before moment : ℕ) (old new : Database)
-    → AreLeft last_type before moment old new → (key : Key) → IsUpTo last_type key
+    → AreLsasUnchanged last_type before moment old new → (key : Key) → IsUpTo last_type key
     → ContentsAgree moment (finite.get old key) (finite.get new key)
 keeps_all last_type before moment old new left key of = (left key of).same
 
 pub olds_all : (last_type : Option ℕ) (before moment : ℕ) (old new : Database) (keys : List Key)
-    → AreLeft last_type before moment old new → AreOld last_type before moment new keys
+    → AreLsasUnchanged last_type before moment old new → AreOld last_type before moment new keys
 olds_all last_type before moment old new keys left key among copy of is =
     (left key of).old_copy copy is

@@ -26,7 +26,8 @@ use Rattle.candidates.specs.Ways.{AreWays, Ways}
 use Rattle.candidates.specs.Reached.{way_in}
 use Rattle.routes.specs.lsdb.Changes.{ContentsAgree}
 use Rattle.routes.specs.lsdb.Unchanged.{IsContentUnchanged}
-use Rattle.kept_routes.specs.Externals.{AreOldOrLeftOut, IsUnreached, LeaveCandidates, OfferTheSame}
+use Rattle.kept_routes.specs.Externals.{AreOldOrLeftOut, IsUnreached, AreOfferingLsasUnchanged}
+use Rattle.kept_routes.specs.Externals.{OfferTheSame}
 use Rattle.kept_routes.specs.Externals.{OffersNothing}
 use Rattle.kept_routes.specs.Laws.{CandidatesAreKept}
 use Rattle.kept_routes.specs.Kept.{IsWalkOf, KeptWalk}
@@ -186,11 +187,11 @@ module _ (before moment : ℕ) (old new : Database) (walk : KeptWalk) where
   within_one_moment keys same key among counts =
       all_old_within None before moment new keys same key among
 
-  pub others_keep : LeaveCandidates before moment old new walk → (key : Key) → Counts key
+  pub others_keep : AreOfferingLsasUnchanged before moment old new walk → (key : Key) → Counts key
       → ContentsAgree moment (finite.get old key) (finite.get new key)
   others_keep left key counts = (left key counts).same
 
-  pub others_are_old : (keys : List Key) → LeaveCandidates before moment old new walk
+  pub others_are_old : (keys : List Key) → AreOfferingLsasUnchanged before moment old new walk
       → AreOldOrLeftOut before moment new walk keys
   others_are_old keys left key among counts copy of here = (left key counts).old_copy copy here
 

@@ -8,14 +8,15 @@ use Rattle.words.specs.Numbers.{Moment}
 use Rattle.words.specs.declared.key.Key.{Key}
 
 -- if the copy has MaxAge, it had it at the moment `before`
-abbrev pub IsOldCopy : (before : Moment) → (moment : Moment) → DatabaseCopy → Type 0
-IsOldCopy before moment copy = is_aged_out moment copy ≡ true → is_aged_out before copy ≡ true
+abbrev pub HasNotJustReachedMaxAge : (before : Moment) → (moment : Moment) → DatabaseCopy → Type 0
+HasNotJustReachedMaxAge before moment copy = is_aged_out moment copy ≡ true → is_aged_out before
+    copy ≡ true
 
 -- the same for the copy with this key, if its type is up to this one
 abbrev pub IsOld : Option ℕ → (before : Moment) → (moment : Moment) → Database → Key → Type 0
 IsOld last_type before moment db key =
     (copy : DatabaseCopy) → IsUpTo last_type key → finite.get db key ≡ Some copy
-    → IsOldCopy before moment copy
+    → HasNotJustReachedMaxAge before moment copy
 
 -- the same for each of these keys
 abbrev pub AreOld : Option ℕ → (before : Moment) → (moment : Moment) → Database → List Key → Type 0

@@ -14,7 +14,7 @@ use Rattle.words.specs.Numbers.{Moment, RouterNumber}
 use Rattle.words.specs.declared.key.Key.{Key}
 use Rattle.kept_routes.specs.Ages.{IsOld}
 use Rattle.kept_routes.specs.Kept.{KeptWalk}
-use Rattle.kept_routes.specs.Sameness.{IsLeft, SayTheSame}
+use Rattle.kept_routes.specs.Sameness.{IsLsaUnchanged, SayTheSame}
 
 -- the key of a summary-LSA for an AS boundary router with this Router ID
 abbrev pub NamesIt : RouterNumber → Key → Type 0
@@ -47,11 +47,11 @@ pub record OffersNothing (moment : Moment) (db : Database) (walk : KeptWalk)
   pub of_no_account : IsOfNoAccount moment db walk key.advertising_router
 
 -- all other LSAs are unchanged
-abbrev pub LeaveCandidates : (before : Moment) → (moment : Moment) → (old : Database)
+abbrev pub AreOfferingLsasUnchanged : (before : Moment) → (moment : Moment) → (old : Database)
     → (new : Database) → KeptWalk → Type 0
-LeaveCandidates before moment old new walk =
+AreOfferingLsasUnchanged before moment old new walk =
     (key : Key) → (OffersNothing moment new walk key → ⊥)
-    → IsLeft before moment (finite.get old key) (finite.get new key)
+    → IsLsaUnchanged before moment (finite.get old key) (finite.get new key)
 
 -- if the copy with this key counts and has MaxAge, it had it at the moment `before`
 abbrev pub IsOldOrLeftOut : (before : Moment) → (moment : Moment) → Database → KeptWalk → Key

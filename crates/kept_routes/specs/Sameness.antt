@@ -3,7 +3,7 @@ use Rattle.std.specs.Prelude.{◌≡◌, ℕ, Option, Some}
 use Rattle.std.specs.FinMap as finite
 use Rattle.routes.specs.lsdb.Changes.{IsUpTo, ContentsAgree}
 use Rattle.routes.specs.lsdb.Copies.{Database, DatabaseCopy}
-use Rattle.kept_routes.specs.Ages.{IsOldCopy}
+use Rattle.kept_routes.specs.Ages.{HasNotJustReachedMaxAge}
 use Rattle.routes.specs.Said.{Said}
 use Rattle.words.specs.Numbers.{Moment}
 use Rattle.words.specs.declared.key.Key.{Key}
@@ -15,14 +15,15 @@ SayTheSame last_type old new = (key : Key) → IsUpTo last_type key → old key 
 -- since the moment `before`, the LSA with a key wasn't added or removed, didn't reach MaxAge and
 -- didn't change its contents; another instance below MaxAge with the same contents is no change
 -- (section 13.2)
-pub record IsLeft (before : Moment) (moment : Moment) (old : Option DatabaseCopy)
+pub record IsLsaUnchanged (before : Moment) (moment : Moment) (old : Option DatabaseCopy)
     (new : Option DatabaseCopy) : Type 0 where
   pub same : ContentsAgree moment old new
-  pub old_copy : (copy : DatabaseCopy) → new ≡ Some copy → IsOldCopy before moment copy
+  pub old_copy : (copy : DatabaseCopy) → new ≡ Some copy → HasNotJustReachedMaxAge before moment
+      copy
 
 -- the same for the LSAs of the types up to this one, or of all types if there is none
-abbrev pub AreLeft : Option ℕ → (before : Moment) → (moment : Moment) → (old : Database)
+abbrev pub AreLsasUnchanged : Option ℕ → (before : Moment) → (moment : Moment) → (old : Database)
     → (new : Database) → Type 0
-AreLeft last_type before moment old new =
+AreLsasUnchanged last_type before moment old new =
     (key : Key) → IsUpTo last_type key
-    → IsLeft before moment (finite.get old key) (finite.get new key)
+    → IsLsaUnchanged before moment (finite.get old key) (finite.get new key)

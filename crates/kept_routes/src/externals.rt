@@ -8,7 +8,7 @@ ghost use Rattle.routes.specs.Said.{said_at};
 ghost use Rattle.routes.specs.declared.graph.Way.{Way as WayTo};
 ghost use Rattle.candidates.specs.Reached.{way_in};
 ghost use Rattle.kept_routes.specs.Externals.{AreOldOrLeftOut, IsNamed, IsOldOrLeftOut};
-ghost use Rattle.kept_routes.specs.Externals.{IsUnreached, LeaveCandidates, NamesIt};
+ghost use Rattle.kept_routes.specs.Externals.{IsUnreached, AreOfferingLsasUnchanged, NamesIt};
 ghost use Rattle.kept_routes.specs.Externals.{OfferTheSame, OffersNothing, first_named};
 ghost use Rattle.kept_routes.specs.Kept.{IsWalkOf};
 
@@ -136,7 +136,7 @@ fn names_it(router: RouterId, key: &Key) -> bool
 ///
 /// # Errors
 /// `AllocError` if an allocation is refused.
-pub fn leave_candidates(
+pub fn offering_lsas_are_unchanged(
     alloc: Global,
     db: &Lsdb,
     walk: &Routes,
@@ -147,7 +147,7 @@ pub fn leave_candidates(
     requires walk { IsWalkOf (said_at before db.now.committed) walk.now }
     ensures same { IfOk result (λ same. IsTrue same → OfferTheSame
         (said_at before db.now.committed) (said_at moment db.now.present) walk.now.root) }
-    ensures left { IfOk result (λ same. LeaveCandidates before moment db.now.committed
+    ensures left { IfOk result (λ same. AreOfferingLsasUnchanged before moment db.now.committed
         db.now.present walk.now → IsTrue same) }
 {
     let rule = OfNoAccount { db, walk, moment };

@@ -7,6 +7,6 @@ pub mod laws;
 mod sameness;
 mod walks;
 
-pub use externals::leave_candidates;
+pub use externals::offering_lsas_are_unchanged;
 pub use sameness::lsas_are_unchanged;
 pub use walks::Routes;

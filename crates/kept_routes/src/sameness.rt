@@ -6,7 +6,7 @@ ghost use Rattle.routes.specs.lsdb.Copies.{DatabaseCopy as CopyValue, is_aged_ou
 ghost use Rattle.routes.specs.Said.{said_at};
 ghost use Rattle.words.specs.declared.key.Key.{Key as KeyValue};
 ghost use Rattle.kept_routes.specs.Ages.{AreOld, IsOld};
-ghost use Rattle.kept_routes.specs.Sameness.{AreLeft, SayTheSame};
+ghost use Rattle.kept_routes.specs.Sameness.{AreLsasUnchanged, SayTheSame};
 
 use routes::{Lsdb, is_up_to};
 use std::alloc::{AllocError, Global};
@@ -34,7 +34,7 @@ pub fn lsas_are_unchanged(
         (said_at before db.now.committed) (said_at moment db.now.present)) }
     // It is true whenever that is correct.
     ensures left { IfOk result (λ same. IsTrue same
-        ↔ AreLeft last_type before moment db.now.committed db.now.present) }
+        ↔ AreLsasUnchanged last_type before moment db.now.committed db.now.present) }
 {
     if !db.is_unchanged(alloc, last_type, moment)? {
         return Ok(false);

@@ -6,22 +6,22 @@ use mathlib.Core.Bool.{false≢true}
 use Rattle.words.specs.declared.key.Key.{Key}
 use Rattle.lsa.specs.declared.body.LsaBody.{LsaBody}
 use Rattle.lsdb.specs.Copies.{DatabaseCopy, is_aged_out}
-use Rattle.kept_routes.specs.Ages.{IsOldCopy}
-use Rattle.kept_routes.specs.Sameness.{IsLeft}
+use Rattle.kept_routes.specs.Ages.{HasNotJustReachedMaxAge}
+use Rattle.kept_routes.specs.Sameness.{IsLsaUnchanged}
 use Rattle.route_laws.specs.WorkedCopies.{key, saying}
 
 -- ---- one LSA
 
 -- a copy that is below MaxAge now
 pub young : (c : DatabaseCopy) → is_aged_out 110 c ≡ false → (n : DatabaseCopy) → Some c ≡ Some n
-    → IsOldCopy 100 110 n
+    → HasNotJustReachedMaxAge 100 110 n
 young c is n same aged =
     let one : c ≡ n = cc in
     absurd (false≢true (sym is ∙ ap (is_aged_out 110) one ∙ aged))
 
 -- one that had MaxAge before
 pub old : (c : DatabaseCopy) → is_aged_out 100 c ≡ true → (n : DatabaseCopy) → Some c ≡ Some n
-    → IsOldCopy 100 110 n
+    → HasNotJustReachedMaxAge 100 110 n
 old c is n same aged =
     let one : c ≡ n = cc in
     sym (ap (is_aged_out 100) one) ∙ is
@@ -31,14 +31,15 @@ neither A B no_a no_b (inl a) = no_a a
 neither A B no_a no_b (inr b) = no_b b
 
 -- there was none and there is none
-pub nowhere : (was is : Option DatabaseCopy) → was ≡ None → is ≡ None → IsLeft 100 110 was is
+pub nowhere : (was is : Option DatabaseCopy) → was ≡ None → is ≡ None → IsLsaUnchanged 100 110 was
+    is
 nowhere None None a b = record { same = tt; old_copy = λ c none. absurd (cc) }
 nowhere (Some c) is a b = absurd (cc)
 nowhere None (Some c) a b = absurd (cc)
 
 -- one was added
 pub came : (was is : Option DatabaseCopy) (c : DatabaseCopy) → was ≡ None → is ≡ Some c
-    → IsLeft 100 110 was is → ⊥
+    → IsLsaUnchanged 100 110 was is → ⊥
 came None (Some d) c a b h = h.same
 came None None c a b h = absurd (cc)
 came (Some d) is c a b h = absurd (cc)

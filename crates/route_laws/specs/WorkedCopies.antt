@@ -6,7 +6,7 @@ use Rattle.words.specs.Numbers.{Moment, Seconds}
 use Rattle.words.specs.declared.key.Key.{Key}
 use Rattle.lsa.specs.declared.body.LsaBody.{LsaBody}
 use Rattle.lsdb.specs.Copies.{Database, DatabaseCopy}
-use Rattle.kept_routes.specs.Sameness.{AreLeft, IsLeft, SayTheSame}
+use Rattle.kept_routes.specs.Sameness.{AreLsasUnchanged, IsLsaUnchanged, SayTheSame}
 use Rattle.routes.specs.Said.{Said}
 
 -- ---- one LSA
@@ -32,52 +32,53 @@ copy says number age stored = record {
   sent = None;
 }
 
-abbrev pub IsLeftThen : Option DatabaseCopy → Option DatabaseCopy → Type 0
-IsLeftThen old new = IsLeft 100 110 old new
+abbrev pub IsUnchangedThen : Option DatabaseCopy → Option DatabaseCopy → Type 0
+IsUnchangedThen old new = IsLsaUnchanged 100 110 old new
 
 pub record WorkedCopies : Type 0 where
   -- there is none, or it stays the same
-  pub none : IsLeftThen None None
-  pub stays : (b : LsaBody) → IsLeftThen (Some (copy b (pos 4) 10 90)) (Some (copy b (pos 4) 10 90))
+  pub none : IsUnchangedThen None None
+  pub stays : (b : LsaBody) → IsUnchangedThen (Some (copy b (pos 4) 10 90))
+      (Some (copy b (pos 4) 10 90))
   -- it was sent
-  pub was_sent : (b : LsaBody) → IsLeftThen (Some (copy b (pos 4) 10 90))
+  pub was_sent : (b : LsaBody) → IsUnchangedThen (Some (copy b (pos 4) 10 90))
       (Some (record (copy b (pos 4) 10 90) { sent = Some 105 }))
   -- it is refreshed: a new instance says the same, even if the old one was close to MaxAge
   pub refreshed : (b : LsaBody)
-      → IsLeftThen (Some (copy b (pos 4) 1800 90)) (Some (copy b (pos 5) 0 105))
+      → IsUnchangedThen (Some (copy b (pos 4) 1800 90)) (Some (copy b (pos 5) 0 105))
   pub refreshed_late : (b : LsaBody)
-      → IsLeftThen (Some (copy b (pos 4) 3579 90)) (Some (copy b (pos 5) 0 105))
+      → IsUnchangedThen (Some (copy b (pos 4) 3579 90)) (Some (copy b (pos 5) 0 105))
   -- it had reached MaxAge before, at moment 100 at the latest
   pub was_aged : (b : LsaBody)
-      → IsLeftThen (Some (copy b (pos 4) 3600 90)) (Some (copy b (pos 4) 3600 90))
+      → IsUnchangedThen (Some (copy b (pos 4) 3600 90)) (Some (copy b (pos 4) 3600 90))
   pub just_aged : (b : LsaBody)
-      → IsLeftThen (Some (copy b (pos 4) 3590 90)) (Some (copy b (pos 4) 3590 90))
+      → IsUnchangedThen (Some (copy b (pos 4) 3590 90)) (Some (copy b (pos 4) 3590 90))
   -- it is added or removed, at MaxAge too
-  pub comes : (b : LsaBody) → IsLeftThen None (Some (copy b (pos 4) 10 105)) → ⊥
-  pub comes_aged : (b : LsaBody) → IsLeftThen None (Some (copy b (pos 4) 3600 105)) → ⊥
-  pub leaves : (b : LsaBody) → IsLeftThen (Some (copy b (pos 4) 10 90)) None → ⊥
-  pub leaves_aged : (b : LsaBody) → IsLeftThen (Some (copy b (pos 4) 3600 90)) None → ⊥
+  pub comes : (b : LsaBody) → IsUnchangedThen None (Some (copy b (pos 4) 10 105)) → ⊥
+  pub comes_aged : (b : LsaBody) → IsUnchangedThen None (Some (copy b (pos 4) 3600 105)) → ⊥
+  pub leaves : (b : LsaBody) → IsUnchangedThen (Some (copy b (pos 4) 10 90)) None → ⊥
+  pub leaves_aged : (b : LsaBody) → IsUnchangedThen (Some (copy b (pos 4) 3600 90)) None → ⊥
   -- it says something else, at MaxAge too
   pub changes : (b c : LsaBody) → b ≢ c
-      → IsLeftThen (Some (copy b (pos 4) 10 90)) (Some (copy c (pos 5) 0 105)) → ⊥
+      → IsUnchangedThen (Some (copy b (pos 4) 10 90)) (Some (copy c (pos 5) 0 105)) → ⊥
   pub changes_aged : (b c : LsaBody) → b ≢ c
-      → IsLeftThen (Some (copy b (pos 4) 3600 90)) (Some (copy c (pos 4) 3600 90)) → ⊥
+      → IsUnchangedThen (Some (copy b (pos 4) 3600 90)) (Some (copy c (pos 4) 3600 90)) → ⊥
   -- it reaches MaxAge, at moment 101 or 110, and is flushed
   pub ages : (b : LsaBody)
-      → IsLeftThen (Some (copy b (pos 4) 3589 90)) (Some (copy b (pos 4) 3589 90)) → ⊥
+      → IsUnchangedThen (Some (copy b (pos 4) 3589 90)) (Some (copy b (pos 4) 3589 90)) → ⊥
   pub ages_now : (b : LsaBody)
-      → IsLeftThen (Some (copy b (pos 4) 3580 90)) (Some (copy b (pos 4) 3580 90)) → ⊥
+      → IsUnchangedThen (Some (copy b (pos 4) 3580 90)) (Some (copy b (pos 4) 3580 90)) → ⊥
   pub is_flushed : (b : LsaBody)
-      → IsLeftThen (Some (copy b (pos 4) 10 90)) (Some (copy b (pos 4) 3600 105)) → ⊥
+      → IsUnchangedThen (Some (copy b (pos 4) 10 90)) (Some (copy b (pos 4) 3600 105)) → ⊥
   -- it had MaxAge, or would have reached it, and another instance is there, young or at MaxAge
   pub is_back : (b : LsaBody)
-      → IsLeftThen (Some (copy b (pos 4) 3600 90)) (Some (copy b (pos 5) 0 105)) → ⊥
+      → IsUnchangedThen (Some (copy b (pos 4) 3600 90)) (Some (copy b (pos 5) 0 105)) → ⊥
   pub is_back_at_once : (b : LsaBody)
-      → IsLeftThen (Some (copy b (pos 4) 3600 90)) (Some (copy b (pos 5) 0 90)) → ⊥
+      → IsUnchangedThen (Some (copy b (pos 4) 3600 90)) (Some (copy b (pos 5) 0 90)) → ⊥
   pub is_back_too_late : (b : LsaBody)
-      → IsLeftThen (Some (copy b (pos 4) 3580 90)) (Some (copy b (pos 5) 0 110)) → ⊥
+      → IsUnchangedThen (Some (copy b (pos 4) 3580 90)) (Some (copy b (pos 5) 0 110)) → ⊥
   pub is_flushed_again : (b : LsaBody)
-      → IsLeftThen (Some (copy b (pos 4) 3600 90)) (Some (copy b (pos 5) 3600 105)) → ⊥
+      → IsUnchangedThen (Some (copy b (pos 4) 3600 90)) (Some (copy b (pos 5) 3600 105)) → ⊥
 
 -- ---- types
 
@@ -110,10 +111,12 @@ pub record WorkedTypes : Type 0 where
   pub same : (b : LsaBody) → SayTheSame (Some 2) (saying 2 b) (saying 2 b)
   -- the same with copies, one of which is added between moments 100 and 110
   pub comes_before : (b : LsaBody) (old new : Database)
-      → Comes (key 1) (copy b (pos 4) 10 105) old new → AreLeft (Some 2) 100 110 old new → ⊥
+      → Comes (key 1) (copy b (pos 4) 10 105) old new → AreLsasUnchanged (Some 2) 100 110 old
+          new → ⊥
   pub comes_last : (b : LsaBody) (old new : Database)
-      → Comes (key 2) (copy b (pos 4) 10 105) old new → AreLeft (Some 2) 100 110 old new → ⊥
+      → Comes (key 2) (copy b (pos 4) 10 105) old new → AreLsasUnchanged (Some 2) 100 110 old
+          new → ⊥
   pub comes_behind : (b : LsaBody) (old new : Database)
-      → Comes (key 3) (copy b (pos 4) 10 105) old new → AreLeft (Some 2) 100 110 old new
+      → Comes (key 3) (copy b (pos 4) 10 105) old new → AreLsasUnchanged (Some 2) 100 110 old new
   pub comes_anywhere : (b : LsaBody) (old new : Database)
-      → Comes (key 5) (copy b (pos 4) 10 105) old new → AreLeft None 100 110 old new → ⊥
+      → Comes (key 5) (copy b (pos 4) 10 105) old new → AreLsasUnchanged None 100 110 old new → ⊥

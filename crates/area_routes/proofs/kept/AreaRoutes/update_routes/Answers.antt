@@ -4,7 +4,7 @@ use Rattle.area_routes.specs.Kept.{KeptRoutes, KnowsAnswered, KnowsCandidates, K
 use Rattle.area_routes.specs.Offers.{root_by}
 use Rattle.area_routes.proofs.AfterExternals.{still_answered, still_inner, still_offers}
 use Rattle.area_routes.proofs.AfterExternals.{still_walks}
-use Rattle.kept_routes.specs.Externals.{LeaveCandidates, OfferTheSame}
+use Rattle.kept_routes.specs.Externals.{AreOfferingLsasUnchanged, OfferTheSame}
 use Rattle.kept_routes.specs.Kept.{IsWalkOf, KeptWalk}
 use Rattle.routes.specs.Said.{said_at}
 use Rattle.routes.specs.declared.root.Root.{Root}
@@ -167,6 +167,7 @@ returns-then-branch-clause-candidates c on stayed =
     let before = c.args.before in
     let moment = c.args.moment in
     let area = c.args.area.now in
-    let left = subst (λ (k : KeptRoutes). LeaveCandidates before moment area.committed.database
+    let left = subst (λ (k : KeptRoutes). AreOfferingLsasUnchanged before moment
+    area.committed.database
     area.present.database k.walk) (sym c.self.view_is) stayed.lsas in
     absurd (false≢true (sym c.if-branch-2.false ∙ c.in_ok-leaves_candidates.ensures.left left))

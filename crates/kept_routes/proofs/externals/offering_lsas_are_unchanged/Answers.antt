@@ -3,7 +3,7 @@ use Rattle.std.proofs.lemmas.Result.{IfOk-weaker}
 use Rattle.kept_routes.specs.Externals.{AreOldOrLeftOut}
 use Rattle.kept_routes.proofs.Staying.{offer_the_same, others_are_old, others_keep}
 use Rattle.kept_routes.proofs.Staying.{within_one_moment}
-use Rattle.kept_routes.proofs.externals.leave_candidates.Goals as goal
+use Rattle.kept_routes.proofs.externals.offering_lsas_are_unchanged.Goals as goal
 
 pub returns-clause-same : goal.returns-clause-same
 returns-clause-same c =
