@@ -19,7 +19,7 @@ use Rattle.lsdb.specs.Bodies.{AreBodies, InOrder}
 use Rattle.lsdb.specs.Keys.{key_cmp}
 use Rattle.lsdb.proofs.Keys.{keys_total}
 use Rattle.routes.specs.Links.{network_key, router_key}
-use Rattle.routes.specs.Said.{Said}
+use Rattle.routes.specs.Contents.{Contents}
 use Rattle.routes.specs.declared.node.Node.{Node}
 use Rattle.routes.specs.declared.node.Node.TheVariants.{ANetwork, ARouter}
 use Rattle.area_graph.specs.Nodes.{AreNodes, Ascend, HasLsa, if_network, if_router, network_in}
@@ -55,19 +55,19 @@ network_said (Some (body.External x)) lsa e = absurd (none-some lsa e)
 -- ---- keys and nodes
 
 -- the node has an LSA, and the key is its key
-record IsNodeOf (said : Said) (key : Key) (node : Node) : Type 0 where
+record IsNodeOf (contents : Contents) (key : Key) (node : Node) : Type 0 where
   same : key ≡ key_of node
-  has : HasLsa said node
+  has : HasLsa contents node
 
 two : (a b : Bool) → a && b ≡ true → (a ≡ true) × (b ≡ true)
 two true b e = (refl, e)
 two false b e = absurd (false≢true e)
 
-of_router : (said : Said) (one : Key × LsaBody) (node : Node) → said one.0 ≡ Some one.1
+of_router : (contents : Contents) (one : Key × LsaBody) (node : Node) → contents one.0 ≡ Some one.1
     → one.0.ls_type ≡ 1 → one.0.link_state_id ≡ one.0.advertising_router
     → if_router one.0.advertising_router (router_in (Some one.1)) ≡ Some node
-    → IsNodeOf said one.0 node
-of_router said one node says first both e =
+    → IsNodeOf contents one.0 node
+of_router contents one node says first both e =
     let router = one.0.advertising_router in
     let key : one.0 ≡ router_key router = λ i. record {
       ls_type = first i;
@@ -75,20 +75,20 @@ of_router said one node says first both e =
       advertising_router = router;
     } in
     elim (router_in (Some one.1)) as (λ o. router_in (Some one.1) ≡ o
-    → if_router router o ≡ Some node → IsNodeOf said one.0 node) [
+    → if_router router o ≡ Some node → IsNodeOf contents one.0 node) [
       | None ↦ λ is p. absurd (none-some node p)
       | Some lsa ↦ λ is p.
-          let P : Node → Type 0 = λ n. IsNodeOf said one.0 n in
+          let P : Node → Type 0 = λ n. IsNodeOf contents one.0 n in
           subst P (same_Some (ARouter router) node p) (record {
             same = key;
-            has = (lsa, sym (ap said key) ∙ says ∙ router_said (Some one.1) lsa is);
+            has = (lsa, sym (ap contents key) ∙ says ∙ router_said (Some one.1) lsa is);
           })
     ] refl e
 
-of_network : (said : Said) (one : Key × LsaBody) (node : Node) → said one.0 ≡ Some one.1
+of_network : (contents : Contents) (one : Key × LsaBody) (node : Node) → contents one.0 ≡ Some one.1
     → one.0.ls_type ≡ 2 → if_network one.0.link_state_id one.0.advertising_router
-    (network_in (Some one.1)) ≡ Some node → IsNodeOf said one.0 node
-of_network said one node says is_two e =
+    (network_in (Some one.1)) ≡ Some node → IsNodeOf contents one.0 node
+of_network contents one node says is_two e =
     let id = one.0.link_state_id in
     let router = one.0.advertising_router in
     let key : one.0 ≡ network_key id router = λ i. record {
@@ -98,46 +98,46 @@ of_network said one node says is_two e =
     } in
     elim (network_in (Some one.1)) as
     (λ o. network_in (Some one.1) ≡ o → if_network id router o ≡ Some node
-    → IsNodeOf said one.0 node) [
+    → IsNodeOf contents one.0 node) [
       | None ↦ λ is p. absurd (none-some node p)
       | Some lsa ↦ λ is p.
-          let P : Node → Type 0 = λ n. IsNodeOf said one.0 n in
+          let P : Node → Type 0 = λ n. IsNodeOf contents one.0 n in
           subst P (same_Some (ANetwork id router) node p) (record {
             same = key;
-            has = (lsa, sym (ap said key) ∙ says ∙ network_said (Some one.1) lsa is);
+            has = (lsa, sym (ap contents key) ∙ says ∙ network_said (Some one.1) lsa is);
           })
     ] refl e
 
-is_node : (said : Said) (one : Key × LsaBody) (node : Node) → said one.0 ≡ Some one.1
-    → node_of one ≡ Some node → IsNodeOf said one.0 node
-is_node said one node says e =
+is_node : (contents : Contents) (one : Key × LsaBody) (node : Node) → contents one.0 ≡ Some one.1
+    → node_of one ≡ Some node → IsNodeOf contents one.0 node
+is_node contents one node says e =
     let key = one.0 in
     let r = if_router key.advertising_router (router_in (Some one.1)) in
     let n = if_network key.link_state_id key.advertising_router (network_in (Some one.1)) in
     elim ((key.ls_type == 1) && (key.link_state_id == key.advertising_router)) as
     (λ b. (key.ls_type == 1) && (key.link_state_id == key.advertising_router) ≡ b
-    → cond b r (cond (key.ls_type == 2) n None) ≡ Some node → IsNodeOf said key node) [
+    → cond b r (cond (key.ls_type == 2) n None) ≡ Some node → IsNodeOf contents key node) [
       | true ↦ λ is p.
           let tests = two (key.ls_type == 1) (key.link_state_id == key.advertising_router) is in
-          of_router said one node says (eqb-true key.ls_type 1 tests.0)
+          of_router contents one node says (eqb-true key.ls_type 1 tests.0)
           (eqb-true key.link_state_id key.advertising_router tests.1) p
       | false ↦ λ _ p.
           elim (key.ls_type == 2) as (λ b. key.ls_type == 2 ≡ b → cond b n None ≡ Some node
-          → IsNodeOf said key node) [
-            | true ↦ λ is q. of_network said one node says (eqb-true key.ls_type 2 is) q
+          → IsNodeOf contents key node) [
+            | true ↦ λ is q. of_network contents one node says (eqb-true key.ls_type 2 is) q
             | false ↦ λ _ q. absurd (none-some node q)
           ] refl p
     ] refl e
 
 -- what the node's LSA says, which makes it a node
-record IsSaidOf (said : Said) (node : Node) : Type 0 where
+record IsSaidOf (contents : Contents) (node : Node) : Type 0 where
   says : LsaBody
-  its : said (key_of node) ≡ Some says
+  its : contents (key_of node) ≡ Some says
   low : (key_of node).ls_type ≤ 2
   made : node_of (key_of node, says) ≡ Some node
 
-at_key : (said : Said) (node : Node) → HasLsa said node → IsSaidOf said node
-at_key said (ARouter router) has =
+at_key : (contents : Contents) (node : Node) → HasLsa contents node → IsSaidOf contents node
+at_key contents (ARouter router) has =
     let same : router == router ≡ true = eq-eqb router router refl in
     record {
       says = body.Router has.0;
@@ -145,7 +145,7 @@ at_key said (ARouter router) has =
       low = omega arith;
       made = ap (λ b. cond (true && b) (if_router router (Some has.0)) None) same;
     }
-at_key said (ANetwork id by) has = record {
+at_key contents (ANetwork id by) has = record {
   says = body.Network has.0;
   its = has.1;
   low = omega arith;
@@ -223,8 +223,8 @@ go_down nodes ascend node middle m here never k other there high below =
 
 -- ---- the nodes of what LSAs say
 
-abbrev AllSaid : Said → List (Key × LsaBody) → Type 0
-AllSaid said es = (one : Key × LsaBody) → Contains es one → said one.0 ≡ Some one.1
+abbrev AllSaid : Contents → List (Key × LsaBody) → Type 0
+AllSaid contents es = (one : Key × LsaBody) → Contains es one → contents one.0 ≡ Some one.1
 
 first_before : (e : Key × LsaBody) (es : List (Key × LsaBody)) → InOrder (e ∷ es)
     → (one : Key × LsaBody) → Contains es one → key_cmp e.0 one.0 ≡ Less
@@ -236,13 +236,13 @@ rest_in_order : (e : Key × LsaBody) (es : List (Key × LsaBody)) → InOrder (e
 rest_in_order e es order = λ i j d before within. order (suc i) (suc j) d (omega (arith, before))
     (omega (arith, within))
 
-ascend : (said : Said) (es : List (Key × LsaBody)) → AllSaid said es → InOrder es
+ascend : (contents : Contents) (es : List (Key × LsaBody)) → AllSaid contents es → InOrder es
     → Ascend (filter_map node_of es)
-ascend said [] says order = none_pairs (λ (a : Node) (b : Node). node_cmp a b ≡ Less)
-ascend said (e ∷ es) says order =
-    let later : (one : Key × LsaBody) → Contains es one → said one.0 ≡ Some one.1 =
+ascend contents [] says order = none_pairs (λ (a : Node) (b : Node). node_cmp a b ≡ Less)
+ascend contents (e ∷ es) says order =
+    let later : (one : Key × LsaBody) → Contains es one → contents one.0 ≡ Some one.1 =
     λ one among. says one (later_is e es one among) in
-    let rest = ascend said es later (rest_in_order e es order) in
+    let rest = ascend contents es later (rest_in_order e es order) in
     let these = filter_map node_of es in
     elim (node_of e) as (λ o. node_of e ≡ o → Ascend (cons_option o these)) [
       | None ↦ λ _. rest
@@ -250,8 +250,9 @@ ascend said (e ∷ es) says order =
           more_pairs (λ (a : Node) (b : Node). node_cmp a b ≡ Less) node these
           (λ other among.
           let source = filtered_out node_of es other among in
-          let lower = is_node said e node (says e (first_is e es)) is in
-          let upper = is_node said source.from other (later source.from source.among) source.gives
+          let lower = is_node contents e node (says e (first_is e es)) is in
+          let upper = is_node contents source.from other (later source.from source.among)
+          source.gives
           in
           let P : Key → Type 0 = λ k. key_cmp k (key_of other) ≡ Less in
           let Q : Key → Type 0 = λ k. key_cmp e.0 k ≡ Less in
@@ -260,20 +261,20 @@ ascend said (e ∷ es) says order =
           rest
     ] refl
 
-pub are_nodes : (said : Said) (es : List (Key × LsaBody)) → AreBodies (Some 2) said es
-    → AreNodes said (filter_map node_of es)
-are_nodes said es advertised =
-    let says : (one : Key × LsaBody) → Contains es one → said one.0 ≡ Some one.1 =
+pub are_nodes : (contents : Contents) (es : List (Key × LsaBody)) → AreBodies (Some 2) contents es
+    → AreNodes contents (filter_map node_of es)
+are_nodes contents es advertised =
+    let says : (one : Key × LsaBody) → Contains es one → contents one.0 ≡ Some one.1 =
     λ one among. ((advertised.each one.0 one.1).0 among).1 in
     record {
       each = λ node. (
         (λ among. let source = filtered_out node_of es node among in
-            (is_node said source.from node (says source.from source.among) source.gives).has),
-        (λ has. let at = at_key said node has in
+            (is_node contents source.from node (says source.from source.among) source.gives).has),
+        (λ has. let at = at_key contents node has in
             filtered_in node_of es (key_of node, at.says) node
             ((advertised.each (key_of node) at.says).1 (at.low, at.its)) at.made),
       );
-      ascend = ascend said es says advertised.ascend;
+      ascend = ascend contents es says advertised.ascend;
     }
 
 pub few : (es : List (Key × LsaBody)) (n : ℕ) → length es ≤ n → length (filter_map node_of es) ≤ n

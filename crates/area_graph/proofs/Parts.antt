@@ -9,7 +9,7 @@ use Rattle.lsa.specs.declared.body.LinkKind.TheVariants as kinds
 use Rattle.lsa.specs.declared.body.NetworkLsa.{NetworkLsa}
 use Rattle.lsa.specs.declared.body.RouterLsa.{RouterLsa}
 use Rattle.routes.specs.Links.{Counts, IsNetworkLsa, IsRouterLsa, LeadsTo, ListsRouter}
-use Rattle.routes.specs.Said.{Said}
+use Rattle.routes.specs.Contents.{Contents}
 use Rattle.routes.specs.declared.graph.VertexLink.{VertexLink}
 use Rattle.routes.specs.declared.node.Node.{Node}
 use Rattle.routes.specs.declared.node.Node.TheVariants.{ANetwork, ARouter}
@@ -32,40 +32,41 @@ use Rattle.area_graph.proofs.Told.{transit_of}
 no_dearer : (link : VertexLink) → IsNoDearer link link
 no_dearer link = record { same_end = refl; same_exit = refl; costs = omega arith }
 
-module _ (said : Said) (root : Root) (nodes : List Node) where
+module _ (contents : Contents) (root : Root) (nodes : List Node) where
   -- a node without an LSA has no links
-  pub no_links : (from : Node) → (HasLsa said from → ⊥) → (links : List VertexLink) → links ≡ []
-      → AreLinksFrom said root nodes from links
+  pub no_links : (from : Node) → (HasLsa contents from → ⊥) → (links : List VertexLink) → links ≡ []
+      → AreLinksFrom contents root nodes from links
   no_links from never links none =
-      let P : List VertexLink → Type 0 = λ ls. AreLinksFrom said root nodes from ls in
+      let P : List VertexLink → Type 0 = λ ls. AreLinksFrom contents root nodes from ls in
       subst P (sym none) (record {
         only = λ x among. absurd (of_empty x among);
-        each = λ x f. absurd (never (near_end said root from f.target x.cost x.interface f.leads));
+        each = λ x f. absurd (never (near_end contents root from f.target x.cost x.interface
+            f.leads));
       })
 
-  pub no_router : (router : ℕ) (links : List VertexLink) → router_lsa said router ≡ None
-      → links ≡ [] → AreLinksFrom said root nodes (ARouter router) links
+  pub no_router : (router : ℕ) (links : List VertexLink) → router_lsa contents router ≡ None
+      → links ≡ [] → AreLinksFrom contents root nodes (ARouter router) links
   no_router router links is none = no_links (ARouter router)
       (λ has. none-some has.0 (sym is ∙ ap router_in has.1)) links none
 
-  pub no_network : (id by : ℕ) (links : List VertexLink) → network_lsa said id by ≡ None
-      → links ≡ [] → AreLinksFrom said root nodes (ANetwork id by) links
+  pub no_network : (id by : ℕ) (links : List VertexLink) → network_lsa contents id by ≡ None
+      → links ≡ [] → AreLinksFrom contents root nodes (ANetwork id by) links
   no_network id by links is none = no_links (ANetwork id by)
       (λ has. none-some has.0 (sym is ∙ ap network_in has.1)) links none
 
-module _ (said : Said) (root : Root) (nodes : List Node) (entries : List AdvertisedLink)
-    (advertised : AreEntries said nodes entries) where
+module _ (contents : Contents) (root : Root) (nodes : List Node) (entries : List AdvertisedLink)
+    (advertised : AreEntries contents nodes entries) where
   -- ---- from a router
 
-  module _ (router : ℕ) (lsa : RouterLsa) (is : router_lsa said router ≡ Some lsa) where
-    its : IsRouterLsa said router lsa
+  module _ (router : ℕ) (lsa : RouterLsa) (is : router_lsa contents router ≡ Some lsa) where
+    its : IsRouterLsa contents router lsa
     its = router_said _ lsa is
 
     to_router : (x : VertexLink) → OfEach (IsToRouter root nodes entries router) lsa.links x
-        → IsLinkFrom said root nodes (ARouter router) x
+        → IsLinkFrom contents root nodes (ARouter router) x
     to_router x o =
         let t = o.2 in
-        let counts : Counts said root router kinds.PointToPoint o.0.link_id x.cost x.interface =
+        let counts : Counts contents root router kinds.PointToPoint o.0.link_id x.cost x.interface =
         record {
           link = o.0;
           its = record { lsa = lsa; its = its; among = o.1 };
@@ -79,20 +80,20 @@ module _ (said : Said) (root : Root) (nodes : List Node) (entries : List Adverti
         record {
           target = ARouter o.0.link_id;
           stands = t.stands;
-          leads = (counts, point_back said nodes entries advertised o.0.link_id router t.back);
+          leads = (counts, point_back contents nodes entries advertised o.0.link_id router t.back);
         }
 
     module _ (x : VertexLink) (s : IsToSomeNetwork root entries router lsa.links x) (by : ℕ)
         (stands : StandsAt nodes (ANetwork s.entry.id by) s.entry.place)
-        (lists : ListsRouter said s.entry.id by router) where
+        (lists : ListsRouter contents s.entry.id by router) where
       abbrev At : ℕ → Type 0
       At k = StandsAt nodes (ANetwork s.entry.id by) k
 
-      own_network : router ≡ root.router → IsLinkFrom said root nodes (ARouter router) x
+      own_network : router ≡ root.router → IsLinkFrom contents root nodes (ARouter router) x
       own_network own =
           let o = s.leads.own own in
           let t = o.2 in
-          let counts : Counts said root router kinds.Transit s.entry.id x.cost x.interface =
+          let counts : Counts contents root router kinds.Transit s.entry.id x.cost x.interface =
           record {
             link = o.0;
             its = record { lsa = lsa; its = its; among = o.1 };
@@ -109,11 +110,11 @@ module _ (said : Said) (root : Root) (nodes : List Node) (entries : List Adverti
             leads = (counts, lists);
           }
 
-      other_network : (router ≡ root.router → ⊥) → IsLinkFrom said root nodes (ARouter router) x
+      other_network : (router ≡ root.router → ⊥) → IsLinkFrom contents root nodes (ARouter router) x
       other_network off =
           let c = s.leads.other off in
-          let h = transit_of said nodes entries advertised router s.entry.id x.cost c.least.1 in
-          let counts : Counts said root router kinds.Transit s.entry.id x.cost x.interface =
+          let h = transit_of contents nodes entries advertised router s.entry.id x.cost c.least.1 in
+          let counts : Counts contents root router kinds.Transit s.entry.id x.cost x.interface =
           record {
             link = h.0;
             its = h.1;
@@ -131,11 +132,11 @@ module _ (said : Said) (root : Root) (nodes : List Node) (entries : List Adverti
           }
 
     to_network : (x : VertexLink) → IsToSomeNetwork root entries router lsa.links x
-        → IsLinkFrom said root nodes (ARouter router) x
+        → IsLinkFrom contents root nodes (ARouter router) x
     to_network x s =
-        let K : EntryKind → Type 0 = λ k. IsAdvertisedAs said nodes k s.entry in
+        let K : EntryKind → Type 0 = λ k. IsAdvertisedAs contents nodes k s.entry in
         let listed = (subst K s.is_kind ((advertised.each s.entry).0 s.among)).0 in
-        let R : ℕ → Type 0 = λ r. ListsRouter said s.entry.id listed.0 r in
+        let R : ℕ → Type 0 = λ r. ListsRouter contents s.entry.id listed.0 r in
         let lists = subst R s.is_router listed.2 in
         elim (cases_eq router root.router) [
           | inl own ↦ own_network x s listed.0 listed.1 lists own
@@ -151,13 +152,13 @@ module _ (said : Said) (root : Root) (nodes : List Node) (entries : List Adverti
 
       -- the link of the LSA that it stands for
       among : (kind : LinkKind) (id : ℕ) (x : VertexLink)
-          (c : Counts said root router kind id x.cost x.interface) → Contains lsa.links c.link
+          (c : Counts contents root router kind id x.cost x.interface) → Contains lsa.links c.link
       among kind id x c =
           let L : RouterLsa → Type 0 = λ l. Contains l.links c.link in
           subst L (same_Some c.its.lsa lsa (sym (ap router_in c.its.its) ∙ is)) c.its.among
 
       found_router : (x : VertexLink) (id : ℕ) → StandsAt nodes (ARouter id) x.to
-          → LeadsTo said root (ARouter router) (ARouter id) x.cost x.interface → Found x
+          → LeadsTo contents root (ARouter router) (ARouter id) x.cost x.interface → Found x
       found_router x id stands l =
           let c = l.0 in
           let P : ℕ → Type 0 = λ r. StandsAt nodes (ARouter r) x.to in
@@ -166,7 +167,8 @@ module _ (said : Said) (root : Root) (nodes : List Node) (entries : List Adverti
             is_kind = c.is_kind;
             counts = omega (arith, c.costs, c.not_free);
             stands = subst P (sym c.is_id) stands;
-            back = subst Q (sym c.is_id) (back_point said nodes entries advertised id router l.1);
+            back = subst Q (sym c.is_id) (back_point contents nodes entries advertised id router
+                l.1);
             leads = (
               refl,
               sym c.costs,
@@ -182,7 +184,7 @@ module _ (said : Said) (root : Root) (nodes : List Node) (entries : List Adverti
           )
 
       module _ (x : VertexLink) (id by : ℕ) (stands : StandsAt nodes (ANetwork id by) x.to)
-          (l : LeadsTo said root (ARouter router) (ANetwork id by) x.cost x.interface) where
+          (l : LeadsTo contents root (ARouter router) (ANetwork id by) x.cost x.interface) where
         listed : Contains entries (attached_entry id x.to router)
         listed = (advertised.each (attached_entry id x.to router)).1 ((by, stands, l.1), refl)
 
@@ -214,7 +216,7 @@ module _ (said : Said) (root : Root) (nodes : List Node) (entries : List Adverti
         found_other : (router ≡ root.router → ⊥) → Found x
         found_other off =
             let c = l.0 in
-            let has = of_transit said nodes entries advertised router id x.cost
+            let has = of_transit contents nodes entries advertised router id x.cost
             (c.link, c.its, c.is_kind, c.is_id, c.costs) in
             let m = least_exists router Transit id 1 entries x.cost (omega (arith, c.not_free)) has
             in
@@ -242,11 +244,11 @@ module _ (said : Said) (root : Root) (nodes : List Node) (entries : List Adverti
             [ inl own ↦ found_own own | inr off ↦ found_other off ]
 
       found : (x : VertexLink) (target : Node) → StandsAt nodes target x.to
-          → LeadsTo said root (ARouter router) target x.cost x.interface → Found x
+          → LeadsTo contents root (ARouter router) target x.cost x.interface → Found x
       found x (ARouter id) stands l = found_router x id stands l
       found x (ANetwork id by) stands l = found_network x id by stands l
 
-      pub router_links : AreLinksFrom said root nodes (ARouter router) links
+      pub router_links : AreLinksFrom contents root nodes (ARouter router) links
       router_links = record {
         only = λ x p. elim ((b x).0 p) [
           | inl m ↦ elim ((a x).0 m) [ inl none ↦ absurd (of_empty x none) | inr o ↦ to_router x o ]
@@ -257,15 +259,15 @@ module _ (said : Said) (root : Root) (nodes : List Node) (entries : List Adverti
 
   -- ---- from a network
 
-  module _ (id by : ℕ) (lsa : NetworkLsa) (is : network_lsa said id by ≡ Some lsa)
+  module _ (id by : ℕ) (lsa : NetworkLsa) (is : network_lsa contents id by ≡ Some lsa)
       (links : List VertexLink) (a : Adds (OfEach (IsToListed nodes entries id) lsa.attached) []
       links)
     where
-      listed_by : IsNetworkLsa said id by lsa
+      listed_by : IsNetworkLsa contents id by lsa
       listed_by = network_said _ lsa is
 
       found_listed : (x : VertexLink) (target : Node) → StandsAt nodes target x.to
-          → LeadsTo said root (ANetwork id by) target x.cost x.interface
+          → LeadsTo contents root (ANetwork id by) target x.cost x.interface
           → (other : VertexLink) × Contains links other × IsNoDearer x other
       found_listed x (ARouter router) stands l =
           let L : NetworkLsa → Type 0 = λ n. Contains n.attached router in
@@ -273,14 +275,14 @@ module _ (said : Said) (root : Root) (nodes : List Node) (entries : List Adverti
           in
           let t : IsToListed nodes entries id router x = record {
             stands = stands;
-            back = back_transit said nodes entries advertised router id l.1;
+            back = back_transit contents nodes entries advertised router id l.1;
             free = l.2;
             exit = l.3;
           } in
           (x, (a x).1 (inr (router, among, t)), no_dearer x)
       found_listed x (ANetwork other whose) stands l = absurd l
 
-      pub network_links : AreLinksFrom said root nodes (ANetwork id by) links
+      pub network_links : AreLinksFrom contents root nodes (ANetwork id by) links
       network_links = record {
         only = λ x p. elim ((a x).0 p) [
           | inl none ↦ absurd (of_empty x none)
@@ -293,7 +295,7 @@ module _ (said : Said) (root : Root) (nodes : List Node) (entries : List Adverti
                 its = listed_by;
                 among = o.1;
               },
-              transit_back said nodes entries advertised o.0 id o.2.back,
+              transit_back contents nodes entries advertised o.0 id o.2.back,
               o.2.free,
               o.2.exit,
             );

@@ -11,7 +11,7 @@ use Rattle.lsa.specs.declared.body.LinkKind.TheVariants as kinds
 use Rattle.lsa.specs.declared.body.NetworkLsa.{NetworkLsa}
 use Rattle.lsa.specs.declared.body.RouterLsa.{RouterLsa}
 use Rattle.routes.specs.Links.{HasLink, IsNetworkLsa, IsRouterLsa, LinksBack}
-use Rattle.routes.specs.Said.{Said}
+use Rattle.routes.specs.Contents.{Contents}
 use Rattle.routes.specs.declared.node.Node.{Node}
 use Rattle.routes.specs.declared.node.Node.TheVariants.{ANetwork, ARouter}
 use Rattle.routes.proofs.Lists.{of_empty}
@@ -29,17 +29,17 @@ use Rattle.area_graph.proofs.Whole.{placed}
 
 -- ---- what one LSA advertises
 
-module _ (said : Said) (place : ℕ) where
+module _ (contents : Contents) (place : ℕ) where
   pub router_tells : (router : ℕ) (lsa : RouterLsa) (xs ys : List AdvertisedLink)
-      → router_lsa said router ≡ Some lsa
+      → router_lsa contents router ≡ Some lsa
       → Adds (OfEach (λ (link : RouterLink) (entry : AdvertisedLink). entry_of router link
       ≡ Some entry)
-      lsa.links) xs ys → Adds (TellsOf said (ARouter router) place) xs ys
+      lsa.links) xs ys → Adds (TellsOf contents (ARouter router) place) xs ys
   router_tells router lsa xs ys is a =
-      let its : IsRouterLsa said router lsa = router_said _ lsa is in
+      let its : IsRouterLsa contents router lsa = router_said _ lsa is in
       adds_same (OfEach (λ (link : RouterLink) (entry : AdvertisedLink). entry_of router link
       ≡ Some entry)
-      lsa.links) (TellsOf said (ARouter router) place) xs ys (λ x o. (
+      lsa.links) (TellsOf contents (ARouter router) place) xs ys (λ x o. (
         o.0,
         record {
           lsa = lsa;
@@ -54,15 +54,15 @@ module _ (said : Said) (place : ℕ) where
       (t.0, subst L same t.1.among, t.2)) a
 
   pub network_tells : (id by : ℕ) (lsa : NetworkLsa) (xs ys : List AdvertisedLink)
-      → network_lsa said id by ≡ Some lsa
+      → network_lsa contents id by ≡ Some lsa
       → Adds (OfEach (λ (router : ℕ) (entry : AdvertisedLink). entry
       ≡ attached_entry id place router)
-      lsa.attached) xs ys → Adds (TellsOf said (ANetwork id by) place) xs ys
+      lsa.attached) xs ys → Adds (TellsOf contents (ANetwork id by) place) xs ys
   network_tells id by lsa xs ys is a =
-      let its : IsNetworkLsa said id by lsa = network_said _ lsa is in
+      let its : IsNetworkLsa contents id by lsa = network_said _ lsa is in
       adds_same (OfEach (λ (router : ℕ) (entry : AdvertisedLink). entry
       ≡ attached_entry id place router)
-      lsa.attached) (TellsOf said (ANetwork id by) place) xs ys
+      lsa.attached) (TellsOf contents (ANetwork id by) place) xs ys
       (λ x o.
       let same : o.0 ≡ x.router = sym (ap (λ (e : AdvertisedLink). e.router) o.2) in
       let P : ℕ → Type 0 = λ r. Contains lsa.attached r in (
@@ -80,26 +80,27 @@ module _ (said : Said) (place : ℕ) where
 
 -- ---- what the LSAs of the first nodes advertise
 
-module _ (said : Said) (nodes : List Node) where
+module _ (contents : Contents) (nodes : List Node) where
   abbrev pub FromBelow : ℕ → AdvertisedLink → Type 0
   FromBelow n entry = (place : ℕ) × (node : Node) × StandsAt nodes node place × (place < n)
-      × TellsOf said node place entry
+      × TellsOf contents node place entry
 
   pub below_none : (xs : List AdvertisedLink) → Adds (FromBelow 0) xs xs
   below_none xs = adds_none (FromBelow 0) xs (λ x o. omega (arith, o.3))
 
   pub below_more : (i : ℕ) (node : Node) (xs ys zs : List AdvertisedLink) → StandsAt nodes node i
-      → Adds (FromBelow i) xs ys → Adds (TellsOf said node i) ys zs → Adds (FromBelow (i + 1)) xs zs
+      → Adds (FromBelow i) xs ys → Adds (TellsOf contents node i) ys zs → Adds (FromBelow (i + 1))
+      xs zs
   below_more i node xs ys zs here a b =
-      adds_both (FromBelow i) (TellsOf said node i) (FromBelow (i + 1)) xs ys zs a b
+      adds_both (FromBelow i) (TellsOf contents node i) (FromBelow (i + 1)) xs ys zs a b
       (λ x o. elim (cases_lt o.0 i) [
         | inl lt ↦ inl (o.0, o.1, o.2, lt, o.4)
         | inr past ↦
             let at : o.0 ≡ i = omega (arith, o.3, past) in
             let P : ℕ → Type 0 = λ k. slice_get nodes k ≡ Some o.1 in
             let same : o.1 ≡ node = same_Some o.1 node (sym (subst P at o.2) ∙ here) in
-            let K : ℕ → Type 0 = λ k. TellsOf said o.1 k x in
-            let N : Node → Type 0 = λ n. TellsOf said n i x in
+            let K : ℕ → Type 0 = λ k. TellsOf contents o.1 k x in
+            let N : Node → Type 0 = λ n. TellsOf contents n i x in
             inr (subst N same (subst K at o.4))
       ])
       (λ x o. (o.0, o.1, o.2, omega (arith, o.3), o.4))
@@ -107,34 +108,34 @@ module _ (said : Said) (nodes : List Node) where
 
   -- ---- and what entries say on their own
 
-  told_link : (router : ℕ) (link : RouterLink) → HasLink said router link → (kind : LinkKind)
+  told_link : (router : ℕ) (link : RouterLink) → HasLink contents router link → (kind : LinkKind)
       → link.kind ≡ kind → (entry : AdvertisedLink) → link_entry kind router link ≡ Some entry
-      → IsAdvertisedAs said nodes entry.kind entry
+      → IsAdvertisedAs contents nodes entry.kind entry
   told_link router link has kinds.PointToPoint is entry e =
-      let P : AdvertisedLink → Type 0 = λ x. IsAdvertisedAs said nodes x.kind x in
+      let P : AdvertisedLink → Type 0 = λ x. IsAdvertisedAs contents nodes x.kind x in
       subst P (same_Some (with_kind router PointToPoint link) entry e)
       ((link, has, is, refl, refl), refl)
   told_link router link has kinds.Transit is entry e =
-      let P : AdvertisedLink → Type 0 = λ x. IsAdvertisedAs said nodes x.kind x in
+      let P : AdvertisedLink → Type 0 = λ x. IsAdvertisedAs contents nodes x.kind x in
       subst P (same_Some (with_kind router Transit link) entry e)
       ((link, has, is, refl, refl), refl)
   told_link router link has kinds.Stub is entry e = absurd (none-some entry e)
   told_link router link has kinds.Virtual is entry e = absurd (none-some entry e)
 
   told_of : (place : ℕ) (node : Node) (entry : AdvertisedLink) → StandsAt nodes node place
-      → TellsOf said node place entry → IsAdvertisedAs said nodes entry.kind entry
+      → TellsOf contents node place entry → IsAdvertisedAs contents nodes entry.kind entry
   told_of place (ARouter router) entry stands t = told_link router t.0 t.1 t.0.kind refl entry t.2
   told_of place (ANetwork id by) entry stands t =
-      let P : AdvertisedLink → Type 0 = λ x. IsAdvertisedAs said nodes x.kind x in
+      let P : AdvertisedLink → Type 0 = λ x. IsAdvertisedAs contents nodes x.kind x in
       subst P (sym t.1) ((by, stands, t.0), refl)
 
-  module _ (are : AreNodes said nodes) where
+  module _ (are : AreNodes contents nodes) where
     abbrev Source : AdvertisedLink → Type 0
     Source entry = (place : ℕ) × (node : Node) × StandsAt nodes node place
-        × TellsOf said node place entry
+        × TellsOf contents node place entry
 
     source : (entry : AdvertisedLink) (kind : EntryKind) → entry.kind ≡ kind
-        → IsAdvertisedAs said nodes kind entry → Source entry
+        → IsAdvertisedAs contents nodes kind entry → Source entry
     source entry PointToPoint is t =
         let h = t.0 in
         let at = placed nodes (ARouter entry.router)
@@ -200,7 +201,7 @@ module _ (said : Said) (nodes : List Node) where
     pub are_entries : (n : ℕ) (raw entries : List AdvertisedLink) → length nodes ≤ n
         → Adds (FromBelow n) [] raw → ((entry : AdvertisedLink)
         → Contains entries entry ↔ Contains raw entry) → IsSorted entry_cmp entries
-        → AreEntries said nodes entries
+        → AreEntries contents nodes entries
     are_entries n raw entries done a same sorted = record {
       each = λ entry. (
         (λ among. elim ((a entry).0 ((same entry).0 among)) [
@@ -217,10 +218,10 @@ module _ (said : Said) (nodes : List Node) where
 
 -- ---- what entries say of links back
 
-module _ (said : Said) (nodes : List Node) (entries : List AdvertisedLink)
-    (advertised : AreEntries said nodes entries) where
+module _ (contents : Contents) (nodes : List Node) (entries : List AdvertisedLink)
+    (advertised : AreEntries contents nodes entries) where
   pub transit_of : (router id metric : ℕ) → HasMetric entries router Transit id metric
-      → HasLinkOf said router kinds.Transit id metric
+      → HasLinkOf contents router kinds.Transit id metric
   transit_of router id metric has = ((advertised.each (record {
     router = router;
     kind = Transit;
@@ -229,7 +230,7 @@ module _ (said : Said) (nodes : List Node) (entries : List AdvertisedLink)
     place = has.0;
   })).0 has.1).0
 
-  pub of_transit : (router id metric : ℕ) → HasLinkOf said router kinds.Transit id metric
+  pub of_transit : (router id metric : ℕ) → HasLinkOf contents router kinds.Transit id metric
       → HasMetric entries router Transit id metric
   of_transit router id metric has = (
     0,
@@ -243,10 +244,10 @@ module _ (said : Said) (nodes : List Node) (entries : List AdvertisedLink)
   )
 
   pub transit_back : (router id : ℕ) → HasEntry entries router Transit id
-      → LinksBack said router kinds.Transit id
+      → LinksBack contents router kinds.Transit id
   transit_back router id has = let h = transit_of router id has.0 has.1 in (h.0, h.1, h.2, h.3)
 
-  pub back_transit : (router id : ℕ) → LinksBack said router kinds.Transit id
+  pub back_transit : (router id : ℕ) → LinksBack contents router kinds.Transit id
       → HasEntry entries router Transit id
   back_transit router id b = (
     b.0.metric,
@@ -254,7 +255,7 @@ module _ (said : Said) (nodes : List Node) (entries : List AdvertisedLink)
   )
 
   pub point_back : (router id : ℕ) → HasEntry entries router PointToPoint id
-      → LinksBack said router kinds.PointToPoint id
+      → LinksBack contents router kinds.PointToPoint id
   point_back router id has =
       let h = ((advertised.each (record {
         router = router;
@@ -265,7 +266,7 @@ module _ (said : Said) (nodes : List Node) (entries : List AdvertisedLink)
       })).0 has.1.1).0 in
       (h.0, h.1, h.2, h.3)
 
-  pub back_point : (router id : ℕ) → LinksBack said router kinds.PointToPoint id
+  pub back_point : (router id : ℕ) → LinksBack contents router kinds.PointToPoint id
       → HasEntry entries router PointToPoint id
   back_point router id b = (
     b.0.metric,
@@ -281,13 +282,14 @@ module _ (said : Said) (nodes : List Node) (entries : List AdvertisedLink)
     ),
   )
 
-  has_lsa : (entry : AdvertisedLink) (kind : EntryKind) → AreNodes said nodes
-      → IsAdvertisedAs said nodes kind entry → rank kind < 2 → Contains nodes (ARouter entry.router)
+  has_lsa : (entry : AdvertisedLink) (kind : EntryKind) → AreNodes contents nodes
+      → IsAdvertisedAs contents nodes kind entry → rank kind < 2 → Contains nodes
+      (ARouter entry.router)
   has_lsa entry PointToPoint are t low = (are.each (ARouter entry.router)).1 (t.0.1.lsa, t.0.1.its)
   has_lsa entry Transit are t low = (are.each (ARouter entry.router)).1 (t.0.1.lsa, t.0.1.its)
   has_lsa entry Attached are t low = absurd (omega (arith, low))
 
-  pub ordered : AreNodes said nodes → AreOrdered nodes entries
+  pub ordered : AreNodes contents nodes → AreOrdered nodes entries
   ordered are = record {
     ascend = are.ascend;
     sorted = advertised.sorted;

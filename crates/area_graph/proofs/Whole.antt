@@ -13,7 +13,7 @@ use Rattle.std.specs.Ordering.{nat_cmp, ordering_then}
 use Rattle.routes.specs.Graphs.{Graph, HasLink, IsGraph, IsGraphOf, IsNoDearer, IsSameStep}
 use Rattle.routes.specs.Links.{Leads, LeadsTo}
 use Rattle.routes.specs.Paths.{Step}
-use Rattle.routes.specs.Said.{Said}
+use Rattle.routes.specs.Contents.{Contents}
 use Rattle.routes.specs.declared.graph.VertexKind.TheVariants.{Network, Router}
 use Rattle.routes.specs.declared.graph.VertexLink.{VertexLink}
 use Rattle.routes.specs.declared.graph.Vertex.{Vertex}
@@ -104,21 +104,22 @@ pushed (x ∷ xs) y zero z e = inl e
 pushed (x ∷ xs) y (suc k) z e = elim (pushed xs y k z e)
     [ inl p ↦ inl p | inr q ↦ inr (omega (arith, q.0), q.1) ]
 
-abbrev pub EachVertex : Said → Root → List Node → Graph → Type 0
-EachVertex said root nodes g = (at : ℕ) (node : Node) (vertex : Vertex) → StandsAt nodes node at
-    → slice_get g at ≡ Some vertex → IsVertexOf said root nodes node vertex
+abbrev pub EachVertex : Contents → Root → List Node → Graph → Type 0
+EachVertex contents root nodes g = (at : ℕ) (node : Node) (vertex : Vertex) → StandsAt nodes node at
+    → slice_get g at ≡ Some vertex → IsVertexOf contents root nodes node vertex
 
-pub one_more : (said : Said) (root : Root) (nodes : List Node) (g : Graph) (i : ℕ) (node : Node)
-    (vertex : Vertex) → length g ≡ i → StandsAt nodes node i → EachVertex said root nodes g
-    → IsVertexOf said root nodes node vertex → EachVertex said root nodes (g ++ vertex ∷ [])
-one_more said root nodes g i node vertex count here each is at other its stands got =
+pub one_more : (contents : Contents) (root : Root) (nodes : List Node) (g : Graph) (i : ℕ)
+    (node : Node)
+    (vertex : Vertex) → length g ≡ i → StandsAt nodes node i → EachVertex contents root nodes g
+    → IsVertexOf contents root nodes node vertex → EachVertex contents root nodes (g ++ vertex ∷ [])
+one_more contents root nodes g i node vertex count here each is at other its stands got =
     elim (pushed g vertex at its got) [
       | inl old ↦ each at other its stands old
       | inr new ↦
           let e : at ≡ i = omega (arith, new.0, count) in
           let P : ℕ → Type 0 = λ k. slice_get nodes k ≡ Some other in
-          let N : Node → Type 0 = λ n. IsVertexOf said root nodes n its in
-          let V : Vertex → Type 0 = λ v. IsVertexOf said root nodes node v in
+          let N : Node → Type 0 = λ n. IsVertexOf contents root nodes n its in
+          let V : Vertex → Type 0 = λ v. IsVertexOf contents root nodes node v in
           subst N (same_Some node other (sym here ∙ subst P e stands)) (subst V new.1 is)
     ]
 
@@ -134,13 +135,14 @@ counted_exit root router address exit few own elsewhere =
       | inr off ↦ omega (arith, elsewhere off)
     ]
 
-module _ (said : Said) (root : Root) (nodes : List Node) (g : Graph) (are : AreNodes said nodes)
-    (s : AreVertices said root nodes g) where
-  forth : (v : Node) (at : ℕ) (step : Step Node) → StandsAt nodes v at → Leads said root v step
+module _ (contents : Contents) (root : Root) (nodes : List Node) (g : Graph)
+    (are : AreNodes contents nodes)
+    (s : AreVertices contents root nodes g) where
+  forth : (v : Node) (at : ℕ) (step : Step Node) → StandsAt nodes v at → Leads contents root v step
       → (link : VertexLink) × HasLink g at link × IsNoDearer (StandsAt nodes) step link
   forth v at step here l =
       let to = placed nodes step.target
-      ((are.each step.target).1 (far_end said root v step.target step.price step.exit l)) in
+      ((are.each step.target).1 (far_end contents root v step.target step.price step.exit l)) in
       let link : VertexLink = record { to = to.0; cost = step.price; interface = step.exit } in
       let vertex = element g at (omega (arith, s.count, slice_get_within nodes at v here)) in
       let is = s.each at v vertex.0 here vertex.1 in
@@ -162,7 +164,7 @@ module _ (said : Said) (root : Root) (nodes : List Node) (g : Graph) (are : AreN
       )
 
   back : (v : Node) (at : ℕ) (link : VertexLink) → StandsAt nodes v at → HasLink g at link
-      → (step : Step Node) × Leads said root v step × IsSameStep (StandsAt nodes) step link
+      → (step : Step Node) × Leads contents root v step × IsSameStep (StandsAt nodes) step link
   back v at link here has =
       let is = s.each at v has.vertex here has.here in
       let from = is.links.only link (contained has.vertex.links.items has.place link has.among) in
@@ -173,7 +175,7 @@ module _ (said : Said) (root : Root) (nodes : List Node) (g : Graph) (are : AreN
       } in
       (step, from.leads, record { target = from.stands; price = refl; exit = refl })
 
-  pub is_graph_of : IsGraphOf (Leads said root) (StandsAt nodes) g
+  pub is_graph_of : IsGraphOf (Leads contents root) (StandsAt nodes) g
   is_graph_of = record {
     forth = forth;
     back = back;
@@ -184,7 +186,7 @@ module _ (said : Said) (root : Root) (nodes : List Node) (g : Graph) (are : AreN
   -- ---- the requirements of the search
 
   below_64 : (v target : Node) (price exit : ℕ) → length root.addresses ≤ 63
-      → LeadsTo said root v target price exit → exit < 64
+      → LeadsTo contents root v target price exit → exit < 64
   below_64 (ARouter r) (ARouter b) price exit few l =
       counted_exit root r l.0.link.link_data exit few l.0.by_interface l.0.elsewhere
   below_64 (ARouter r) (ANetwork id by) price exit few l =
@@ -193,7 +195,7 @@ module _ (said : Said) (root : Root) (nodes : List Node) (g : Graph) (are : AreN
   below_64 (ANetwork id by) (ANetwork other its) price exit few l = absurd l
 
   free : (v target : Node) (vertex : Vertex) (link : VertexLink) → vertex.kind ≡ kind_of v
-      → StandsAt nodes target link.to → LeadsTo said root v target link.cost link.interface
+      → StandsAt nodes target link.to → LeadsTo contents root v target link.cost link.interface
       → link.cost ≡ 0 → (vertex.kind ≡ Network)
       × ((to : Vertex) → slice_get g link.to ≡ Some to → to.kind ≡ Router)
   free (ARouter r) (ARouter b) vertex link kind stands l costs =

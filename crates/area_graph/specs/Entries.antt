@@ -10,7 +10,7 @@ use Rattle.lsa.specs.declared.body.LinkKind.{LinkKind}
 use Rattle.lsa.specs.declared.body.LinkKind.TheVariants as kinds
 use Rattle.lsdb.specs.Bodies.{AreBodies}
 use Rattle.routes.specs.Links.{HasLink, ListsRouter}
-use Rattle.routes.specs.Said.{Said}
+use Rattle.routes.specs.Contents.{Contents}
 use Rattle.routes.specs.declared.node.Node.{Node}
 use Rattle.routes.specs.declared.node.Node.TheVariants.{ANetwork, ARouter}
 use Rattle.words.specs.declared.key.Key.{Key}
@@ -64,44 +64,45 @@ attached_entry id place router =
     record { router = router; kind = Attached; id = id; metric = 0; place = place }
 
 -- the entry is from the LSA of the node at this index
-abbrev pub TellsOf : Said → Node → (place : ℕ) → AdvertisedLink → Type 0
-TellsOf said (ARouter router) place entry =
-    (link : RouterLink) × HasLink said router link × (entry_of router link ≡ Some entry)
-TellsOf said (ANetwork id by) place entry =
-    ListsRouter said id by entry.router × (entry ≡ attached_entry id place entry.router)
+abbrev pub TellsOf : Contents → Node → (place : ℕ) → AdvertisedLink → Type 0
+TellsOf contents (ARouter router) place entry =
+    (link : RouterLink) × HasLink contents router link × (entry_of router link ≡ Some entry)
+TellsOf contents (ANetwork id by) place entry =
+    ListsRouter contents id by entry.router × (entry ≡ attached_entry id place entry.router)
 
 -- the router's LSA has a link of this kind to this ID with this metric
-abbrev pub HasLinkOf : Said → (router : ℕ) → LinkKind → (id metric : ℕ) → Type 0
-HasLinkOf said router kind id metric =
-    (link : RouterLink) × HasLink said router link × (link.kind ≡ kind) × (link.link_id ≡ id)
+abbrev pub HasLinkOf : Contents → (router : ℕ) → LinkKind → (id metric : ℕ) → Type 0
+HasLinkOf contents router kind id metric =
+    (link : RouterLink) × HasLink contents router link × (link.kind ≡ kind) × (link.link_id ≡ id)
     × (link.metric ≡ metric)
 
 -- the network with this Link State ID, at this index, lists the router
-abbrev pub IsListedAt : Said → List Node → (router id place : ℕ) → Type 0
-IsListedAt said nodes router id place =
-    (by : ℕ) × StandsAt nodes (ANetwork id by) place × ListsRouter said id by router
+abbrev pub IsListedAt : Contents → List Node → (router id place : ℕ) → Type 0
+IsListedAt contents nodes router id place =
+    (by : ℕ) × StandsAt nodes (ANetwork id by) place × ListsRouter contents id by router
 
-abbrev pub IsAdvertisedAs : Said → List Node → EntryKind → AdvertisedLink → Type 0
-IsAdvertisedAs said nodes PointToPoint entry =
-    HasLinkOf said entry.router kinds.PointToPoint entry.id entry.metric × (entry.place ≡ 0)
-IsAdvertisedAs said nodes Transit entry =
-    HasLinkOf said entry.router kinds.Transit entry.id entry.metric × (entry.place ≡ 0)
-IsAdvertisedAs said nodes Attached entry =
-    IsListedAt said nodes entry.router entry.id entry.place × (entry.metric ≡ 0)
+abbrev pub IsAdvertisedAs : Contents → List Node → EntryKind → AdvertisedLink → Type 0
+IsAdvertisedAs contents nodes PointToPoint entry =
+    HasLinkOf contents entry.router kinds.PointToPoint entry.id entry.metric × (entry.place ≡ 0)
+IsAdvertisedAs contents nodes Transit entry =
+    HasLinkOf contents entry.router kinds.Transit entry.id entry.metric × (entry.place ≡ 0)
+IsAdvertisedAs contents nodes Attached entry =
+    IsListedAt contents nodes entry.router entry.id entry.place × (entry.metric ≡ 0)
 
 -- exactly what LSAs advertise, sorted
-pub record AreEntries (said : Said) (nodes : List Node) (entries : List AdvertisedLink) : Type 0
+pub record AreEntries (contents : Contents) (nodes : List Node) (entries : List AdvertisedLink) :
+    Type 0
   where
     pub each : (entry : AdvertisedLink)
-        → Contains entries entry ↔ IsAdvertisedAs said nodes entry.kind entry
+        → Contains entries entry ↔ IsAdvertisedAs contents nodes entry.kind entry
     pub sorted : IsSorted entry_cmp entries
 
 -- what is known of an area: the bodies of its LSAs, its nodes, and what LSAs advertise about them
-pub record IsArea (said : Said) (bodies : List (Key × LsaBody)) (nodes : List Node)
+pub record IsArea (contents : Contents) (bodies : List (Key × LsaBody)) (nodes : List Node)
     (entries : List AdvertisedLink) : Type 0 where
-  pub are_bodies : AreBodies (Some 2) said bodies
-  pub are_nodes : AreNodes said nodes
-  pub are_entries : AreEntries said nodes entries
+  pub are_bodies : AreBodies (Some 2) contents bodies
+  pub are_nodes : AreNodes contents nodes
+  pub are_entries : AreEntries contents nodes entries
 
 -- nodes and entries are sorted, and each router that has an entry for a link is a node
 pub record AreOrdered (nodes : List Node) (entries : List AdvertisedLink) : Type 0 where

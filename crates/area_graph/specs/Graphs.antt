@@ -3,7 +3,7 @@ use Rattle.std.specs.Prelude.{◌≡◌, ℕ, ◌<◌, ◌≤◌, ◌^◌, List,
 use Rattle.std.specs.List.{All, Contains}
 use Rattle.routes.specs.Graphs.{Graph}
 use Rattle.routes.specs.Links.{LeadsTo}
-use Rattle.routes.specs.Said.{Said}
+use Rattle.routes.specs.Contents.{Contents}
 use Rattle.routes.specs.declared.graph.VertexKind.{VertexKind}
 use Rattle.routes.specs.declared.graph.VertexKind.TheVariants.{Network, Router}
 use Rattle.routes.specs.declared.graph.VertexLink.{VertexLink}
@@ -21,11 +21,11 @@ abbrev pub StandsAt : List Node → Node → ℕ → Type 0
 StandsAt nodes node at = slice_get nodes at ≡ Some node
 
 -- the link of the graph stands for one that counts
-pub record IsLinkFrom (said : Said) (root : Root) (nodes : List Node) (from : Node)
+pub record IsLinkFrom (contents : Contents) (root : Root) (nodes : List Node) (from : Node)
     (link : VertexLink) : Type 0 where
   pub target : Node
   pub stands : StandsAt nodes target link.to
-  pub leads : LeadsTo said root from target link.cost link.interface
+  pub leads : LeadsTo contents root from target link.cost link.interface
 
 -- the other link leads to the same node, by the same interface, and costs no more
 pub record IsNoDearer (link other : VertexLink) : Type 0 where
@@ -34,10 +34,10 @@ pub record IsNoDearer (link other : VertexLink) : Type 0 where
   pub costs : other.cost ≤ link.cost
 
 -- each stands for a link that counts, and for each such link there is one that costs no more
-pub record AreLinksFrom (said : Said) (root : Root) (nodes : List Node) (from : Node)
+pub record AreLinksFrom (contents : Contents) (root : Root) (nodes : List Node) (from : Node)
     (links : List VertexLink) : Type 0 where
-  pub only : (link : VertexLink) → Contains links link → IsLinkFrom said root nodes from link
-  pub each : (link : VertexLink) → IsLinkFrom said root nodes from link
+  pub only : (link : VertexLink) → Contains links link → IsLinkFrom contents root nodes from link
+  pub each : (link : VertexLink) → IsLinkFrom contents root nodes from link
       → (other : VertexLink) × Contains links other × IsNoDearer link other
 
 -- the list after exactly these elements were added
@@ -52,15 +52,15 @@ abbrev pub CostFits : VertexLink → Type 0
 CostFits link = link.cost < 2 ^ 16
 
 -- the vertex has the node's kind and links that stand for its links
-pub record IsVertexOf (said : Said) (root : Root) (nodes : List Node) (node : Node)
+pub record IsVertexOf (contents : Contents) (root : Root) (nodes : List Node) (node : Node)
     (vertex : Vertex) : Type 0 where
   pub kind : vertex.kind ≡ kind_of node
-  pub links : AreLinksFrom said root nodes node vertex.links.items
+  pub links : AreLinksFrom contents root nodes node vertex.links.items
   pub fits : All CostFits vertex.links.items
 
 -- at the index of each node, its vertex
-pub record AreVertices (said : Said) (root : Root) (nodes : List Node)
+pub record AreVertices (contents : Contents) (root : Root) (nodes : List Node)
     (graph : Graph) : Type 0 where
   pub count : length graph ≡ length nodes
   pub each : (at : ℕ) (node : Node) (vertex : Vertex) → StandsAt nodes node at
-      → slice_get graph at ≡ Some vertex → IsVertexOf said root nodes node vertex
+      → slice_get graph at ≡ Some vertex → IsVertexOf contents root nodes node vertex

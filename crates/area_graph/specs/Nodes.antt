@@ -11,14 +11,14 @@ use Rattle.lsa.specs.declared.body.LsaBody.TheVariants as body
 use Rattle.lsa.specs.declared.body.NetworkLsa.{NetworkLsa}
 use Rattle.lsa.specs.declared.body.RouterLsa.{RouterLsa}
 use Rattle.routes.specs.Links.{IsNetworkLsa, IsRouterLsa, network_key, router_key}
-use Rattle.routes.specs.Said.{Said}
+use Rattle.routes.specs.Contents.{Contents}
 use Rattle.routes.specs.declared.node.Node.{Node}
 use Rattle.routes.specs.declared.node.Node.TheVariants.{ANetwork, ARouter}
 
 -- the node's LSA says something: it is in the database, and not at MaxAge
-abbrev pub HasLsa : Said → Node → Type 0
-HasLsa said (ARouter router) = (lsa : RouterLsa) × IsRouterLsa said router lsa
-HasLsa said (ANetwork id by) = (lsa : NetworkLsa) × IsNetworkLsa said id by lsa
+abbrev pub HasLsa : Contents → Node → Type 0
+HasLsa contents (ARouter router) = (lsa : RouterLsa) × IsRouterLsa contents router lsa
+HasLsa contents (ANetwork id by) = (lsa : NetworkLsa) × IsNetworkLsa contents id by lsa
 
 -- routers by Router ID, then networks by Link State ID and Advertising Router: the order of the
 -- keys of their LSAs
@@ -32,8 +32,8 @@ abbrev pub Ascend : List Node → Type 0
 Ascend nodes = AllPairs (λ (a : Node) (b : Node). node_cmp a b ≡ Less) nodes
 
 -- exactly the nodes with an LSA, each once, sorted
-pub record AreNodes (said : Said) (nodes : List Node) : Type 0 where
-  pub each : (node : Node) → Contains nodes node ↔ HasLsa said node
+pub record AreNodes (contents : Contents) (nodes : List Node) : Type 0 where
+  pub each : (node : Node) → Contains nodes node ↔ HasLsa contents node
   pub ascend : Ascend nodes
 
 -- ---- what is read from a database
@@ -54,11 +54,11 @@ network_in (Some (body.NetworkSummary lsa)) = None
 network_in (Some (body.RouterSummary lsa)) = None
 network_in (Some (body.External lsa)) = None
 
-abbrev pub router_lsa : Said → ℕ → Option RouterLsa
-router_lsa said router = router_in (said (router_key router))
+abbrev pub router_lsa : Contents → ℕ → Option RouterLsa
+router_lsa contents router = router_in (contents (router_key router))
 
-abbrev pub network_lsa : Said → ℕ → ℕ → Option NetworkLsa
-network_lsa said id by = network_in (said (network_key id by))
+abbrev pub network_lsa : Contents → ℕ → ℕ → Option NetworkLsa
+network_lsa contents id by = network_in (contents (network_key id by))
 
 abbrev pub if_router : ℕ → Option RouterLsa → Option Node
 if_router router None = None

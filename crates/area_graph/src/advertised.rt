@@ -1,7 +1,7 @@
 //! What the LSAs of routers and transit networks say at a moment.
 ghost use Rattle.std.specs.Prelude.{◌≡◌, ◌↔◌, IsTrue, Some, option_copied};
 ghost use Rattle.lsdb.specs.Bodies.{AreBodies};
-ghost use Rattle.routes.specs.Said.{said_at};
+ghost use Rattle.routes.specs.Contents.{contents_at};
 ghost use Rattle.area_graph.specs.Nodes.{network_lsa, router_lsa};
 
 use crate::lookups::few_from;
@@ -25,9 +25,9 @@ pub struct Advertised<'a> {
 
 // What the LSA with this key says, unless it is at MaxAge. The search begins at index `place`.
 fn body_near<'a>(advertised: &Advertised<'a>, place: usize, key: &Key) -> Option<&'a LsaBody>
-    requires { AreBodies (Some 2) (said_at advertised.now.moment advertised.now.db.now.present)
+    requires { AreBodies (Some 2) (contents_at advertised.now.moment advertised.now.db.now.present)
         advertised.now.bodies.now }
-    ensures { option_copied result ≡ said_at advertised.now.moment advertised.now.db.now.present
+    ensures { option_copied result ≡ contents_at advertised.now.moment advertised.now.db.now.present
         key.now }
 {
     let bodies = advertised.bodies;
@@ -53,10 +53,10 @@ pub fn router_lsa<'a>(
     place: usize,
     router: RouterId,
 ) -> Option<&'a RouterLsa>
-    requires { AreBodies (Some 2) (said_at advertised.now.moment advertised.now.db.now.present)
+    requires { AreBodies (Some 2) (contents_at advertised.now.moment advertised.now.db.now.present)
         advertised.now.bodies.now }
     ensures { option_copied result
-        ≡ router_lsa (said_at advertised.now.moment advertised.now.db.now.present) router }
+        ≡ router_lsa (contents_at advertised.now.moment advertised.now.db.now.present) router }
 {
     let key = Key {
         ls_type: 1,
@@ -77,10 +77,10 @@ pub fn network_lsa<'a>(
     id: LinkStateId,
     by: RouterId,
 ) -> Option<&'a NetworkLsa>
-    requires { AreBodies (Some 2) (said_at advertised.now.moment advertised.now.db.now.present)
+    requires { AreBodies (Some 2) (contents_at advertised.now.moment advertised.now.db.now.present)
         advertised.now.bodies.now }
     ensures { option_copied result
-        ≡ network_lsa (said_at advertised.now.moment advertised.now.db.now.present) id by }
+        ≡ network_lsa (contents_at advertised.now.moment advertised.now.db.now.present) id by }
 {
     let key = Key {
         ls_type: 2,

@@ -5,7 +5,7 @@ ghost use Rattle.std.specs.List.{Contains};
 ghost use Rattle.std.specs.List.Sorted.{IsSorted};
 ghost use Rattle.lsa.specs.declared.body.RouterLink.{RouterLink as LinkValue};
 ghost use Rattle.lsdb.specs.Bodies.{AreBodies};
-ghost use Rattle.routes.specs.Said.{said_at};
+ghost use Rattle.routes.specs.Contents.{contents_at};
 ghost use Rattle.area_graph.specs.Entries.{AreEntries, TellsOf, attached_entry, entry_cmp};
 ghost use Rattle.area_graph.specs.Entries.{entry_of};
 ghost use Rattle.area_graph.specs.Graphs.{Adds, OfEach};
@@ -30,11 +30,12 @@ pub fn entries_of(
     nodes: &[Node],
 ) -> Result<Vec<AdvertisedLink>, AllocError>
     requires bodies { AreBodies (Some 2)
-        (said_at advertised.now.moment advertised.now.db.now.present) advertised.now.bodies.now }
-    requires nodes { AreNodes (said_at advertised.now.moment advertised.now.db.now.present)
+        (contents_at advertised.now.moment advertised.now.db.now.present)
+        advertised.now.bodies.now }
+    requires nodes { AreNodes (contents_at advertised.now.moment advertised.now.db.now.present)
         nodes.now }
     ensures { IfOk result (λ entries. AreEntries
-        (said_at advertised.now.moment advertised.now.db.now.present) nodes.now entries.items) }
+        (contents_at advertised.now.moment advertised.now.db.now.present) nodes.now entries.items) }
 {
     let mut own = Vec::new(alloc);
     let mut entries = Vec::new(alloc);
@@ -55,8 +56,9 @@ fn add_in_order(
     entries: &mut Vec<AdvertisedLink>,
 ) -> Result<(), AllocError>
     requires { AreBodies (Some 2)
-        (said_at advertised.now.moment advertised.now.db.now.present) advertised.now.bodies.now }
-    ensures { OnOk result (Adds (TellsOf (said_at advertised.now.moment
+        (contents_at advertised.now.moment advertised.now.db.now.present)
+        advertised.now.bodies.now }
+    ensures { OnOk result (Adds (TellsOf (contents_at advertised.now.moment
         advertised.now.db.now.present) node.now place) entries.old.items entries.new.items) }
 {
     own.clear();
@@ -74,8 +76,9 @@ fn add_node(
     entries: &mut Vec<AdvertisedLink>,
 ) -> Result<(), AllocError>
     requires { AreBodies (Some 2)
-        (said_at advertised.now.moment advertised.now.db.now.present) advertised.now.bodies.now }
-    ensures { OnOk result (Adds (TellsOf (said_at advertised.now.moment
+        (contents_at advertised.now.moment advertised.now.db.now.present)
+        advertised.now.bodies.now }
+    ensures { OnOk result (Adds (TellsOf (contents_at advertised.now.moment
         advertised.now.db.now.present) node.now place) entries.old.items entries.new.items) }
 {
     match node {

@@ -2,7 +2,7 @@
 ghost use Rattle.std.specs.Prelude.{◌≡◌, ◌<◌, ◌≤◌, ◌↔◌, length, IfOk, IsTrue, OnOk};
 ghost use Rattle.std.specs.List.{All};
 ghost use Rattle.std.specs.List.Sorted.{IsSorted};
-ghost use Rattle.routes.specs.Said.{said_at};
+ghost use Rattle.routes.specs.Contents.{contents_at};
 ghost use Rattle.area_graph.specs.Entries.{AreOrdered, IsArea, entry_cmp, rank};
 ghost use Rattle.area_graph.specs.Graphs.{Adds, AreLinksFrom, CostFits, OfEach};
 ghost use Rattle.area_graph.specs.Links.{IsCheapest, IsExitTo, IsNeighborAt, IsOwnTo, IsOwnTransit};
@@ -41,11 +41,12 @@ pub fn links_from(
     from: &Node,
     place: usize,
 ) -> Result<Vec<VertexLink>, AllocError>
-    requires area { IsArea (said_at advertised.now.moment advertised.now.db.now.present)
+    requires area { IsArea (contents_at advertised.now.moment advertised.now.db.now.present)
         advertised.now.bodies.now area.now.nodes.now area.now.entries.now }
     requires interfaces { length root.now.addresses ≤ 63 }
     ensures links { IfOk result (λ links. AreLinksFrom
-        (said_at advertised.now.moment advertised.now.db.now.present) root.now area.now.nodes.now
+        (contents_at advertised.now.moment advertised.now.db.now.present) root.now
+        area.now.nodes.now
         from.now links.items) }
     ensures fits { IfOk result (λ links. All CostFits links.items) }
 {

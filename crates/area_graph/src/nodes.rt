@@ -2,7 +2,7 @@
 ghost use Rattle.std.specs.Prelude.{◌≡◌, ◌<◌, ◌≤◌, ◌↔◌, ℕ, length, IfOk, IsTrue, Some, slice_get};
 ghost use Rattle.std.specs.FinMap as finite;
 ghost use Rattle.std.specs.Ordering.{is_lt};
-ghost use Rattle.routes.specs.Said.{said_at};
+ghost use Rattle.routes.specs.Contents.{contents_at};
 ghost use Rattle.area_graph.specs.Nodes.{AreNodes, Ascend, node_cmp, node_of};
 ghost use Rattle.routes.specs.declared.node.Node.{Node};
 ghost use Rattle.std.specs.declared.cmp.Ordering.TheVariants.{Less};
@@ -21,7 +21,8 @@ use words::{Key, Second};
 /// # Errors
 /// `AllocError` if an allocation is refused.
 pub fn nodes_of(alloc: Global, db: &Lsdb, moment: Second) -> Result<Vec<Node>, AllocError>
-    ensures nodes { IfOk result (λ nodes. AreNodes (said_at moment db.now.present) nodes.items) }
+    ensures nodes { IfOk result (λ nodes. AreNodes (contents_at moment db.now.present)
+        nodes.items) }
     ensures few { IfOk result (λ nodes. length nodes.items ≤ finite.len db.now.present) }
 {
     let bodies = db.bodies_at(alloc, Some(NETWORK_LSA), moment)?;

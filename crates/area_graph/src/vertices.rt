@@ -2,7 +2,7 @@
 ghost use Rattle.std.specs.Prelude.{◌≡◌, ◌≤◌, ℕ, length, IfOk};
 ghost use Rattle.routes.specs.Graphs.{IsGraph, IsGraphOf};
 ghost use Rattle.routes.specs.Links.{Leads};
-ghost use Rattle.routes.specs.Said.{said_at};
+ghost use Rattle.routes.specs.Contents.{contents_at};
 ghost use Rattle.area_graph.specs.Entries.{IsArea};
 ghost use Rattle.area_graph.specs.Graphs.{AreVertices, IsVertexOf, StandsAt, kind_of};
 ghost use Rattle.area_graph.specs.Nodes.{AreNodes};
@@ -36,13 +36,13 @@ pub fn graph_of(
     nodes: &[Node],
     slots: &Slots,
 ) -> Result<Vec<Vertex>, AllocError>
-    requires nodes { AreNodes (said_at moment db.now.present) nodes.now }
+    requires nodes { AreNodes (contents_at moment db.now.present) nodes.now }
     requires interfaces { length root.now.addresses ≤ 63 }
     ensures count { IfOk result (λ graph. length graph.items ≡ length nodes.now) }
-    ensures stands { IfOk result (λ graph. IsGraphOf (Leads (said_at moment db.now.present)
+    ensures stands { IfOk result (λ graph. IsGraphOf (Leads (contents_at moment db.now.present)
         root.now) (StandsAt nodes.now) graph.items) }
     ensures lawful { IfOk result (λ graph. IsGraph graph.items) }
-    ensures vertices { IfOk result (λ graph. AreVertices (said_at moment db.now.present)
+    ensures vertices { IfOk result (λ graph. AreVertices (contents_at moment db.now.present)
         root.now nodes.now graph.items) }
 {
     let bodies = db.bodies_at(alloc, Some(NETWORK_LSA), moment)?;
@@ -70,10 +70,10 @@ fn vertices_of(
     root: &Root,
     area: &AreaTopology<'_>,
 ) -> Result<Vec<Vertex>, AllocError>
-    requires area { IsArea (said_at advertised.now.moment advertised.now.db.now.present)
+    requires area { IsArea (contents_at advertised.now.moment advertised.now.db.now.present)
         advertised.now.bodies.now area.now.nodes.now area.now.entries.now }
     requires interfaces { length root.now.addresses ≤ 63 }
-    ensures { IfOk result (λ graph. AreVertices (said_at advertised.now.moment
+    ensures { IfOk result (λ graph. AreVertices (contents_at advertised.now.moment
         advertised.now.db.now.present) root.now area.now.nodes.now graph.items) }
 {
     let nodes = area.nodes;
@@ -94,10 +94,10 @@ fn vertex_of(
     node: &Node,
     place: usize,
 ) -> Result<Vertex, AllocError>
-    requires area { IsArea (said_at advertised.now.moment advertised.now.db.now.present)
+    requires area { IsArea (contents_at advertised.now.moment advertised.now.db.now.present)
         advertised.now.bodies.now area.now.nodes.now area.now.entries.now }
     requires interfaces { length root.now.addresses ≤ 63 }
-    ensures { IfOk result (λ vertex. IsVertexOf (said_at advertised.now.moment
+    ensures { IfOk result (λ vertex. IsVertexOf (contents_at advertised.now.moment
         advertised.now.db.now.present) root.now area.now.nodes.now node.now vertex) }
 {
     let kind = kind_of(node);

@@ -5,21 +5,21 @@ use Rattle.std.specs.Prelude.{List, Some}
 use Rattle.words.specs.declared.route.Route.{Route}
 use Rattle.kept_routes.specs.Kept.{IsWalkOf}
 use Rattle.routes.specs.Candidates.{AreCandidates}
-use Rattle.routes.specs.Said.{Said}
+use Rattle.routes.specs.Contents.{Contents}
 use Rattle.routes.specs.Tables.{Answers, IsStale}
 use Rattle.routes.specs.declared.root.Root.{Root}
 use Rattle.area_routes.specs.Kept.{KeptRoutes, KnowsAnswered, KnowsCandidates, KnowsInner}
 use Rattle.area_routes.specs.Kept.{KnowsWalk}
 use Rattle.area_routes.proofs.Candidates.{carried, inner_carried}
 use Rattle.external_updates.specs.Laws.{InnerRoutesAreKept}
-use Rattle.kept_routes.specs.Sameness.{SayTheSame}
+use Rattle.kept_routes.specs.Sameness.{HaveSameContents}
 
 -- nothing is known of answers if none are known to exist
-pub unanswered : (said : Said) (root : Root) (answers : Answers) (kept : KeptRoutes)
-    → kept.answered ≡ false → KnowsAnswered said root answers kept
-unanswered said root answers kept is on = absurd (false≢true (sym is ∙ on))
+pub unanswered : (contents : Contents) (root : Root) (answers : Answers) (kept : KeptRoutes)
+    → kept.answered ≡ false → KnowsAnswered contents root answers kept
+unanswered contents root answers kept is on = absurd (false≢true (sym is ∙ on))
 
-module _ (old new : Said) (was is : Root) (kept : KeptRoutes) (serves : kept.behind ≡ false)
+module _ (old new : Contents) (was is : Root) (kept : KeptRoutes) (serves : kept.behind ≡ false)
     (begins : kept.walk.root ≡ is) (knew : KnowsWalk old was kept) where
   same_root : was ≡ is
   same_root = sym (knew.root serves) ∙ begins
@@ -37,7 +37,7 @@ module _ (old new : Said) (was is : Root) (kept : KeptRoutes) (serves : kept.beh
       goes_on kept.candidates knows)
 
   -- the results from the LSAs of types 1 to 4, if these say the same
-  pub still_inner : InnerRoutesAreKept → SayTheSame (Some 4) old new → KnowsInner old was kept
+  pub still_inner : InnerRoutesAreKept → HaveSameContents (Some 4) old new → KnowsInner old was kept
       → KnowsInner new is kept
   still_inner law same knows =
       subst (λ root. KnowsInner new root kept) same_root

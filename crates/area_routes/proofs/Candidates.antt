@@ -5,11 +5,11 @@ use Rattle.words.specs.declared.route.Route.{Route}
 use Rattle.area_routes.specs.Kept.{AreInnerBy, StayAnswered}
 use Rattle.candidates.specs.declared.inner.InnerRoutes.{InnerRoutes}
 use Rattle.kept_routes.specs.Kept.{KeptWalk}
-use Rattle.kept_routes.specs.Sameness.{SayTheSame}
+use Rattle.kept_routes.specs.Sameness.{HaveSameContents}
 use Rattle.external_updates.specs.Laws.{InnerRoutesAreKept}
 use Rattle.external_updates.specs.Placing.{AreAllAmong, HasAnother}
 use Rattle.routes.specs.Candidates.{AreCandidates}
-use Rattle.routes.specs.Said.{Said}
+use Rattle.routes.specs.Contents.{Contents}
 use Rattle.routes.specs.declared.root.Root.{Root}
 use Rattle.candidates.specs.Reached.{way_in}
 
@@ -20,8 +20,8 @@ carried P Q goes_on None is = is
 carried P Q goes_on (Some routes) is = goes_on routes is
 
 -- and so does what holds of the results from the LSAs of types 1 to 4
-pub inner_carried : InnerRoutesAreKept → (old new : Said) (root : Root) (walk : KeptWalk)
-    → SayTheSame (Some 4) old new → (kept : Option InnerRoutes)
+pub inner_carried : InnerRoutesAreKept → (old new : Contents) (root : Root) (walk : KeptWalk)
+    → HaveSameContents (Some 4) old new → (kept : Option InnerRoutes)
     → IfSome kept (AreInnerBy old root walk) → IfSome kept (AreInnerBy new root walk)
 inner_carried law old new root walk same None is = is
 inner_carried law old new root walk same (Some inner) is =
@@ -31,7 +31,7 @@ inner_carried law old new root walk same (Some inner) is =
     }
 
 -- if each candidate was one before, none lacks an answer that it had
-pub stay_answered : (old new : Said) (root : Root) (before after : List Route)
+pub stay_answered : (old new : Contents) (root : Root) (before after : List Route)
     → AreCandidates old root before → AreCandidates new root after → AreAllAmong before after
     → StayAnswered old new root
 stay_answered old new root before after were are among answers (r, is, none) =

@@ -7,27 +7,29 @@ use Rattle.words.specs.Numbers.{Moment, RouterNumber}
 use Rattle.flooding.specs.received.Links.{Area}
 use Rattle.candidates.specs.Externals.{AreExternals}
 use Rattle.candidates.specs.declared.externals.ExternalAdvertisement.{ExternalAdvertisement}
-use Rattle.routes.specs.Said.{Said}
+use Rattle.routes.specs.Contents.{Contents}
 use Rattle.candidates.specs.declared.graph.AreaGraph.{AreaGraph}
-use Rattle.area_routes.specs.Kept.{AreOffersOf, ExternalsSayTheSame, KeptRoutes, KnowsExternals}
+use Rattle.area_routes.specs.Kept.{AreOffersOf, ExternalsHaveSameContents, KeptRoutes}
+use Rattle.area_routes.specs.Kept.{KnowsExternals}
 
 -- it is unchanged while they say the same
-externals_stay : (old new : Said) (advertised : List ExternalAdvertisement)
-    → ExternalsSayTheSame old new → AreExternals old advertised → AreExternals new advertised
+externals_stay : (old new : Contents) (advertised : List ExternalAdvertisement)
+    → ExternalsHaveSameContents old new → AreExternals old advertised → AreExternals new advertised
 externals_stay old new advertised same are e = (
   (λ t. let p = (are e).0 t in (p.0, sym (same p.0.0 p.2.is_type) ∙ p.1, p.2)),
   (λ p. (are e).1 (p.0, same p.0.0 p.2.is_type ∙ p.1, p.2)),
 )
 
-carried : (old new : Said) (kept : Option (Vec ExternalAdvertisement)) → ExternalsSayTheSame old new
+carried : (old new : Contents) (kept : Option (Vec ExternalAdvertisement))
+    → ExternalsHaveSameContents old new
     → IfSome kept (λ advertised. AreExternals old advertised.items)
     → IfSome kept (λ advertised. AreExternals new advertised.items)
 carried old new None same are = are
 carried old new (Some advertised) same are = externals_stay old new advertised.items same are
 
 -- what is kept after an event, if they say the same
-pub externals_after : (old new : Said) (stay : Bool) (kept next last : KeptRoutes)
-    → (IsTrue stay → ExternalsSayTheSame old new) → next.externals ≡ kept.externals
+pub externals_after : (old new : Contents) (stay : Bool) (kept next last : KeptRoutes)
+    → (IsTrue stay → ExternalsHaveSameContents old new) → next.externals ≡ kept.externals
     → (IsTrue stay → last.externals ≡ next.externals) → (stay ≡ false → last.externals ≡ None)
     → KnowsExternals old kept → KnowsExternals new last
 externals_after old new true kept next last same followed stays forgotten knows =

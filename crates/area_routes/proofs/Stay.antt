@@ -18,12 +18,12 @@ use Rattle.area_routes.specs.GraphChanges.{AreCovered, AreEndsAmong, AreListedAm
 use Rattle.area_routes.specs.GraphChanges.{IsEndAmong, IsNetworkNoted, IsRouterNoted}
 use Rattle.area_routes.specs.Vertices.{IsRenewed, StayUnlessAmong}
 use Rattle.area_routes.proofs.Keys.{among_or_not}
-use Rattle.kept_routes.specs.Sameness.{SayTheSame}
+use Rattle.kept_routes.specs.Sameness.{HaveSameContents}
 use Rattle.routes.proofs.Lists.{of_empty}
 use Rattle.routes.specs.Graphs.{Graph}
 use Rattle.routes.specs.Links.{Counts, HasLink, LeadsTo, LinksBack, ListsRouter, network_key}
 use Rattle.routes.specs.Links.{router_key}
-use Rattle.routes.specs.Said.{Said}
+use Rattle.routes.specs.Contents.{Contents}
 use Rattle.routes.specs.declared.graph.Vertex.{Vertex}
 use Rattle.routes.specs.declared.node.Node.{Node}
 use Rattle.routes.specs.declared.node.Node.TheVariants.{ANetwork, ARouter}
@@ -40,7 +40,7 @@ same_network : (a b : NetworkLsa)
 same_network a b e = cc
 
 -- each vertex is one of what LSAs say now, or, if its index isn't among these, of what they said
-pub record AreEither (old : Said) (new : Said) (root : Root) (nodes : List Node)
+pub record AreEither (old : Contents) (new : Contents) (root : Root) (nodes : List Node)
     (places : List ℕ) (graph : Graph) : Type 0 where
   pub count : length graph ≡ length nodes
   pub each : (at : ℕ) (node : Node) (vertex : Vertex) → StandsAt nodes node at
@@ -49,13 +49,14 @@ pub record AreEither (old : Said) (new : Said) (root : Root) (nodes : List Node)
       ⊎ (IsVertexOf old root nodes node vertex × (Contains places at → ⊥))
 
 -- all LSAs of routers and networks are covered
-abbrev pub AllCovered : Said → Said → List Node → List ℕ → Type 0
+abbrev pub AllCovered : Contents → Contents → List Node → List ℕ → Type 0
 AllCovered old new nodes places = (key : Key) → key.ls_type ≤ 2 → IsCovered old new nodes places key
 
 -- what is recorded is so in both directions
-router_back : (said says : Option LsaBody) (nodes : List Node) (places : List ℕ) (router : ℕ)
-    → IsRouterNoted said says nodes places router → IsRouterNoted says said nodes places router
-router_back said says nodes places router n = record {
+router_back : (contents says : Option LsaBody) (nodes : List Node) (places : List ℕ) (router : ℕ)
+    → IsRouterNoted contents says nodes places router → IsRouterNoted says contents nodes places
+    router
+router_back contents says nodes places router n = record {
   was = n.is;
   is = n.was;
   before = n.now;
@@ -65,9 +66,11 @@ router_back said says nodes places router n = record {
   ends = n.ends_before;
 }
 
-network_back : (said says : Option LsaBody) (nodes : List Node) (places : List ℕ) (network : Node)
-    → IsNetworkNoted said says nodes places network → IsNetworkNoted says said nodes places network
-network_back said says nodes places network n = record {
+network_back : (contents says : Option LsaBody) (nodes : List Node) (places : List ℕ)
+    (network : Node)
+    → IsNetworkNoted contents says nodes places network → IsNetworkNoted says contents nodes places
+    network
+network_back contents says nodes places network n = record {
   was = n.is;
   is = n.was;
   before = n.now;
@@ -77,7 +80,7 @@ network_back said says nodes places network n = record {
   listed = n.listed_before;
 }
 
-pub covered_back : (old new : Said) (nodes : List Node) (places : List ℕ)
+pub covered_back : (old new : Contents) (nodes : List Node) (places : List ℕ)
     → AllCovered old new nodes places → AllCovered new old nodes places
 covered_back old new nodes places covered key few =
     elim (covered key few) [
@@ -96,7 +99,7 @@ covered_back old new nodes places covered key few =
           ]
     ]
 
-module _ (old new : Said) (nodes : List Node) (places : List ℕ)
+module _ (old new : Contents) (nodes : List Node) (places : List ℕ)
     (covered : AllCovered old new nodes places) where
   abbrev RouterNoted : (router : ℕ) → Type 0
   RouterNoted router =
@@ -258,7 +261,7 @@ module _ (old new : Said) (nodes : List Node) (places : List ℕ)
         (lists_still id by b here l.0, back_to_network id by b here l.1, l.2, l.3)
     leads root (ANetwork id by) (ANetwork other its) price exit here l = absurd l
 
-module _ (old new : Said) (nodes : List Node) (places : List ℕ)
+module _ (old new : Contents) (nodes : List Node) (places : List ℕ)
     (covered : AllCovered old new nodes places) where
   backwards : AllCovered new old nodes places
   backwards = covered_back old new nodes places covered
@@ -296,12 +299,12 @@ module _ (old new : Said) (nodes : List Node) (places : List ℕ)
   }
 
 -- if all say what they said, the graph is still that of the area
-pub same_covered : (old new : Said) (nodes : List Node) → SayTheSame (Some 2) old new
+pub same_covered : (old new : Contents) (nodes : List Node) → HaveSameContents (Some 2) old new
     → AllCovered old new nodes []
 same_covered old new nodes same key few = inl (same key few)
 
-pub all_stay : (old new : Said) (root : Root) (nodes : List Node) (graph : Graph)
-    → SayTheSame (Some 2) old new → AreVertices old root nodes graph
+pub all_stay : (old new : Contents) (root : Root) (nodes : List Node) (graph : Graph)
+    → HaveSameContents (Some 2) old new → AreVertices old root nodes graph
     → AreVertices new root nodes graph
 all_stay old new root nodes graph same are = record {
   count = are.count;
@@ -310,7 +313,7 @@ all_stay old new root nodes graph same are = record {
 }
 
 -- all others say what they said
-pub all_covered : (old new : Said) (nodes : List Node) (places : List ℕ) (keys : List Key)
+pub all_covered : (old new : Contents) (nodes : List Node) (places : List ℕ) (keys : List Key)
     → ((key : Key) → (Contains keys key → ⊥) → old key ≡ new key)
     → AreCovered old new nodes places keys → AllCovered old new nodes places
 all_covered old new nodes places keys others covered key few =
@@ -335,7 +338,7 @@ module _ (nodes : List Node) (few more : List ℕ)
       → AreListedAmong nodes more lsa
   listed_more lsa listed router among at here = kept at (listed router among at here)
 
-  pub covered_more : (old new : Said) (key : Key) → IsCovered old new nodes few key
+  pub covered_more : (old new : Contents) (key : Key) → IsCovered old new nodes few key
       → IsCovered old new nodes more key
   covered_more old new key covered =
       elim covered [
@@ -376,7 +379,7 @@ module _ (nodes : List Node) (few more : List ℕ)
 
 -- ---- recalculated vertices
 
-module _ (old new : Said) (root : Root) (nodes : List Node) where
+module _ (old new : Contents) (root : Root) (nodes : List Node) where
   pub none_renewed : (graph : Graph) → AreVertices old root nodes graph
       → AreEither old new root nodes [] graph
   none_renewed graph are = record {

@@ -10,7 +10,7 @@ use Rattle.lsa.specs.declared.body.NetworkLsa.{NetworkLsa}
 use Rattle.lsa.specs.declared.body.RouterLsa.{RouterLsa}
 use Rattle.area_graph.specs.Graphs.{StandsAt}
 use Rattle.routes.specs.Links.{network_key, router_key}
-use Rattle.routes.specs.Said.{Said}
+use Rattle.routes.specs.Contents.{Contents}
 use Rattle.routes.specs.declared.node.Node.{Node}
 use Rattle.routes.specs.declared.node.Node.TheVariants.{ANetwork, ARouter}
 use Rattle.words.specs.Numbers.{RouterNumber}
@@ -43,11 +43,11 @@ AreListedAmong nodes places lsa =
 
 -- a router's LSA says something before and after, and the router is recorded, with all that its
 -- links led to or lead to
-pub record IsRouterNoted (said : Option LsaBody) (says : Option LsaBody) (nodes : List Node)
+pub record IsRouterNoted (contents : Option LsaBody) (says : Option LsaBody) (nodes : List Node)
     (places : List ℕ) (router : RouterNumber) : Type 0 where
   pub was : RouterLsa
   pub is : RouterLsa
-  pub before : said ≡ Some (body.Router was)
+  pub before : contents ≡ Some (body.Router was)
   pub now : says ≡ Some (body.Router is)
   pub own : IsAmong nodes places (ARouter router)
   pub ends_before : AreEndsAmong nodes places was
@@ -55,18 +55,19 @@ pub record IsRouterNoted (said : Option LsaBody) (says : Option LsaBody) (nodes 
 
 -- a network's LSA says something before and after, and the network is recorded, with all routers
 -- that were or are listed
-pub record IsNetworkNoted (said : Option LsaBody) (says : Option LsaBody) (nodes : List Node)
+pub record IsNetworkNoted (contents : Option LsaBody) (says : Option LsaBody) (nodes : List Node)
     (places : List ℕ) (network : Node) : Type 0 where
   pub was : NetworkLsa
   pub is : NetworkLsa
-  pub before : said ≡ Some (body.Network was)
+  pub before : contents ≡ Some (body.Network was)
   pub now : says ≡ Some (body.Network is)
   pub own : IsAmong nodes places network
   pub listed_before : AreListedAmong nodes places was
   pub listed : AreListedAmong nodes places is
 
 -- the key is that of a router-LSA or a network-LSA that was recorded
-abbrev pub IsNoted : (old : Said) → (new : Said) → List Node → (places : List ℕ) → Key → Type 0
+abbrev pub IsNoted : (old : Contents) → (new : Contents) → List Node → (places : List ℕ) → Key
+    → Type 0
 IsNoted old new nodes places key =
     ((router : RouterNumber) × (key ≡ router_key router)
     × IsRouterNoted (old key) (new key) nodes places router)
@@ -74,11 +75,13 @@ IsNoted old new nodes places key =
     × IsNetworkNoted (old key) (new key) nodes places (ANetwork id by))
 
 -- the LSA says what it said, or was recorded
-abbrev pub IsCovered : (old : Said) → (new : Said) → List Node → (places : List ℕ) → Key → Type 0
+abbrev pub IsCovered : (old : Contents) → (new : Contents) → List Node → (places : List ℕ) → Key
+    → Type 0
 IsCovered old new nodes places key = (old key ≡ new key) ⊎ IsNoted old new nodes places key
 
 -- the same for each of these keys that is of a router-LSA or network-LSA
-abbrev pub AreCovered : (old : Said) → (new : Said) → List Node → (places : List ℕ) → List Key
+abbrev pub AreCovered : (old : Contents) → (new : Contents) → List Node → (places : List ℕ) → List
+    Key
     → Type 0
 AreCovered old new nodes places keys =
     (key : Key) → Contains keys key → key.ls_type ≤ 2 → IsCovered old new nodes places key

@@ -10,7 +10,7 @@ use Rattle.area_graph.specs.Entries.{IsListedAt}
 use Rattle.area_graph.specs.Graphs.{StandsAt}
 use Rattle.area_graph.specs.Links.{IsExitTo}
 use Rattle.routes.specs.Links.{LinksBack}
-use Rattle.routes.specs.Said.{Said}
+use Rattle.routes.specs.Contents.{Contents}
 use Rattle.routes.specs.declared.graph.VertexLink.{VertexLink}
 use Rattle.routes.specs.declared.node.Node.{Node}
 use Rattle.routes.specs.declared.node.Node.TheVariants.{ANetwork, ARouter}
@@ -28,45 +28,48 @@ HasLinkTo lsa kind id =
     (link : RouterLink) × Contains lsa.links link × (link.kind ≡ kind) × (link.link_id ≡ id)
 
 -- the index of a router, if it has a link of this kind to this Link ID
-abbrev pub IsNeighbor : Said → List Node → RouterNumber → LinkKind → (id : ℕ) → Option ℕ → Type 0
-IsNeighbor said nodes router kind id None = LinksBack said router kind id → ⊥
-IsNeighbor said nodes router kind id (Some at) =
-    StandsAt nodes (ARouter router) at × LinksBack said router kind id
+abbrev pub IsNeighbor : Contents → List Node → RouterNumber → LinkKind → (id : ℕ) → Option ℕ → Type
+    0
+IsNeighbor contents nodes router kind id None = LinksBack contents router kind id → ⊥
+IsNeighbor contents nodes router kind id (Some at) =
+    StandsAt nodes (ARouter router) at × LinksBack contents router kind id
 
 -- to the router at the far end of a point-to-point link that may count, which has a link back
-pub record IsToNeighbor (said : Said) (root : Root) (nodes : List Node) (router : RouterNumber)
+pub record IsToNeighbor (contents : Contents) (root : Root) (nodes : List Node)
+    (router : RouterNumber)
     (advertised : RouterLink) (link : VertexLink) : Type 0 where
   pub is_kind : advertised.kind ≡ PointToPoint
   pub counts : 0 < advertised.metric
   pub stands : StandsAt nodes (ARouter advertised.link_id) link.to
-  pub back : LinksBack said advertised.link_id PointToPoint router
+  pub back : LinksBack contents advertised.link_id PointToPoint router
   pub leads : IsExitTo root router link.to advertised.metric advertised.link_data link
 
 -- to a network with the Link ID of a transit link that may count, which lists the router
-pub record IsToNetwork (said : Said) (root : Root) (nodes : List Node) (router : RouterNumber)
+pub record IsToNetwork (contents : Contents) (root : Root) (nodes : List Node)
+    (router : RouterNumber)
     (advertised : RouterLink) (link : VertexLink) : Type 0 where
   pub is_kind : advertised.kind ≡ Transit
   pub counts : 0 < advertised.metric
-  pub listed : IsListedAt said nodes router advertised.link_id link.to
+  pub listed : IsListedAt contents nodes router advertised.link_id link.to
   pub leads : IsExitTo root router link.to advertised.metric advertised.link_data link
 
 -- to the network at this index
-abbrev pub IsToNetworkAt : Said → Root → List Node → RouterNumber → RouterLink → (place : ℕ)
+abbrev pub IsToNetworkAt : Contents → Root → List Node → RouterNumber → RouterLink → (place : ℕ)
     → VertexLink → Type 0
-IsToNetworkAt said root nodes router advertised place link =
-    (link.to ≡ place) × IsToNetwork said root nodes router advertised link
+IsToNetworkAt contents root nodes router advertised place link =
+    (link.to ≡ place) × IsToNetwork contents root nodes router advertised link
 
 -- to a node that the link of the router's LSA leads to
-abbrev pub IsToEnd : Said → Root → List Node → RouterNumber → RouterLink → VertexLink → Type 0
-IsToEnd said root nodes router advertised link =
-    IsToNeighbor said root nodes router advertised link
-    ⊎ IsToNetwork said root nodes router advertised link
+abbrev pub IsToEnd : Contents → Root → List Node → RouterNumber → RouterLink → VertexLink → Type 0
+IsToEnd contents root nodes router advertised link =
+    IsToNeighbor contents root nodes router advertised link
+    ⊎ IsToNetwork contents root nodes router advertised link
 
 -- from a network with this Link State ID to a router that it lists and that has a link back, at
 -- cost 0
-pub record IsAttached (said : Said) (nodes : List Node) (id : ℕ) (router : RouterNumber)
+pub record IsAttached (contents : Contents) (nodes : List Node) (id : ℕ) (router : RouterNumber)
     (link : VertexLink) : Type 0 where
   pub stands : StandsAt nodes (ARouter router) link.to
-  pub back : LinksBack said router Transit id
+  pub back : LinksBack contents router Transit id
   pub free : link.cost ≡ 0
   pub exit : link.interface ≡ 0

@@ -16,7 +16,7 @@ use Rattle.kept_routes.specs.Sameness.{AreLsasUnchanged}
 use Rattle.candidates.specs.Externals.{AreExternals}
 use Rattle.candidates.specs.declared.externals.ExternalAdvertisement.{ExternalAdvertisement}
 use Rattle.routes.specs.Candidates.{AreCandidates}
-use Rattle.routes.specs.Said.{Said, said_at}
+use Rattle.routes.specs.Contents.{Contents, contents_at}
 use Rattle.routes.specs.Tables.{Answers, IsStale}
 use Rattle.routes.specs.declared.root.Root.{Root}
 use Rattle.candidates.specs.AreaGraphs.{IsAreaGraph}
@@ -41,52 +41,54 @@ pub record KeptRoutes : Type 0 where
   pub answered : Bool
 
 -- unless it is behind, the walk is that of what the LSAs say, from this root
-pub record KnowsWalk (said : Said) (start : Root) (kept : KeptRoutes) : Type 0 where
-  pub walk : kept.behind ≡ false → IsWalkOf said kept.walk
+pub record KnowsWalk (contents : Contents) (start : Root) (kept : KeptRoutes) : Type 0 where
+  pub walk : kept.behind ≡ false → IsWalkOf contents kept.walk
   pub root : kept.behind ≡ false → kept.walk.root ≡ start
 
 -- it is the graph of what the LSAs say, from this root
-pub record IsGraphFrom (said : Said) (start : Root) (graph : AreaGraph) : Type 0 where
-  pub is : IsAreaGraph said graph
+pub record IsGraphFrom (contents : Contents) (start : Root) (graph : AreaGraph) : Type 0 where
+  pub is : IsAreaGraph contents graph
   pub starts : graph.root ≡ start
 
 -- the graph that is kept, if any, is that of what the LSAs say, even while the walk is behind
-abbrev pub KnowsGraph : Said → Root → KeptRoutes → Type 0
-KnowsGraph said start kept = IfSome kept.graph (IsGraphFrom said start)
+abbrev pub KnowsGraph : Contents → Root → KeptRoutes → Type 0
+KnowsGraph contents start kept = IfSome kept.graph (IsGraphFrom contents start)
 
 -- the candidates that are kept, if any, are those of what the LSAs say
-abbrev pub KnowsCandidates : Said → Root → KeptRoutes → Type 0
-KnowsCandidates said root kept =
-    IfSome kept.candidates (AreCandidates said root)
+abbrev pub KnowsCandidates : Contents → Root → KeptRoutes → Type 0
+KnowsCandidates contents root kept =
+    IfSome kept.candidates (AreCandidates contents root)
 
 -- it is the result from the LSAs of types 1 to 4 by this walk, and can be searched
-pub record AreInnerBy (said : Said) (root : Root) (walk : KeptWalk) (inner : InnerRoutes) : Type 0
+pub record AreInnerBy (contents : Contents) (root : Root) (walk : KeptWalk) (inner : InnerRoutes) :
+    Type 0
   where
-    pub are_inner : AreInner said root (way_in walk.reached) inner
+    pub are_inner : AreInner contents root (way_in walk.reached) inner
     pub searchable : AreSearchable inner
 
 -- what is kept of it, if anything, is that of what the LSAs say
-abbrev pub KnowsInner : Said → Root → KeptRoutes → Type 0
-KnowsInner said root kept = IfSome kept.inner (AreInnerBy said root kept.walk)
+abbrev pub KnowsInner : Contents → Root → KeptRoutes → Type 0
+KnowsInner contents root kept = IfSome kept.inner (AreInnerBy contents root kept.walk)
 
 -- what is kept of it, if anything, is that of what the LSAs say
-abbrev pub KnowsExternals : Said → KeptRoutes → Type 0
-KnowsExternals said kept = IfSome kept.externals (λ advertised. AreExternals said advertised.items)
+abbrev pub KnowsExternals : Contents → KeptRoutes → Type 0
+KnowsExternals contents kept = IfSome kept.externals
+    (λ advertised. AreExternals contents advertised.items)
 
 -- AS-external-LSAs say the same
-abbrev pub ExternalsSayTheSame : (old : Said) → (new : Said) → Type 0
-ExternalsSayTheSame old new = (key : Key) → key.ls_type ≡ 5 → old key ≡ new key
+abbrev pub ExternalsHaveSameContents : (old : Contents) → (new : Contents) → Type 0
+ExternalsHaveSameContents old new = (key : Key) → key.ls_type ≡ 5 → old key ≡ new key
 
 -- none of the keys is that of an AS-external-LSA
 abbrev pub AreOfOthers : List Key → Type 0
 AreOfOthers keys = (key : Key) → Contains keys key → key.ls_type ≢ 5
 
 -- if each candidate is known to be among the answers, each is
-abbrev pub KnowsAnswered : Said → Root → Answers → KeptRoutes → Type 0
-KnowsAnswered said root answers kept = kept.answered ≡ true → IsStale said root answers → ⊥
+abbrev pub KnowsAnswered : Contents → Root → Answers → KeptRoutes → Type 0
+KnowsAnswered contents root answers kept = kept.answered ≡ true → IsStale contents root answers → ⊥
 
 -- from what the LSAs said to what they say, no candidate appears that may lack an answer
-abbrev pub StayAnswered : (old : Said) → (new : Said) → Root → Type 0
+abbrev pub StayAnswered : (old : Contents) → (new : Contents) → Root → Type 0
 StayAnswered old new root =
     (answers : Answers) → IsStale new root answers → IsStale old root answers
 
@@ -133,22 +135,25 @@ pub record KeepsWalkUnlessChanged (before : Moment) (moment : Moment) (router : 
 -- walk, candidates and the results from the LSAs of types 1 to 4 are the router's at the moment
 pub record AreOffersOf (router : RouterNumber) (area : Area) (moment : Moment)
     (kept : KeptRoutes) : Type 0 where
-  pub walk : KnowsWalk (said_at moment area.database) (root_by router area.links) kept
-  pub candidates : KnowsCandidates (said_at moment area.database) (root_by router area.links) kept
-  pub inner : KnowsInner (said_at moment area.database) (root_by router area.links) kept
+  pub walk : KnowsWalk (contents_at moment area.database) (root_by router area.links) kept
+  pub candidates : KnowsCandidates (contents_at moment area.database) (root_by router area.links)
+      kept
+  pub inner : KnowsInner (contents_at moment area.database) (root_by router area.links) kept
 
 -- walk, graph, candidates and what these depend on are
 pub record AreRoutesOf (router : RouterNumber) (area : Area) (moment : Moment)
     (kept : KeptRoutes) : Type 0 where
-  pub walk : KnowsWalk (said_at moment area.database) (root_by router area.links) kept
-  pub candidates : KnowsCandidates (said_at moment area.database) (root_by router area.links) kept
-  pub inner : KnowsInner (said_at moment area.database) (root_by router area.links) kept
-  pub externals : KnowsExternals (said_at moment area.database) kept
-  pub graph : KnowsGraph (said_at moment area.database) (root_by router area.links) kept
+  pub walk : KnowsWalk (contents_at moment area.database) (root_by router area.links) kept
+  pub candidates : KnowsCandidates (contents_at moment area.database) (root_by router area.links)
+      kept
+  pub inner : KnowsInner (contents_at moment area.database) (root_by router area.links) kept
+  pub externals : KnowsExternals (contents_at moment area.database) kept
+  pub graph : KnowsGraph (contents_at moment area.database) (root_by router area.links) kept
 
 -- and so is what is known of the answers
 pub record AreKept (router : RouterNumber) (area : Area) (moment : Moment) (answers : Answers)
     (kept : KeptRoutes) : Type 0 where
   pub routes : AreRoutesOf router area moment kept
-  pub answered : KnowsAnswered (said_at moment area.database) (root_by router area.links) answers
+  pub answered : KnowsAnswered (contents_at moment area.database) (root_by router area.links)
+      answers
       kept

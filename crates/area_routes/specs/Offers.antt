@@ -6,7 +6,7 @@ use Rattle.words.specs.declared.route.Route.{Route}
 use Rattle.words.specs.declared.route.TableRow.{TableRow}
 use Rattle.flooding.specs.received.Links.{Area, Link}
 use Rattle.routes.specs.Candidates.{AreCandidates}
-use Rattle.routes.specs.Said.{Said, said_at}
+use Rattle.routes.specs.Contents.{Contents, contents_at}
 use Rattle.routes.specs.Tables.{Answers, IsStale, IsTable}
 use Rattle.routes.specs.declared.root.Root.{Root}
 use Rattle.tables.specs.Rows.{rows_of}
@@ -21,28 +21,29 @@ root_by router links = record {
 -- its candidates
 abbrev pub AreCandidatesOf : RouterNumber → Area → Moment → List Route → Type 0
 AreCandidatesOf router area moment candidates =
-    AreCandidates (said_at moment area.database) (root_by router area.links) candidates
+    AreCandidates (contents_at moment area.database) (root_by router area.links) candidates
 
 -- its table, given these answers
 abbrev pub IsTableOf : RouterNumber → Area → Moment → Answers → List Route → Type 0
 IsTableOf router area moment answers table =
-    IsTable (said_at moment area.database) (root_by router area.links) answers table
+    IsTable (contents_at moment area.database) (root_by router area.links) answers table
 
 -- candidates, and with them the rows of the table
-pub record AreOfferedBy (said : Said) (root : Root) (answers : Answers)
+pub record AreOfferedBy (contents : Contents) (root : Root) (answers : Answers)
     (candidates : List Route) (rows : List TableRow) : Type 0 where
-  pub are_candidates : AreCandidates said root candidates
+  pub are_candidates : AreCandidates contents root candidates
   pub table : List Route
-  pub is_table : IsTable said root answers table
+  pub is_table : IsTable contents root answers table
   pub are_rows : rows ≡ rows_of table
 
 -- its candidates, and with them the rows of its table
 abbrev pub AreOffered : RouterNumber → Area → Moment → Answers → List Route → List TableRow
     → Type 0
 AreOffered router area moment answers candidates rows =
-    AreOfferedBy (said_at moment area.database) (root_by router area.links) answers candidates rows
+    AreOfferedBy (contents_at moment area.database) (root_by router area.links) answers candidates
+    rows
 
 -- some candidate isn't among the answers
 abbrev pub IsStaleOf : RouterNumber → Area → Moment → Answers → Type 0
 IsStaleOf router area moment answers =
-    IsStale (said_at moment area.database) (root_by router area.links) answers
+    IsStale (contents_at moment area.database) (root_by router area.links) answers

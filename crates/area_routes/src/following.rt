@@ -3,9 +3,9 @@ ghost use Rattle.std.specs.Prelude.{◌≡◌, ◌≤◌, IfSome, IsTrue, Some, 
 ghost use Rattle.area_routes.specs.Kept.{AreInnerBy, HaveAnother, StayAnswered};
 ghost use Rattle.external_updates.specs.Placing.{HasAnother};
 ghost use Rattle.kept_routes.specs.Kept.{IsWalkOf};
-ghost use Rattle.kept_routes.specs.Sameness.{SayTheSame};
+ghost use Rattle.kept_routes.specs.Sameness.{HaveSameContents};
 ghost use Rattle.routes.specs.Candidates.{AreCandidates};
-ghost use Rattle.routes.specs.Said.{said_at};
+ghost use Rattle.routes.specs.Contents.{contents_at};
 
 use candidates::InnerRoutes;
 use external_updates::{Followed, update_externals};
@@ -34,17 +34,19 @@ fn follow_from(
     routes: Pages<Route>,
 ) -> Option<Next>
     requires order { before ≤ moment }
-    requires same { SayTheSame (Some 4) (said_at before area.now.committed.database)
-        (said_at moment area.now.present.database) }
-    requires walk { IsWalkOf (said_at moment area.now.present.database) walk.now }
-    requires inner { AreInnerBy (said_at moment area.now.present.database) walk.now.root walk.now
+    requires same { HaveSameContents (Some 4) (contents_at before area.now.committed.database)
+        (contents_at moment area.now.present.database) }
+    requires walk { IsWalkOf (contents_at moment area.now.present.database) walk.now }
+    requires inner { AreInnerBy (contents_at moment area.now.present.database) walk.now.root
+        walk.now
         inner.now }
-    requires routes { AreCandidates (said_at before area.now.committed.database) walk.now.root
+    requires routes { AreCandidates (contents_at before area.now.committed.database) walk.now.root
         routes }
     ensures candidates { IfSome result (λ next. AreCandidates
-        (said_at moment area.now.present.database) walk.now.root next.candidates) }
+        (contents_at moment area.now.present.database) walk.now.root next.candidates) }
     ensures none_new { IfSome result (λ next. IsTrue next.none_new → StayAnswered
-        (said_at before area.now.committed.database) (said_at moment area.now.present.database)
+        (contents_at before area.now.committed.database)
+        (contents_at moment area.now.present.database)
         walk.now.root) }
     ensures another { IfSome result (λ next. next.none_new ≡ false
         → HasAnother routes next.candidates) }
@@ -80,17 +82,19 @@ fn follow_some(
     kept: Option<Pages<Route>>,
 ) -> Option<Next>
     requires order { before ≤ moment }
-    requires same { SayTheSame (Some 4) (said_at before area.now.committed.database)
-        (said_at moment area.now.present.database) }
-    requires walk { IsWalkOf (said_at moment area.now.present.database) walk.now }
-    requires inner { AreInnerBy (said_at moment area.now.present.database) walk.now.root walk.now
+    requires same { HaveSameContents (Some 4) (contents_at before area.now.committed.database)
+        (contents_at moment area.now.present.database) }
+    requires walk { IsWalkOf (contents_at moment area.now.present.database) walk.now }
+    requires inner { AreInnerBy (contents_at moment area.now.present.database) walk.now.root
+        walk.now
         inner.now }
     requires routes { IfSome kept (λ routes. AreCandidates
-        (said_at before area.now.committed.database) walk.now.root routes) }
+        (contents_at before area.now.committed.database) walk.now.root routes) }
     ensures candidates { IfSome result (λ next. AreCandidates
-        (said_at moment area.now.present.database) walk.now.root next.candidates) }
+        (contents_at moment area.now.present.database) walk.now.root next.candidates) }
     ensures none_new { IfSome result (λ next. IsTrue next.none_new → StayAnswered
-        (said_at before area.now.committed.database) (said_at moment area.now.present.database)
+        (contents_at before area.now.committed.database)
+        (contents_at moment area.now.present.database)
         walk.now.root) }
     ensures another { IfSome result (λ next. next.none_new ≡ false
         → HaveAnother kept next.candidates) }
@@ -115,17 +119,18 @@ pub fn followed(
     kept: Option<Pages<Route>>,
 ) -> Option<Next>
     requires order { before ≤ moment }
-    requires same { SayTheSame (Some 4) (said_at before area.now.committed.database)
-        (said_at moment area.now.present.database) }
-    requires walk { IsWalkOf (said_at moment area.now.present.database) walk.now }
-    requires inner { IfSome inner.now (AreInnerBy (said_at moment area.now.present.database)
+    requires same { HaveSameContents (Some 4) (contents_at before area.now.committed.database)
+        (contents_at moment area.now.present.database) }
+    requires walk { IsWalkOf (contents_at moment area.now.present.database) walk.now }
+    requires inner { IfSome inner.now (AreInnerBy (contents_at moment area.now.present.database)
         walk.now.root walk.now) }
     requires routes { IfSome kept (λ routes. AreCandidates
-        (said_at before area.now.committed.database) walk.now.root routes) }
+        (contents_at before area.now.committed.database) walk.now.root routes) }
     ensures candidates { IfSome result (λ next. AreCandidates
-        (said_at moment area.now.present.database) walk.now.root next.candidates) }
+        (contents_at moment area.now.present.database) walk.now.root next.candidates) }
     ensures none_new { IfSome result (λ next. IsTrue next.none_new → StayAnswered
-        (said_at before area.now.committed.database) (said_at moment area.now.present.database)
+        (contents_at before area.now.committed.database)
+        (contents_at moment area.now.present.database)
         walk.now.root) }
     ensures another { IfSome result (λ next. next.none_new ≡ false
         → HaveAnother kept next.candidates) }

@@ -10,7 +10,7 @@ ghost use Rattle.lsa.specs.declared.body.LsaBody.TheVariants as body;
 ghost use Rattle.lsa.specs.declared.body.NetworkLsa.{NetworkLsa as NetworkValue};
 ghost use Rattle.lsa.specs.declared.body.RouterLsa.{RouterLsa as RouterValue};
 ghost use Rattle.routes.specs.Links.{network_key, router_key};
-ghost use Rattle.routes.specs.Said.{said_at};
+ghost use Rattle.routes.specs.Contents.{contents_at};
 
 use crate::lookups::SPARE;
 use crate::surroundings::{Surroundings, index_range_of};
@@ -229,7 +229,8 @@ fn note_key(
     ensures kept { OnOk result ((place : ℕ) → Contains places.old.items place
         → Contains places.new.items place) }
     ensures covered { IfOk result (λ covered. IsTrue covered → IsCovered
-        (said_at before at.now.db.now.committed) (said_at at.now.moment at.now.db.now.present)
+        (contents_at before at.now.db.now.committed)
+        (contents_at at.now.moment at.now.db.now.present)
         at.now.nodes.now places.new.items key.now) }
 {
     let was = at.db.committed_body_at(before, key);
@@ -263,7 +264,8 @@ pub fn indices_to_renew(
 ) -> Result<Option<Vec<usize>>, AllocError>
     requires { Ascend at.now.nodes.now }
     ensures { IfOk result (λ found. IfSome found (λ places. AreCovered
-        (said_at before at.now.db.now.committed) (said_at at.now.moment at.now.db.now.present)
+        (contents_at before at.now.db.now.committed)
+        (contents_at at.now.moment at.now.db.now.present)
         at.now.nodes.now places.items keys.now)) }
 {
     let mut places = Vec::new(alloc);

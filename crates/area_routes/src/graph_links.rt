@@ -9,7 +9,7 @@ ghost use Rattle.area_graph.specs.Nodes.{AreNodes};
 ghost use Rattle.area_routes.specs.GraphLinks.{IsAttached, IsNeighbor, IsToEnd, IsToNeighbor};
 ghost use Rattle.area_routes.specs.GraphLinks.{IsToNetwork, IsToNetworkAt};
 ghost use Rattle.routes.specs.Links.{ListsRouter};
-ghost use Rattle.routes.specs.Said.{said_at};
+ghost use Rattle.routes.specs.Contents.{contents_at};
 ghost use Rattle.routes.specs.declared.node.Node.TheVariants.{ANetwork};
 
 use crate::surroundings::{Surroundings, has_link_to, index_range_of, network_lsa, router_lsa};
@@ -22,8 +22,9 @@ use words::{LinkStateId, RouterId};
 
 // The index of a router, if its LSA has a link of this kind to this Link ID.
 fn neighbor_at(at: &Surroundings<'_>, far: RouterId, kind: LinkKind, id: u32) -> Option<usize>
-    requires { AreNodes (said_at at.now.moment at.now.db.now.present) at.now.nodes.now }
-    ensures { IsNeighbor (said_at at.now.moment at.now.db.now.present) at.now.nodes.now far kind id
+    requires { AreNodes (contents_at at.now.moment at.now.db.now.present) at.now.nodes.now }
+    ensures { IsNeighbor (contents_at at.now.moment at.now.db.now.present) at.now.nodes.now far kind
+        id
         result }
 {
     match router_lsa(at, far) {
@@ -46,12 +47,12 @@ fn add_neighbor(
     advertised: &RouterLink,
     links: &mut Vec<VertexLink>,
 ) -> Result<(), AllocError>
-    requires nodes { AreNodes (said_at at.now.moment at.now.db.now.present) at.now.nodes.now }
+    requires nodes { AreNodes (contents_at at.now.moment at.now.db.now.present) at.now.nodes.now }
     requires interfaces { length root.now.addresses ≤ 63 }
     requires is_kind { advertised.now.kind ≡ LinkKind.PointToPoint }
     requires counts { 0 < advertised.now.metric }
     ensures adds { OnOk result (Adds (IsToNeighbor
-        (said_at at.now.moment at.now.db.now.present) root.now at.now.nodes.now router
+        (contents_at at.now.moment at.now.db.now.present) root.now at.now.nodes.now router
         advertised.now) links.old.items links.new.items) }
     ensures fits { OnOk result (All CostFits links.old.items → All CostFits links.new.items) }
 {
@@ -89,7 +90,7 @@ fn is_listed(lsa: &NetworkLsa, router: RouterId) -> bool
 
 // Whether the network's LSA lists the router.
 fn lists(at: &Surroundings<'_>, id: LinkStateId, by: RouterId, router: RouterId) -> bool
-    ensures { IsTrue result ↔ ListsRouter (said_at at.now.moment at.now.db.now.present) id by
+    ensures { IsTrue result ↔ ListsRouter (contents_at at.now.moment at.now.db.now.present) id by
         router }
 {
     match network_lsa(at, id, by) {
@@ -120,7 +121,7 @@ fn advertiser_at(at: &Surroundings<'_>, place: usize, id: LinkStateId) -> Option
 // Whether the node at this index is a network whose LSA has this Link State ID and lists the
 // router.
 fn lists_at(at: &Surroundings<'_>, place: usize, id: LinkStateId, router: RouterId) -> bool
-    ensures { IsTrue result ↔ IsListedAt (said_at at.now.moment at.now.db.now.present)
+    ensures { IsTrue result ↔ IsListedAt (contents_at at.now.moment at.now.db.now.present)
         at.now.nodes.now router id place }
 {
     match advertiser_at(at, place, id) {
@@ -139,12 +140,12 @@ fn add_network(
     place: usize,
     links: &mut Vec<VertexLink>,
 ) -> Result<(), AllocError>
-    requires nodes { AreNodes (said_at at.now.moment at.now.db.now.present) at.now.nodes.now }
+    requires nodes { AreNodes (contents_at at.now.moment at.now.db.now.present) at.now.nodes.now }
     requires interfaces { length root.now.addresses ≤ 63 }
     requires is_kind { advertised.now.kind ≡ LinkKind.Transit }
     requires counts { 0 < advertised.now.metric }
     ensures adds { OnOk result (Adds (IsToNetworkAt
-        (said_at at.now.moment at.now.db.now.present) root.now at.now.nodes.now router
+        (contents_at at.now.moment at.now.db.now.present) root.now at.now.nodes.now router
         advertised.now place) links.old.items links.new.items) }
     ensures fits { OnOk result (All CostFits links.old.items → All CostFits links.new.items) }
 {
@@ -169,12 +170,12 @@ fn add_networks(
     advertised: &RouterLink,
     links: &mut Vec<VertexLink>,
 ) -> Result<(), AllocError>
-    requires nodes { AreNodes (said_at at.now.moment at.now.db.now.present) at.now.nodes.now }
+    requires nodes { AreNodes (contents_at at.now.moment at.now.db.now.present) at.now.nodes.now }
     requires interfaces { length root.now.addresses ≤ 63 }
     requires is_kind { advertised.now.kind ≡ LinkKind.Transit }
     requires counts { 0 < advertised.now.metric }
     ensures adds { OnOk result (Adds (IsToNetwork
-        (said_at at.now.moment at.now.db.now.present) root.now at.now.nodes.now router
+        (contents_at at.now.moment at.now.db.now.present) root.now at.now.nodes.now router
         advertised.now) links.old.items links.new.items) }
     ensures fits { OnOk result (All CostFits links.old.items → All CostFits links.new.items) }
 {
@@ -201,10 +202,10 @@ fn add_ends(
     advertised: &RouterLink,
     links: &mut Vec<VertexLink>,
 ) -> Result<(), AllocError>
-    requires nodes { AreNodes (said_at at.now.moment at.now.db.now.present) at.now.nodes.now }
+    requires nodes { AreNodes (contents_at at.now.moment at.now.db.now.present) at.now.nodes.now }
     requires interfaces { length root.now.addresses ≤ 63 }
     ensures adds { OnOk result (Adds (IsToEnd
-        (said_at at.now.moment at.now.db.now.present) root.now at.now.nodes.now router
+        (contents_at at.now.moment at.now.db.now.present) root.now at.now.nodes.now router
         advertised.now) links.old.items links.new.items) }
     ensures fits { OnOk result (All CostFits links.old.items → All CostFits links.new.items) }
 {
@@ -227,10 +228,10 @@ fn add_all(
     lsa: &RouterLsa,
     links: &mut Vec<VertexLink>,
 ) -> Result<(), AllocError>
-    requires nodes { AreNodes (said_at at.now.moment at.now.db.now.present) at.now.nodes.now }
+    requires nodes { AreNodes (contents_at at.now.moment at.now.db.now.present) at.now.nodes.now }
     requires interfaces { length root.now.addresses ≤ 63 }
     ensures adds { OnOk result (Adds (OfEach (IsToEnd
-        (said_at at.now.moment at.now.db.now.present) root.now at.now.nodes.now router)
+        (contents_at at.now.moment at.now.db.now.present) root.now at.now.nodes.now router)
         lsa.now.links) links.old.items links.new.items) }
     ensures fits { OnOk result (All CostFits links.old.items → All CostFits links.new.items) }
 {
@@ -248,9 +249,9 @@ fn add_attached(
     lsa: &NetworkLsa,
     links: &mut Vec<VertexLink>,
 ) -> Result<(), AllocError>
-    requires { AreNodes (said_at at.now.moment at.now.db.now.present) at.now.nodes.now }
+    requires { AreNodes (contents_at at.now.moment at.now.db.now.present) at.now.nodes.now }
     ensures adds { OnOk result (Adds (OfEach (IsAttached
-        (said_at at.now.moment at.now.db.now.present) at.now.nodes.now id) lsa.now.attached)
+        (contents_at at.now.moment at.now.db.now.present) at.now.nodes.now id) lsa.now.attached)
         links.old.items links.new.items) }
     ensures fits { OnOk result (All CostFits links.old.items → All CostFits links.new.items) }
 {
@@ -273,10 +274,10 @@ fn links_of(
     root: &Root,
     node: &Node,
 ) -> Result<Vec<VertexLink>, AllocError>
-    requires nodes { AreNodes (said_at at.now.moment at.now.db.now.present) at.now.nodes.now }
+    requires nodes { AreNodes (contents_at at.now.moment at.now.db.now.present) at.now.nodes.now }
     requires interfaces { length root.now.addresses ≤ 63 }
     ensures links { IfOk result (λ links. AreLinksFrom
-        (said_at at.now.moment at.now.db.now.present) root.now at.now.nodes.now node.now
+        (contents_at at.now.moment at.now.db.now.present) root.now at.now.nodes.now node.now
         links.items) }
     ensures fits { IfOk result (λ links. All CostFits links.items) }
 {
@@ -307,9 +308,9 @@ pub fn vertex_of(
     root: &Root,
     node: &Node,
 ) -> Result<Vertex, AllocError>
-    requires nodes { AreNodes (said_at at.now.moment at.now.db.now.present) at.now.nodes.now }
+    requires nodes { AreNodes (contents_at at.now.moment at.now.db.now.present) at.now.nodes.now }
     requires interfaces { length root.now.addresses ≤ 63 }
-    ensures { IfOk result (λ vertex. IsVertexOf (said_at at.now.moment at.now.db.now.present)
+    ensures { IfOk result (λ vertex. IsVertexOf (contents_at at.now.moment at.now.db.now.present)
         root.now at.now.nodes.now node.now vertex) }
 {
     let kind = kind_of(node);

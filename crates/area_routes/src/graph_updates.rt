@@ -2,7 +2,7 @@
 ghost use Rattle.std.specs.Prelude.{◌≡◌, ◌≤◌, length, IfOk, IfSome, IsTrue};
 ghost use Rattle.area_graph.specs.Nodes.{AreNodes};
 ghost use Rattle.area_routes.specs.Vertices.{IsRenewed, StayUnlessAmong};
-ghost use Rattle.routes.specs.Said.{said_at};
+ghost use Rattle.routes.specs.Contents.{contents_at};
 ghost use Rattle.candidates.specs.AreaGraphs.{IsAreaGraph};
 
 use crate::graph_changes::indices_to_renew;
@@ -25,10 +25,10 @@ fn renew(
     place: usize,
     vertices: &mut Vec<Vertex>,
 ) -> Result<bool, AllocError>
-    requires nodes { AreNodes (said_at at.now.moment at.now.db.now.present) at.now.nodes.now }
+    requires nodes { AreNodes (contents_at at.now.moment at.now.db.now.present) at.now.nodes.now }
     requires interfaces { length root.now.addresses ≤ 63 }
     ensures renewed { IfOk result (λ done. IsTrue done → IsRenewed
-        (said_at at.now.moment at.now.db.now.present) root.now at.now.nodes.now place
+        (contents_at at.now.moment at.now.db.now.present) root.now at.now.nodes.now place
         vertices.old.items vertices.new.items) }
 {
     let Some(node) = at.nodes.get(place) else {
@@ -50,12 +50,12 @@ fn renewed(
     moment: Second,
     places: &[usize],
 ) -> Result<Option<AreaGraph>, AllocError>
-    requires graph { IsAreaGraph (said_at before db.now.committed) graph }
-    requires nodes { AreNodes (said_at moment db.now.present) graph.nodes.items }
-    requires others { StayUnlessAmong (said_at before db.now.committed)
-        (said_at moment db.now.present) graph.root graph.nodes.items places.now }
+    requires graph { IsAreaGraph (contents_at before db.now.committed) graph }
+    requires nodes { AreNodes (contents_at moment db.now.present) graph.nodes.items }
+    requires others { StayUnlessAmong (contents_at before db.now.committed)
+        (contents_at moment db.now.present) graph.root graph.nodes.items places.now }
     ensures graph { IfOk result (λ next. IfSome next
-        (IsAreaGraph (said_at moment db.now.present))) }
+        (IsAreaGraph (contents_at moment db.now.present))) }
     ensures root { IfOk result (λ next. IfSome next (λ followed. followed.root ≡ graph.root)) }
 {
     let AreaGraph {
@@ -99,9 +99,9 @@ pub fn update_graph(
     moment: Second,
 ) -> Result<Option<AreaGraph>, AllocError>
     requires order { before ≤ moment }
-    requires graph { IsAreaGraph (said_at before db.now.committed) graph }
+    requires graph { IsAreaGraph (contents_at before db.now.committed) graph }
     ensures graph { IfOk result (λ next. IfSome next
-        (IsAreaGraph (said_at moment db.now.present))) }
+        (IsAreaGraph (contents_at moment db.now.present))) }
     ensures root { IfOk result (λ next. IfSome next (λ followed. followed.root ≡ graph.root)) }
 {
     if lsas_are_unchanged(alloc, db, Some(NETWORK_LSA), before, moment)? {

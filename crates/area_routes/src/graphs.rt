@@ -4,7 +4,7 @@ ghost use Rattle.std.specs.FinMap as finite;
 ghost use Rattle.area_routes.specs.Kept.{IsGraphFrom};
 ghost use Rattle.area_routes.specs.Offers.{root_by};
 ghost use Rattle.candidates.specs.Ways.{AreNear, AreWays};
-ghost use Rattle.routes.specs.Said.{said_at};
+ghost use Rattle.routes.specs.Contents.{contents_at};
 ghost use Rattle.candidates.specs.AreaGraphs.{IsAreaGraph};
 ghost use Rattle.candidates.specs.Reached.{way_in};
 
@@ -30,7 +30,7 @@ pub fn graph_at(
     requires interfaces { length root.now.addresses ≤ 63 }
     requires size { finite.len area.now.present.database ≤ 16384 }
     ensures { IfOk result (λ made. IfSome made
-        (IsGraphFrom (said_at moment area.now.present.database) root.now)) }
+        (IsGraphFrom (contents_at moment area.now.present.database) root.now)) }
 {
     let db = area.database();
     if has_no_way_out(db, root, moment) {
@@ -54,8 +54,8 @@ pub fn walk_by(
     requires interfaces { length root.now.addresses ≤ 63 }
     requires size { finite.len area.now.present.database ≤ 16384 }
     requires graph { IfSome kept.now
-        (IsGraphFrom (said_at moment area.now.present.database) root.now) }
-    ensures ways { IfOk result (λ reached. AreWays (said_at moment area.now.present.database)
+        (IsGraphFrom (contents_at moment area.now.present.database) root.now) }
+    ensures ways { IfOk result (λ reached. AreWays (contents_at moment area.now.present.database)
         root.now (way_in reached)) }
     ensures near { IfOk result (λ reached. AreNear (way_in reached)) }
 {
@@ -82,8 +82,8 @@ fn followed(
     graph: AreaGraph,
 ) -> Option<AreaGraph>
     requires order { before ≤ moment }
-    requires graph { IsAreaGraph (said_at before area.now.committed.database) graph }
-    ensures graph { IfSome result (IsAreaGraph (said_at moment area.now.present.database)) }
+    requires graph { IsAreaGraph (contents_at before area.now.committed.database) graph }
+    ensures graph { IfSome result (IsAreaGraph (contents_at moment area.now.present.database)) }
     ensures root { IfSome result (λ next. next.root ≡ graph.root) }
 {
     let db = area.database();
@@ -103,8 +103,8 @@ pub fn graph_after(
     kept: Option<AreaGraph>,
 ) -> Option<AreaGraph>
     requires order { before ≤ moment }
-    requires graph { IfSome kept (IsAreaGraph (said_at before area.now.committed.database)) }
-    ensures { IfSome result (IsGraphFrom (said_at moment area.now.present.database)
+    requires graph { IfSome kept (IsAreaGraph (contents_at before area.now.committed.database)) }
+    ensures { IfSome result (IsGraphFrom (contents_at moment area.now.present.database)
         (root_by router area.now.present.links)) }
 {
     match kept {

@@ -7,15 +7,15 @@ ghost use Rattle.area_routes.specs.Kept.{KnowsAnswered};
 ghost use Rattle.area_routes.specs.Kept.{KnowsCandidates, KnowsInner, KnowsWalk};
 ghost use Rattle.area_routes.specs.Kept.{KeepsWalkUnlessChanged};
 ghost use Rattle.area_routes.specs.Kept.{AreInnerBy, AreOffersOf, AreOfOthers, BringsNoneNew};
-ghost use Rattle.area_routes.specs.Kept.{ExternalsSayTheSame, KnowsExternals, KnowsGraph};
+ghost use Rattle.area_routes.specs.Kept.{ExternalsHaveSameContents, KnowsExternals, KnowsGraph};
 ghost use Rattle.candidates.specs.Externals.{AreExternals};
 ghost use Rattle.area_routes.specs.Offers.{AreCandidatesOf, AreOffered, IsStaleOf, IsTableOf};
 ghost use Rattle.area_routes.specs.Offers.{root_by};
 ghost use Rattle.kept_routes.specs.Externals.{AreOfferingLsasUnchanged, OfferTheSame};
 ghost use Rattle.kept_routes.specs.Kept.{IsWalkOf};
-ghost use Rattle.kept_routes.specs.Sameness.{AreLsasUnchanged, SayTheSame};
+ghost use Rattle.kept_routes.specs.Sameness.{AreLsasUnchanged, HaveSameContents};
 ghost use Rattle.routes.specs.Candidates.{AreCandidates};
-ghost use Rattle.routes.specs.Said.{Said, said_at};
+ghost use Rattle.routes.specs.Contents.{Contents, contents_at};
 ghost use Rattle.routes.specs.Tables.{Answers};
 
 use crate::following::followed;
@@ -99,9 +99,10 @@ fn leaves_candidates(
     moment: Second,
 ) -> Result<bool, AllocError>
     requires order { before ≤ moment }
-    requires walk { IsWalkOf (said_at before area.now.committed.database) walk.now }
+    requires walk { IsWalkOf (contents_at before area.now.committed.database) walk.now }
     ensures same { IfOk result (λ same. IsTrue same → OfferTheSame
-        (said_at before area.now.committed.database) (said_at moment area.now.present.database)
+        (contents_at before area.now.committed.database)
+        (contents_at moment area.now.present.database)
         walk.now.root) }
     ensures left { IfOk result (λ same. AreOfferingLsasUnchanged before moment
         area.now.committed.database area.now.present.database walk.now → IsTrue same) }
@@ -121,8 +122,9 @@ fn area_lsas_are_unchanged(
     moment: Second,
 ) -> Result<bool, AllocError>
     requires { before ≤ moment }
-    ensures same { IfOk result (λ same. IsTrue same → SayTheSame last_type
-        (said_at before area.now.committed.database) (said_at moment area.now.present.database)) }
+    ensures same { IfOk result (λ same. IsTrue same → HaveSameContents last_type
+        (contents_at before area.now.committed.database)
+        (contents_at moment area.now.present.database)) }
     ensures left { IfOk result (λ same. IsTrue same ↔ AreLsasUnchanged last_type before moment
         area.now.committed.database area.now.present.database) }
 {
@@ -135,9 +137,9 @@ fn area_lsas_are_unchanged(
 // refused.
 fn externals_stay(alloc: Global, area: &Area, before: Second, moment: Second) -> bool
     requires { before ≤ moment }
-    ensures { IsTrue result → ExternalsSayTheSame
-        (said_at before area.now.committed.database)
-        (said_at moment area.now.present.database) }
+    ensures { IsTrue result → ExternalsHaveSameContents
+        (contents_at before area.now.committed.database)
+        (contents_at moment area.now.present.database) }
 {
     let db = area.database();
     if let Ok(keys) = changed_keys(alloc, db, before, moment) {
@@ -165,7 +167,7 @@ fn externals_now(
     moment: Second,
 ) -> Result<Vec<ExternalAdvertisement>, AllocError>
     ensures { IfOk result (λ advertised. AreExternals
-        (said_at moment area.now.present.database) advertised.items) }
+        (contents_at moment area.now.present.database) advertised.items) }
 {
     let db = area.database();
     let advertised = externals_at(alloc, db, moment)?;
@@ -180,11 +182,12 @@ fn calculate_by(
     moment: Second,
     externals: &[ExternalAdvertisement],
 ) -> Result<Calculated, AllocError>
-    requires walk { IsWalkOf (said_at moment area.now.present.database) walk.now }
-    requires externals { AreExternals (said_at moment area.now.present.database) externals.now }
-    ensures routes { IfOk result (λ made. AreCandidates (said_at moment area.now.present.database)
+    requires walk { IsWalkOf (contents_at moment area.now.present.database) walk.now }
+    requires externals { AreExternals (contents_at moment area.now.present.database) externals.now }
+    ensures routes { IfOk result (λ made. AreCandidates
+        (contents_at moment area.now.present.database)
         walk.now.root made.routes.items) }
-    ensures inner { IfOk result (λ made. AreInnerBy (said_at moment area.now.present.database)
+    ensures inner { IfOk result (λ made. AreInnerBy (contents_at moment area.now.present.database)
         walk.now.root walk.now made.inner) }
 {
     let db = area.database();
@@ -207,15 +210,16 @@ fn calculated(
     moment: Second,
     kept: &Option<Vec<ExternalAdvertisement>>,
 ) -> Result<Made, AllocError>
-    requires walk { IsWalkOf (said_at moment area.now.present.database) walk.now }
+    requires walk { IsWalkOf (contents_at moment area.now.present.database) walk.now }
     requires externals { IfSome kept.now (λ advertised. AreExternals
-        (said_at moment area.now.present.database) advertised.items) }
-    ensures routes { IfOk result (λ made. AreCandidates (said_at moment area.now.present.database)
+        (contents_at moment area.now.present.database) advertised.items) }
+    ensures routes { IfOk result (λ made. AreCandidates
+        (contents_at moment area.now.present.database)
         walk.now.root made.calculated.routes.items) }
-    ensures inner { IfOk result (λ made. AreInnerBy (said_at moment area.now.present.database)
+    ensures inner { IfOk result (λ made. AreInnerBy (contents_at moment area.now.present.database)
         walk.now.root walk.now made.calculated.inner) }
     ensures externals { IfOk result (λ made. IfSome made.advertised (λ advertised. AreExternals
-        (said_at moment area.now.present.database) advertised.items)) }
+        (contents_at moment area.now.present.database) advertised.items)) }
 {
     match kept {
         Some(advertised) => {
@@ -241,9 +245,10 @@ fn kept_or(
     kept: Option<Vec<ExternalAdvertisement>>,
     made: Option<Vec<ExternalAdvertisement>>,
 ) -> Option<Vec<ExternalAdvertisement>>
-    ensures { (said : Said) → IfSome kept (λ advertised. AreExternals said advertised.items)
-        → IfSome made (λ advertised. AreExternals said advertised.items)
-        → IfSome result (λ advertised. AreExternals said advertised.items) }
+    ensures { (contents : Contents) → IfSome kept
+        (λ advertised. AreExternals contents advertised.items)
+        → IfSome made (λ advertised. AreExternals contents advertised.items)
+        → IfSome result (λ advertised. AreExternals contents advertised.items) }
 {
     match kept {
         Some(advertised) => Some(advertised),
@@ -339,9 +344,9 @@ impl AreaRoutes {
     // Whether what is kept of what AS-external-LSAs advertise is still correct after the event.
     fn externals_stay(&self, alloc: Global, area: &Area, before: Second, moment: Second) -> bool
         requires { before ≤ moment }
-        ensures { IsTrue result → ExternalsSayTheSame
-            (said_at before area.now.committed.database)
-            (said_at moment area.now.present.database) }
+        ensures { IsTrue result → ExternalsHaveSameContents
+            (contents_at before area.now.committed.database)
+            (contents_at moment area.now.present.database) }
     {
         if self.externals.is_none() {
             return false;
@@ -370,9 +375,9 @@ impl AreaRoutes {
         moment: Second,
     )
         requires order { before ≤ moment }
-        requires graph { KnowsGraph (said_at before area.now.committed.database)
+        requires graph { KnowsGraph (contents_at before area.now.committed.database)
             (root_by router area.now.committed.links) self.old }
-        ensures graph { KnowsGraph (said_at moment area.now.present.database)
+        ensures graph { KnowsGraph (contents_at moment area.now.present.database)
             (root_by router area.now.present.links) self.new }
         ensures others { self.new ≡ record self.old { graph = self.new.graph } }
     {
@@ -394,9 +399,9 @@ impl AreaRoutes {
         requires routes { AreOffersOf router area.now.committed before self.old }
         ensures routes { OnOk result (AreOffersOf router area.now.present moment self.new) }
         ensures answered { OnOk result ((answers : Answers)
-            → KnowsAnswered (said_at before area.now.committed.database)
+            → KnowsAnswered (contents_at before area.now.committed.database)
             (root_by router area.now.committed.links) answers self.old
-            → KnowsAnswered (said_at moment area.now.present.database)
+            → KnowsAnswered (contents_at moment area.now.present.database)
             (root_by router area.now.present.links) answers self.new) }
         ensures walks { OnOk result (KeepsWalkUnlessChanged before moment router
             area.now.committed area.now.present self.old self.new) }
@@ -442,23 +447,25 @@ impl AreaRoutes {
     // nothing is known of candidates any more.
     fn update_offers(&mut self, alloc: Global, area: &Area, before: Second, moment: Second)
         requires order { before ≤ moment }
-        requires walk { IsWalkOf (said_at moment area.now.present.database) self.old.walk }
-        requires candidates { KnowsCandidates (said_at before area.now.committed.database)
+        requires walk { IsWalkOf (contents_at moment area.now.present.database) self.old.walk }
+        requires candidates { KnowsCandidates (contents_at before area.now.committed.database)
             self.old.walk.root self.old }
-        requires inner { KnowsInner (said_at before area.now.committed.database)
+        requires inner { KnowsInner (contents_at before area.now.committed.database)
             self.old.walk.root self.old }
         ensures walk { self.new.walk ≡ self.old.walk }
         ensures behind { self.new.behind ≡ self.old.behind }
         ensures graph { self.new.graph ≡ self.old.graph }
-        ensures candidates { KnowsCandidates (said_at moment area.now.present.database)
+        ensures candidates { KnowsCandidates (contents_at moment area.now.present.database)
             self.old.walk.root self.new }
-        ensures inner { KnowsInner (said_at moment area.now.present.database)
+        ensures inner { KnowsInner (contents_at moment area.now.present.database)
             self.old.walk.root self.new }
         ensures externals { self.new.externals ≡ self.old.externals }
         ensures answered { (answers : Answers)
-            → KnowsAnswered (said_at before area.now.committed.database) self.old.walk.root answers
+            → KnowsAnswered (contents_at before area.now.committed.database) self.old.walk.root
+            answers
             self.old
-            → KnowsAnswered (said_at moment area.now.present.database) self.old.walk.root answers
+            → KnowsAnswered (contents_at moment area.now.present.database) self.old.walk.root
+            answers
             self.new }
         ensures none_new { BringsNoneNew self.old self.new
             → self.new.answered ≡ self.old.answered }
@@ -480,25 +487,27 @@ impl AreaRoutes {
     // candidates.
     fn update_externals(&mut self, alloc: Global, area: &Area, before: Second, moment: Second)
         requires order { before ≤ moment }
-        requires same { SayTheSame (Some 4) (said_at before area.now.committed.database)
-            (said_at moment area.now.present.database) }
-        requires walk { IsWalkOf (said_at moment area.now.present.database) self.old.walk }
-        requires candidates { KnowsCandidates (said_at before area.now.committed.database)
+        requires same { HaveSameContents (Some 4) (contents_at before area.now.committed.database)
+            (contents_at moment area.now.present.database) }
+        requires walk { IsWalkOf (contents_at moment area.now.present.database) self.old.walk }
+        requires candidates { KnowsCandidates (contents_at before area.now.committed.database)
             self.old.walk.root self.old }
-        requires inner { KnowsInner (said_at moment area.now.present.database)
+        requires inner { KnowsInner (contents_at moment area.now.present.database)
             self.old.walk.root self.old }
         ensures walk { self.new.walk ≡ self.old.walk }
         ensures behind { self.new.behind ≡ self.old.behind }
         ensures graph { self.new.graph ≡ self.old.graph }
-        ensures candidates { KnowsCandidates (said_at moment area.now.present.database)
+        ensures candidates { KnowsCandidates (contents_at moment area.now.present.database)
             self.old.walk.root self.new }
-        ensures inner { KnowsInner (said_at moment area.now.present.database)
+        ensures inner { KnowsInner (contents_at moment area.now.present.database)
             self.old.walk.root self.new }
         ensures externals { self.new.externals ≡ self.old.externals }
         ensures answered { (answers : Answers)
-            → KnowsAnswered (said_at before area.now.committed.database) self.old.walk.root answers
+            → KnowsAnswered (contents_at before area.now.committed.database) self.old.walk.root
+            answers
             self.old
-            → KnowsAnswered (said_at moment area.now.present.database) self.old.walk.root answers
+            → KnowsAnswered (contents_at moment area.now.present.database) self.old.walk.root
+            answers
             self.new }
         ensures none_new { BringsNoneNew self.old self.new
             → self.new.answered ≡ self.old.answered }
@@ -523,8 +532,10 @@ impl AreaRoutes {
     ) -> Result<(), AllocError>
         requires interfaces { length root.now.addresses ≤ 63 }
         requires size { finite.len area.now.present.database ≤ 16384 }
-        requires graph { KnowsGraph (said_at moment area.now.present.database) root.now self.old }
-        ensures graph { KnowsGraph (said_at moment area.now.present.database) root.now self.new }
+        requires graph { KnowsGraph (contents_at moment area.now.present.database) root.now
+            self.old }
+        ensures graph { KnowsGraph (contents_at moment area.now.present.database) root.now
+            self.new }
         ensures others { self.new ≡ record self.old { graph = self.new.graph } }
     {
         if self.graph.is_none() {
@@ -544,9 +555,9 @@ impl AreaRoutes {
     ) -> Result<(), AllocError>
         requires interfaces { length root.addresses ≤ 63 }
         requires size { finite.len area.now.present.database ≤ 16384 }
-        requires graph { KnowsGraph (said_at moment area.now.present.database) root self.old }
-        ensures graph { KnowsGraph (said_at moment area.now.present.database) root self.new }
-        ensures walk { OnOk result (IsWalkOf (said_at moment area.now.present.database)
+        requires graph { KnowsGraph (contents_at moment area.now.present.database) root self.old }
+        ensures graph { KnowsGraph (contents_at moment area.now.present.database) root self.new }
+        ensures walk { OnOk result (IsWalkOf (contents_at moment area.now.present.database)
             self.new.walk) }
         ensures root { OnOk result (self.new.walk.root ≡ root) }
         ensures walks { OnOk result (self.new.walk.walks
@@ -573,17 +584,17 @@ impl AreaRoutes {
     ) -> Result<(), AllocError>
         requires few { length area.now.present.links ≤ 63 }
         requires size { finite.len area.now.present.database ≤ 16384 }
-        requires walk { KnowsWalk (said_at moment area.now.present.database)
+        requires walk { KnowsWalk (contents_at moment area.now.present.database)
             (root_by router area.now.present.links) self.old }
-        requires inner { KnowsInner (said_at moment area.now.present.database)
+        requires inner { KnowsInner (contents_at moment area.now.present.database)
             (root_by router area.now.present.links) self.old }
-        requires graph { KnowsGraph (said_at moment area.now.present.database)
+        requires graph { KnowsGraph (contents_at moment area.now.present.database)
             (root_by router area.now.present.links) self.old }
-        ensures walk { KnowsWalk (said_at moment area.now.present.database)
+        ensures walk { KnowsWalk (contents_at moment area.now.present.database)
             (root_by router area.now.present.links) self.new }
-        ensures inner { KnowsInner (said_at moment area.now.present.database)
+        ensures inner { KnowsInner (contents_at moment area.now.present.database)
             (root_by router area.now.present.links) self.new }
-        ensures graph { KnowsGraph (said_at moment area.now.present.database)
+        ensures graph { KnowsGraph (contents_at moment area.now.present.database)
             (root_by router area.now.present.links) self.new }
         ensures behind { OnOk result (self.new.behind ≡ false) }
         ensures stays { self.old.behind ≡ false → self.new.walk ≡ self.old.walk }
@@ -731,11 +742,11 @@ impl AreaRoutes {
         ensures walk { self.new.walk ≡ self.old.walk }
         ensures behind { self.new.behind ≡ self.old.behind }
         ensures graph { self.new.graph ≡ self.old.graph }
-        ensures candidates { KnowsCandidates (said_at moment area.now.present.database)
+        ensures candidates { KnowsCandidates (contents_at moment area.now.present.database)
             (root_by router area.now.present.links) self.new }
-        ensures inner { KnowsInner (said_at moment area.now.present.database)
+        ensures inner { KnowsInner (contents_at moment area.now.present.database)
             (root_by router area.now.present.links) self.new }
-        ensures externals { KnowsExternals (said_at moment area.now.present.database) self.new }
+        ensures externals { KnowsExternals (contents_at moment area.now.present.database) self.new }
         ensures kept { OnOk result (IsSome self.new.candidates) }
         ensures answered { self.new.answered ≡ self.old.answered }
         ensures err { OnErr result (self.new ≡ self.old) }

@@ -3,7 +3,7 @@ ghost use Rattle.std.specs.Prelude.{◌≡◌, ◌<◌, ◌≤◌, ◌↔◌, �
 ghost use Rattle.area_graph.specs.Graphs.{StandsAt};
 ghost use Rattle.area_graph.specs.Nodes.{Ascend, network_lsa, router_lsa};
 ghost use Rattle.area_routes.specs.GraphLinks.{HasLinkTo, IsOfId};
-ghost use Rattle.routes.specs.Said.{said_at};
+ghost use Rattle.routes.specs.Contents.{contents_at};
 ghost use Rattle.routes.specs.declared.node.Node.TheVariants.{ANetwork};
 
 use area_graph::Slots;
@@ -22,7 +22,7 @@ pub struct Surroundings<'a> {
 
 /// The router-LSA of a router, unless it is at MaxAge.
 pub fn router_lsa<'a>(at: &Surroundings<'a>, router: RouterId) -> Option<&'a RouterLsa>
-    ensures { option_copied result ≡ router_lsa (said_at at.now.moment at.now.db.now.present)
+    ensures { option_copied result ≡ router_lsa (contents_at at.now.moment at.now.db.now.present)
         router }
 {
     let key = Key {
@@ -42,7 +42,7 @@ pub fn network_lsa<'a>(
     id: LinkStateId,
     by: RouterId,
 ) -> Option<&'a NetworkLsa>
-    ensures { option_copied result ≡ network_lsa (said_at at.now.moment at.now.db.now.present)
+    ensures { option_copied result ≡ network_lsa (contents_at at.now.moment at.now.db.now.present)
         id by }
 {
     let key = Key {

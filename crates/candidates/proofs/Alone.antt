@@ -18,7 +18,7 @@ use Rattle.routes.proofs.Determined.{bit_of_member}
 use Rattle.routes.specs.Answers.{IsNodeAnswer}
 use Rattle.routes.specs.Links.{Leads, LeadsTo}
 use Rattle.routes.specs.Paths.{IsWalk, IsWay, Step}
-use Rattle.routes.specs.Said.{Said}
+use Rattle.routes.specs.Contents.{Contents}
 use Rattle.routes.specs.declared.graph.Way.{Way}
 use Rattle.routes.specs.declared.node.Node.{Node}
 use Rattle.routes.specs.declared.node.Node.TheVariants.{ANetwork, ARouter}
@@ -31,19 +31,19 @@ pub alone_ascends : (root : Root) → Ascend (alone root).nodes
 alone_ascends root = λ i j d before within. absurd (omega (arith, before, within))
 
 -- a router's LSA advertises each link from it
-by_lsa : (said : Said) (root : Root) (router : ℕ) (step : Step Node)
-    → Leads said root (ARouter router) step → HasLsa said (ARouter router)
-by_lsa said root router step leads =
-    near_end said root (ARouter router) step.target step.price step.exit leads
+by_lsa : (contents : Contents) (root : Root) (router : ℕ) (step : Step Node)
+    → Leads contents root (ARouter router) step → HasLsa contents (ARouter router)
+by_lsa contents root router step leads =
+    near_end contents root (ARouter router) step.target step.price step.exit leads
 
-module _ (said : Said) (root : Root)
-    (still : (step : Step Node) → Leads said root (ARouter root.router) step → ⊥) where
+module _ (contents : Contents) (root : Root)
+    (still : (step : Step Node) → Leads contents root (ARouter root.router) step → ⊥) where
   stays : (walk : List (Step Node)) (to : Node)
-      → IsWalk (Leads said root) (ARouter root.router) walk to → ARouter root.router ≡ to
+      → IsWalk (Leads contents root) (ARouter root.router) walk to → ARouter root.router ≡ to
   stays [] to is = is
   stays (step ∷ rest) to is = absurd (still step is.0)
 
-  own : IsWay (Leads said root) (ARouter root.router) (ARouter root.router) (record {
+  own : IsWay (Leads contents root) (ARouter root.router) (ARouter root.router) (record {
     distance = 0;
     hops = 0;
   })
@@ -56,18 +56,18 @@ module _ (said : Said) (root : Root)
   }
 
   at_root : (node : Node) (at : ℕ) → slice_get (alone root).nodes at ≡ Some node
-      → IsNodeAnswer said root node (way_in (alone root) node)
+      → IsNodeAnswer contents root node (way_in (alone root) node)
   at_root node zero here =
-      let Q : Node → Type 0 = λ n. IsNodeAnswer said root n (way_in (alone root) n) in
-      let P : Option Way → Type 0 = λ o. IsNodeAnswer said root (ARouter root.router) o in
+      let Q : Node → Type 0 = λ n. IsNodeAnswer contents root n (way_in (alone root) n) in
+      let P : Option Way → Type 0 = λ o. IsNodeAnswer contents root (ARouter root.router) o in
       subst Q (same_Some (ARouter root.router) node here)
       (subst P (sym (beside (alone root).nodes (alone root).ways (alone_ascends root)
       (ARouter root.router) zero refl)) own)
   at_root node (suc k) here = cc
 
-  pub alone_ways : AreWays said root (way_in (alone root))
+  pub alone_ways : AreWays contents root (way_in (alone root))
   alone_ways node =
-      let P : Option Way → Type 0 = λ o. IsNodeAnswer said root node o in
+      let P : Option Way → Type 0 = λ o. IsNodeAnswer contents root node o in
       let nodes = (alone root).nodes in
       let ways = (alone root).ways in
       elim (seek nodes node) [
@@ -76,9 +76,9 @@ module _ (said : Said) (root : Root)
             (λ walk is. missing zero (ap (λ n. Some n) (stays walk node is)))
       ]
 
-pub without_lsa : (said : Said) (root : Root) → (HasLsa said (ARouter root.router) → ⊥)
-    → (step : Step Node) → Leads said root (ARouter root.router) step → ⊥
-without_lsa said root none step leads = none (by_lsa said root root.router step leads)
+pub without_lsa : (contents : Contents) (root : Root) → (HasLsa contents (ARouter root.router) → ⊥)
+    → (step : Step Node) → Leads contents root (ARouter root.router) step → ⊥
+without_lsa contents root none step leads = none (by_lsa contents root root.router step leads)
 
 -- none of these links is of a kind that leads on
 passes : (links : List RouterLink) (link : RouterLink) (kind : LinkKind)
@@ -90,11 +90,12 @@ passes links link kind all among is =
     subst P is (All-contains (λ (l : RouterLink). leads_nowhere l.kind ≡ true) links link each
     among)
 
-pub without_way_out : (said : Said) (root : Root) → HasNoWayOut said root.router
-    → (step : Step Node) → Leads said root (ARouter root.router) step → ⊥
-without_way_out said root nowhere step leads = on step.target leads
+pub without_way_out : (contents : Contents) (root : Root) → HasNoWayOut contents root.router
+    → (step : Step Node) → Leads contents root (ARouter root.router) step → ⊥
+without_way_out contents root nowhere step leads = on step.target leads
   where
-    on : (target : Node) → LeadsTo said root (ARouter root.router) target step.price step.exit → ⊥
+    on : (target : Node) → LeadsTo contents root (ARouter root.router) target step.price
+        step.exit → ⊥
     on (ARouter b) to = false≢true (passes to.0.its.lsa.links to.0.link PointToPoint
         (nowhere to.0.its.lsa to.0.its.its) to.0.its.among to.0.is_kind)
     on (ANetwork id by) to = false≢true

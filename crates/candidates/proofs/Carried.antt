@@ -12,7 +12,7 @@ use Rattle.routes.specs.Links.{Leads, network_key, router_key}
 use Rattle.routes.specs.Offers.{Attaches, OffersWithin, ReachesBoundaryRouter, intra}
 use Rattle.routes.specs.Paths.{IsWay}
 use Rattle.routes.specs.Paths.{Way as WalkWay}
-use Rattle.routes.specs.Said.{Said}
+use Rattle.routes.specs.Contents.{Contents}
 use Rattle.routes.specs.Summaries.{CountsAsSummary, OffersBetween, OffersInside, inter, summary_key}
 use Rattle.routes.specs.declared.graph.Way.{Way}
 use Rattle.routes.specs.declared.node.Node.{Node}
@@ -23,7 +23,7 @@ use Rattle.routes.proofs.Determined.{one_way}
 use Rattle.std.proofs.Common.{true, false, eqb-true, eq-eqb}
 use Rattle.std.proofs.lemmas.Bool.{cases_eq, cases_Bool}
 use Rattle.candidates.specs.Borders.{AreFlagged, IsCounted, IsFlagged, IsListed}
-use Rattle.candidates.specs.Bodies.{OfSaid}
+use Rattle.candidates.specs.Bodies.{OfContents}
 use Rattle.candidates.specs.Sources.{IsInner, OfNetwork, OfRouter, OfSummary, leaving}
 use Rattle.candidates.specs.Sources.IsInner.{ByNetwork, ByRouter, BySummary}
 use Rattle.candidates.specs.Ways.{AreWays, Ways}
@@ -61,20 +61,20 @@ same_distance root router way =
       | false ↦ refl
     ]
 
-module _ (said : Said) (root : Root) (ways : Ways) (are : AreWays said root ways)
-    (routers : List Flagged) (flagged : AreFlagged said ways routers) where
+module _ (contents : Contents) (root : Root) (ways : Ways) (are : AreWays contents root ways)
+    (routers : List Flagged) (flagged : AreFlagged contents ways routers) where
   abbrev IsReached : Node → WalkWay → Type 0
-  IsReached node way = IsWay (Leads said root) (ARouter root.router) node way
+  IsReached node way = IsWay (Leads contents root) (ARouter root.router) node way
 
   reached : (node : Node) (w : Way) → ways node ≡ Some w → IsReached node (as_way w)
-  reached node w e = let Is : Option Way → Type 0 = λ a. IsNodeAnswer said root node a in
+  reached node w e = let Is : Option Way → Type 0 = λ a. IsNodeAnswer contents root node a in
       subst Is e (are node)
 
-  by_answer : (node : Node) (answer : Option Way) → IsNodeAnswer said root node answer
+  by_answer : (node : Node) (answer : Option Way) → IsNodeAnswer contents root node answer
       → (way : WalkWay) → IsReached node way → (w : Way) × (answer ≡ Some w) × (as_way w ≡ way)
   by_answer node None none way is = absurd (none is.distance.0 is.distance.1.is_walk)
   by_answer node (Some w) answer way is =
-      (w, refl, one_way (Leads said root) (ARouter root.router) node (as_way w) way answer is)
+      (w, refl, one_way (Leads contents root) (ARouter root.router) node (as_way w) way answer is)
 
   found : (node : Node) (way : WalkWay) → IsReached node way
       → (w : Way) × (ways node ≡ Some w) × (as_way w ≡ way)
@@ -83,9 +83,9 @@ module _ (said : Said) (root : Root) (ways : Ways) (are : AreWays said root ways
   -- ---- routers with flags
 
   pub boundary_forth : (router : ℕ) (w : Way) → IsListed routers router 2 w
-      → ReachesBoundaryRouter said root router (as_way w)
+      → ReachesBoundaryRouter contents root router (as_way w)
   boundary_forth router w is =
-      let k : IsFlagged said ways router 2 w = (flagged router 2 w (inr refl)).1 is in
+      let k : IsFlagged contents ways router 2 w = (flagged router 2 w (inr refl)).1 is in
       record {
         lsa = k.lsa;
         its = k.its;
@@ -93,7 +93,7 @@ module _ (said : Said) (root : Root) (ways : Ways) (are : AreWays said root ways
         reached = reached (ARouter router) w k.reached;
       }
 
-  pub boundary_back : (router : ℕ) (way : WalkWay) → ReachesBoundaryRouter said root router way
+  pub boundary_back : (router : ℕ) (way : WalkWay) → ReachesBoundaryRouter contents root router way
       → (w : Way) × IsListed routers router 2 w × (as_way w ≡ way)
   boundary_back router way k =
       let f = found (ARouter router) way k.reached in (
@@ -109,9 +109,9 @@ module _ (said : Said) (root : Root) (ways : Ways) (are : AreWays said root ways
 
   pub counted_forth : (originator : ℕ) (lsa : SummaryLsa) (border : Way)
       → IsCounted root routers originator lsa border
-      → CountsAsSummary said root originator lsa (as_way border)
+      → CountsAsSummary contents root originator lsa (as_way border)
   counted_forth originator lsa border k =
-      let its : IsFlagged said ways originator 1 border =
+      let its : IsFlagged contents ways originator 1 border =
       (flagged originator 1 border (inl refl)).1 k.reaches in
       record {
         reachable = k.reachable;
@@ -125,7 +125,7 @@ module _ (said : Said) (root : Root) (ways : Ways) (are : AreWays said root ways
       }
 
   pub counted_back : (originator : ℕ) (lsa : SummaryLsa) (border : WalkWay)
-      → CountsAsSummary said root originator lsa border
+      → CountsAsSummary contents root originator lsa border
       → (w : Way) × IsCounted root routers originator lsa w × (as_way w ≡ border)
   counted_back originator lsa border k =
       let f = found (ARouter originator) border k.reaches.reached in (
@@ -145,8 +145,8 @@ module _ (said : Said) (root : Root) (ways : Ways) (are : AreWays said root ways
 
   -- ---- within and between areas
 
-  by_router : (key : Key) (says : LsaBody) → said key ≡ Some says → (o : Offer)
-      → OfRouter root ways (key, says) o → OffersWithin said root o
+  by_router : (key : Key) (says : LsaBody) → contents key ≡ Some says → (o : Offer)
+      → OfRouter root ways (key, says) o → OffersWithin contents root o
   by_router key says is o k =
       let router = key.advertising_router in
       let here : key ≡ router_key router = λ i. record {
@@ -154,8 +154,8 @@ module _ (said : Said) (root : Root) (ways : Ways) (are : AreWays said root ways
         link_state_id = k.own i;
         advertising_router = router;
       } in
-      let its : said (router_key router) ≡ Some (body.Router k.lsa) =
-      ap said (sym here) ∙ is ∙ ap (λ (b : LsaBody). Some b) k.its in
+      let its : contents (router_key router) ≡ Some (body.Router k.lsa) =
+      ap contents (sym here) ∙ is ∙ ap (λ (b : LsaBody). Some b) k.its in
       let stub = k.offered.2 in
       record {
         node = ARouter router;
@@ -181,8 +181,8 @@ module _ (said : Said) (root : Root) (ways : Ways) (are : AreWays said root ways
             (leaving root router k.way).hops) (same_distance root router k.way);
       }
 
-  by_network : (key : Key) (says : LsaBody) → said key ≡ Some says → (o : Offer)
-      → OfNetwork ways (key, says) o → OffersWithin said root o
+  by_network : (key : Key) (says : LsaBody) → contents key ≡ Some says → (o : Offer)
+      → OfNetwork ways (key, says) o → OffersWithin contents root o
   by_network key says is o k =
       let id = key.link_state_id in
       let by = key.advertising_router in
@@ -191,8 +191,8 @@ module _ (said : Said) (root : Root) (ways : Ways) (are : AreWays said root ways
         link_state_id = id;
         advertising_router = by;
       } in
-      let its : said (network_key id by) ≡ Some (body.Network k.lsa) =
-      ap said (sym here) ∙ is ∙ ap (λ (b : LsaBody). Some b) k.its in
+      let its : contents (network_key id by) ≡ Some (body.Network k.lsa) =
+      ap contents (sym here) ∙ is ∙ ap (λ (b : LsaBody). Some b) k.its in
       let none : k.way.distance ≡ k.way.distance + 0 = omega arith in
       record {
         node = ANetwork id by;
@@ -207,8 +207,8 @@ module _ (said : Said) (root : Root) (ways : Ways) (are : AreWays said root ways
         is = k.is ∙ ap (λ d. intra k.prefix d k.way.hops) none;
       }
 
-  by_summary : (key : Key) (says : LsaBody) → said key ≡ Some says → (o : Offer)
-      → OfSummary root routers (key, says) o → OffersBetween said root o
+  by_summary : (key : Key) (says : LsaBody) → contents key ≡ Some says → (o : Offer)
+      → OfSummary root routers (key, says) o → OffersBetween contents root o
   by_summary key says is o k =
       let id = key.link_state_id in
       let by = key.advertising_router in
@@ -221,7 +221,7 @@ module _ (said : Said) (root : Root) (ways : Ways) (are : AreWays said root ways
         id = id;
         originator = by;
         lsa = k.lsa;
-        its = ap said (sym here) ∙ is ∙ ap (λ (b : LsaBody). Some b) k.its;
+        its = ap contents (sym here) ∙ is ∙ ap (λ (b : LsaBody). Some b) k.its;
         border = as_way k.border;
         counts = counted_forth by k.lsa k.border k.counts;
         prefix = k.prefix;
@@ -229,16 +229,16 @@ module _ (said : Said) (root : Root) (ways : Ways) (are : AreWays said root ways
         is = k.is;
       }
 
-  pub inner_forth : (o : Offer) → OfSaid (IsInner root ways routers) said o
-      → OffersInside said root o
+  pub inner_forth : (o : Offer) → OfContents (IsInner root ways routers) contents o
+      → OffersInside contents root o
   inner_forth o ((key, says), is, ByRouter k) = inl (by_router key says is o k)
   inner_forth o ((key, says), is, ByNetwork k) = inl (by_network key says is o k)
   inner_forth o ((key, says), is, BySummary k) = inr (by_summary key says is o k)
 
-  of_within : (node : Node) (prefix : Network) (more : ℕ) → Attaches said node prefix more
+  of_within : (node : Node) (prefix : Network) (more : ℕ) → Attaches contents node prefix more
       → (way : WalkWay) → IsReached node way → (hops : ℕ) → (node ≡ ARouter root.router → hops ≡ 1)
       → ((node ≡ ARouter root.router → ⊥) → hops ≡ way.hops)
-      → OfSaid (IsInner root ways routers) said (intra prefix (way.distance + more) hops)
+      → OfContents (IsInner root ways routers) contents (intra prefix (way.distance + more) hops)
   of_within (ANetwork id by) prefix more a way is hops by_root by_others =
       let f = found (ANetwork id by) way is in
       let key = network_key id by in
@@ -294,10 +294,10 @@ module _ (said : Said) (root : Root) (ways : Ways) (are : AreWays said root ways
         }),
       )
 
-  pub inner_back : (o : Offer) → OffersInside said root o
-      → OfSaid (IsInner root ways routers) said o
+  pub inner_back : (o : Offer) → OffersInside contents root o
+      → OfContents (IsInner root ways routers) contents o
   inner_back o (inl k) =
-      let P : Offer → Type 0 = λ x. OfSaid (IsInner root ways routers) said x in
+      let P : Offer → Type 0 = λ x. OfContents (IsInner root ways routers) contents x in
       subst P (sym k.is) (of_within k.node k.prefix k.more k.attached k.way k.reached k.hops
       k.by_root k.by_others)
   inner_back o (inr k) =

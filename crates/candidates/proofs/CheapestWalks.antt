@@ -28,7 +28,7 @@ use Rattle.routes.specs.Paths.{IsLeastWalk, IsWalk, IsWay, Step, Way, price_of}
 use Rattle.routes.specs.declared.root.Root.{Root}
 use Rattle.routes.proofs.Determined.{AreAlike, alike, as_good, bit_of_member}
 use Rattle.candidates.proofs.LeastWalks as least
-use Rattle.routes.specs.Said.{Said}
+use Rattle.routes.specs.Contents.{Contents}
 use Rattle.routes.specs.Routes.{IsNoWorse, rank}
 
 -- ---- offers in parallel
@@ -65,12 +65,12 @@ only_zero zero t = refl
 only_zero (suc i) t = absurd (let e : bit_at 1 (suc i) ≡ 0 = bit_at-suc 1 i ∙ bit_at-zero i in
     omega (arith, e, bit_of_member 1 (suc i) t))
 
-module _ (said : Said) (root : Root) where
+module _ (contents : Contents) (root : Root) where
   start : Node
   start = ARouter root.router
 
   from_count : (kind : LinkKind) (id price exit : ℕ)
-      → Counts said root root.router kind id price exit
+      → Counts contents root root.router kind id price exit
       → (0 < price) × (exit < length root.addresses + 1)
   from_count kind id price exit c =
       let by = c.by_interface refl in (
@@ -82,7 +82,7 @@ module _ (said : Said) (root : Root) where
 
   -- the root's links cost something, and leave by its interfaces
   pub counted : (target : Node) (price exit : ℕ)
-      → LeadsTo said root (ARouter root.router) target price exit
+      → LeadsTo contents root (ARouter root.router) target price exit
       → (0 < price) × (exit < length root.addresses + 1)
   counted (ARouter b) price exit l = from_count _ b price exit l.0
   counted (ANetwork id by) price exit l = from_count _ id price exit l.0
@@ -97,9 +97,9 @@ module _ (said : Said) (root : Root) where
 
   -- ---- from walks to offers
 
-  least_is : (node : Node) (w : Way) → IsWay (Leads said root) (ARouter root.router) node w
-      → (walk : List (Step Node)) → IsWalk (Leads said root) (ARouter root.router) walk node
-      → w.distance ≡ price_of walk → IsLeastWalk (Leads said root) (ARouter root.router) walk
+  least_is : (node : Node) (w : Way) → IsWay (Leads contents root) (ARouter root.router) node w
+      → (walk : List (Step Node)) → IsWalk (Leads contents root) (ARouter root.router) walk node
+      → w.distance ≡ price_of walk → IsLeastWalk (Leads contents root) (ARouter root.router) walk
       node
   least_is node w is walk p e = record {
     is_walk = p;
@@ -107,16 +107,16 @@ module _ (said : Said) (root : Root) where
   }
 
   at_root : (node : Node) (walk : List (Step Node)) (i : ℕ)
-      → IsWalk (Leads said root) (ARouter root.router) walk node → price_of walk ≡ 0
+      → IsWalk (Leads contents root) (ARouter root.router) walk node → price_of walk ≡ 0
       → i ≡ first_exit walk → IsTrue (has_interface 1 i)
   at_root node [] i p e f = let P : ℕ → Type 0 = λ k. IsTrue (has_interface 1 k) in
       subst P (sym f) refl
   at_root node (step ∷ rest) i p e f =
       absurd (let free = counted step.target step.price step.exit p.0 in omega (arith, free.0, e))
 
-  elsewhere : (node : Node) (w : Way) → IsWay (Leads said root) (ARouter root.router) node w
+  elsewhere : (node : Node) (w : Way) → IsWay (Leads contents root) (ARouter root.router) node w
       → (node ≡ ARouter root.router → ⊥) → (walk : List (Step Node)) (i : ℕ)
-      → IsWalk (Leads said root) (ARouter root.router) walk node → w.distance ≡ price_of walk
+      → IsWalk (Leads contents root) (ARouter root.router) walk node → w.distance ≡ price_of walk
       → i ≡ first_exit walk → IsTrue (has_interface w.hops i)
   elsewhere node w is other [] i p e f = absurd (other (sym p))
   elsewhere node w is other (step ∷ rest) i p e f =
@@ -125,16 +125,16 @@ module _ (said : Said) (root : Root) where
   -- an offer that costs no more than the walk, and with its interface if it costs the same
   record Stands (prefix : Network) (cost interface : ℕ) : Type 0 where
     offer : Offer
-    offered : OffersWithin said root offer
+    offered : OffersWithin contents root offer
     is_for : offer.prefix ≡ prefix
     kind : rank offer.kind ≡ 0
     distance : offer.distance ≡ 0
     costs : offer.cost ≤ cost
     hops : offer.cost ≡ cost → IsTrue (has_interface offer.hops interface)
 
-  stands_at_root : (prefix : Network) (cost i : ℕ) (x : IsReached said root prefix cost i)
+  stands_at_root : (prefix : Network) (cost i : ℕ) (x : IsReached contents root prefix cost i)
       → x.node ≡ ARouter root.router → (w : Way)
-      → IsWay (Leads said root) (ARouter root.router) x.node w → Stands prefix cost i
+      → IsWay (Leads contents root) (ARouter root.router) x.node w → Stands prefix cost i
   stands_at_root prefix cost i x e w is =
       let near : w.distance ≤ price_of x.walk =
       omega (arith, is.distance.2, is.distance.1.least x.walk x.is_walk) in
@@ -161,9 +161,9 @@ module _ (said : Said) (root : Root) where
             (omega (arith, near, nothing, x.costs, same)) x.leaves_by;
       }
 
-  stands_elsewhere : (prefix : Network) (cost i : ℕ) (x : IsReached said root prefix cost i)
+  stands_elsewhere : (prefix : Network) (cost i : ℕ) (x : IsReached contents root prefix cost i)
       → (x.node ≡ ARouter root.router → ⊥) → (w : Way)
-      → IsWay (Leads said root) (ARouter root.router) x.node w → Stands prefix cost i
+      → IsWay (Leads contents root) (ARouter root.router) x.node w → Stands prefix cost i
   stands_elsewhere prefix cost i x other w is =
       let near : w.distance ≤ price_of x.walk =
       omega (arith, is.distance.2, is.distance.1.least x.walk x.is_walk) in
@@ -189,10 +189,10 @@ module _ (said : Said) (root : Root) where
             (omega (arith, near, x.costs, same)) x.leaves_by;
       }
 
-  stands : (prefix : Network) (cost i : ℕ) → IsReached said root prefix cost i
+  stands : (prefix : Network) (cost i : ℕ) → IsReached contents root prefix cost i
       → (Stands prefix cost i → ⊥) → ⊥
   stands prefix cost i x none =
-      least.way (Leads said root) (ARouter root.router) x.node (length root.addresses + 1)
+      least.way (Leads contents root) (ARouter root.router) x.node (length root.addresses + 1)
       (λ s l. (counted s.target s.price s.exit l).1) x.walk x.is_walk (λ w.
       elim (is_root x.node) [
         | inl e ↦ none (stands_at_root prefix cost i x e w.0 w.1)
@@ -201,7 +201,7 @@ module _ (said : Said) (root : Root) where
 
   -- ---- from offers to walks
 
-  within_of : (o : Offer) → rank o.kind ≡ 0 → Offers said root o → OffersWithin said root o
+  within_of : (o : Offer) → rank o.kind ≡ 0 → Offers contents root o → OffersWithin contents root o
   within_of o e (Within p) = p
   within_of o e (Between p) = absurd
       (let kind : rank o.kind ≡ 1 = ap (λ (x : Offer). rank x.kind) p.is in omega (arith, e, kind))
@@ -213,9 +213,10 @@ module _ (said : Said) (root : Root) where
         external_rank p.lsa.kind p.prefix p.lsa p.originator p.way,
       ))
 
-  walk_of : (o : Offer) → OffersWithin said root o → (i : ℕ) × IsReached said root o.prefix o.cost i
+  walk_of : (o : Offer) → OffersWithin contents root o → (i : ℕ) × IsReached contents root o.prefix
+      o.cost i
   walk_of o x =
-      let Reached : Offer → Type 0 = λ y. (i : ℕ) × IsReached said root y.prefix y.cost i in
+      let Reached : Offer → Type 0 = λ y. (i : ℕ) × IsReached contents root y.prefix y.cost i in
       subst Reached (sym x.is) (
         first_exit x.reached.distance.0,
         record {
@@ -229,13 +230,13 @@ module _ (said : Said) (root : Root) where
         },
       )
 
-  hop_of : (o : Offer) (i : ℕ) → OffersWithin said root o → IsTrue (has_interface o.hops i)
-      → IsReached said root o.prefix o.cost i
+  hop_of : (o : Offer) (i : ℕ) → OffersWithin contents root o → IsTrue (has_interface o.hops i)
+      → IsReached contents root o.prefix o.cost i
   hop_of o i x t =
-      let Reached : Offer → Type 0 = λ y. IsReached said root y.prefix y.cost i in
+      let Reached : Offer → Type 0 = λ y. IsReached contents root y.prefix y.cost i in
       let Has : ℕ → Type 0 = λ hops. IsTrue (has_interface hops i) in
       let has : Has x.hops = subst Has (ap (λ (y : Offer). y.hops) x.is) t in
-      let leads : Node → Step Node → Type 0 = Leads said root in
+      let leads : Node → Step Node → Type 0 = Leads contents root in
       subst Reached (sym x.is)
       (elim (is_root x.node) [
         | inl e ↦
@@ -273,8 +274,8 @@ module _ (said : Said) (root : Root) where
 
   -- ---- candidates
 
-  is_preferred : (r : Route) (cost i : ℕ) → IsCandidate said root r
-      → IsReached said root r.prefix cost i → r.kind ≡ Intra
+  is_preferred : (r : Route) (cost i : ℕ) → IsCandidate contents root r
+      → IsReached contents root r.prefix cost i → r.kind ≡ Intra
   is_preferred r cost i k x =
       elim (intra_or_not r.kind) [
         | inl e ↦ e
@@ -289,11 +290,12 @@ module _ (said : Said) (root : Root) where
             )))
       ]
 
-  first_rank : (r : Route) (k : IsCandidate said root r) → r.kind ≡ Intra → rank k.first.kind ≡ 0
+  first_rank : (r : Route) (k : IsCandidate contents root r) → r.kind ≡ Intra → rank k.first.kind
+      ≡ 0
   first_rank r k e = ap rank (sym k.kind ∙ e)
 
-  is_cheapest : (r : Route) (cost i : ℕ) → IsCandidate said root r
-      → IsReached said root r.prefix cost i → r.cost ≤ cost
+  is_cheapest : (r : Route) (cost i : ℕ) → IsCandidate contents root r
+      → IsReached contents root r.prefix cost i → r.cost ≤ cost
   is_cheapest r cost i k x =
       elim (cases_lt cost r.cost) [
         | inr enough ↦ enough
@@ -310,30 +312,30 @@ module _ (said : Said) (root : Root) where
             )))
       ]
 
-  is_reached : (r : Route) → IsCandidate said root r → r.kind ≡ Intra
-      → (i : ℕ) × IsReached said root r.prefix r.cost i
+  is_reached : (r : Route) → IsCandidate contents root r → r.kind ≡ Intra
+      → (i : ℕ) × IsReached contents root r.prefix r.cost i
   is_reached r k e =
       let walk = walk_of k.first (within_of k.first (first_rank r k e) k.is_best.offered) in
-      let P : Network → Type 0 = λ n. IsReached said root n r.cost walk.0 in
-      let Q : ℕ → Type 0 = λ c. IsReached said root k.first.prefix c walk.0 in
+      let P : Network → Type 0 = λ n. IsReached contents root n r.cost walk.0 in
+      let Q : ℕ → Type 0 = λ c. IsReached contents root k.first.prefix c walk.0 in
       (walk.0, subst P k.is_best.is_for (subst Q (sym k.cost) walk.1))
 
-  hop_is_reached : (r : Route) (i : ℕ) → IsCandidate said root r → r.kind ≡ Intra
-      → IsTrue (has_interface r.hops i) → IsReached said root r.prefix r.cost i
+  hop_is_reached : (r : Route) (i : ℕ) → IsCandidate contents root r → r.kind ≡ Intra
+      → IsTrue (has_interface r.hops i) → IsReached contents root r.prefix r.cost i
   hop_is_reached r i k e t =
       let hop = (k.hops i).0 t in
       let o : Offer = hop.0 in
       let same : AreAlike k.first o = alike k.first o (k.is_best.best o hop.1.offered hop.1.is_for)
       (hop.1.best k.first k.is_best.offered k.is_best.is_for) in
-      let walk : IsReached said root o.prefix o.cost i =
+      let walk : IsReached contents root o.prefix o.cost i =
       hop_of o i (within_of o (sym same.kind ∙ first_rank r k e) hop.1.offered) hop.2 in
       let cost : o.cost ≡ r.cost = sym same.cost ∙ sym k.cost in
-      let P : Network → Type 0 = λ n. IsReached said root n r.cost i in
-      let Q : ℕ → Type 0 = λ c. IsReached said root o.prefix c i in
+      let P : Network → Type 0 = λ n. IsReached contents root n r.cost i in
+      let Q : ℕ → Type 0 = λ c. IsReached contents root o.prefix c i in
       subst P hop.1.is_for (subst Q cost walk)
 
-  reached_is_hop : (r : Route) (i : ℕ) → IsCandidate said root r → r.kind ≡ Intra
-      → (x : IsReached said root r.prefix r.cost i) → (IsTrue (has_interface r.hops i) → ⊥) → ⊥
+  reached_is_hop : (r : Route) (i : ℕ) → IsCandidate contents root r → r.kind ≡ Intra
+      → (x : IsReached contents root r.prefix r.cost i) → (IsTrue (has_interface r.hops i) → ⊥) → ⊥
   reached_is_hop r i k e x never =
       stands r.prefix r.cost i x (λ s.
       let best : IsNoWorse k.first s.offer = k.is_best.best s.offer (Within s.offered) s.is_for in
@@ -346,7 +348,7 @@ module _ (said : Said) (root : Root) where
         cost = cost;
         distance = omega (arith, far, s.distance);
       } in
-      let is_best : IsBest said root r.prefix s.offer = record {
+      let is_best : IsBest contents root r.prefix s.offer = record {
         offered = Within s.offered;
         is_for = s.is_for;
         best = λ other offered for. as_good k.first s.offer other same
@@ -358,8 +360,8 @@ module _ (said : Said) (root : Root) where
   stable true p = refl
   stable false p = absurd (p (λ e. cc))
 
-  is_hop : (r : Route) → IsCandidate said root r → r.kind ≡ Intra → (i : ℕ)
-      → IsTrue (has_interface r.hops i) ↔ IsReached said root r.prefix r.cost i
+  is_hop : (r : Route) → IsCandidate contents root r → r.kind ≡ Intra → (i : ℕ)
+      → IsTrue (has_interface r.hops i) ↔ IsReached contents root r.prefix r.cost i
   is_hop r k e i = (
     λ t. hop_is_reached r i k e t,
     λ x. stable (has_interface r.hops i) (reached_is_hop r i k e x),
@@ -367,8 +369,8 @@ module _ (said : Said) (root : Root) where
 
 pub cheapest_walks : CandidatesAreCheapestWalks
 cheapest_walks = record {
-  preferred = λ said root r cost i k x. is_preferred said root r cost i k x;
-  cheapest = λ said root r cost i k x. is_cheapest said root r cost i k x;
-  reached = λ said root r k e. is_reached said root r k e;
-  hops = λ said root r k e i. is_hop said root r k e i;
+  preferred = λ contents root r cost i k x. is_preferred contents root r cost i k x;
+  cheapest = λ contents root r cost i k x. is_cheapest contents root r cost i k x;
+  reached = λ contents root r k e. is_reached contents root r k e;
+  hops = λ contents root r k e i. is_hop contents root r k e i;
 }

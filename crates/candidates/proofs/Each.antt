@@ -4,10 +4,10 @@ use Rattle.std.proofs.Common.{◌≤◌, ℕ, List, None, Some, arith}
 use Rattle.words.specs.declared.key.Key.{Key}
 use Rattle.lsa.specs.declared.body.LsaBody.{LsaBody}
 use Rattle.lsdb.specs.Bodies.{AreBodies}
-use Rattle.routes.specs.Said.{Said}
+use Rattle.routes.specs.Contents.{Contents}
 use Rattle.routes.specs.declared.offer.Offer.{Offer}
 use Rattle.routes.specs.declared.root.Root.{Root}
-use Rattle.candidates.specs.Bodies.{HaveAll, OfSaid}
+use Rattle.candidates.specs.Bodies.{HaveAll, OfContents}
 use Rattle.candidates.specs.Borders.{Tells}
 use Rattle.candidates.specs.Externals.{AreExternals, AreAdvertisedBy}
 use Rattle.candidates.specs.Gathering.{OfEach}
@@ -34,34 +34,35 @@ told_up_to root routers one o k = omega (arith, k.is_type)
 
 -- ---- in both directions
 
-module _ (last : ℕ) (said : Said) (bodies : List (Key × LsaBody)) (have : HaveAll last said bodies)
+module _ (last : ℕ) (contents : Contents) (bodies : List (Key × LsaBody))
+    (have : HaveAll last contents bodies)
     (Q : Key × LsaBody → Offer → Type 0) where
-  pub of_said : (o : Offer) → OfEach Q bodies o → OfSaid Q said o
+  pub of_said : (o : Offer) → OfEach Q bodies o → OfContents Q contents o
   of_said o ((key, says), among, q) = ((key, says), have.each key says among, q)
 
-  pub of_each : AreUpTo last Q → (o : Offer) → OfSaid Q said o → OfEach Q bodies o
+  pub of_each : AreUpTo last Q → (o : Offer) → OfContents Q contents o → OfEach Q bodies o
   of_each up o ((key, says), is, q) = ((key, says), have.all key says (up (key, says) o q) is, q)
 
-pub up_to_bodies : (last : ℕ) (said : Said) (bodies : List (Key × LsaBody))
-    → AreBodies (Some last) said bodies → HaveAll last said bodies
-up_to_bodies last said bodies are = record {
+pub up_to_bodies : (last : ℕ) (contents : Contents) (bodies : List (Key × LsaBody))
+    → AreBodies (Some last) contents bodies → HaveAll last contents bodies
+up_to_bodies last contents bodies are = record {
   each = λ key says among. ((are.each key says).0 among).1;
   all = λ key says up is. (are.each key says).1 (up, is);
 }
 
 -- what the LSAs of a list advertise about external destinations is what those of the database
 -- advertise
-pub all_external : (said : Said) (bodies : List (Key × LsaBody))
-    (advertised : List ExternalAdvertisement) → AreBodies None said bodies
-    → AreAdvertisedBy bodies advertised → AreExternals said advertised
-all_external said bodies advertised are by e = (
+pub all_external : (contents : Contents) (bodies : List (Key × LsaBody))
+    (advertised : List ExternalAdvertisement) → AreBodies None contents bodies
+    → AreAdvertisedBy bodies advertised → AreExternals contents advertised
+all_external contents bodies advertised are by e = (
   (λ t. let p = (by e).0 t in ((p.0.0, p.0.1), ((are.each p.0.0 p.0.1).0 p.1).1, p.2)),
   (λ p. (by e).1 ((p.0.0, p.0.1), (are.each p.0.0 p.0.1).1 (tt, p.1), p.2)),
 )
 
-pub fewer : (most last : ℕ) (said : Said) (bodies : List (Key × LsaBody)) → last ≤ most
-    → HaveAll most said bodies → HaveAll last said bodies
-fewer most last said bodies low have = record {
+pub fewer : (most last : ℕ) (contents : Contents) (bodies : List (Key × LsaBody)) → last ≤ most
+    → HaveAll most contents bodies → HaveAll last contents bodies
+fewer most last contents bodies low have = record {
   each = have.each;
   all = λ key says up is. have.all key says (omega (arith, up, low)) is;
 }

@@ -21,7 +21,7 @@ use Rattle.lsa.specs.declared.body.LsaBody.{LsaBody}
 use Rattle.lsa.specs.declared.body.LsaBody.TheVariants as body
 use Rattle.lsdb.specs.Keys.{key_cmp}
 use Rattle.routes.specs.Links.{router_key}
-use Rattle.routes.specs.Said.{Said}
+use Rattle.routes.specs.Contents.{Contents}
 use Rattle.routes.specs.declared.graph.Way.{Way}
 use Rattle.routes.specs.declared.node.Node.TheVariants.{ARouter}
 use Rattle.routes.proofs.Lists.{of_cons, of_empty}
@@ -183,10 +183,10 @@ module _ (ways : Ways) where
   has_one flags flag (inl e) is = inl (subst (λ f. bit_and flags f ≡ f) e is)
   has_one flags flag (inr e) is = inr (subst (λ f. bit_and flags f ≡ f) e is)
 
-  pub are_flagged : (said : Said) (bodies : List (Key × LsaBody)) (routers : List Flagged)
-      → HaveAll 1 said bodies → AreTold (TellsFlags ways) bodies routers
-      → AreFlagged said ways routers
-  are_flagged said bodies routers have advertised router flag way is_flag = (
+  pub are_flagged : (contents : Contents) (bodies : List (Key × LsaBody)) (routers : List Flagged)
+      → HaveAll 1 contents bodies → AreTold (TellsFlags ways) bodies routers
+      → AreFlagged contents ways routers
+  are_flagged contents bodies routers have advertised router flag way is_flag = (
     (λ k.
         let r : Flagged = record { router = router; flags = k.lsa.flags; way = way } in
         let tells : TellsFlags ways (router_key router, body.Router k.lsa) r = record {
@@ -223,7 +223,8 @@ module _ (ways : Ways) where
         } in
         record {
           lsa = tells.lsa;
-          its = ap said (sym at) ∙ have.each key p.0.1 p.1 ∙ ap (λ (b : LsaBody). Some b) tells.its;
+          its = ap contents (sym at) ∙ have.each key p.0.1 p.1 ∙ ap (λ (b : LsaBody). Some b)
+              tells.its;
           has_flag = subst (λ f. bit_and f flag ≡ flag) tells.its_flags k.has_flag;
           reached = ap (λ r. ways (ARouter r)) (sym by) ∙ tells.reached
               ∙ ap (λ (w : Way). Some w) (sym k.its_way);

@@ -27,7 +27,7 @@ use Rattle.routes.specs.declared.root.Root.{Root}
 use Rattle.routes.proofs.Determined.{bit_of_member}
 use Rattle.candidates.proofs.LeastWalks.{Chosen, chosen}
 use Rattle.candidates.proofs.CheapestWalks as reached
-use Rattle.routes.specs.Said.{Said}
+use Rattle.routes.specs.Contents.{Contents}
 use Rattle.routes.specs.Routes.{IsForwarded, IsNoLater, IsNoWorse, rank}
 use Rattle.routes.specs.Summaries.IsBoundaryWay.{Inside, Outside}
 use Rattle.routes.specs.Summaries.{IsBoundaryWay, OffersBetween, OffersInside}
@@ -136,54 +136,59 @@ external_hops : (t : ExternalType) (prefix : Network) (lsa : ExternalLsa) (origi
 external_hops Type1 prefix lsa originator way = refl
 external_hops Type2 prefix lsa originator way = refl
 
-module _ (said : Said) (root : Root) where
+module _ (contents : Contents) (root : Root) where
   abbrev limit : ℕ
   limit = length root.addresses + 1
 
-  of_way : (node : Node) (w : Way) → IsWay (Leads said root) (ARouter root.router) node w → (i : ℕ)
+  of_way : (node : Node) (w : Way) → IsWay (Leads contents root) (ARouter root.router) node w
+      → (i : ℕ)
       → IsTrue (has_interface w.hops i) → i < limit
   of_way node w is i t =
       let hop = (is.hops i).0 t in
-      let low = (reached.counted said root hop.0.target hop.0.price hop.0.exit hop.2.is_walk.0).1 in
+      let low = (reached.counted contents root hop.0.target hop.0.price hop.0.exit
+      hop.2.is_walk.0).1 in
       omega (arith, low, hop.3)
 
-  of_within : (o : Offer) → OffersWithin said root o → (i : ℕ) → IsTrue (has_interface o.hops i)
+  of_within : (o : Offer) → OffersWithin contents root o → (i : ℕ) → IsTrue (has_interface o.hops i)
       → i < limit
   of_within o x i t =
       let Has : ℕ → Type 0 = λ hops. IsTrue (has_interface hops i) in
       let has : Has x.hops = subst Has (ap (λ (y : Offer). y.hops) x.is) t in
-      elim (reached.is_root said root x.node) [
+      elim (reached.is_root contents root x.node) [
         | inl e ↦ omega (arith, reached.only_zero i (subst Has (x.by_root e) has))
         | inr other ↦ of_way x.node x.way x.reached i (subst Has (x.by_others other) has)
       ]
 
-  of_between : (o : Offer) → OffersBetween said root o → (i : ℕ) → IsTrue (has_interface o.hops i)
+  of_between : (o : Offer) → OffersBetween contents root o → (i : ℕ) → IsTrue
+      (has_interface o.hops i)
       → i < limit
   of_between o x i t =
       let Has : ℕ → Type 0 = λ hops. IsTrue (has_interface hops i) in
       of_way (ARouter x.originator) x.border x.counts.reaches.reached i
       (subst Has (ap (λ (y : Offer). y.hops) x.is) t)
 
-  of_inside : (o : Offer) → OffersInside said root o → (i : ℕ) → IsTrue (has_interface o.hops i)
+  of_inside : (o : Offer) → OffersInside contents root o → (i : ℕ) → IsTrue (has_interface o.hops i)
       → i < limit
   of_inside o (inl x) i t = of_within o x i t
   of_inside o (inr x) i t = of_between o x i t
 
-  of_boundary : (router : ℕ) (w : Way) → IsBoundaryWay said root router w → (i : ℕ)
+  of_boundary : (router : ℕ) (w : Way) → IsBoundaryWay contents root router w → (i : ℕ)
       → IsTrue (has_interface w.hops i) → i < limit
   of_boundary router w (Inside x) i t = of_way (ARouter router) w x.reached i t
   of_boundary router w (Outside none x) i t =
       let h = (x.hops i).0 t in
       of_way (ARouter h.1.originator) h.0 h.1.counts.reaches.reached i h.2
 
-  of_forwarded : (address : ℕ) (w : Way) → IsForwarded (OffersInside said root) address w → (i : ℕ)
+  of_forwarded : (address : ℕ) (w : Way) → IsForwarded (OffersInside contents root) address w
+      → (i : ℕ)
       → IsTrue (has_interface w.hops i) → i < limit
   of_forwarded address w f i t =
       let Has : ℕ → Type 0 = λ hops. IsTrue (has_interface hops i) in
       let o = (f.is_route.hops i).0 (subst Has (ap (λ (x : Way). x.hops) f.is) t) in
       of_inside o.0 o.1.offered i o.2
 
-  of_external : (o : Offer) → OffersExternal said root o → (i : ℕ) → IsTrue (has_interface o.hops i)
+  of_external : (o : Offer) → OffersExternal contents root o → (i : ℕ) → IsTrue
+      (has_interface o.hops i)
       → i < limit
   of_external o x i t =
       let Has : ℕ → Type 0 = λ hops. IsTrue (has_interface hops i) in
@@ -196,7 +201,7 @@ module _ (said : Said) (root : Root) where
         | inr some ↦ of_forwarded x.lsa.forwarding x.way (x.is_way.forwarded some) i has
       ]
 
-  of_offer : (o : Offer) → Offers said root o → (i : ℕ) → IsTrue (has_interface o.hops i)
+  of_offer : (o : Offer) → Offers contents root o → (i : ℕ) → IsTrue (has_interface o.hops i)
       → i < limit
   of_offer o (Within x) i t = of_within o x i t
   of_offer o (Between x) i t = of_between o x i t
@@ -205,10 +210,10 @@ module _ (said : Said) (root : Root) where
   -- ---- the candidate
 
   record IsFor (prefix : Network) (o : Offer) : Type 0 where
-    offered : Offers said root o
+    offered : Offers contents root o
     is_for : o.prefix ≡ prefix
 
-  is_best : (prefix : Network) (o : Offer) → Best3 (IsFor prefix) o → IsBest said root prefix o
+  is_best : (prefix : Network) (o : Offer) → Best3 (IsFor prefix) o → IsBest contents root prefix o
   is_best prefix o b = record {
     offered = b.has.has.has.offered;
     is_for = b.has.has.has.is_for;
@@ -216,10 +221,11 @@ module _ (said : Said) (root : Root) where
   }
 
   abbrev HasHop : Network → ℕ → Type 0
-  HasHop prefix i = (o : Offer) × IsBest said root prefix o × IsTrue (has_interface o.hops i)
+  HasHop prefix i = (o : Offer) × IsBest contents root prefix o × IsTrue (has_interface o.hops i)
 
-  made : (prefix : Network) (o : Offer) → First2 (IsBest said root prefix) o
-      → Chosen (HasHop prefix) limit → (r : Route) × IsCandidate said root r × (r.prefix ≡ prefix)
+  made : (prefix : Network) (o : Offer) → First2 (IsBest contents root prefix) o
+      → Chosen (HasHop prefix) limit → (r : Route) × IsCandidate contents root r
+      × (r.prefix ≡ prefix)
   made prefix o f c = (
     record {
       prefix = prefix;
@@ -232,7 +238,7 @@ module _ (said : Said) (root : Root) where
     record {
       first = o;
       is_best = f.has.has;
-      earliest = λ z b. no_later (IsBest said root prefix) o f z b;
+      earliest = λ z b. no_later (IsBest contents root prefix) o f z b;
       kind = refl;
       cost = refl;
       distance = refl;
@@ -252,11 +258,11 @@ module _ (said : Said) (root : Root) where
     refl,
   )
 
-  candidate : (o : Offer) → Offers said root o
-      → (((r : Route) × IsCandidate said root r × (r.prefix ≡ o.prefix)) → ⊥) → ⊥
+  candidate : (o : Offer) → Offers contents root o
+      → (((r : Route) × IsCandidate contents root r × (r.prefix ≡ o.prefix)) → ⊥) → ⊥
   candidate o x none =
       best (IsFor o.prefix) o (record { offered = x; is_for = refl }) (λ b.
-      first (IsBest said root o.prefix) b.0 (is_best o.prefix b.0 b.1) (λ f.
+      first (IsBest contents root o.prefix) b.0 (is_best o.prefix b.0 b.1) (λ f.
       chosen (HasHop o.prefix) limit (λ c. none (made o.prefix f.0 f.1 c))))
 
 -- ---- in a list
@@ -298,8 +304,8 @@ seek (x ∷ xs) prefix =
     ]
 
 pub every : EveryOfferHasACandidate
-every said root routes o are x =
+every contents root routes o are x =
     elim (seek routes o.prefix) [
       | inl h ↦ h
-      | inr none ↦ absurd (candidate said root o x (λ r. none (r.0, (are.each r.0).1 r.1, r.2)))
+      | inr none ↦ absurd (candidate contents root o x (λ r. none (r.0, (are.each r.0).1 r.1, r.2)))
     ]

@@ -16,7 +16,7 @@ use Rattle.routes.specs.Paths.{Way as WalkWay}
 use Rattle.routes.specs.Routes.{AreRoutesAmong, IsBestAmong, IsNoWorse, IsRouteAmong, rank}
 use Rattle.routes.specs.Routes.IsNoLater.{ByTag}
 use Rattle.routes.specs.Routes.IsNoWorse.{ByCost, ByDistance, ByKind}
-use Rattle.routes.specs.Said.{Said}
+use Rattle.routes.specs.Contents.{Contents}
 use Rattle.routes.specs.Summaries.{IsBoundaryWay, IsAdvertised, IsWayBetween, OffersInside, inter}
 use Rattle.routes.specs.Summaries.{summary_key}
 use Rattle.routes.specs.Summaries.IsBoundaryWay.{Inside as InsideWay, Outside as OutsideWay}
@@ -27,7 +27,7 @@ use Rattle.routes.proofs.Determined.{AreAlike, alike, as_good}
 use Rattle.candidates.specs.Borders.{AreFlagged, IsBoundary, IsFound, IsOutward, Tells, host}
 use Rattle.candidates.specs.Borders.{way_by}
 use Rattle.candidates.specs.Borders.IsBoundary.{Inside, Outside}
-use Rattle.candidates.specs.Bodies.{OfSaid}
+use Rattle.candidates.specs.Bodies.{OfContents}
 use Rattle.candidates.specs.Sources.{OfExternal}
 use Rattle.candidates.specs.Ways.{AreWays, Ways}
 use Rattle.candidates.specs.declared.flagged.Flagged.{Flagged}
@@ -42,16 +42,16 @@ cheaper a b e (ByKind less) = absurd (omega (arith, e, less))
 cheaper a b e (ByCost same less) = omega (arith, less)
 cheaper a b e (ByDistance same cost less) = omega (arith, cost)
 
-module _ (said : Said) (root : Root) (ways : Ways) (are : AreWays said root ways)
-    (routers : List Flagged) (flagged : AreFlagged said ways routers) where
+module _ (contents : Contents) (root : Root) (ways : Ways) (are : AreWays contents root ways)
+    (routers : List Flagged) (flagged : AreFlagged contents ways routers) where
   -- ---- what is advertised about AS boundary routers
 
   abbrev Told : Offer → Type 0
-  Told o = OfSaid (Tells root routers) said o
+  Told o = OfContents (Tells root routers) contents o
 
   record TellsOf (router : ℕ) (o : Offer) : Type 0 where
     border : WalkWay
-    advertised : IsAdvertised said root router o.cost border
+    advertised : IsAdvertised contents root router o.cost border
     hops : o.hops ≡ border.hops
     kind : o.kind ≡ Inter
     distance : o.distance ≡ 0
@@ -73,8 +73,8 @@ module _ (said : Said) (root : Root) (ways : Ways) (are : AreWays said root ways
         advertised = record {
           originator = by;
           lsa = k.lsa;
-          its = ap said (sym here) ∙ is ∙ ap (λ (b : LsaBody). Some b) k.its;
-          counts = counted_forth said root ways are routers flagged by k.lsa k.border k.counts;
+          its = ap contents (sym here) ∙ is ∙ ap (λ (b : LsaBody). Some b) k.its;
+          counts = counted_forth contents root ways are routers flagged by k.lsa k.border k.counts;
           is = ap (λ (x : Offer). x.cost) k.is;
         };
         hops = ap (λ (x : Offer). x.hops) k.is;
@@ -85,10 +85,11 @@ module _ (said : Said) (root : Root) (ways : Ways) (are : AreWays said root ways
       }
 
   offer_of : (router distance : ℕ) (border : WalkWay)
-      → IsAdvertised said root router distance border
+      → IsAdvertised contents root router distance border
       → Told (inter (host router) distance border.hops)
   offer_of router distance border t =
-      let c = counted_back said root ways are routers flagged t.originator t.lsa border t.counts in
+      let c = counted_back contents root ways are routers flagged t.originator t.lsa border t.counts
+      in
       let key = summary_key 4 router t.originator in
       let far : c.0.distance ≡ border.distance = ap (λ (w : WalkWay). w.distance) c.2 in
       let cost : distance ≡ c.0.distance + t.lsa.metric = omega (arith, t.is, far) in
@@ -110,14 +111,14 @@ module _ (said : Said) (root : Root) (ways : Ways) (are : AreWays said root ways
 
   module _ (advertised : List Route) (all : AreRoutesAmong Told advertised) where
     between_forth : (router : ℕ) (route : Route) → IsFound advertised (host router) route
-        → IsWayBetween said root router (as_way (way_by route))
+        → IsWayBetween contents root router (as_way (way_by route))
     between_forth router route f =
         let k : IsRouteAmong Told route = (all.each route).0 f.among in
         let first : TellsOf router k.first =
         told_of router k.first k.is_best.offered (k.is_best.is_for ∙ f.is_for) in
         record {
           border = first.border;
-          advertised = subst (λ d. IsAdvertised said root router d first.border) (sym k.cost)
+          advertised = subst (λ d. IsAdvertised contents root router d first.border) (sym k.cost)
               first.advertised;
           least = λ distance other t.
               let o : Offer = inter (host router) distance other.hops in
@@ -133,7 +134,7 @@ module _ (said : Said) (root : Root) (ways : Ways) (are : AreWays said root ways
                 (k.is_best.best h.0 h.1.offered h.1.is_for) in
                 let cost : h.0.cost ≡ route.cost = same.cost ∙ sym k.cost in (
                   o.border,
-                  subst (λ d. IsAdvertised said root router d o.border) cost o.advertised,
+                  subst (λ d. IsAdvertised contents root router d o.border) cost o.advertised,
                   subst (λ n. IsTrue (has_interface n i)) o.hops h.2,
                 )),
             (λ h.
@@ -163,10 +164,10 @@ module _ (said : Said) (root : Root) (ways : Ways) (are : AreWays said root ways
       tag = 0;
     }
 
-    between_back : (router : ℕ) (way : WalkWay) → IsWayBetween said root router way
+    between_back : (router : ℕ) (way : WalkWay) → IsWayBetween contents root router way
         → IsRouteAmong Told (route_to router way)
     between_back router way b =
-        let best_of : (border : WalkWay) → IsAdvertised said root router way.distance border
+        let best_of : (border : WalkWay) → IsAdvertised contents root router way.distance border
         → IsBestAmong Told (host router) (inter (host router) way.distance border.hops) =
         λ border t.
         record {
@@ -202,7 +203,7 @@ module _ (said : Said) (root : Root) (ways : Ways) (are : AreWays said root ways
                 (its_best.best h.0 h.1.offered h.1.is_for) in
                 (b.hops i).1 (
                   o.border,
-                  subst (λ d. IsAdvertised said root router d o.border) same.cost
+                  subst (λ d. IsAdvertised contents root router d o.border) same.cost
                       o.advertised,
                   subst (λ n. IsTrue (has_interface n i)) o.hops h.2,
                 )),
@@ -210,23 +211,24 @@ module _ (said : Said) (root : Root) (ways : Ways) (are : AreWays said root ways
         }
 
     boundary_way_forth : (router : ℕ) (w : Way) → IsBoundary routers advertised router w
-        → IsBoundaryWay said root router (as_way w)
+        → IsBoundaryWay contents root router (as_way w)
     boundary_way_forth router w (Inside k) =
-        InsideWay (boundary_forth said root ways are routers flagged router w k)
+        InsideWay (boundary_forth contents root ways are routers flagged router w k)
     boundary_way_forth router w (Outside none route f e) =
-        OutsideWay (λ other r. let b = boundary_back said root ways are routers flagged router other
+        OutsideWay (λ other r. let b = boundary_back contents root ways are routers flagged router
+        other
         r in none b.0 b.1)
-        (subst (λ (x : Way). IsWayBetween said root router (as_way x)) (sym e)
+        (subst (λ (x : Way). IsWayBetween contents root router (as_way x)) (sym e)
         (between_forth router route f))
 
-    boundary_way_back : (router : ℕ) (way : WalkWay) → IsBoundaryWay said root router way
+    boundary_way_back : (router : ℕ) (way : WalkWay) → IsBoundaryWay contents root router way
         → IsBoundary routers advertised router (as_found way)
     boundary_way_back router way (InsideWay k) =
-        let b = boundary_back said root ways are routers flagged router way k in
+        let b = boundary_back contents root ways are routers flagged router way k in
         subst (IsBoundary routers advertised router) (ap as_found b.2) (Inside b.1)
     boundary_way_back router way (OutsideWay none b) =
         Outside (λ other k. none (as_way other)
-        (boundary_forth said root ways are routers flagged router other k))
+        (boundary_forth contents root ways are routers flagged router other k))
         (route_to router way)
         (record {
           among = (all.each (route_to router way)).1 (between_back router way b);
@@ -235,10 +237,10 @@ module _ (said : Said) (root : Root) (ways : Ways) (are : AreWays said root ways
 
     -- ---- external destinations
 
-    module _ (inner : List Route) (inside : AreRoutesAmong (OffersInside said root) inner) where
+    module _ (inner : List Route) (inside : AreRoutesAmong (OffersInside contents root) inner) where
       outward_forth : (originator : ℕ) (lsa : ExternalLsa) (w : Way)
           → IsOutward routers advertised inner originator lsa w
-          → IsExternalWay said root originator lsa (as_way w)
+          → IsExternalWay contents root originator lsa (as_way w)
       outward_forth originator lsa w k = record {
         boundary = as_way k.boundary;
         reaches = boundary_way_forth originator k.boundary k.reaches;
@@ -255,7 +257,7 @@ module _ (said : Said) (root : Root) (ways : Ways) (are : AreWays said root ways
       }
 
       outward_back : (originator : ℕ) (lsa : ExternalLsa) (way : WalkWay)
-          → IsExternalWay said root originator lsa way
+          → IsExternalWay contents root originator lsa way
           → IsOutward routers advertised inner originator lsa (as_found way)
       outward_back originator lsa way k = record {
         boundary = as_found k.boundary;
@@ -273,8 +275,9 @@ module _ (said : Said) (root : Root) (ways : Ways) (are : AreWays said root ways
             );
       }
 
-      pub external_forth : (o : Offer) → OfSaid (OfExternal root routers advertised inner) said o
-          → OffersExternal said root o
+      pub external_forth : (o : Offer) → OfContents (OfExternal root routers advertised inner)
+          contents o
+          → OffersExternal contents root o
       external_forth o ((key, says), is, k) =
           let id = key.link_state_id in
           let by = key.advertising_router in
@@ -287,7 +290,7 @@ module _ (said : Said) (root : Root) (ways : Ways) (are : AreWays said root ways
             id = id;
             originator = by;
             lsa = k.lsa;
-            its = ap said (sym here) ∙ is ∙ ap (λ (b : LsaBody). Some b) k.its;
+            its = ap contents (sym here) ∙ is ∙ ap (λ (b : LsaBody). Some b) k.its;
             reachable = k.reachable;
             of_another = k.of_another;
             prefix = k.prefix;
@@ -297,8 +300,8 @@ module _ (said : Said) (root : Root) (ways : Ways) (are : AreWays said root ways
             is = k.is;
           }
 
-      pub external_back : (o : Offer) → OffersExternal said root o
-          → OfSaid (OfExternal root routers advertised inner) said o
+      pub external_back : (o : Offer) → OffersExternal contents root o
+          → OfContents (OfExternal root routers advertised inner) contents o
       external_back o k =
           let key : Key = record {
             ls_type = 5;

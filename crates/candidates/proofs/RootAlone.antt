@@ -15,7 +15,7 @@ use Rattle.routes.proofs.Listed.{routes_among}
 use Rattle.routes.proofs.Lists.{of_cons, of_empty}
 use Rattle.routes.specs.Links.{router_key}
 use Rattle.routes.specs.Routes.{AreRoutesAmong}
-use Rattle.routes.specs.Said.{Said}
+use Rattle.routes.specs.Contents.{Contents}
 use Rattle.routes.specs.Summaries.{OffersInside}
 use Rattle.routes.specs.declared.graph.Way.{Way}
 use Rattle.routes.specs.declared.node.Node.{Node}
@@ -23,7 +23,7 @@ use Rattle.routes.specs.declared.node.Node.TheVariants.{ANetwork, ARouter}
 use Rattle.routes.specs.declared.offer.Offer.{Offer}
 use Rattle.routes.specs.declared.root.Root.{Root}
 use Rattle.candidates.specs.Alone.{OfOne, list_of}
-use Rattle.candidates.specs.Bodies.{OfSaid}
+use Rattle.candidates.specs.Bodies.{OfContents}
 use Rattle.candidates.specs.Borders.{AreCloseBy, AreFlagged, AscendByRouter, IsCounted, Tells}
 use Rattle.candidates.specs.Borders.{TellsFlags}
 use Rattle.candidates.specs.Gathering.{Adds, IsJust}
@@ -116,8 +116,8 @@ module _ (root : Root) (ways : Ways)
       its None j is = absurd (cc)
       its (Some it) j is = let same : r ≡ it = cc in (j r).1 same
 
-  module _ (said : Said) (advertised : Option LsaBody)
-      (own : advertised ≡ said (router_key root.router)) where
+  module _ (contents : Contents) (advertised : Option LsaBody)
+      (own : advertised ≡ contents (router_key root.router)) where
     abbrev its_key : Key
     its_key = router_key root.router
 
@@ -132,7 +132,7 @@ module _ (root : Root) (ways : Ways)
     just_all None j r t = absurd (j r t)
     just_all (Some it) j r t = ap (λ x. Some x) (sym ((j r).0 t))
 
-    pub one_flagged : (o : Option Flagged) → IsJust Told o → AreFlagged said ways (list_of o)
+    pub one_flagged : (o : Option Flagged) → IsJust Told o → AreFlagged contents ways (list_of o)
     one_flagged o just router flag way is_flag = (
       (λ k.
           let same : root.router ≡ router = is_root router way k.reached in
@@ -148,7 +148,7 @@ module _ (root : Root) (ways : Ways)
             its_flags = refl;
           } in
           let is : advertised ≡ Some (body.Router k.lsa) =
-          own ∙ ap (λ n. said (router_key n)) same ∙ k.its in
+          own ∙ ap (λ n. contents (router_key n)) same ∙ k.its in
           record {
             listed = r;
             among = in_list o r (just_all o just r (body.Router k.lsa, is, tells));
@@ -162,7 +162,7 @@ module _ (root : Root) (ways : Ways)
           let same : root.router ≡ router = sym tells.its_router ∙ k.its_router in
           record {
             lsa = tells.lsa;
-            its = ap (λ n. said (router_key n)) (sym same) ∙ sym own ∙ t.1
+            its = ap (λ n. contents (router_key n)) (sym same) ∙ sym own ∙ t.1
                 ∙ ap (λ (b : LsaBody). Some b) tells.its;
             has_flag = subst (λ f. bit_and f flag ≡ flag) tells.its_flags k.has_flag;
             reached = ap (λ n. ways (ARouter n)) (sym same) ∙ tells.reached
@@ -170,15 +170,15 @@ module _ (root : Root) (ways : Ways)
           }),
     )
 
-    module _ (are : AreWays said root ways) (routers : List Flagged)
-        (flagged : AreFlagged said ways routers) where
+    module _ (are : AreWays contents root ways) (routers : List Flagged)
+        (flagged : AreFlagged contents ways routers) where
       not_counted : (originator : ℕ) (lsa : SummaryLsa) (border : Way)
           → IsCounted root routers originator lsa border → ⊥
       not_counted originator lsa border counts =
           counts.of_another (sym (is_root originator border
           ((flagged originator 1 border (inl refl)).1 counts.reaches).reached))
 
-      only_own : (o : Offer) → OfSaid (IsInner root ways routers) said o
+      only_own : (o : Offer) → OfContents (IsInner root ways routers) contents o
           → OfOne (IsInner root ways routers) its_key advertised o
       only_own o ((key, says), is, ByRouter k) =
           let by : root.router ≡ key.advertising_router =
@@ -189,7 +189,7 @@ module _ (root : Root) (ways : Ways)
             advertising_router = sym by i;
           } in (
             says,
-            own ∙ ap said (sym at) ∙ is,
+            own ∙ ap contents (sym at) ∙ is,
             subst (λ (q : Key). IsInner root ways routers (q, says) o) at (ByRouter k),
           )
       only_own o ((key, says), is, ByNetwork k) =
@@ -199,28 +199,28 @@ module _ (root : Root) (ways : Ways)
 
       pub own_inside : (offers : List Offer)
           → Adds [] offers (OfOne (IsInner root ways routers) its_key advertised)
-          → (o : Offer) → Contains offers o ↔ OffersInside said root o
+          → (o : Offer) → Contains offers o ↔ OffersInside contents root o
       own_inside offers adds o =
           let P = OfOne (IsInner root ways routers) its_key advertised in (
             (λ t.
                 let p = such offers P adds o t in
-                inner_forth said root ways are routers flagged o
+                inner_forth contents root ways are routers flagged o
                 ((its_key, p.0), sym own ∙ p.1, p.2)),
             (λ k. all_such offers P adds o
-                (only_own o (inner_back said root ways are routers flagged o k))),
+                (only_own o (inner_back contents root ways are routers flagged o k))),
           )
 
       pub none_told : (routes : List Route) → AreRoutesAmong (λ o. Contains [] o) routes
-          → AreRoutesAmong (OfSaid (Tells root routers) said) routes
+          → AreRoutesAmong (OfContents (Tells root routers) contents) routes
       none_told routes all =
-          routes_among (λ o. Contains [] o) (OfSaid (Tells root routers) said) routes
+          routes_among (λ o. Contains [] o) (OfContents (Tells root routers) contents) routes
           (λ o t. absurd (of_empty o t))
           (λ o k. absurd (not_counted k.0.0.advertising_router k.2.lsa k.2.border k.2.counts)) all
 
       pub own_networks : (offers : List Offer) (networks : List Route)
           → Adds [] offers (OfOne (IsInner root ways routers) its_key advertised)
           → AreRoutesAmong (λ o. Contains offers o) networks
-          → AreRoutesAmong (OffersInside said root) networks
+          → AreRoutesAmong (OffersInside contents root) networks
       own_networks offers networks adds all =
-          routes_among (λ o. Contains offers o) (OffersInside said root) networks
+          routes_among (λ o. Contains offers o) (OffersInside contents root) networks
           (λ o t. (own_inside offers adds o).0 t) (λ o k. (own_inside offers adds o).1 k) all

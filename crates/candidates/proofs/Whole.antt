@@ -11,7 +11,7 @@ use Rattle.routes.specs.Answers.{IsNodeAnswer}
 use Rattle.routes.specs.Graphs.{Graph, IsAnswer, IsGraphOf}
 use Rattle.routes.specs.Links.{Leads}
 use Rattle.routes.specs.Paths.{IsWalk, Step}
-use Rattle.routes.specs.Said.{Said}
+use Rattle.routes.specs.Contents.{Contents}
 use Rattle.routes.specs.declared.graph.Way.{Way}
 use Rattle.routes.specs.declared.node.Node.{Node}
 use Rattle.routes.specs.declared.node.Node.TheVariants.{ARouter}
@@ -20,33 +20,38 @@ use Rattle.candidates.proofs.NodePlaces.{beside, beside_none, seek}
 use Rattle.candidates.specs.Reached.{way_beside}
 
 -- a link leads to a node that has an LSA, so a walk from such a node ends at one
-pub far : (said : Said) (root : Root) (from : Node) (step : Step Node) → Leads said root from step
-    → HasLsa said step.target
-far said root from step leads = far_end said root from step.target step.price step.exit leads
+pub far : (contents : Contents) (root : Root) (from : Node) (step : Step Node) → Leads contents root
+    from step
+    → HasLsa contents step.target
+far contents root from step leads = far_end contents root from step.target step.price step.exit
+    leads
 
-pub ends : (said : Said) (root : Root) (from : Node) → HasLsa said from
-    → (walk : List (Step Node)) (to : Node) → IsWalk (Leads said root) from walk to → HasLsa said to
-ends said root from has [] to is = let P : Node → Type 0 = λ n. HasLsa said n in subst P is has
-ends said root from has (step ∷ rest) to is =
-    ends said root step.target (far said root from step is.0) rest to is.1
+pub ends : (contents : Contents) (root : Root) (from : Node) → HasLsa contents from
+    → (walk : List (Step Node)) (to : Node) → IsWalk (Leads contents root) from walk to → HasLsa
+    contents to
+ends contents root from has [] to is = let P : Node → Type 0 = λ n. HasLsa contents n in subst P is
+    has
+ends contents root from has (step ∷ rest) to is =
+    ends contents root step.target (far contents root from step is.0) rest to is.1
 
-node_answer : (said : Said) (root : Root) (node : Node) (o : Option Way)
-    → IsAnswerFor (Leads said root) (ARouter root.router) node o → IsNodeAnswer said root node o
-node_answer said root node None answer = answer
-node_answer said root node (Some way) answer = answer
+node_answer : (contents : Contents) (root : Root) (node : Node) (o : Option Way)
+    → IsAnswerFor (Leads contents root) (ARouter root.router) node o → IsNodeAnswer contents root
+    node o
+node_answer contents root node None answer = answer
+node_answer contents root node (Some way) answer = answer
 
-pub are_ways : (said : Said) (root : Root) (nodes : List Node) (g : Graph)
-    (ways : List (Option Way)) (at : ℕ) → AreNodes said nodes
-    → IsGraphOf (Leads said root) (StandsAt nodes) g → StandsAt nodes (ARouter root.router) at
+pub are_ways : (contents : Contents) (root : Root) (nodes : List Node) (g : Graph)
+    (ways : List (Option Way)) (at : ℕ) → AreNodes contents nodes
+    → IsGraphOf (Leads contents root) (StandsAt nodes) g → StandsAt nodes (ARouter root.router) at
     → ((v : ℕ) → IsAnswer g at v (get_or ways v None))
-    → AreWays said root (λ node. way_beside nodes ways node)
-are_ways said root nodes g ways at are is here answers node =
-    let P : Option Way → Type 0 = λ o. IsNodeAnswer said root node o in
+    → AreWays contents root (λ node. way_beside nodes ways node)
+are_ways contents root nodes g ways at are is here answers node =
+    let P : Option Way → Type 0 = λ o. IsNodeAnswer contents root node o in
     elim (seek nodes node) [
       | inl there ↦
           subst P (sym (beside nodes ways are.ascend node there.0 there.1))
-          (node_answer said root node (get_or ways there.0 None)
-          (bridged (Leads said root) (StandsAt nodes) g is (ARouter root.router) node at there.0
+          (node_answer contents root node (get_or ways there.0 None)
+          (bridged (Leads contents root) (StandsAt nodes) g is (ARouter root.router) node at there.0
           here there.1 (get_or ways there.0 None) (answers there.0)))
       | inr none ↦
           subst P (sym (beside_none nodes ways node none))
@@ -54,6 +59,6 @@ are_ways said root nodes g ways at are is here answers node =
           let root_has = (are.each (ARouter root.router)).0
           (contained nodes at (ARouter root.router) here) in
           let place = placed nodes node ((are.each node).1
-          (ends said root (ARouter root.router) root_has walk node leads)) in
+          (ends contents root (ARouter root.router) root_has walk node leads)) in
           none place.0 place.1)
     ]

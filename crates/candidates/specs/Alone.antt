@@ -9,7 +9,7 @@ use Rattle.lsa.specs.declared.body.LinkKind.{LinkKind}
 use Rattle.lsa.specs.declared.body.LinkKind.TheVariants.{PointToPoint, Stub, Transit, Virtual}
 use Rattle.lsa.specs.declared.body.RouterLsa.{RouterLsa}
 use Rattle.routes.specs.Links.{IsRouterLsa}
-use Rattle.routes.specs.Said.{Said}
+use Rattle.routes.specs.Contents.{Contents}
 
 -- a link of this kind leads to no router and no transit network of the area
 abbrev pub leads_nowhere : LinkKind → Bool
@@ -18,8 +18,8 @@ leads_nowhere Transit = false
 leads_nowhere Stub = true
 leads_nowhere Virtual = true
 
-abbrev pub HasNoWayOut : Said → (router : ℕ) → Type 0
-HasNoWayOut said router = (lsa : RouterLsa) → IsRouterLsa said router lsa
+abbrev pub HasNoWayOut : Contents → (router : ℕ) → Type 0
+HasNoWayOut contents router = (lsa : RouterLsa) → IsRouterLsa contents router lsa
     → list_all (λ (link : RouterLink). leads_nowhere link.kind) lsa.links ≡ true
 
 -- what the LSA with this key tells, if there is one

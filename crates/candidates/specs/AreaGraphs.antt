@@ -3,7 +3,7 @@ use Rattle.std.specs.Prelude.{◌≡◌, ◌≤◌, length}
 use Rattle.area_graph.specs.Graphs.{AreVertices}
 use Rattle.area_graph.specs.Nodes.{AreNodes, Ascend}
 use Rattle.routes.specs.Graphs.{IsGraph}
-use Rattle.routes.specs.Said.{Said}
+use Rattle.routes.specs.Contents.{Contents}
 use Rattle.candidates.specs.declared.graph.AreaGraph.{AreaGraph}
 
 -- the requirements of the search: the nodes are sorted, each with a vertex, there are at most
@@ -16,7 +16,7 @@ pub record IsWalkable (graph : AreaGraph) : Type 0 where
   pub lawful : IsGraph graph.vertices.items
 
 -- the nodes of a database, and the links between them that count, seen from the graph's root
-pub record IsAreaGraph (said : Said) (graph : AreaGraph) : Type 0 where
-  pub nodes : AreNodes said graph.nodes.items
-  pub vertices : AreVertices said graph.root graph.nodes.items graph.vertices.items
+pub record IsAreaGraph (contents : Contents) (graph : AreaGraph) : Type 0 where
+  pub nodes : AreNodes contents graph.nodes.items
+  pub vertices : AreVertices contents graph.root graph.nodes.items graph.vertices.items
   pub walkable : IsWalkable graph

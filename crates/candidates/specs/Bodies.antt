@@ -3,15 +3,15 @@ use Rattle.std.specs.Prelude.{◌≡◌, ℕ, ◌≤◌, List, Some}
 use Rattle.std.specs.List.{Contains}
 use Rattle.words.specs.declared.key.Key.{Key}
 use Rattle.lsa.specs.declared.body.LsaBody.{LsaBody}
-use Rattle.routes.specs.Said.{Said}
+use Rattle.routes.specs.Contents.{Contents}
 use Rattle.routes.specs.declared.offer.Offer.{Offer}
 
 -- each says what it says in the database, and all of the types up to `last` are among them
-pub record HaveAll (last : ℕ) (said : Said) (bodies : List (Key × LsaBody)) : Type 0 where
-  pub each : (key : Key) (says : LsaBody) → Contains bodies (key, says) → said key ≡ Some says
-  pub all : (key : Key) (says : LsaBody) → key.ls_type ≤ last → said key ≡ Some says
+pub record HaveAll (last : ℕ) (contents : Contents) (bodies : List (Key × LsaBody)) : Type 0 where
+  pub each : (key : Key) (says : LsaBody) → Contains bodies (key, says) → contents key ≡ Some says
+  pub all : (key : Key) (says : LsaBody) → key.ls_type ≤ last → contents key ≡ Some says
       → Contains bodies (key, says)
 
 -- one of the LSAs of the database offers it
-abbrev pub OfSaid : (Key × LsaBody → Offer → Type 0) → Said → Offer → Type 0
-OfSaid Q said o = (one : Key × LsaBody) × (said one.0 ≡ Some one.1) × Q one o
+abbrev pub OfContents : (Key × LsaBody → Offer → Type 0) → Contents → Offer → Type 0
+OfContents Q contents o = (one : Key × LsaBody) × (contents one.0 ≡ Some one.1) × Q one o

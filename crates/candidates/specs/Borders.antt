@@ -15,7 +15,7 @@ use Rattle.lsa.specs.declared.body.RouterLsa.{RouterLsa}
 use Rattle.lsa.specs.declared.body.SummaryLsa.{SummaryLsa}
 use Rattle.routes.specs.Links.{IsRouterLsa}
 use Rattle.routes.specs.Routes.{IsBefore}
-use Rattle.routes.specs.Said.{Said}
+use Rattle.routes.specs.Contents.{Contents}
 use Rattle.routes.specs.Summaries.{inter}
 use Rattle.candidates.specs.Ways.{Ways}
 use Rattle.candidates.specs.declared.flagged.Flagged.{Flagged}
@@ -25,11 +25,12 @@ use Rattle.routes.specs.declared.offer.Offer.{Offer}
 use Rattle.routes.specs.declared.root.Root.{Root}
 
 -- the router's LSA has the flag, and this way leads to it
-pub record IsFlagged (said : Said) (ways : Ways) (router flag : ℕ) (way : Way) : Type 0 where
-  pub lsa : RouterLsa
-  pub its : IsRouterLsa said router lsa
-  pub has_flag : bit_and lsa.flags flag ≡ flag
-  pub reached : ways (ARouter router) ≡ Some way
+pub record IsFlagged (contents : Contents) (ways : Ways) (router flag : ℕ) (way : Way) : Type 0
+  where
+    pub lsa : RouterLsa
+    pub its : IsRouterLsa contents router lsa
+    pub has_flag : bit_and lsa.flags flag ≡ flag
+    pub reached : ways (ARouter router) ≡ Some way
 
 -- ---- area border routers and AS boundary routers as a list
 
@@ -46,10 +47,10 @@ pub record IsListed (routers : List Flagged) (router flag : ℕ) (way : Way) : T
   pub its_way : way ≡ listed.way
 
 -- exactly the reachable routers with one of these flags, each with its flags and its way
-abbrev pub AreFlagged : Said → Ways → List Flagged → Type 0
-AreFlagged said ways routers =
+abbrev pub AreFlagged : Contents → Ways → List Flagged → Type 0
+AreFlagged contents ways routers =
     (router flag : ℕ) (way : Way) → IsBorderFlag flag
-    → IsFlagged said ways router flag way ↔ IsListed routers router flag way
+    → IsFlagged contents ways router flag way ↔ IsListed routers router flag way
 
 -- sorted by their Router IDs, each once
 abbrev pub AscendByRouter : List Flagged → Type 0

@@ -10,7 +10,7 @@ use Rattle.lsa.specs.declared.body.LsaBody.TheVariants as body
 use Rattle.lsa.specs.declared.body.ExternalLsa.{ExternalLsa}
 use Rattle.routes.specs.Candidates.{external_offer}
 use Rattle.routes.specs.Offers.{IsPrefix}
-use Rattle.routes.specs.Said.{Said}
+use Rattle.routes.specs.Contents.{Contents}
 use Rattle.routes.specs.declared.graph.Way.{Way}
 use Rattle.routes.specs.declared.offer.Offer.{Offer}
 use Rattle.routes.specs.declared.root.Root.{Root}
@@ -37,10 +37,10 @@ AreAdvertisedBy bodies advertised =
     ↔ ((one : Key × LsaBody) × Contains bodies one × TellsExternal one e)
 
 -- exactly what the LSAs of the database advertise
-abbrev pub AreExternals : Said → List ExternalAdvertisement → Type 0
-AreExternals said advertised =
+abbrev pub AreExternals : Contents → List ExternalAdvertisement → Type 0
+AreExternals contents advertised =
     (e : ExternalAdvertisement) → Contains advertised e
-    ↔ ((one : Key × LsaBody) × (said one.0 ≡ Some one.1) × TellsExternal one e)
+    ↔ ((one : Key × LsaBody) × (contents one.0 ≡ Some one.1) × TellsExternal one e)
 
 -- the offer with this way to the originator or forwarding address
 abbrev pub offer_by : ExternalAdvertisement → Way → Offer

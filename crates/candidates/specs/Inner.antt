@@ -3,12 +3,12 @@
 use Rattle.std.specs.Prelude.{◌↔◌}
 use Rattle.std.specs.List.{Contains}
 use Rattle.candidates.specs.declared.inner.InnerRoutes.{InnerRoutes}
-use Rattle.candidates.specs.Bodies.{OfSaid}
+use Rattle.candidates.specs.Bodies.{OfContents}
 use Rattle.candidates.specs.Borders.{AreBelow, AreCloseBy, AreFlagged, Ascend, AscendByRouter}
 use Rattle.candidates.specs.Borders.{HasLengths, Tells}
 use Rattle.candidates.specs.Ways.{Ways}
 use Rattle.routes.specs.Routes.{AreRoutesAmong}
-use Rattle.routes.specs.Said.{Said}
+use Rattle.routes.specs.Contents.{Contents}
 use Rattle.routes.specs.Summaries.{OffersInside}
 use Rattle.routes.specs.declared.offer.Offer.{Offer}
 use Rattle.routes.specs.declared.root.Root.{Root}
@@ -21,9 +21,10 @@ pub record AreSearchable (inner : InnerRoutes) : Type 0 where
   pub lengths : HasLengths inner.networks.items inner.lengths
 
 -- the results from what the LSAs say, given the ways by their links
-pub record AreInner (said : Said) (root : Root) (ways : Ways) (inner : InnerRoutes) : Type 0 where
-  pub flagged : AreFlagged said ways inner.flagged.items
-  pub advertised : AreRoutesAmong (OfSaid (Tells root inner.flagged.items) said)
-      inner.advertised.items
-  pub networks : AreRoutesAmong (OffersInside said root) inner.networks.items
-  pub offers : (o : Offer) → Contains inner.offers.items o ↔ OffersInside said root o
+pub record AreInner (contents : Contents) (root : Root) (ways : Ways) (inner : InnerRoutes) : Type 0
+  where
+    pub flagged : AreFlagged contents ways inner.flagged.items
+    pub advertised : AreRoutesAmong (OfContents (Tells root inner.flagged.items) contents)
+        inner.advertised.items
+    pub networks : AreRoutesAmong (OffersInside contents root) inner.networks.items
+    pub offers : (o : Offer) → Contains inner.offers.items o ↔ OffersInside contents root o

@@ -9,7 +9,7 @@ use Rattle.routes.specs.Candidates.{AreCandidates, IsCandidate, Offers}
 use Rattle.routes.specs.Links.{Leads}
 use Rattle.routes.specs.Offers.{Attaches}
 use Rattle.routes.specs.Paths.{IsWalk, Step, price_of}
-use Rattle.routes.specs.Said.{Said}
+use Rattle.routes.specs.Contents.{Contents}
 use Rattle.routes.specs.declared.node.Node.{Node}
 use Rattle.routes.specs.declared.node.Node.TheVariants.{ARouter}
 use Rattle.routes.specs.declared.offer.Offer.{Offer}
@@ -20,8 +20,9 @@ use Rattle.routes.specs.declared.root.Root.{Root}
 -- a prefix that is offered has a candidate, so that a list of all candidates has a route for it
 abbrev pub EveryOfferHasACandidate : Type 0
 EveryOfferHasACandidate =
-    (said : Said) (root : Root) (routes : List Route) (o : Offer) → AreCandidates said root routes
-    → Offers said root o
+    (contents : Contents) (root : Root) (routes : List Route) (o : Offer) → AreCandidates contents
+    root routes
+    → Offers contents root o
     → (r : Route) × Contains routes r × (r.prefix ≡ o.prefix)
 
 -- ---- routes within the area, in terms of walks alone
@@ -32,13 +33,14 @@ first_exit [] = 0
 first_exit (step ∷ rest) = step.exit
 
 -- a walk to a node that attaches the network has this total cost, and leaves by this interface
-pub record IsReached (said : Said) (root : Root) (prefix : Network) (cost interface : ℕ) : Type 0
+pub record IsReached (contents : Contents) (root : Root) (prefix : Network) (cost interface : ℕ) :
+    Type 0
   where
     pub node : Node
     pub more : ℕ
-    pub attached : Attaches said node prefix more
+    pub attached : Attaches contents node prefix more
     pub walk : List (Step Node)
-    pub is_walk : IsWalk (Leads said root) (ARouter root.router) walk node
+    pub is_walk : IsWalk (Leads contents root) (ARouter root.router) walk node
     pub costs : cost ≡ price_of walk + more
     pub leaves_by : interface ≡ first_exit walk
 
@@ -47,14 +49,18 @@ pub record IsReached (said : Said) (root : Root) (prefix : Network) (cost interf
 pub record CandidatesAreCheapestWalks : Type 0 where
   -- if a walk reaches the network, its candidate is one within the area, and costs no more than the
   -- walk
-  pub preferred : (said : Said) (root : Root) (r : Route) (cost interface : ℕ)
-      → IsCandidate said root r → IsReached said root r.prefix cost interface → r.kind ≡ Intra
-  pub cheapest : (said : Said) (root : Root) (r : Route) (cost interface : ℕ)
-      → IsCandidate said root r → IsReached said root r.prefix cost interface → r.cost ≤ cost
+  pub preferred : (contents : Contents) (root : Root) (r : Route) (cost interface : ℕ)
+      → IsCandidate contents root r → IsReached contents root r.prefix cost interface → r.kind
+      ≡ Intra
+  pub cheapest : (contents : Contents) (root : Root) (r : Route) (cost interface : ℕ)
+      → IsCandidate contents root r → IsReached contents root r.prefix cost interface → r.cost
+      ≤ cost
   -- some walk has the cost of a candidate within the area
-  pub reached : (said : Said) (root : Root) (r : Route) → IsCandidate said root r → r.kind ≡ Intra
-      → (interface : ℕ) × IsReached said root r.prefix r.cost interface
+  pub reached : (contents : Contents) (root : Root) (r : Route) → IsCandidate contents root r
+      → r.kind ≡ Intra
+      → (interface : ℕ) × IsReached contents root r.prefix r.cost interface
   -- the next hops are exactly the interfaces of all walks with its cost
-  pub hops : (said : Said) (root : Root) (r : Route) → IsCandidate said root r → r.kind ≡ Intra
+  pub hops : (contents : Contents) (root : Root) (r : Route) → IsCandidate contents root r → r.kind
+      ≡ Intra
       → (interface : ℕ)
-      → IsTrue (has_interface r.hops interface) ↔ IsReached said root r.prefix r.cost interface
+      → IsTrue (has_interface r.hops interface) ↔ IsReached contents root r.prefix r.cost interface

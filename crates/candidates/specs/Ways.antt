@@ -4,15 +4,15 @@ use Rattle.routes.specs.Answers.{IsNodeAnswer}
 use Rattle.routes.specs.declared.graph.Way.{Way}
 use Rattle.routes.specs.declared.node.Node.{Node}
 use Rattle.routes.specs.declared.root.Root.{Root}
-use Rattle.routes.specs.Said.{Said}
+use Rattle.routes.specs.Contents.{Contents}
 
 -- the way to each node, or None
 abbrev pub Ways : Type 0
 Ways = Node → Option Way
 
 -- they are the ways by the links that count
-abbrev pub AreWays : Said → Root → Ways → Type 0
-AreWays said root ways = (node : Node) → IsNodeAnswer said root node (ways node)
+abbrev pub AreWays : Contents → Root → Ways → Type 0
+AreWays contents root ways = (node : Node) → IsNodeAnswer contents root node (ways node)
 
 -- so that the sum of a way and a metric fits in 32 bits
 abbrev pub AreNear : Ways → Type 0

@@ -6,7 +6,7 @@ ghost use Rattle.candidates.specs.Inner.{AreInner, AreSearchable};
 ghost use Rattle.words.specs.declared.route.Route.{Route as RouteValue};
 ghost use Rattle.routes.specs.Candidates.{AreCandidates, Offers};
 ghost use Rattle.routes.specs.declared.offer.Offer.{Offer};
-ghost use Rattle.routes.specs.Said.{Said, said_at};
+ghost use Rattle.routes.specs.Contents.{Contents, contents_at};
 ghost use Rattle.candidates.specs.Externals.{AreExternals};
 ghost use Rattle.candidates.specs.Ways.{AreNear, AreWays, Ways as WaysTo};
 
@@ -38,9 +38,9 @@ pub fn candidates(
     requires interfaces { length root.now.addresses ≤ 63 }
     requires size { finite.len db.now.present ≤ 16384 }
     ensures candidates { IfOk result (λ routes.
-        AreCandidates (said_at moment db.now.present) root.now routes.items) }
+        AreCandidates (contents_at moment db.now.present) root.now routes.items) }
     ensures every { IfOk result (λ routes. (o : Offer)
-        → Offers (said_at moment db.now.present) root.now o → (r : RouteValue)
+        → Offers (contents_at moment db.now.present) root.now o → (r : RouteValue)
         × Contains routes.items r × (r.prefix ≡ o.prefix)) }
 {
     let reached = walk(alloc, db, root, moment)?;
@@ -65,8 +65,8 @@ pub fn routes_of<W: Ways>(
     ways: &W,
 ) -> Result<Vec<Route>, AllocError>
     requires near { AreNear (W.ways ways.now) }
-    requires ways { AreWays (said_at moment db.now.present) root.now (W.ways ways.now) }
-    ensures { IfOk result (λ routes. AreCandidates (said_at moment db.now.present) root.now
+    requires ways { AreWays (contents_at moment db.now.present) root.now (W.ways ways.now) }
+    ensures { IfOk result (λ routes. AreCandidates (contents_at moment db.now.present) root.now
         routes.items) }
 {
     let externals = externals_at(alloc, db, moment)?;
@@ -91,7 +91,7 @@ pub fn externals_at(
     db: &Lsdb,
     moment: Second,
 ) -> Result<Vec<ExternalAdvertisement>, AllocError>
-    ensures { IfOk result (λ advertised. AreExternals (said_at moment db.now.present)
+    ensures { IfOk result (λ advertised. AreExternals (contents_at moment db.now.present)
         advertised.items) }
 {
     let bodies = db.bodies_at(alloc, None, moment)?;
@@ -113,11 +113,11 @@ pub fn calculate<W: Ways>(
     externals: &[ExternalAdvertisement],
 ) -> Result<Calculated, AllocError>
     requires near { AreNear (W.ways ways.now) }
-    requires ways { AreWays (said_at moment db.now.present) root.now (W.ways ways.now) }
-    requires externals { AreExternals (said_at moment db.now.present) externals.now }
-    ensures routes { IfOk result (λ made. AreCandidates (said_at moment db.now.present) root.now
+    requires ways { AreWays (contents_at moment db.now.present) root.now (W.ways ways.now) }
+    requires externals { AreExternals (contents_at moment db.now.present) externals.now }
+    ensures routes { IfOk result (λ made. AreCandidates (contents_at moment db.now.present) root.now
         made.routes.items) }
-    ensures inner { IfOk result (λ made. AreInner (said_at moment db.now.present) root.now
+    ensures inner { IfOk result (λ made. AreInner (contents_at moment db.now.present) root.now
         (W.ways ways.now) made.inner) }
     ensures searchable { IfOk result (λ made. AreSearchable made.inner) }
 {
@@ -136,9 +136,9 @@ fn inner_at<W: Ways>(
     ways: &W,
 ) -> Result<InnerRoutes, AllocError>
     requires near { AreNear (W.ways ways.now) }
-    requires ways { AreWays (said_at moment db.now.present) root.now (W.ways ways.now) }
+    requires ways { AreWays (contents_at moment db.now.present) root.now (W.ways ways.now) }
     ensures searchable { IfOk result (λ inner. AreSearchable inner) }
-    ensures inner { IfOk result (λ inner. AreInner (said_at moment db.now.present) root.now
+    ensures inner { IfOk result (λ inner. AreInner (contents_at moment db.now.present) root.now
         (W.ways ways.now) inner) }
 {
     if ways.reach_root_alone(root) {
@@ -157,9 +157,10 @@ fn with_externals(
     externals: &[ExternalAdvertisement],
 ) -> Result<Vec<Route>, AllocError>
     requires { AreSearchable inner.now }
-    ensures { IfOk result (λ routes. (said : Said) (ways : WaysTo) → AreWays said root.now ways
-        → AreInner said root.now ways inner.now → AreExternals said externals.now
-        → AreCandidates said root.now routes.items) }
+    ensures { IfOk result (λ routes. (contents : Contents) (ways : WaysTo) → AreWays contents
+        root.now ways
+        → AreInner contents root.now ways inner.now → AreExternals contents externals.now
+        → AreCandidates contents root.now routes.items) }
 {
     if externals.is_empty() {
         let networks = Vec::from_slice(alloc, &inner.networks)?;

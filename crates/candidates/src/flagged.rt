@@ -13,7 +13,7 @@ ghost use Rattle.candidates.specs.Borders.{
 };
 ghost use Rattle.candidates.specs.Gathering.{IsJust};
 ghost use Rattle.candidates.specs.Ways.{AreNear};
-ghost use Rattle.routes.specs.Said.{Said};
+ghost use Rattle.routes.specs.Contents.{Contents};
 
 use crate::ways::Ways;
 use area_graph::Slots;
@@ -71,8 +71,8 @@ pub fn flagged_routers<W: Ways>(
 ) -> Result<Vec<Flagged>, AllocError>
     requires near { AreNear (W.ways ways.now) }
     requires order { InOrder bodies.now }
-    ensures flagged { IfOk result (λ routers. (said : Said) → HaveAll 1 said bodies.now
-        → AreFlagged said (W.ways ways.now) routers.items) }
+    ensures flagged { IfOk result (λ routers. (contents : Contents) → HaveAll 1 contents bodies.now
+        → AreFlagged contents (W.ways ways.now) routers.items) }
     ensures ascend { IfOk result (λ routers. AscendByRouter routers.items) }
     ensures close { IfOk result (λ routers. AreCloseBy routers.items) }
 {

@@ -1,7 +1,7 @@
 //! The graph of an area, and the walk over it.
 ghost use Rattle.std.specs.Prelude.{◌≡◌, ◌≤◌, length, IfOk};
 ghost use Rattle.std.specs.FinMap as finite;
-ghost use Rattle.routes.specs.Said.{Said, said_at};
+ghost use Rattle.routes.specs.Contents.{Contents, contents_at};
 ghost use Rattle.candidates.specs.Ways.{AreNear, AreWays};
 ghost use Rattle.candidates.specs.AreaGraphs.{IsAreaGraph, IsWalkable};
 ghost use Rattle.candidates.specs.Reached.{way_in};
@@ -56,7 +56,8 @@ impl AreaGraph {
     ) -> Result<AreaGraph, AllocError>
         requires interfaces { length root.now.addresses ≤ 63 }
         requires size { finite.len db.now.present ≤ 16384 }
-        ensures graph { IfOk result (λ graph. IsAreaGraph (said_at moment db.now.present) graph) }
+        ensures graph { IfOk result (λ graph. IsAreaGraph (contents_at moment db.now.present)
+            graph) }
         ensures root { IfOk result (λ graph. graph.root ≡ root.now) }
     {
         let own = copy_of(root)?;
@@ -78,8 +79,8 @@ impl AreaGraph {
     /// `AllocError` if an allocation is refused.
     pub fn walk(&self, alloc: Global) -> Result<Reached, AllocError>
         requires { IsWalkable self.now }
-        ensures ways { IfOk result (λ reached. (said : Said) → IsAreaGraph said self.now
-            → AreWays said self.now.root (way_in reached)) }
+        ensures ways { IfOk result (λ reached. (contents : Contents) → IsAreaGraph contents self.now
+            → AreWays contents self.now.root (way_in reached)) }
         ensures near { IfOk result (λ reached. AreNear (way_in reached)) }
     {
         match find(&self.nodes, &self.slots, &Node::ARouter(self.root.router)) {

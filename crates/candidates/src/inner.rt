@@ -5,7 +5,7 @@ ghost use Rattle.candidates.specs.Inner.{AreInner, AreSearchable};
 ghost use Rattle.lsdb.specs.Bodies.{InOrder};
 ghost use Rattle.candidates.specs.Bodies.{HaveAll};
 ghost use Rattle.candidates.specs.Ways.{AreNear, AreWays};
-ghost use Rattle.routes.specs.Said.{Said};
+ghost use Rattle.routes.specs.Contents.{Contents};
 
 use crate::flagged::{Flagged, flagged_routers};
 use crate::order::routes_of_offers;
@@ -47,9 +47,9 @@ pub fn inner_of<W: Ways>(
     requires near { AreNear (W.ways ways.now) }
     requires order { InOrder bodies.now }
     ensures searchable { IfOk result (λ inner. AreSearchable inner) }
-    ensures inner { IfOk result (λ inner. (said : Said)
-        → AreWays said root.now (W.ways ways.now) → HaveAll 4 said bodies.now
-        → AreInner said root.now (W.ways ways.now) inner) }
+    ensures inner { IfOk result (λ inner. (contents : Contents)
+        → AreWays contents root.now (W.ways ways.now) → HaveAll 4 contents bodies.now
+        → AreInner contents root.now (W.ways ways.now) inner) }
 {
     let flagged = flagged_routers(alloc, ways, bodies)?;
     let advertised = advertised_routes(alloc, root, &flagged, bodies)?;

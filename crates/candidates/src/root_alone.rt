@@ -9,7 +9,7 @@ ghost use Rattle.candidates.specs.Reached.{alone, way_in};
 ghost use Rattle.candidates.specs.Sources.{IsInner};
 ghost use Rattle.candidates.specs.Ways.{AreNear, AreWays};
 ghost use Rattle.routes.specs.Links.{router_key};
-ghost use Rattle.routes.specs.Said.{said_at};
+ghost use Rattle.routes.specs.Contents.{contents_at};
 ghost use Rattle.routes.specs.declared.node.Node.{Node as NodeAt};
 
 use crate::area::push_inner;
@@ -93,9 +93,9 @@ pub fn inner_alone<W: Ways>(
 ) -> Result<InnerRoutes, AllocError>
     requires near { AreNear (W.ways ways.now) }
     requires alone { (node : NodeAt) → W.ways ways.now node ≡ way_in (alone root.now) node }
-    requires ways { AreWays (said_at moment db.now.present) root.now (W.ways ways.now) }
+    requires ways { AreWays (contents_at moment db.now.present) root.now (W.ways ways.now) }
     ensures searchable { IfOk result (λ inner. AreSearchable inner) }
-    ensures inner { IfOk result (λ inner. AreInner (said_at moment db.now.present) root.now
+    ensures inner { IfOk result (λ inner. AreInner (contents_at moment db.now.present) root.now
         (W.ways ways.now) inner) }
 {
     let key = own_key(root);

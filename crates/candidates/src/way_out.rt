@@ -1,7 +1,7 @@
 //! Whether the root can reach any other node.
 ghost use Rattle.std.specs.Prelude.{◌≡◌, IsTrue};
 ghost use Rattle.std.specs.List.{list_all};
-ghost use Rattle.routes.specs.Said.{said_at};
+ghost use Rattle.routes.specs.Contents.{contents_at};
 ghost use Rattle.candidates.specs.Alone.{HasNoWayOut, leads_nowhere};
 
 use lsa::{LinkKind, LsaBody, RouterLink, RouterLsa};
@@ -29,7 +29,7 @@ fn all_lead_nowhere(lsa: &RouterLsa) -> bool
 /// Whether the root's router-LSA has only stub links and virtual links, as before its first
 /// neighbor is Full. Most walks that are requested while a database is loaded are of this kind.
 pub fn has_no_way_out(db: &Lsdb, root: &Root, moment: Second) -> bool
-    ensures { IsTrue result → HasNoWayOut (said_at moment db.now.present) root.now.router }
+    ensures { IsTrue result → HasNoWayOut (contents_at moment db.now.present) root.now.router }
 {
     let key = Key {
         ls_type: 1,

@@ -6,20 +6,20 @@ use Rattle.std.specs.List.{Contains}
 use Rattle.std.specs.Prelude.{IfSome, slice_get}
 use Rattle.std.proofs.lemmas.Option.{same_Some}
 use Rattle.lsa.specs.declared.body.LsaBody.{LsaBody}
-use Rattle.routes.specs.lsdb.Copies.{Database, DatabaseCopy, said_by}
+use Rattle.routes.specs.lsdb.Copies.{Database, DatabaseCopy, contents_of}
 use Rattle.words.specs.Prefixes.{Network}
 use Rattle.words.specs.declared.key.Key.{Key}
 use Rattle.words.specs.declared.route.Route.{Route}
 use Rattle.routes.specs.Candidates.{IsCandidate, Offers}
 use Rattle.routes.specs.Candidates.Offers.{Between, External, Within}
 use Rattle.routes.specs.Routes.{AreRoutesAmong, IsBefore}
-use Rattle.routes.specs.Said.{Said, said_at}
+use Rattle.routes.specs.Contents.{Contents, contents_at}
 use Rattle.routes.specs.Summaries.{OffersInside}
 use Rattle.routes.specs.declared.offer.Offer.{Offer}
 use Rattle.routes.specs.declared.root.Root.{Root}
 use Rattle.routes.proofs.Lists.{first_is, of_cons, of_empty}
 use Rattle.routes.proofs.OneMore.{never_itself, same_offers}
-use Rattle.candidates.specs.Bodies.{OfSaid}
+use Rattle.candidates.specs.Bodies.{OfContents}
 use Rattle.candidates.specs.Gathering.{Adds, IsJust, OfEach}
 use Rattle.candidates.specs.Sources.{OfExternal}
 use Rattle.candidates.proofs.Outward.{external_back, external_forth}
@@ -29,7 +29,7 @@ use Rattle.external_updates.specs.Destinations.{OffersTo, SaysTo}
 use Rattle.external_updates.proofs.Staying.{its_prefix}
 
 has_copy : (moment : ℕ) (copy : Option DatabaseCopy) (says : LsaBody)
-    → said_by moment copy ≡ Some says → is_some copy ≡ true
+    → contents_of moment copy ≡ Some says → is_some copy ≡ true
 has_copy moment None says e = absurd (cc)
 has_copy moment (Some copy) says e = refl
 
@@ -65,40 +65,40 @@ first_among (first ∷ rest) r is = let here : first ≡ r = cc in
     subst (Contains (first ∷ rest)) here (first_is first rest)
 
 module _ (moment : ℕ) (db : Database) (root : Root) (inner : InnerRoutes) (prefix : Network)
-    (knows : Knows (said_at moment db) root inner) (keys : List Key)
+    (knows : Knows (contents_at moment db) root inner) (keys : List Key)
     (have : HaveAllUnder db prefix keys) where
-  abbrev said : Said
-  said = said_at moment db
+  abbrev contents : Contents
+  contents = contents_at moment db
 
   module _ (first second : List Offer)
       (inside : Adds [] first (OfEach (IsTo prefix) inner.offers.items))
-      (more : Adds first second (OfEach (OffersTo said root inner prefix) keys)) where
-    of_inner : (o : Offer) → OffersInside said root o → Offers said root o
+      (more : Adds first second (OfEach (OffersTo contents root inner prefix) keys)) where
+    of_inner : (o : Offer) → OffersInside contents root o → Offers contents root o
     of_inner o (inl w) = Within w
     of_inner o (inr b) = Between b
 
-    put : (o : Offer) → o.prefix ≡ prefix → OffersInside said root o → Contains second o
+    put : (o : Offer) → o.prefix ≡ prefix → OffersInside contents root o → Contains second o
     put o e k = (more o).1 (inl ((inside o).1 (inr (o, (knows.are_inner.offers o).1 k, (refl, e)))))
 
     from_inner : (o : Offer) → OfEach (IsTo prefix) inner.offers.items o
-        → Offers said root o × (o.prefix ≡ prefix)
+        → Offers contents root o × (o.prefix ≡ prefix)
     from_inner o (one, among, t) = (
       of_inner o
-          (subst (OffersInside said root) (sym t.0) ((knows.are_inner.offers one).0 among)),
+          (subst (OffersInside contents root) (sym t.0) ((knows.are_inner.offers one).0 among)),
       t.1,
     )
 
-    from_external : (o : Offer) → OfEach (OffersTo said root inner prefix) keys o
-        → Offers said root o × (o.prefix ≡ prefix)
+    from_external : (o : Offer) → OfEach (OffersTo contents root inner prefix) keys o
+        → Offers contents root o × (o.prefix ≡ prefix)
     from_external o (key, among, k) = (
-      External (external_forth said root knows.ways knows.are_ways inner.flagged.items
+      External (external_forth contents root knows.ways knows.are_ways inner.flagged.items
           knows.are_inner.flagged inner.advertised.items knows.are_inner.advertised
           inner.networks.items
           knows.are_inner.networks o ((key, k.says), k.its, k.offers.0)),
       k.offers.1,
     )
 
-    forth : (o : Offer) → Contains second o → Offers said root o × (o.prefix ≡ prefix)
+    forth : (o : Offer) → Contains second o → Offers contents root o × (o.prefix ≡ prefix)
     forth o t =
         elim ((more o).0 t) [
           | inl old ↦
@@ -110,8 +110,9 @@ module _ (moment : ℕ) (db : Database) (root : Root) (inner : InnerRoutes) (pre
         ]
 
     put_external : (o : Offer) → o.prefix ≡ prefix
-        → OfSaid (OfExternal root inner.flagged.items inner.advertised.items inner.networks.items)
-        said o → Contains second o
+        → OfContents (OfExternal root inner.flagged.items inner.advertised.items
+        inner.networks.items)
+        contents o → Contains second o
     put_external o e ((key, says), its, q) =
         let there : finite.contains_key db key ≡ true =
         has_copy moment (finite.get db key) says its in
@@ -125,11 +126,11 @@ module _ (moment : ℕ) (db : Database) (root : Root) (inner : InnerRoutes) (pre
           },
         ))
 
-    back : (o : Offer) → Offers said root o → o.prefix ≡ prefix → Contains second o
+    back : (o : Offer) → Offers contents root o → o.prefix ≡ prefix → Contains second o
     back o (Within w) e = put o e (inl w)
     back o (Between b) e = put o e (inr b)
     back o (External k) e =
-        put_external o e (external_back said root knows.ways knows.are_ways inner.flagged.items
+        put_external o e (external_back contents root knows.ways knows.are_ways inner.flagged.items
         knows.are_inner.flagged inner.advertised.items knows.are_inner.advertised
         inner.networks.items
         knows.are_inner.networks o k)
@@ -139,12 +140,12 @@ module _ (moment : ℕ) (db : Database) (root : Root) (inner : InnerRoutes) (pre
       is_for r t = let k = (all.each r).0 t in
           sym k.is_best.is_for ∙ (forth k.first k.is_best.offered).1
 
-      candidate : (r : Route) → Contains routes r → IsCandidate said root r
-      candidate r t = same_offers (λ o. Contains second o) (Offers said root) r
+      candidate : (r : Route) → Contains routes r → IsCandidate contents root r
+      candidate r t = same_offers (λ o. Contains second o) (Offers contents root) r
           (λ o e p. (forth o p).0) (λ o e q. back o q (e ∙ is_for r t)) ((all.each r).0 t)
 
-      listed : (r : Route) → IsCandidate said root r → r.prefix ≡ prefix → Contains routes r
-      listed r k e = (all.each r).1 (same_offers (Offers said root) (λ o. Contains second o) r
+      listed : (r : Route) → IsCandidate contents root r → r.prefix ≡ prefix → Contains routes r
+      listed r k e = (all.each r).1 (same_offers (Offers contents root) (λ o. Contains second o) r
           (λ o is q. back o q (is ∙ e)) (λ o is p. (forth o p).0) k)
 
       before : (r k : Route) (later : List Route) → routes ≡ k ∷ later → Contains later r
@@ -154,7 +155,7 @@ module _ (moment : ℕ) (db : Database) (root : Root) (inner : InnerRoutes) (pre
           subst (λ (x : Route). IsBefore k.prefix x.prefix) at
           (up.ascending 0 (suc i) r (omega arith) (omega (arith, inside_)))
 
-      pub is_best : IsBestTo said root prefix (slice_get routes 0)
+      pub is_best : IsBestTo contents root prefix (slice_get routes 0)
       is_best r = (
         (λ e. let t = first_among routes r e in (candidate r t, is_for r t)),
         (λ p. only_one routes prefix is_for r (listed r p.0 p.1) (before r)),
@@ -178,11 +179,11 @@ just_to P prefix offer o just to =
     (λ x t. ((just x).1 t.0, t.1)) to
 
 pub just_its : (moment : ℕ) (db : Database) (root : Root) (inner : InnerRoutes) (prefix : Network)
-    (key : Key) (says : LsaBody) (o : Option Offer) → said_at moment db key ≡ Some says
+    (key : Key) (says : LsaBody) (o : Option Offer) → contents_at moment db key ≡ Some says
     → IsJust (SaysTo root inner prefix (key, says)) o
-    → IsJust (OffersTo (said_at moment db) root inner prefix key) o
+    → IsJust (OffersTo (contents_at moment db) root inner prefix key) o
 just_its moment db root inner prefix key says o is just =
-    just_such (OffersTo (said_at moment db) root inner prefix key)
+    just_such (OffersTo (contents_at moment db) root inner prefix key)
     (SaysTo root inner prefix (key, says)) o
     (λ x k. let same : k.says ≡ says = same_Some k.says says (sym k.its ∙ is) in
     subst (λ (b : LsaBody). SaysTo root inner prefix (key, b) x) same k.offers)
@@ -190,7 +191,7 @@ just_its moment db root inner prefix key says o is just =
     just
 
 -- the candidate is for the destination
-pub best_is_for : (its : Said) (root : Root) (prefix : Network) (best : Option Route)
+pub best_is_for : (its : Contents) (root : Root) (prefix : Network) (best : Option Route)
     → IsBestTo its root prefix best → IfSome best (λ r. r.prefix ≡ prefix)
 best_is_for its root prefix None is = tt
 best_is_for its root prefix (Some r) is = ((is r).0 refl).1

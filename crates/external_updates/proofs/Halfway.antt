@@ -8,22 +8,22 @@ use Rattle.words.specs.Prefixes.{Network}
 use Rattle.words.specs.declared.key.Key.{Key}
 use Rattle.words.specs.declared.route.Route.{Route}
 use Rattle.routes.specs.Candidates.{AreCandidates, IsCandidate}
-use Rattle.routes.specs.Said.{Said}
+use Rattle.routes.specs.Contents.{Contents}
 use Rattle.routes.specs.declared.root.Root.{Root}
 use Rattle.routes.proofs.Lists.{of_empty}
-use Rattle.kept_routes.specs.Sameness.{SayTheSame}
-use Rattle.external_updates.specs.Changes.{AreAllAdvertised, IsUntouched, OthersSayTheSame}
+use Rattle.kept_routes.specs.Sameness.{HaveSameContents}
+use Rattle.external_updates.specs.Changes.{AreAllAdvertised, IsUntouched, OthersHaveSameContents}
 use Rattle.external_updates.specs.Placing.{AreHalfway, HasAnother, HasAnotherTo, IsEither}
 use Rattle.external_updates.specs.Placing.{IsRenewed}
 use Rattle.external_updates.proofs.Networks.{among_or_not, same_or_not}
 use Rattle.external_updates.proofs.Staying.{untouched_kept}
 
 -- a candidate for one of these destinations isn't among the old routes
-abbrev pub HasAnotherOf : Said → Root → (done : List Network) → (before : List Route) → Type 0
-HasAnotherOf said root done before =
-    (r : Route) × IsCandidate said root r × Contains done r.prefix × (Contains before r → ⊥)
+abbrev pub HasAnotherOf : Contents → Root → (done : List Network) → (before : List Route) → Type 0
+HasAnotherOf contents root done before =
+    (r : Route) × IsCandidate contents root r × Contains done r.prefix × (Contains before r → ⊥)
 
-module _ (old new : Said) (root : Root) where
+module _ (old new : Contents) (root : Root) where
   pub none_yet : (routes : List Route) → AreCandidates old root routes
       → AreHalfway old new root [] routes
   none_yet routes are = record {
@@ -121,8 +121,9 @@ module _ (old new : Said) (root : Root) where
   all_another done before routes half (r, k, among, none) =
       (r, (half.each r).1 (inl (among, k)), none)
 
-  module _ (same : SayTheSame (Some 4) old new) (keys : List Key) (prefixes : List Network)
-      (others : OthersSayTheSame keys old new) (advertised : AreAllAdvertised old new keys prefixes)
+  module _ (same : HaveSameContents (Some 4) old new) (keys : List Key) (prefixes : List Network)
+      (others : OthersHaveSameContents keys old new)
+      (advertised : AreAllAdvertised old new keys prefixes)
     where
       stays : (prefix : Network) → (Contains prefixes prefix → ⊥) → IsUntouched old new prefix
       stays prefix none key t = others key (λ among. none (advertised key prefix among t))

@@ -10,14 +10,14 @@ use Rattle.routes.specs.Candidates.Offers.{Between, External, Within}
 use Rattle.routes.specs.Links.{router_key}
 use Rattle.routes.specs.Offers.{IsPrefix}
 use Rattle.routes.specs.Paths.{Way as WalkWay}
-use Rattle.routes.specs.Said.{Said}
+use Rattle.routes.specs.Contents.{Contents}
 use Rattle.routes.specs.Summaries.{OffersInside}
 use Rattle.routes.specs.declared.graph.Way.{Way}
 use Rattle.routes.specs.declared.offer.Offer.{Offer}
 use Rattle.routes.specs.declared.root.Root.{Root}
 use Rattle.routes.proofs.Listed.{routes_among}
 use Rattle.routes.proofs.OneMore.{same_offers}
-use Rattle.candidates.specs.Bodies.{OfSaid}
+use Rattle.candidates.specs.Bodies.{OfContents}
 use Rattle.candidates.specs.Borders.{IsFlagged, Tells}
 use Rattle.candidates.specs.Ways.{Ways}
 use Rattle.candidates.specs.declared.flagged.Flagged.{Flagged}
@@ -27,7 +27,7 @@ use Rattle.external_updates.specs.Laws.{InnerRoutesAreKept, UntouchedCandidatesA
 
 -- ---- the results from the LSAs of types 1 to 4
 
-module _ (old new : Said) (same : AgreeInside old new) where
+module _ (old new : Contents) (same : AgreeInside old new) where
   flagged : (ways : Ways) (router flag : ℕ) (way : Way) → IsFlagged old ways router flag way
       → IsFlagged new ways router flag way
   flagged ways router flag way k = record {
@@ -38,7 +38,7 @@ module _ (old new : Said) (same : AgreeInside old new) where
   }
 
   advertised : (root : Root) (routers : List Flagged) (o : Offer)
-      → OfSaid (Tells root routers) old o → OfSaid (Tells root routers) new o
+      → OfContents (Tells root routers) old o → OfContents (Tells root routers) new o
   advertised root routers o (one, says, k) =
       (one, sym (same one.0 (omega (arith, k.is_type))) ∙ says, k)
 
@@ -51,7 +51,8 @@ inner_kept old new root ways inner same are =
         (λ k. (are.flagged router flag way is).0 (flagged new old back ways router flag way k)),
         (λ k. flagged old new same ways router flag way ((are.flagged router flag way is).1 k)),
       );
-      advertised = routes_among (OfSaid (Tells root routers) old) (OfSaid (Tells root routers) new)
+      advertised = routes_among (OfContents (Tells root routers) old)
+          (OfContents (Tells root routers) new)
           inner.advertised.items (advertised old new same root routers)
           (advertised new old back root routers)
           are.advertised;
@@ -70,7 +71,7 @@ pub its_prefix : (kind : ExternalType) (prefix : Network) (lsa : ExternalLsa) (o
 its_prefix Type1 prefix lsa originator way = refl
 its_prefix Type2 prefix lsa originator way = refl
 
-swapped : (old new : Said) (key : Key) (prefix : Network) → TellsOf new old key prefix
+swapped : (old new : Contents) (key : Key) (prefix : Network) → TellsOf new old key prefix
     → TellsOf old new key prefix
 swapped old new key prefix t = record {
   lsa = t.lsa;
@@ -82,11 +83,11 @@ swapped old new key prefix t = record {
   is_prefix = t.is_prefix;
 }
 
-untouched_back : (old new : Said) (prefix : Network) → IsUntouched old new prefix
+untouched_back : (old new : Contents) (prefix : Network) → IsUntouched old new prefix
     → IsUntouched new old prefix
 untouched_back old new prefix stays key t = sym (stays key (swapped old new key prefix t))
 
-module _ (old new : Said) (same : AgreeInside old new) (prefix : Network)
+module _ (old new : Contents) (same : AgreeInside old new) (prefix : Network)
     (stays : IsUntouched old new prefix) (root : Root) where
   external : (o : Offer) → o.prefix ≡ prefix → OffersExternal old root o → OffersExternal new root o
   external o e k =

@@ -9,7 +9,7 @@ use Rattle.routes.specs.lsdb.Copies.{Database}
 use Rattle.candidates.specs.Sources.{OfExternal}
 use Rattle.candidates.specs.Ways.{AreWays, Ways}
 use Rattle.routes.specs.Candidates.{IsCandidate}
-use Rattle.routes.specs.Said.{Said}
+use Rattle.routes.specs.Contents.{Contents}
 use Rattle.routes.specs.declared.offer.Offer.{Offer}
 use Rattle.routes.specs.declared.root.Root.{Root}
 use Rattle.words.specs.Prefixes.{IsUnder, Network}
@@ -17,10 +17,10 @@ use Rattle.words.specs.declared.key.Key.{Key}
 use Rattle.words.specs.declared.route.Route.{Route}
 
 -- they are the results from the LSAs of types 1 to 4, and can be searched
-pub record Knows (said : Said) (root : Root) (inner : InnerRoutes) : Type 0 where
+pub record Knows (contents : Contents) (root : Root) (inner : InnerRoutes) : Type 0 where
   pub ways : Ways
-  pub are_ways : AreWays said root ways
-  pub are_inner : AreInner said root ways inner
+  pub are_ways : AreWays contents root ways
+  pub are_inner : AreInner contents root ways inner
   pub searchable : AreSearchable inner
 
 -- ---- the keys of AS-external-LSAs
@@ -52,15 +52,15 @@ SaysTo root inner prefix one o =
     × (o.prefix ≡ prefix)
 
 -- the AS-external-LSA with this key does
-pub record OffersTo (said : Said) (root : Root) (inner : InnerRoutes) (prefix : Network)
+pub record OffersTo (contents : Contents) (root : Root) (inner : InnerRoutes) (prefix : Network)
     (key : Key) (o : Offer) : Type 0 where
   pub says : LsaBody
-  pub its : said key ≡ Some says
+  pub its : contents key ≡ Some says
   pub offers : SaysTo root inner prefix (key, says) o
 
 -- ---- routes
 
 -- the one candidate for the destination, or None
-abbrev pub IsBestTo : Said → Root → Network → Option Route → Type 0
-IsBestTo said root prefix best =
-    (r : Route) → (best ≡ Some r) ↔ (IsCandidate said root r × (r.prefix ≡ prefix))
+abbrev pub IsBestTo : Contents → Root → Network → Option Route → Type 0
+IsBestTo contents root prefix best =
+    (r : Route) → (best ≡ Some r) ↔ (IsCandidate contents root r × (r.prefix ≡ prefix))

@@ -4,15 +4,16 @@ use Rattle.external_updates.specs.Placing.{AreAllAmong, HasAnother}
 use Rattle.external_updates.specs.declared.follow.Followed.{Followed}
 use Rattle.external_updates.specs.declared.follow.Followed.TheVariants as followed
 use Rattle.routes.specs.Candidates.{AreCandidates}
-use Rattle.routes.specs.Said.{Said}
+use Rattle.routes.specs.Contents.{Contents}
 use Rattle.routes.specs.declared.root.Root.{Root}
 use Rattle.words.specs.declared.route.Route.{Route}
 
 -- unless they were too many, the new ones are the candidates: with `NoneNew` each is one of the old
 -- ones, with `SomeNew` at least one is not
-abbrev pub HaveFollowed : Said → Root → (old : List Route) → (new : List Route) → Followed → Type 0
-HaveFollowed said root old new followed.TooMany = Unit {0}
-HaveFollowed said root old new followed.NoneNew =
-    AreCandidates said root new × AreAllAmong old new
-HaveFollowed said root old new followed.SomeNew =
-    AreCandidates said root new × HasAnother old new
+abbrev pub HaveFollowed : Contents → Root → (old : List Route) → (new : List Route) → Followed
+    → Type 0
+HaveFollowed contents root old new followed.TooMany = Unit {0}
+HaveFollowed contents root old new followed.NoneNew =
+    AreCandidates contents root new × AreAllAmong old new
+HaveFollowed contents root old new followed.SomeNew =
+    AreCandidates contents root new × HasAnother old new

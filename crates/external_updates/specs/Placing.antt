@@ -5,7 +5,7 @@ use Rattle.std.specs.List.{Contains}
 use Rattle.candidates.specs.Borders.{Ascend}
 use Rattle.routes.specs.Candidates.{IsCandidate}
 use Rattle.routes.specs.Routes.{IsBefore}
-use Rattle.routes.specs.Said.{Said}
+use Rattle.routes.specs.Contents.{Contents}
 use Rattle.routes.specs.declared.root.Root.{Root}
 use Rattle.words.specs.Prefixes.{Network}
 use Rattle.words.specs.declared.route.Route.{Route}
@@ -46,26 +46,27 @@ abbrev pub HasAnother : (old : List Route) → (new : List Route) → Type 0
 HasAnother old new = (r : Route) × Contains new r × (Contains old r → ⊥)
 
 -- the candidate for the destination isn't among the old ones
-abbrev pub HasAnotherTo : Said → Root → Network → (old : List Route) → Type 0
-HasAnotherTo said root prefix old =
-    (r : Route) × IsCandidate said root r × (r.prefix ≡ prefix) × (Contains old r → ⊥)
+abbrev pub HasAnotherTo : Contents → Root → Network → (old : List Route) → Type 0
+HasAnotherTo contents root prefix old =
+    (r : Route) × IsCandidate contents root r × (r.prefix ≡ prefix) × (Contains old r → ⊥)
 
 -- the route for the prefix is removed, and the current candidate for it inserted
-pub record IsRenewed (said : Said) (root : Root) (prefix : Network) (old : List Route)
+pub record IsRenewed (contents : Contents) (root : Root) (prefix : Network) (old : List Route)
     (new : List Route) : Type 0 where
   pub each : (r : Route) → Contains new r
-      ↔ ((Contains old r × (r.prefix ≡ prefix → ⊥)) ⊎ (IsCandidate said root r
+      ↔ ((Contains old r × (r.prefix ≡ prefix → ⊥)) ⊎ (IsCandidate contents root r
       × (r.prefix ≡ prefix)))
   pub ascending : Ascend new
 
 -- a current candidate for one of these destinations, or an old one for any other
-abbrev pub IsEither : (old : Said) → (new : Said) → Root → (done : List Network) → Route → Type 0
+abbrev pub IsEither : (old : Contents) → (new : Contents) → Root → (done : List Network) → Route
+    → Type 0
 IsEither old new root done r =
     (Contains done r.prefix × IsCandidate new root r)
     ⊎ ((Contains done r.prefix → ⊥) × IsCandidate old root r)
 
 -- the old candidates, except that those for these destinations are current
-pub record AreHalfway (old : Said) (new : Said) (root : Root) (done : List Network)
+pub record AreHalfway (old : Contents) (new : Contents) (root : Root) (done : List Network)
     (routes : List Route) : Type 0 where
   pub each : (r : Route) → Contains routes r ↔ IsEither old new root done r
   pub ascending : Ascend routes

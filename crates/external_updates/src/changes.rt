@@ -2,11 +2,11 @@
 ghost use Rattle.std.specs.Prelude.{◌≡◌, ◌↔◌, ◌≤◌, IfOk, IsTrue, MatchOption, OnOk, Some};
 ghost use Rattle.std.specs.Prelude.{option_copied};
 ghost use Rattle.std.specs.List.{Contains};
-ghost use Rattle.external_updates.specs.Changes.{AreAllAdvertised, OthersSayTheSame};
+ghost use Rattle.external_updates.specs.Changes.{AreAllAdvertised, OthersHaveSameContents};
 ghost use Rattle.lsa.specs.declared.body.LsaBody.TheVariants as body;
 ghost use Rattle.lsa.specs.declared.body.ExternalLsa.{ExternalLsa as ExternalValue};
 ghost use Rattle.routes.specs.Offers.{IsPrefix};
-ghost use Rattle.routes.specs.Said.{said_at};
+ghost use Rattle.routes.specs.Contents.{contents_at};
 ghost use Rattle.words.specs.Prefixes.{Network};
 
 use candidates::network_of;
@@ -28,8 +28,8 @@ pub fn changed_keys(
     moment: Second,
 ) -> Result<Vec<Key>, AllocError>
     requires { before ≤ moment }
-    ensures { IfOk result (λ keys. OthersSayTheSame keys.items
-        (said_at before db.now.committed) (said_at moment db.now.present)) }
+    ensures { IfOk result (λ keys. OthersHaveSameContents keys.items
+        (contents_at before db.now.committed) (contents_at moment db.now.present)) }
 {
     let mut keys = db.changed_keys(alloc, moment)?;
     // Within one moment no LSA reaches MaxAge.
@@ -118,7 +118,7 @@ pub fn networks_told(
     keys: &[Key],
 ) -> Result<Vec<Prefix>, AllocError>
     ensures { IfOk result (λ prefixes. AreAllAdvertised
-        (said_at before db.now.committed) (said_at moment db.now.present)
+        (contents_at before db.now.committed) (contents_at moment db.now.present)
         keys.now prefixes.items) }
 {
     let mut prefixes = Vec::new(alloc);

@@ -4,7 +4,7 @@ ghost use Rattle.candidates.specs.Inner.{AreSearchable};
 ghost use Rattle.external_updates.specs.Destinations.{HaveAllUnder, IsBestTo, IsTo, Knows};
 ghost use Rattle.external_updates.specs.Destinations.{OffersTo, SaysTo};
 ghost use Rattle.candidates.specs.Gathering.{Adds, IsJust, OfEach};
-ghost use Rattle.routes.specs.Said.{said_at};
+ghost use Rattle.routes.specs.Contents.{contents_at};
 
 use crate::keys::lies_under;
 use candidates::{Inner, InnerRoutes, external_offer, push_offer, routes_of_offers};
@@ -67,7 +67,8 @@ fn external_to(
     key: &Key,
 ) -> Option<Offer>
     requires { AreSearchable inner.now }
-    ensures { IsJust (OffersTo (said_at moment db.now.present) root.now inner.now prefix key.now)
+    ensures { IsJust (OffersTo (contents_at moment db.now.present) root.now inner.now prefix
+        key.now)
         result }
 {
     if !lies_under(prefix, key) {
@@ -91,7 +92,8 @@ fn push_externals_to(
 ) -> Result<(), AllocError>
     requires { AreSearchable inner.now }
     ensures { OnOk result (Adds offers.old.items offers.new.items
-        (OfEach (OffersTo (said_at moment db.now.present) root.now inner.now prefix) keys.now)) }
+        (OfEach (OffersTo (contents_at moment db.now.present) root.now inner.now prefix)
+        keys.now)) }
 {
     for key in keys {
         push_offer(offers, external_to(db, root, moment, inner, prefix, key))?;
@@ -113,9 +115,10 @@ pub fn best_to(
     prefix: Prefix,
     keys: &[Key],
 ) -> Result<Option<Route>, AllocError>
-    requires inner { Knows (said_at moment db.now.present) root.now inner.now }
+    requires inner { Knows (contents_at moment db.now.present) root.now inner.now }
     requires keys { HaveAllUnder db.now.present prefix keys.now }
-    ensures { IfOk result (λ best. IsBestTo (said_at moment db.now.present) root.now prefix best) }
+    ensures { IfOk result (λ best. IsBestTo (contents_at moment db.now.present) root.now prefix
+        best) }
 {
     let mut offers = Vec::new(alloc);
     push_inner_to(&inner.offers, prefix, &mut offers)?;

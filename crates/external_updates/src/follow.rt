@@ -4,10 +4,10 @@ ghost use Rattle.external_updates.specs.Destinations.{HaveAllUnder, Knows};
 ghost use Rattle.external_updates.specs.Following.{HaveFollowed};
 ghost use Rattle.external_updates.specs.Placing.{AreAllAmong, AreHalfway, HasAnother, HasAnotherTo};
 ghost use Rattle.external_updates.specs.Placing.{IsRenewed};
-ghost use Rattle.kept_routes.specs.Sameness.{SayTheSame};
+ghost use Rattle.kept_routes.specs.Sameness.{HaveSameContents};
 ghost use Rattle.candidates.specs.Borders.{Ascend};
 ghost use Rattle.routes.specs.Candidates.{AreCandidates};
-ghost use Rattle.routes.specs.Said.{Said, said_at};
+ghost use Rattle.routes.specs.Contents.{Contents, contents_at};
 
 use crate::changes::{changed_keys, networks_told};
 use crate::destination::best_to;
@@ -50,15 +50,15 @@ fn renew_by(
     keys: &[Key],
     routes: &mut Pages<Route>,
 ) -> Result<bool, AllocError>
-    requires inner { Knows (said_at moment db.now.present) root.now inner.now }
+    requires inner { Knows (contents_at moment db.now.present) root.now inner.now }
     requires keys { HaveAllUnder db.now.present prefix keys.now }
     requires ascend { Ascend routes.old }
-    ensures renewed { OnOk result (IsRenewed (said_at moment db.now.present) root.now prefix
+    ensures renewed { OnOk result (IsRenewed (contents_at moment db.now.present) root.now prefix
         routes.old routes.new) }
     ensures among { IfOk result (λ stood. IsTrue stood
         → AreAllAmong routes.old routes.new) }
     ensures another { IfOk result (λ stood. stood ≡ false
-        → HasAnotherTo (said_at moment db.now.present) root.now prefix routes.old) }
+        → HasAnotherTo (contents_at moment db.now.present) root.now prefix routes.old) }
 {
     let best = best_to(alloc, db, root, moment, inner, prefix, keys)?;
     let stood = place(routes, prefix, best)?;
@@ -76,14 +76,14 @@ fn renew(
     prefix: Prefix,
     routes: &mut Pages<Route>,
 ) -> Result<Option<bool>, AllocError>
-    requires inner { Knows (said_at moment db.now.present) root.now inner.now }
+    requires inner { Knows (contents_at moment db.now.present) root.now inner.now }
     requires ascend { Ascend routes.old }
     ensures renewed { IfOk result (λ done. IsSome done → IsRenewed
-        (said_at moment db.now.present) root.now prefix routes.old routes.new) }
+        (contents_at moment db.now.present) root.now prefix routes.old routes.new) }
     ensures among { IfOk result (λ done. done ≡ Some true
         → AreAllAmong routes.old routes.new) }
     ensures another { IfOk result (λ done. done ≡ Some false
-        → HasAnotherTo (said_at moment db.now.present) root.now prefix routes.old) }
+        → HasAnotherTo (contents_at moment db.now.present) root.now prefix routes.old) }
 {
     let found = keys_under(alloc, db, prefix)?;
     match found {
@@ -106,14 +106,14 @@ fn renew_all(
     prefixes: &[Prefix],
     routes: &mut Pages<Route>,
 ) -> Result<Option<bool>, AllocError>
-    requires inner { Knows (said_at moment db.now.present) root.now inner.now }
+    requires inner { Knows (contents_at moment db.now.present) root.now inner.now }
     requires ascend { Ascend routes.old }
-    ensures halfway { IfOk result (λ done. IsSome done → (old : Said)
+    ensures halfway { IfOk result (λ done. IsSome done → (old : Contents)
         → AreCandidates old root.now routes.old
-        → AreHalfway old (said_at moment db.now.present) root.now prefixes.now routes.new) }
+        → AreHalfway old (contents_at moment db.now.present) root.now prefixes.now routes.new) }
     ensures among { IfOk result (λ done. done ≡ Some true
         → AreAllAmong routes.old routes.new) }
-    ensures another { IfOk result (λ done. done ≡ Some false → (old : Said)
+    ensures another { IfOk result (λ done. done ≡ Some false → (old : Contents)
         → AreCandidates old root.now routes.old
         → HasAnother routes.old routes.new) }
 {
@@ -148,11 +148,11 @@ pub fn update_externals(
     routes: &mut Pages<Route>,
 ) -> Result<Followed, AllocError>
     requires order { before ≤ moment }
-    requires same { SayTheSame (Some 4)
-        (said_at before db.now.committed) (said_at moment db.now.present) }
-    requires inner { Knows (said_at moment db.now.present) root.now inner.now }
-    requires routes { AreCandidates (said_at before db.now.committed) root.now routes.old }
-    ensures { IfOk result (λ done. HaveFollowed (said_at moment db.now.present) root.now
+    requires same { HaveSameContents (Some 4)
+        (contents_at before db.now.committed) (contents_at moment db.now.present) }
+    requires inner { Knows (contents_at moment db.now.present) root.now inner.now }
+    requires routes { AreCandidates (contents_at before db.now.committed) root.now routes.old }
+    ensures { IfOk result (λ done. HaveFollowed (contents_at moment db.now.present) root.now
         routes.old routes.new done) }
 {
     let keys = changed_keys(alloc, db, before, moment)?;

@@ -7,7 +7,7 @@ use Rattle.event_rules.specs.declared.model.CoreError.{CoreError}
 use Rattle.event_rules.specs.Refusals.{MayLackMemory}
 use Rattle.event_rules.specs.Routers.{Router}
 use Rattle.event_rules.specs.received.Links.{Area}
-use Rattle.area_routes.specs.routes.Said.{said_at}
+use Rattle.area_routes.specs.routes.Contents.{contents_at}
 use Rattle.area_routes.specs.routes.Tables.{Answers}
 use Rattle.flood.specs.Offers.{AreKeptNow}
 
@@ -46,7 +46,8 @@ pub begun : (r : Router) (id : ℕ) (area : Area) (moment : ℕ) (kept : KeptRou
 begun r id area moment kept a b c routes is =
     are_kept r id area moment r.answers kept a b c refl (record {
       routes = routes;
-      answered = unanswered (said_at moment area.database) (root_by id area.links) r.answers kept
+      answered = unanswered (contents_at moment area.database) (root_by id area.links) r.answers
+          kept
           is;
     })
 

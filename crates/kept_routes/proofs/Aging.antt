@@ -13,9 +13,9 @@ use Rattle.keyed_map.specs.Keys.{key_cmp}
 use Rattle.keyed_map.proofs.Keys.{keys_exact}
 use Rattle.routes.specs.lsdb.Changes.{HaveNoMaxAge, HaveOneAge, IsUpTo, ContentsAgree}
 use Rattle.routes.specs.lsdb.Copies.{Database, DatabaseCopy, aged_keys, is_aged_out}
-use Rattle.routes.specs.Said.{said_at, said_by}
+use Rattle.routes.specs.Contents.{contents_at, contents_of}
 use Rattle.kept_routes.specs.Ages.{AreOld}
-use Rattle.kept_routes.specs.Sameness.{AreLsasUnchanged, SayTheSame}
+use Rattle.kept_routes.specs.Sameness.{AreLsasUnchanged, HaveSameContents}
 use Rattle.routes.proofs.Listed.{other_default}
 use Rattle.routes.proofs.Lists.{first_is, later_is}
 use Rattle.words.specs.declared.key.Key.{Key}
@@ -110,7 +110,7 @@ module _ (before moment : ℕ) (order : before ≤ moment) (a b : DatabaseCopy)
     (body : a.lsa.body ≡ b.lsa.body) where
   -- copies of the same age both have MaxAge, or neither has
   says_of_one_age : HaveOneAge a b → (is_aged_out moment b ≡ true → is_aged_out before b ≡ true)
-      → said_by before (Some a) ≡ said_by moment (Some b)
+      → contents_of before (Some a) ≡ contents_of moment (Some b)
   says_of_one_age same old =
       let first : is_aged_out before a ≡ is_aged_out before b =
       λ i. min 3600 (same.0 i + (before - same.1 i)) == 3600 in
@@ -121,7 +121,8 @@ module _ (before moment : ℕ) (order : before ≤ moment) (a b : DatabaseCopy)
       λ i. cond (both i) None (Some (body i))
 
   -- below MaxAge both say their body
-  says_below_max_age : HaveNoMaxAge moment a b → said_by before (Some a) ≡ said_by moment (Some b)
+  says_below_max_age : HaveNoMaxAge moment a b → contents_of before (Some a) ≡ contents_of moment
+      (Some b)
   says_below_max_age none =
       let first : is_aged_out before a ≡ false =
       younger (is_aged_out before a) (is_aged_out moment a) (later_aged before moment order a)
@@ -132,7 +133,7 @@ module _ (before moment : ℕ) (order : before ≤ moment) (a b : DatabaseCopy)
 pub says_same : (before moment : ℕ) → before ≤ moment → (a b : Option DatabaseCopy)
     → ContentsAgree moment a b → ((copy : DatabaseCopy) → b ≡ Some copy
     → is_aged_out moment copy ≡ true → is_aged_out before copy ≡ true)
-    → said_by before a ≡ said_by moment b
+    → contents_of before a ≡ contents_of moment b
 says_same before moment order None None same old = refl
 says_same before moment order None (Some b) same old = absurd same
 says_same before moment order (Some a) None same old = absurd same
@@ -144,7 +145,7 @@ says_same before moment order (Some a) (Some b) same old =
 
 pub all_same : (last_type : Option ℕ) (before moment : ℕ) (old new : Database) → before ≤ moment
     → AreLsasUnchanged last_type before moment old new
-    → SayTheSame last_type (said_at before old) (said_at moment new)
+    → HaveSameContents last_type (contents_at before old) (contents_at moment new)
 all_same last_type before moment old new order left key of =
     says_same before moment order (finite.get old key) (finite.get new key) (left key of).same
     (left key of).old_copy

@@ -11,7 +11,7 @@ use Rattle.routes.specs.Links.{Leads, network_key, router_key}
 use Rattle.routes.specs.Offers.{Attaches, OffersWithin, ReachesBoundaryRouter}
 use Rattle.routes.specs.Paths.{IsWay, Way}
 use Rattle.routes.specs.Routes.{IsForwarded, IsRouteAmong}
-use Rattle.routes.specs.Said.{Said}
+use Rattle.routes.specs.Contents.{Contents}
 use Rattle.routes.specs.Summaries.{CountsAsSummary, IsBoundaryWay, IsAdvertised, IsWayBetween}
 use Rattle.routes.specs.Summaries.{OffersBetween, OffersInside, ReachesBorderRouter, summary_key}
 use Rattle.routes.specs.Summaries.IsBoundaryWay.{Inside, Outside}
@@ -23,15 +23,15 @@ use Rattle.routes.proofs.Carried.{carried}
 use Rattle.routes.proofs.OneMore.{same_offers}
 
 -- what the LSAs of types 1 to 4 say
-abbrev pub AgreeInside : Said → Said → Type 0
+abbrev pub AgreeInside : Contents → Contents → Type 0
 AgreeInside old new = (key : Key) → key.ls_type ≤ 4 → old key ≡ new key
 
-pub turned : (old new : Said) → AgreeInside old new → AgreeInside new old
+pub turned : (old new : Contents) → AgreeInside old new → AgreeInside new old
 turned old new same key low = sym (same key low)
 
 -- ---- one direction
 
-module _ (old new : Said) (same : AgreeInside old new) (root : Root) where
+module _ (old new : Contents) (same : AgreeInside old new) (root : Root) where
   way : (node : Node) (w : Way) → IsWay (Leads old root) (ARouter root.router) node w
       → IsWay (Leads new root) (ARouter root.router) node w
   way node w is = carried old new root (λ key low. same key (omega (arith, low)))
@@ -122,7 +122,7 @@ module _ (old new : Said) (same : AgreeInside old new) (root : Root) where
 
 -- ---- both directions
 
-module _ (old new : Said) (same : AgreeInside old new) (root : Root) where
+module _ (old new : Contents) (same : AgreeInside old new) (root : Root) where
   abbrev back : AgreeInside new old
   back = turned old new same
 

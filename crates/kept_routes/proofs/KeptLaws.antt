@@ -4,7 +4,7 @@ use Rattle.routes.specs.Answers.{IsNodeAnswer}
 use Rattle.routes.specs.Candidates.{AreCandidates}
 use Rattle.routes.specs.Links.{Leads}
 use Rattle.routes.specs.Paths.{IsWalk, Step}
-use Rattle.routes.specs.Said.{Said}
+use Rattle.routes.specs.Contents.{Contents}
 use Rattle.routes.specs.Tables.{IsStale, IsTable}
 use Rattle.routes.specs.declared.graph.Way.{Way}
 use Rattle.routes.specs.declared.node.Node.{Node}
@@ -13,9 +13,9 @@ use Rattle.routes.specs.declared.root.Root.{Root}
 use Rattle.routes.proofs.Carried.{carried, leads}
 use Rattle.candidates.specs.Reached.{way_in}
 use Rattle.kept_routes.specs.Laws.{RoutesAreKept, WalksAreKept}
-use Rattle.kept_routes.specs.Sameness.{SayTheSame}
+use Rattle.kept_routes.specs.Sameness.{HaveSameContents}
 
-module _ (old new : Said) (root : Root) (same : SayTheSame (Some 2) old new) where
+module _ (old new : Contents) (root : Root) (same : HaveSameContents (Some 2) old new) where
   walked_before : (from : Node) (walk : List (Step Node)) (to : Node)
       → IsWalk (Leads new root) from walk to → IsWalk (Leads old root) from walk to
   walked_before from [] to is = is
@@ -38,17 +38,18 @@ walks_kept old new kept same is = record {
   near = is.near;
 }
 
-equal : (old new : Said) → SayTheSame None old new → old ≡ new
+equal : (old new : Contents) → HaveSameContents None old new → old ≡ new
 equal old new same = λ i key. same key tt i
 
 pub routes_kept : RoutesAreKept
 routes_kept = record {
-  candidates = λ old new root routes same is. subst (λ (s : Said). AreCandidates s root routes)
+  candidates = λ old new root routes same is. subst (λ (s : Contents). AreCandidates s root routes)
       (equal old new same) is;
-  table = λ old new root answers table same is. subst (λ (s : Said). IsTable s root answers table)
+  table = λ old new root answers table same is. subst
+      (λ (s : Contents). IsTable s root answers table)
       (equal old new same) is;
   stale = λ old new root answers same. (
-    (λ is. subst (λ (s : Said). IsStale s root answers) (equal old new same) is),
-    (λ is. subst (λ (s : Said). IsStale s root answers) (sym (equal old new same)) is),
+    (λ is. subst (λ (s : Contents). IsStale s root answers) (equal old new same) is),
+    (λ is. subst (λ (s : Contents). IsStale s root answers) (sym (equal old new same)) is),
   );
 }

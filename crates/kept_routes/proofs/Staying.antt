@@ -5,11 +5,11 @@ use Rattle.std.specs.FinMap as finite
 use Rattle.lsa.specs.declared.body.LsaBody.{LsaBody}
 use Rattle.words.specs.declared.key.Key.{Key}
 use Rattle.words.specs.declared.route.Route.{Route}
-use Rattle.routes.specs.lsdb.Copies.{Database, DatabaseCopy, aged_keys, said_by}
+use Rattle.routes.specs.lsdb.Copies.{Database, DatabaseCopy, aged_keys, contents_of}
 use Rattle.routes.specs.Candidates.{AreCandidates, Offers, OffersExternal}
 use Rattle.routes.specs.Candidates.Offers.{Between, External, Within}
 use Rattle.routes.specs.Paths.{Way}
-use Rattle.routes.specs.Said.{Said, said_at}
+use Rattle.routes.specs.Contents.{Contents, contents_at}
 use Rattle.routes.specs.Summaries.{IsBoundaryWay, summary_key}
 use Rattle.routes.specs.Summaries.IsBoundaryWay.{Inside, Outside}
 use Rattle.routes.specs.Tables.{Answers, IsStale}
@@ -36,7 +36,7 @@ use Rattle.kept_routes.proofs.KeptLaws.{walks_kept}
 use Rattle.kept_routes.proofs.Inner.{boundary, external_way, inside}
 
 -- the same in the other direction
-pub turned_offers : (old new : Said) (root : Root) → OfferTheSame old new root
+pub turned_offers : (old new : Contents) (root : Root) → OfferTheSame old new root
     → OfferTheSame new old root
 turned_offers old new root same = record {
   inner = λ key low. sym (same.inner key low);
@@ -44,7 +44,7 @@ turned_offers old new root same = record {
       (boundary old new same.inner root key.advertising_router way is));
 }
 
-module _ (old new : Said) (root : Root) (same : OfferTheSame old new root) where
+module _ (old new : Contents) (root : Root) (same : OfferTheSame old new root) where
   external : (o : Offer) → OffersExternal old root o → OffersExternal new root o
   external o k =
       let way = boundary old new same.inner root k.originator k.is_way.boundary k.is_way.reaches in
@@ -80,7 +80,7 @@ module _ (old new : Said) (root : Root) (same : OfferTheSame old new root) where
       ]
   offers o (External k) = External (external o k)
 
-module _ (old new : Said) (root : Root) (same : OfferTheSame old new root) where
+module _ (old new : Contents) (root : Root) (same : OfferTheSame old new root) where
   forth : (o : Offer) → Offers old root o → Offers new root o
   forth = offers old new root same
 
@@ -102,14 +102,14 @@ module _ (old new : Said) (root : Root) (same : OfferTheSame old new root) where
   )
 
 -- the ways lead to each AS boundary router that is reached
-flagged : (said : Said) (root : Root) (ways : Ways) → AreWays said root ways
-    → (router : ℕ) (way : Way) → ReachesBoundaryRouter said root router way
-    → (w : WayTo) × IsFlagged said ways router 2 w
-flagged said root ways are router way k = by (ways (ARouter router)) refl (are (ARouter router))
+flagged : (contents : Contents) (root : Root) (ways : Ways) → AreWays contents root ways
+    → (router : ℕ) (way : Way) → ReachesBoundaryRouter contents root router way
+    → (w : WayTo) × IsFlagged contents ways router 2 w
+flagged contents root ways are router way k = by (ways (ARouter router)) refl (are (ARouter router))
   where
     by : (answer : Option WayTo) → ways (ARouter router) ≡ answer
-        → IsNodeAnswer said root (ARouter router) answer
-        → (w : WayTo) × IsFlagged said ways router 2 w
+        → IsNodeAnswer contents root (ARouter router) answer
+        → (w : WayTo) × IsFlagged contents ways router 2 w
     by None here none = absurd (none k.reached.distance.0 k.reached.distance.1.is_walk)
     by (Some w) here is = (
       w,
@@ -124,11 +124,11 @@ flagged said root ways are router way k = by (ways (ARouter router)) refl (are (
 -- ---- what is unchanged
 
 module _ (before moment : ℕ) (old new : Database) (walk : KeptWalk) where
-  abbrev was : Said
-  was = said_at before old
+  abbrev was : Contents
+  was = contents_at before old
 
-  abbrev is : Said
-  is = said_at moment new
+  abbrev is : Contents
+  is = contents_at moment new
 
   abbrev Counts : Key → Type 0
   Counts key = OffersNothing moment new walk key → ⊥
@@ -163,7 +163,7 @@ module _ (before moment : ℕ) (old new : Database) (walk : KeptWalk) where
           let key = summary_key 4 router k.advertised.originator in
           un.outside (key, there (finite.get new key) _ k.advertised.its, (refl, refl))
         where
-          there : (o : Option DatabaseCopy) (b : LsaBody) → said_by moment o ≡ Some b
+          there : (o : Option DatabaseCopy) (b : LsaBody) → contents_of moment o ≡ Some b
               → is_some o ≡ true
           there None b it = absurd cc
           there (Some copy) b it = refl

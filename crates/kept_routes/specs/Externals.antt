@@ -4,7 +4,7 @@ use Rattle.std.specs.FinMap as finite
 use Rattle.std.specs.List.{Contains}
 use Rattle.routes.specs.lsdb.Copies.{Database}
 use Rattle.candidates.specs.Borders.{IsFlagged}
-use Rattle.routes.specs.Said.{Said, said_at}
+use Rattle.routes.specs.Contents.{Contents, contents_at}
 use Rattle.routes.specs.Summaries.{IsBoundaryWay}
 use Rattle.routes.specs.declared.graph.Way.{Way}
 use Rattle.routes.specs.Paths.{Way as WalkWay}
@@ -14,7 +14,7 @@ use Rattle.words.specs.Numbers.{Moment, RouterNumber}
 use Rattle.words.specs.declared.key.Key.{Key}
 use Rattle.kept_routes.specs.Ages.{IsOld}
 use Rattle.kept_routes.specs.Kept.{KeptWalk}
-use Rattle.kept_routes.specs.Sameness.{IsLsaUnchanged, SayTheSame}
+use Rattle.kept_routes.specs.Sameness.{IsLsaUnchanged, HaveSameContents}
 
 -- the key of a summary-LSA for an AS boundary router with this Router ID
 abbrev pub NamesIt : RouterNumber → Key → Type 0
@@ -32,7 +32,8 @@ IsNamed db router =
 -- the walk doesn't reach the router as an AS boundary router, and no summary-LSA names it
 pub record IsUnreached (moment : Moment) (db : Database) (walk : KeptWalk)
     (router : RouterNumber) : Type 0 where
-  pub inside : (way : Way) → IsFlagged (said_at moment db) (way_in walk.reached) router 2 way → ⊥
+  pub inside : (way : Way) → IsFlagged (contents_at moment db) (way_in walk.reached) router 2
+      way → ⊥
   pub outside : IsNamed db router → ⊥
 
 -- it is the router's own, or of a router that isn't reached
@@ -69,7 +70,7 @@ AreOldOrLeftOut before moment db walk keys =
 
 -- the LSAs of types 1 to 4 say the same, and so does each AS-external-LSA of another router that is
 -- reached
-pub record OfferTheSame (old : Said) (new : Said) (root : Root) : Type 0 where
-  pub inner : SayTheSame (Some 4) old new
+pub record OfferTheSame (old : Contents) (new : Contents) (root : Root) : Type 0 where
+  pub inner : HaveSameContents (Some 4) old new
   pub outer : (key : Key) (way : WalkWay) → key.advertising_router ≢ root.router
       → IsBoundaryWay new root key.advertising_router way → old key ≡ new key

@@ -4,13 +4,13 @@ use Rattle.std.specs.FinMap as finite
 use Rattle.routes.specs.lsdb.Changes.{IsUpTo, ContentsAgree}
 use Rattle.routes.specs.lsdb.Copies.{Database, DatabaseCopy}
 use Rattle.kept_routes.specs.Ages.{HasNotJustReachedMaxAge}
-use Rattle.routes.specs.Said.{Said}
+use Rattle.routes.specs.Contents.{Contents}
 use Rattle.words.specs.Numbers.{Moment}
 use Rattle.words.specs.declared.key.Key.{Key}
 
 -- the LSAs of the types up to this one, or of all types if there is none, say the same
-abbrev pub SayTheSame : Option ℕ → Said → Said → Type 0
-SayTheSame last_type old new = (key : Key) → IsUpTo last_type key → old key ≡ new key
+abbrev pub HaveSameContents : Option ℕ → Contents → Contents → Type 0
+HaveSameContents last_type old new = (key : Key) → IsUpTo last_type key → old key ≡ new key
 
 -- since the moment `before`, the LSA with a key wasn't added or removed, didn't reach MaxAge and
 -- didn't change its contents; another instance below MaxAge with the same contents is no change

@@ -4,7 +4,7 @@ ghost use Rattle.std.specs.Prelude.{◌≡◌, ◌≤◌, ◌↔◌, IfOk, IsTru
 ghost use Rattle.lsa.specs.declared.body.LsaBody.TheVariants as body;
 ghost use Rattle.lsa.specs.declared.body.RouterLsa.{RouterLsa as RouterValue};
 ghost use Rattle.candidates.specs.Borders.{IsFlagged};
-ghost use Rattle.routes.specs.Said.{said_at};
+ghost use Rattle.routes.specs.Contents.{contents_at};
 ghost use Rattle.routes.specs.declared.graph.Way.{Way as WayTo};
 ghost use Rattle.candidates.specs.Reached.{way_in};
 ghost use Rattle.kept_routes.specs.Externals.{AreOldOrLeftOut, IsNamed, IsOldOrLeftOut};
@@ -69,9 +69,9 @@ fn is_unreached(db: &Lsdb, walk: &Routes, moment: Second, router: RouterId) -> b
 
 // The router-LSA with this key, if the database has one below MaxAge.
 fn router_lsa<'a>(db: &'a Lsdb, moment: Second, key: &Key) -> Option<&'a RouterLsa>
-    ensures { MatchOption result ((lsa : RouterValue) → said_at moment db.now.present key.now
+    ensures { MatchOption result ((lsa : RouterValue) → contents_at moment db.now.present key.now
         ≡ Some (body.Router lsa) → ⊥) (λ lsa.
-        said_at moment db.now.present key.now ≡ Some (body.Router lsa.now)) }
+        contents_at moment db.now.present key.now ≡ Some (body.Router lsa.now)) }
 {
     match db.body_at(moment, key)? {
         LsaBody::Router(lsa) => Some(lsa),
@@ -81,7 +81,7 @@ fn router_lsa<'a>(db: &'a Lsdb, moment: Second, key: &Key) -> Option<&'a RouterL
 
 // Whether the router is reachable, and its LSA has flag E.
 fn is_boundary(db: &Lsdb, walk: &Routes, moment: Second, router: RouterId) -> bool
-    ensures { IsTrue result ↔ ((way : WayTo) × IsFlagged (said_at moment db.now.present)
+    ensures { IsTrue result ↔ ((way : WayTo) × IsFlagged (contents_at moment db.now.present)
         (way_in walk.now.reached) router 2 way) }
 {
     let reached = walk.way_to(&Node::ARouter(router)).is_some();
@@ -144,9 +144,9 @@ pub fn offering_lsas_are_unchanged(
     moment: Second,
 ) -> Result<bool, AllocError>
     requires order { before ≤ moment }
-    requires walk { IsWalkOf (said_at before db.now.committed) walk.now }
+    requires walk { IsWalkOf (contents_at before db.now.committed) walk.now }
     ensures same { IfOk result (λ same. IsTrue same → OfferTheSame
-        (said_at before db.now.committed) (said_at moment db.now.present) walk.now.root) }
+        (contents_at before db.now.committed) (contents_at moment db.now.present) walk.now.root) }
     ensures left { IfOk result (λ same. AreOfferingLsasUnchanged before moment db.now.committed
         db.now.present walk.now → IsTrue same) }
 {

@@ -3,10 +3,10 @@ ghost use Rattle.std.specs.Prelude.{◌≡◌, ◌≤◌, ◌↔◌, IfOk, IsTru
 ghost use Rattle.std.specs.FinMap as finite;
 ghost use Rattle.std.specs.List.{Contains};
 ghost use Rattle.routes.specs.lsdb.Copies.{DatabaseCopy as CopyValue, is_aged_out};
-ghost use Rattle.routes.specs.Said.{said_at};
+ghost use Rattle.routes.specs.Contents.{contents_at};
 ghost use Rattle.words.specs.declared.key.Key.{Key as KeyValue};
 ghost use Rattle.kept_routes.specs.Ages.{AreOld, IsOld};
-ghost use Rattle.kept_routes.specs.Sameness.{AreLsasUnchanged, SayTheSame};
+ghost use Rattle.kept_routes.specs.Sameness.{AreLsasUnchanged, HaveSameContents};
 
 use routes::{Lsdb, is_up_to};
 use std::alloc::{AllocError, Global};
@@ -30,8 +30,8 @@ pub fn lsas_are_unchanged(
     moment: Second,
 ) -> Result<bool, AllocError>
     requires { before ≤ moment }
-    ensures same { IfOk result (λ same. IsTrue same → SayTheSame last_type
-        (said_at before db.now.committed) (said_at moment db.now.present)) }
+    ensures same { IfOk result (λ same. IsTrue same → HaveSameContents last_type
+        (contents_at before db.now.committed) (contents_at moment db.now.present)) }
     // It is true whenever that is correct.
     ensures left { IfOk result (λ same. IsTrue same
         ↔ AreLsasUnchanged last_type before moment db.now.committed db.now.present) }

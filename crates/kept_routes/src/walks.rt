@@ -4,7 +4,7 @@ ghost use Rattle.std.specs.FinMap as finite;
 ghost use Rattle.std.specs.List.{Contains};
 ghost use Rattle.words.specs.declared.route.Route.{Route as RouteValue};
 ghost use Rattle.routes.specs.Candidates.{AreCandidates, Offers};
-ghost use Rattle.routes.specs.Said.{said_at};
+ghost use Rattle.routes.specs.Contents.{contents_at};
 ghost use Rattle.routes.specs.declared.offer.Offer.{Offer};
 ghost use Rattle.candidates.specs.Reached.{way_in};
 ghost use Rattle.candidates.specs.Inner.{AreInner, AreSearchable};
@@ -47,7 +47,7 @@ impl Routes {
     pub fn new(alloc: Global, db: &Lsdb, root: &Root, moment: Second) -> Result<Routes, AllocError>
         requires interfaces { length root.now.addresses ≤ 63 }
         requires size { finite.len db.now.present ≤ 16384 }
-        ensures walk { IfOk result (λ kept. IsWalkOf (said_at moment db.now.present) kept) }
+        ensures walk { IfOk result (λ kept. IsWalkOf (contents_at moment db.now.present) kept) }
         ensures root { IfOk result (λ kept. kept.root ≡ root.now) }
         ensures walks { IfOk result (λ kept. kept.walks ≡ 1) }
     {
@@ -85,11 +85,11 @@ impl Routes {
         db: &Lsdb,
         moment: Second,
     ) -> Result<Vec<Route>, AllocError>
-        requires { IsWalkOf (said_at moment db.now.present) self.now }
+        requires { IsWalkOf (contents_at moment db.now.present) self.now }
         ensures candidates { IfOk result (λ routes.
-            AreCandidates (said_at moment db.now.present) self.now.root routes.items) }
+            AreCandidates (contents_at moment db.now.present) self.now.root routes.items) }
         ensures every { IfOk result (λ routes. (o : Offer)
-            → Offers (said_at moment db.now.present) self.now.root o
+            → Offers (contents_at moment db.now.present) self.now.root o
             → (r : RouteValue) × Contains routes.items r × (r.prefix ≡ o.prefix)) }
     {
         let routes = routes_of(alloc, db, &self.root, moment, &self.reached)?;
@@ -110,11 +110,12 @@ impl Routes {
         moment: Second,
         externals: &[ExternalAdvertisement],
     ) -> Result<Calculated, AllocError>
-        requires walk { IsWalkOf (said_at moment db.now.present) self.now }
-        requires externals { AreExternals (said_at moment db.now.present) externals.now }
-        ensures routes { IfOk result (λ made. AreCandidates (said_at moment db.now.present)
+        requires walk { IsWalkOf (contents_at moment db.now.present) self.now }
+        requires externals { AreExternals (contents_at moment db.now.present) externals.now }
+        ensures routes { IfOk result (λ made. AreCandidates (contents_at moment db.now.present)
             self.now.root made.routes.items) }
-        ensures inner { IfOk result (λ made. AreInner (said_at moment db.now.present) self.now.root
+        ensures inner { IfOk result (λ made. AreInner (contents_at moment db.now.present)
+            self.now.root
             (way_in self.now.reached) made.inner) }
         ensures searchable { IfOk result (λ made. AreSearchable made.inner) }
     {

@@ -19,7 +19,7 @@ use Rattle.words.specs.declared.key.Key.{Key}
 use Rattle.lsa.specs.declared.body.LsaBody.{LsaBody}
 use Rattle.lsdb.specs.Bodies.{AreBodies}
 use Rattle.lsdb.specs.Changes.{IsUpTo}
-use Rattle.lsdb.specs.Copies.{Database, DatabaseCopy, is_aged_out, said_by}
+use Rattle.lsdb.specs.Copies.{Database, DatabaseCopy, is_aged_out, contents_of}
 use Rattle.lsdb.specs.Keys.{key_cmp}
 use Rattle.lsdb.proofs.Entries.{below, entry_found, first_is, found_in, later_is, of_cons}
 use Rattle.lsdb.proofs.Entries.{of_empty}
@@ -151,20 +151,21 @@ module _ (moment : ℕ) where
   abbrev spoken : DatabaseCopy → Bool → Option LsaBody
   spoken c b = if b then None else Some c.lsa.body
 
-  young_says : (c : DatabaseCopy) → aged c ≡ false → said_by moment (Some c) ≡ Some c.lsa.body
+  young_says : (c : DatabaseCopy) → aged c ≡ false → contents_of moment (Some c) ≡ Some c.lsa.body
   young_says c is = ap (spoken c) is
 
-  old_says : (c : DatabaseCopy) → aged c ≡ true → said_by moment (Some c) ≡ None
+  old_says : (c : DatabaseCopy) → aged c ≡ true → contents_of moment (Some c) ≡ None
   old_says c is = ap (spoken c) is
 
   module _ (d : Database) where
     abbrev said : Key → Option LsaBody
-    said key = said_by moment (finite.get d key)
+    said key = contents_of moment (finite.get d key)
 
     all_said : (x : Key × LsaBody) → Contains (told (finite.entries d)) x → said x.0 ≡ Some x.1
     all_said x t =
         let by = told_from (finite.entries d) x t in
-        ap (said_by moment) (entry_found d (x.0, by.copy) by.among) ∙ young_says by.copy by.young
+        ap (contents_of moment) (entry_found d (x.0, by.copy) by.among) ∙ young_says by.copy
+        by.young
         ∙ ap (λ (b : LsaBody). Some b) by.says
 
     all_told : (key : Key) (says : LsaBody) → said key ≡ Some says
@@ -172,15 +173,15 @@ module _ (moment : ℕ) where
     all_told key says is =
         elim (finite.get d key) as (λ o. finite.get d key ≡ o
         → Contains (told (finite.entries d)) (key, says)) [
-          | None ↦ λ none. absurd (none-some says (sym (ap (said_by moment) none) ∙ is))
+          | None ↦ λ none. absurd (none-some says (sym (ap (contents_of moment) none) ∙ is))
           | Some c ↦ λ some.
               elim (aged c) as (λ b. aged c ≡ b → Contains (told (finite.entries d)) (key, says)) [
                 | true ↦ λ old. absurd (none-some says
-                    (sym (ap (said_by moment) some ∙ old_says c old) ∙ is))
+                    (sym (ap (contents_of moment) some ∙ old_says c old) ∙ is))
                 | false ↦ λ young.
                     let same : c.lsa.body ≡ says =
                     same_Some c.lsa.body says (sym
-                    (ap (said_by moment) some ∙ young_says c young) ∙ is) in
+                    (ap (contents_of moment) some ∙ young_says c young) ∙ is) in
                     let among = found_in (finite.entries d) key c
                     (sym (finite.get-entries d key) ∙ some) in
                     subst (λ (b : LsaBody). Contains (told (finite.entries d)) (key, b)) same
@@ -284,7 +285,8 @@ module _ (last : Option ℕ) (moment : ℕ) (d : Database) where
           ];
     }
 
-    pub stops : (IsUpTo last key → ⊥) → AreBodies last (λ q. said_by moment (finite.get d q)) done
+    pub stops : (IsUpTo last key → ⊥) → AreBodies last (λ q. contents_of moment (finite.get d q))
+        done
     stops beyond =
         are_bodies moment d last done ahead walk.whole walk.count
         (λ x among. none_beyond last (key, c) rest
@@ -292,7 +294,7 @@ module _ (last : Option ℕ) (moment : ℕ) (d : Database) where
         (subst (λ es. Contains es x) next among))
 
   pub ends : (ahead : List (Key × DatabaseCopy)) (done : List (Key × LsaBody)) → ahead ≡ []
-      → Walk ahead done → AreBodies last (λ q. said_by moment (finite.get d q)) done
+      → Walk ahead done → AreBodies last (λ q. contents_of moment (finite.get d q)) done
   ends ahead done none walk = are_bodies moment d last done ahead walk.whole walk.count
       (λ x among. none_left last x (subst (λ es. Contains es x) none among))
 

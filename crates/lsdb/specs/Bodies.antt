@@ -13,8 +13,8 @@ InOrder bodies = AllPairs (λ (a : Key × LsaBody) (b : Key × LsaBody). key_cmp
 
 -- exactly the keys of LS types up to this one, or of all types, whose LSAs have a body that counts,
 -- each once and with that body, in the order of the keys
-pub record AreBodies (last : Option ℕ) (said : Key → Option LsaBody)
+pub record AreBodies (last : Option ℕ) (contents : Key → Option LsaBody)
     (bodies : List (Key × LsaBody)) : Type 0 where
-  pub each : (key : Key) (says : LsaBody) → Contains bodies (key, says)
-      ↔ (IsUpTo last key × (said key ≡ Some says))
+  pub each : (key : Key) (body : LsaBody) → Contains bodies (key, body)
+      ↔ (IsUpTo last key × (contents key ≡ Some body))
   pub ascend : InOrder bodies

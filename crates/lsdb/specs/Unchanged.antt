@@ -2,13 +2,13 @@
 use Rattle.std.specs.Prelude.{◌≡◌, ◌⊎◌, Option, None}
 use Rattle.words.specs.Numbers.{Moment}
 use Rattle.lsdb.specs.Changes.{ContentsAgree}
-use Rattle.lsdb.specs.Copies.{DatabaseCopy, said_by}
+use Rattle.lsdb.specs.Copies.{DatabaseCopy, contents_of}
 
 -- neither the earlier copy at the moment `before` nor the present one at `moment` has contents
 pub record StaysWithoutContents (before : Moment) (moment : Moment) (old : Option DatabaseCopy)
     (new : Option DatabaseCopy) : Type 0 where
-  pub was : said_by before old ≡ None
-  pub is : said_by moment new ≡ None
+  pub was : contents_of before old ≡ None
+  pub is : contents_of moment new ≡ None
 
 -- the contents of both copies agree, or neither has any
 abbrev pub IsContentUnchanged : (before : Moment) → (moment : Moment) → (old : Option DatabaseCopy)

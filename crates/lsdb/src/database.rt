@@ -6,7 +6,7 @@ ghost use Rattle.lsdb.specs.Copies.{
   aged_keys,
   mark_sent,
   put_copy,
-  said_by,
+  contents_of,
 };
 ghost use Rattle.lsdb.specs.Bodies.{AreBodies};
 ghost use Rattle.lsdb.specs.Doing.{DatabaseDoes};
@@ -217,7 +217,7 @@ impl Lsdb {
 
     /// The body of this key's copy, if there is one below MaxAge at the moment.
     pub fn body_at(&self, moment: Second, key: &Key) -> Option<&LsaBody>
-        ensures { option_copied result ≡ said_by moment (finite.get self.now.present key.now) }
+        ensures { option_copied result ≡ contents_of moment (finite.get self.now.present key.now) }
     {
         match self.copies.get(key) {
             None => None,
@@ -238,7 +238,7 @@ impl Lsdb {
         moment: Second,
     ) -> Result<Vec<KeyedBody<'_>>, AllocError>
         ensures bodies { IfOk result (λ bodies. AreBodies last_type
-            (λ key. said_by moment (finite.get self.now.present key)) bodies.items) }
+            (λ key. contents_of moment (finite.get self.now.present key)) bodies.items) }
         ensures few { IfOk result (λ bodies. length bodies.items ≤ finite.len self.now.present) }
     {
         bodies_of(alloc, &self.copies, last_type, moment)

@@ -2,7 +2,7 @@
 ghost use Rattle.std.specs.Prelude.{◌≡◌, ◌≤◌, IfOk, length};
 ghost use Rattle.std.specs.FinMap as finite;
 ghost use Rattle.lsdb.specs.Bodies.{AreBodies};
-ghost use Rattle.lsdb.specs.Copies.{said_by};
+ghost use Rattle.lsdb.specs.Copies.{contents_of};
 
 use crate::database::is_up_to;
 use crate::stored::StoredLsa;
@@ -62,7 +62,7 @@ pub fn bodies_of<'a>(
     moment: Second,
 ) -> Result<Vec<KeyedBody<'a>>, AllocError>
     ensures bodies { IfOk result (λ bodies. AreBodies last_type
-        (λ key. said_by moment (finite.get copies.now.present key)) bodies.items) }
+        (λ key. contents_of moment (finite.get copies.now.present key)) bodies.items) }
     ensures few { IfOk result (λ bodies. length bodies.items ≤ finite.len copies.now.present) }
 {
     let mut bodies = Vec::new(alloc);

@@ -2,7 +2,7 @@
 ghost use Rattle.std.specs.Prelude.{◌≡◌, ◌≤◌, ◌↔◌, ◌⊎◌, drop, length, IfOk, IsTrue, None};
 ghost use Rattle.std.specs.Prelude.{option_copied};
 ghost use Rattle.lsdb.specs.Changes.{HaveNoMaxAge, HaveOneAge, ContentsAgree, header_length};
-ghost use Rattle.lsdb.specs.Copies.{said_by};
+ghost use Rattle.lsdb.specs.Copies.{contents_of};
 ghost use Rattle.lsdb.specs.Unchanged.{IsContentUnchanged, StaysWithoutContents};
 
 use crate::plain_bodies::are_plainly_one;
@@ -144,7 +144,7 @@ fn stays_without_contents(
 
 // Whether the copy has no body that counts at the moment: it doesn't exist, or is at MaxAge.
 fn has_no_contents(moment: Second, copy: Option<&StoredLsa>) -> bool
-    ensures { IsTrue result ↔ (said_by moment (option_copied copy.entry) ≡ None) }
+    ensures { IsTrue result ↔ (contents_of moment (option_copied copy.entry) ≡ None) }
 {
     match copy {
         None => true,

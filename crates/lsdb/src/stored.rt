@@ -3,7 +3,7 @@ ghost use Rattle.std.specs.Prelude.{◌≡◌, ◌↔◌, ◌<◌, IfOk, IsTrue,
 ghost use Rattle.words.specs.Constants.{max_age};
 ghost use Rattle.words.specs.Numbers.{Moment};
 ghost use Rattle.lsdb.specs.Changes.{HaveOneAge};
-ghost use Rattle.lsdb.specs.Copies.{copy_of, is_aged_out, said_by};
+ghost use Rattle.lsdb.specs.Copies.{copy_of, is_aged_out, contents_of};
 ghost use Rattle.lsdb.specs.Headers.{lsa_aged};
 
 use crate::database_copy::DatabaseCopy;
@@ -113,7 +113,7 @@ impl StoredLsa {
 
     /// Its body, if it is below MaxAge at the moment.
     pub(crate) fn body_at(&self, moment: Second) -> Option<&LsaBody>
-        ensures { option_copied result ≡ said_by moment (Some self.now) }
+        ensures { option_copied result ≡ contents_of moment (Some self.now) }
     {
         if self.is_aged_out(moment) {
             return None;

@@ -28,7 +28,7 @@ use Rattle.route_laws.proofs.Entries.{all_pass, has_link, is_no_network, is_said
 use Rattle.route_laws.proofs.Entries.{sayings}
 pub use Rattle.routes.proofs.OneMore.{no_worse_itself}
 pub use Rattle.routes.specs.Best.{route_of}
-use Rattle.routes.specs.Said.{Said, said_at}
+use Rattle.routes.specs.Contents.{Contents, contents_at}
 use Rattle.routes.specs.Routes.{IsBefore, IsBestAmong, IsNoLater, IsNoWorse, IsRouteAmong, rank}
 
 -- ---- candidates
@@ -44,8 +44,8 @@ abbrev pub IsAloneAmong : (Offer → Type 0) → Offer → Type 0
 IsAloneAmong IsOffered o = (other : Offer) → IsOffered other → other.prefix ≡ o.prefix → (other ≡ o)
     ⊎ (IsNoWorse o other × (IsNoWorse other o → ⊥))
 
-abbrev pub IsAlone : Said → Root → Offer → Type 0
-IsAlone said root = IsAloneAmong (Offers said root)
+abbrev pub IsAlone : Contents → Root → Offer → Type 0
+IsAlone contents root = IsAloneAmong (Offers contents root)
 
 pub alone_among : (IsOffered : Offer → Type 0) (o : Offer) → IsOffered o → IsAloneAmong IsOffered o
     → IsRouteAmong IsOffered (route_of o)
@@ -82,23 +82,24 @@ alone_among IsOffered o offered only =
       );
     }
 
-pub alone : (said : Said) (root : Root) (o : Offer) → Offers said root o → IsAlone said root o
-    → IsCandidate said root (route_of o)
-alone said root o offered only = alone_among (Offers said root) o offered only
+pub alone : (contents : Contents) (root : Root) (o : Offer) → Offers contents root o → IsAlone
+    contents root o
+    → IsCandidate contents root (route_of o)
+alone contents root o offered only = alone_among (Offers contents root) o offered only
 
 -- routes that are candidates, one for each prefix that is offered
-pub all_candidates : (said : Said) (root : Root) (routes : List Route)
-    → ((r : Route) → Contains routes r → IsCandidate said root r)
-    → ((o : Offer) → Offers said root o → (s : Route) × Contains routes s
+pub all_candidates : (contents : Contents) (root : Root) (routes : List Route)
+    → ((r : Route) → Contains routes r → IsCandidate contents root r)
+    → ((o : Offer) → Offers contents root o → (s : Route) × Contains routes s
     × (s.prefix ≡ o.prefix)) → AllPairs
     (λ (a : Route) (b : Route). IsBefore a.prefix b.prefix) routes
-    → AreCandidates said root routes
-all_candidates said root routes sound offered ascending = record {
+    → AreCandidates contents root routes
+all_candidates contents root routes sound offered ascending = record {
   each = λ r. (
     sound r,
     (λ k.
         let s = offered k.first k.is_best.offered in
-        let same : s.0 ≡ r = one_candidate said root s.0 r (sound s.0 s.1) k
+        let same : s.0 ≡ r = one_candidate contents root s.0 r (sound s.0 s.1) k
         (s.2 ∙ k.is_best.is_for) in
         let P : Route → Type 0 = λ x. Contains routes x in
         subst P same s.1),
@@ -118,11 +119,11 @@ abbrev pub is_stub : ℕ × RouterLink → Bool
 is_stub x = kind_is_stub x.1.kind
 
 -- a stub link of a router whose way is known
-pub record StubOffer (said : Said) (root : Root) (router : ℕ) (l : RouterLink) (length : ℕ)
+pub record StubOffer (contents : Contents) (root : Root) (router : ℕ) (l : RouterLink) (length : ℕ)
     (o : Offer) :
     Type 0 where
   pub way : Way
-  pub reached : IsWay (Leads said root) (ARouter root.router) (ARouter router) way
+  pub reached : IsWay (Leads contents root) (ARouter root.router) (ARouter router) way
   pub within : length ≤ 32
   pub mask : l.link_data ≡ mask_of length
   pub hops : ℕ
@@ -138,13 +139,14 @@ module _ (moment : ℕ) (es : Entries) (root : Root) (P : Offer → Type 0) wher
   -- if each stub link has an offer with the property P, all offers within the area have it
   abbrev pub Known : ℕ → RouterLink → Type 0
   Known router l = (length : ℕ) × (o : Offer)
-      × StubOffer (said_at moment (database es)) root router l length o × P o
+      × StubOffer (contents_at moment (database es)) root router l length o × P o
 
   -- an offer that comes of a stub link whose offer is known
   pub by_stub : (router : ℕ) (prefix : Network) (more : ℕ)
-      (a : Attaches (said_at moment (database es)) (ARouter router) prefix more)
+      (a : Attaches (contents_at moment (database es)) (ARouter router) prefix more)
       → Known router a.0 → (way : Way)
-      → IsWay (Leads (said_at moment (database es)) root) (ARouter root.router) (ARouter router) way
+      → IsWay (Leads (contents_at moment (database es)) root) (ARouter root.router) (ARouter router)
+          way
       → (hops : ℕ) → (ARouter router ≡ ARouter root.router → hops ≡ 1)
       → ((ARouter router ≡ ARouter root.router → ⊥) → hops ≡ way.hops)
       → P (intra prefix (way.distance + more) hops)
@@ -155,7 +157,7 @@ module _ (moment : ℕ) (es : Entries) (root : Root) (P : Offer → Type 0) wher
         length = k.0;
       } ≡ prefix =
       one_prefix l.link_id l.link_data k.0 prefix k.2.within k.2.mask a.3 in
-      let w : k.2.way ≡ way = one_way (Leads (said_at moment (database es)) root)
+      let w : k.2.way ≡ way = one_way (Leads (contents_at moment (database es)) root)
       (ARouter root.router) (ARouter router) k.2.way way k.2.reached reached in
       let m : l.metric ≡ more = sym a.4 in
       let h : k.2.hops ≡ hops =
@@ -172,8 +174,8 @@ module _ (moment : ℕ) (es : Entries) (root : Root) (P : Offer → Type 0) wher
       → ((router : ℕ) (l : RouterLink)
       → Contains (filter is_stub (links_of (sayings es))) (router, l) → Known router l)
       → (node : Node) (prefix : Network) (more : ℕ)
-      → Attaches (said_at moment (database es)) node prefix more → (way : Way)
-      → IsWay (Leads (said_at moment (database es)) root) (ARouter root.router) node
+      → Attaches (contents_at moment (database es)) node prefix more → (way : Way)
+      → IsWay (Leads (contents_at moment (database es)) root) (ARouter root.router) node
       way → (hops : ℕ) → (node ≡ ARouter root.router → hops ≡ 1)
       → ((node ≡ ARouter root.router → ⊥) → hops ≡ way.hops)
       → P (intra prefix (way.distance + more) hops)
@@ -195,7 +197,7 @@ module _ (moment : ℕ) (es : Entries) (root : Root) (P : Offer → Type 0) wher
   pub each_within : list_all is_no_network (sayings es) ≡ true
       → ((router : ℕ) (l : RouterLink)
       → Contains (filter is_stub (links_of (sayings es))) (router, l) → Known router l)
-      → (o : Offer) → OffersWithin (said_at moment (database es)) root o → P o
+      → (o : Offer) → OffersWithin (contents_at moment (database es)) root o → P o
   each_within routers known o x =
       subst P (sym x.is) (by_node routers known x.node x.prefix x.more x.attached x.way x.reached
       x.hops x.by_root x.by_others)

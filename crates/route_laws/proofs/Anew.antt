@@ -12,7 +12,7 @@ use Rattle.event_rules.specs.Originations.{router_body, router_key}
 use Rattle.candidates.specs.Borders.{IsLongest}
 use Rattle.routes.specs.Candidates.{AreCandidates, Offers}
 use Rattle.routes.specs.Links.{IsRouterLsa, LeadsTo, Says}
-use Rattle.routes.specs.Said.{Said, said_at}
+use Rattle.routes.specs.Contents.{Contents, contents_at}
 use Rattle.routes.specs.declared.node.Node.TheVariants.{ARouter}
 use Rattle.routes.specs.declared.offer.Offer.{Offer}
 use Rattle.routes.specs.declared.root.Root.{Root}
@@ -36,8 +36,8 @@ use Rattle.route_laws.proofs.Ordered.{in_order}
 use Rattle.route_laws.proofs.Parts.{one_of}
 use Rattle.routes.specs.Candidates.Offers.{Within}
 
-abbrev anew_says : Said
-anew_says = said_at 0 (database anew)
+abbrev anew_says : Contents
+anew_says = contents_at 0 (database anew)
 
 abbrev root : Root
 root = root_by middle_id anew_links

@@ -13,7 +13,7 @@ use Rattle.routes.specs.Candidates.{AreCandidates, Offers, OffersExternal, exter
 use Rattle.routes.specs.Candidates.Offers.{External}
 use Rattle.routes.specs.Links.{Says}
 use Rattle.routes.specs.Offers.{IsPrefix}
-use Rattle.routes.specs.Said.{Said}
+use Rattle.routes.specs.Contents.{Contents}
 use Rattle.routes.specs.Summaries.IsBoundaryWay.{Inside}
 use Rattle.routes.specs.declared.offer.Offer.{Offer}
 use Rattle.routes.specs.declared.root.Root.{Root}
@@ -39,7 +39,7 @@ use Rattle.route_laws.proofs.OneOffer.{IsWayFrom, way}
 use Rattle.route_laws.proofs.Parts.{one_of}
 use Rattle.routes.specs.Summaries.{IsBoundaryWay}
 
-abbrev default_says : Said
+abbrev default_says : Contents
 default_says = said_in with_default_lsa
 
 the_row : HasRow with_default_lsa

@@ -17,7 +17,7 @@ use Rattle.lsdb.proofs.Keys.{keys_exact, keys_total}
 use Rattle.routes.specs.Links.{HasLink, Says}
 use Rattle.route_laws.specs.Worked.{Entries, database}
 use Rattle.routes.proofs.Lists.{first_is, later_is, of_cons, of_empty}
-use Rattle.routes.specs.Said.{said_at, said_by}
+use Rattle.routes.specs.Contents.{contents_at, contents_of}
 
 -- ---- lists
 
@@ -89,7 +89,8 @@ pub record IsHeard (moment : ℕ) (o : Option DatabaseCopy) (says : LsaBody) : T
   pub young : is_aged_out moment copy ≡ false
   pub is_body : copy.lsa.body ≡ says
 
-pub heard : (moment : ℕ) (o : Option DatabaseCopy) (says : LsaBody) → said_by moment o ≡ Some says
+pub heard : (moment : ℕ) (o : Option DatabaseCopy) (says : LsaBody) → contents_of moment o ≡ Some
+    says
     → IsHeard moment o says
 heard moment None says e = absurd (cc)
 heard moment (Some c) says e = by_age (is_aged_out moment c) refl e
@@ -100,7 +101,7 @@ heard moment (Some c) says e = by_age (is_aged_out moment c) refl e
     by_age false is f = record { copy = c; stands = refl; young = is; is_body = cc }
 
 pub is_said : (moment : ℕ) (es : Entries) (k : Key) (says : LsaBody)
-    → Says (said_at moment (database es)) k says → Contains (sayings es) (k, says)
+    → Says (contents_at moment (database es)) k says → Contains (sayings es) (k, says)
 is_said moment es k says e =
     let s = heard moment (finite.get (database es) k) says e in
     let among : Contains es (k, s.copy) =
@@ -137,7 +138,8 @@ linked (s ∷ ss) k r l t among =
     ]
 
 pub has_link : (moment : ℕ) (es : Entries) (router : ℕ) (l : RouterLink)
-    → HasLink (said_at moment (database es)) router l → Contains (links_of (sayings es)) (router, l)
+    → HasLink (contents_at moment (database es)) router l → Contains (links_of (sayings es))
+        (router, l)
 has_link moment es router l h = linked (sayings es) (record {
   ls_type = 1;
   link_state_id = router;

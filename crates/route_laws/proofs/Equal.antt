@@ -8,7 +8,7 @@ use Rattle.event_rules.specs.Originations.{router_body, router_key}
 use Rattle.routes.specs.Candidates.{AreCandidates, OffersExternal}
 use Rattle.routes.specs.Links.{IsRouterLsa, LeadsTo}
 use Rattle.routes.specs.Paths.{Step, price_of}
-use Rattle.routes.specs.Said.{Said, said_at}
+use Rattle.routes.specs.Contents.{Contents, contents_at}
 use Rattle.routes.specs.declared.node.Node.{Node}
 use Rattle.routes.specs.declared.node.Node.TheVariants.{ARouter}
 use Rattle.routes.specs.declared.offer.Offer.{Offer}
@@ -30,8 +30,8 @@ use Rattle.route_laws.proofs.ThreeRouters.{is_current, left_candidates, lsa_of, 
 use Rattle.route_laws.proofs.ThreeRouters.{right_candidates, silent, three_places, up_to_date}
 use Rattle.route_laws.proofs.ThreeRouters.{left_hands}
 
-abbrev equal_says : Said
-equal_says = said_at 0 (database equal)
+abbrev equal_says : Contents
+equal_says = contents_at 0 (database equal)
 
 abbrev at_middle : Root
 at_middle = root_by middle_id equal_links

@@ -15,7 +15,7 @@ use Rattle.routes.specs.Links.{Leads}
 use Rattle.routes.specs.Offers.{Attaches, ReachesBoundaryRouter}
 use Rattle.routes.specs.Paths.{IsLeastWalk, IsWay, Step, Way}
 use Rattle.routes.specs.Routes.{rank}
-use Rattle.routes.specs.Said.{Said}
+use Rattle.routes.specs.Contents.{Contents}
 use Rattle.routes.specs.Summaries.{IsBoundaryWay, IsAdvertised, OffersBetween}
 use Rattle.routes.specs.Summaries.IsBoundaryWay.{Inside, Outside}
 use Rattle.routes.specs.declared.node.Node.{Node}
@@ -48,13 +48,14 @@ record LeavesBy (way : Way) : Type 0 where
   interface : ℕ
   is_hop : IsTrue (has_interface way.hops interface)
 
-leaves_by : (said : Said) (root : Root) (router : ℕ) (way : Way)
-    → IsWay (Leads said root) (ARouter root.router) (ARouter router) way
+leaves_by : (contents : Contents) (root : Root) (router : ℕ) (way : Way)
+    → IsWay (Leads contents root) (ARouter root.router) (ARouter router) way
     → (router ≡ root.router → ⊥) → LeavesBy way
-leaves_by said root router way is other = by_walk is.distance.0 is.distance.1
+leaves_by contents root router way is other = by_walk is.distance.0 is.distance.1
   where
     by_walk : (walk : List (Step Node))
-        → IsLeastWalk (Leads said root) (ARouter root.router) walk (ARouter router) → LeavesBy way
+        → IsLeastWalk (Leads contents root) (ARouter root.router) walk (ARouter router) → LeavesBy
+            way
     by_walk [] l = absurd (let e : ARouter root.router ≡ ARouter router = l.is_walk in
         let same : router ≡ root.router = cc in other same)
     by_walk (first ∷ rest) l = record {
@@ -62,37 +63,37 @@ leaves_by said root router way is other = by_walk is.distance.0 is.distance.1
       is_hop = (is.hops first.exit).1 (first, rest, l, refl);
     }
 
-away_by : (said : Said) (root : Root) (router : ℕ) (way : Way)
-    → IsWay (Leads said root) (ARouter root.router) (ARouter router) way → (i : ℕ)
+away_by : (contents : Contents) (root : Root) (router : ℕ) (way : Way)
+    → IsWay (Leads contents root) (ARouter root.router) (ARouter router) way → (i : ℕ)
     → IsTrue (has_interface way.hops i) → 0 < i
-away_by said root router way is i t =
+away_by contents root router way is i t =
     let hop = (is.hops i).0 t in
     let first : Step Node = hop.0 in
-    let some = price_of_own said root first.target first.price first.exit hop.2.is_walk.0 in
+    let some = price_of_own contents root first.target first.price first.exit hop.2.is_walk.0 in
     omega (arith, some.1, hop.3)
 
 -- an offer toward a router, with the way that has these hops
-record IsSent (said : Said) (root : Root) (offer : Offer) (hops : ℕ) : Type 0 where
+record IsSent (contents : Contents) (root : Root) (offer : Offer) (hops : ℕ) : Type 0 where
   originator : ℕ
   of_another : originator ≡ root.router → ⊥
-  toward : IsToward said root offer originator hops
+  toward : IsToward contents root offer originator hops
   way : Way
-  reached : IsWay (Leads said root) (ARouter root.router) (ARouter originator) way
+  reached : IsWay (Leads contents root) (ARouter root.router) (ARouter originator) way
   hops_are : hops ≡ way.hops
 
 -- some of an offer's hops, all of them toward one router
-record SentBy (said : Said) (root : Root) (offer : Offer) (i : ℕ) : Type 0 where
+record SentBy (contents : Contents) (root : Root) (offer : Offer) (i : ℕ) : Type 0 where
   hops : ℕ
-  sent : IsSent said root offer hops
+  sent : IsSent contents root offer hops
   has : IsTrue (has_interface hops i)
 
-module _ (said : Said) (plain : AreBoundariesPlain said) (root : Root) where
-  hops_of : (o : Offer) (x : OffersExternal said root o) → o.hops ≡ x.is_way.boundary.hops
+module _ (contents : Contents) (plain : AreBoundariesPlain contents) (root : Root) where
+  hops_of : (o : Offer) (x : OffersExternal contents root o) → o.hops ≡ x.is_way.boundary.hops
   hops_of o x = ap (λ (y : Offer). y.hops) x.is
       ∙ external_hops x.lsa.kind x.prefix x.lsa x.originator x.way
       ∙ ap (λ (w : Way). w.hops) (x.is_way.direct (plain.direct x.id x.originator x.lsa x.its))
 
-  by_border : (o : Offer) (x : OffersBetween said root o) → IsSent said root o o.hops
+  by_border : (o : Offer) (x : OffersBetween contents root o) → IsSent contents root o o.hops
   by_border o x = record {
     originator = x.originator;
     of_another = x.counts.of_another;
@@ -102,8 +103,9 @@ module _ (said : Said) (plain : AreBoundariesPlain said) (root : Root) where
     hops_are = ap (λ (y : Offer). y.hops) x.is;
   }
 
-  by_boundary : (o : Offer) (x : OffersExternal said root o)
-      → ReachesBoundaryRouter said root x.originator x.is_way.boundary → IsSent said root o o.hops
+  by_boundary : (o : Offer) (x : OffersExternal contents root o)
+      → ReachesBoundaryRouter contents root x.originator x.is_way.boundary → IsSent contents root o
+          o.hops
   by_boundary o x r = record {
     originator = x.originator;
     of_another = x.of_another;
@@ -113,9 +115,9 @@ module _ (said : Said) (plain : AreBoundariesPlain said) (root : Root) where
     hops_are = hops_of o x;
   }
 
-  by_told : (o : Offer) (x : OffersExternal said root o) (border : Way)
-      → IsAdvertised said root x.originator x.is_way.boundary.distance border
-      → IsSent said root o border.hops
+  by_told : (o : Offer) (x : OffersExternal contents root o) (border : Way)
+      → IsAdvertised contents root x.originator x.is_way.boundary.distance border
+      → IsSent contents root o border.hops
   by_told o x border advertised = record {
     originator = advertised.originator;
     of_another = advertised.counts.of_another;
@@ -128,13 +130,13 @@ module _ (said : Said) (plain : AreBoundariesPlain said) (root : Root) where
     hops_are = refl;
   }
 
-  sent : (o : Offer) → Offers said root o → (rank o.kind ≡ 0 → ⊥) → (i : ℕ)
-      → IsTrue (has_interface o.hops i) → SentBy said root o i
+  sent : (o : Offer) → Offers contents root o → (rank o.kind ≡ 0 → ⊥) → (i : ℕ)
+      → IsTrue (has_interface o.hops i) → SentBy contents root o i
   sent o (Within x) other i t = absurd (other (ap (λ (y : Offer). rank y.kind) x.is))
   sent o (Between x) other i t = record { hops = o.hops; sent = by_border o x; has = t }
   sent o (External x) other i t = by_way x.is_way.reaches
     where
-      by_way : IsBoundaryWay said root x.originator x.is_way.boundary → SentBy said root o i
+      by_way : IsBoundaryWay contents root x.originator x.is_way.boundary → SentBy contents root o i
       by_way (Inside r) = record { hops = o.hops; sent = by_boundary o x r; has = t }
       by_way (Outside never b) =
           let Has : ℕ → Type 0 = λ h. IsTrue (has_interface h i) in
@@ -142,23 +144,23 @@ module _ (said : Said) (plain : AreBoundariesPlain said) (root : Root) where
           record { hops = k.0.hops; sent = by_told o x k.0 k.1; has = k.2 }
 
   -- each such offer has a hop
-  hop_of : (o : Offer) → Offers said root o → (rank o.kind ≡ 0 → ⊥) → (i : ℕ)
+  hop_of : (o : Offer) → Offers contents root o → (rank o.kind ≡ 0 → ⊥) → (i : ℕ)
       × IsTrue (has_interface o.hops i)
   hop_of o (Within x) other = absurd (other (ap (λ (y : Offer). rank y.kind) x.is))
   hop_of o (Between x) other = by_sent o.hops (by_border o x)
     where
-      by_sent : (hops : ℕ) → IsSent said root o hops → (i : ℕ) × IsTrue (has_interface hops i)
-      by_sent hops s = let l = leaves_by said root s.originator s.way s.reached s.of_another in
+      by_sent : (hops : ℕ) → IsSent contents root o hops → (i : ℕ) × IsTrue (has_interface hops i)
+      by_sent hops s = let l = leaves_by contents root s.originator s.way s.reached s.of_another in
           let Has : ℕ → Type 0 = λ h. IsTrue (has_interface h l.interface) in
           (l.interface, subst Has (sym s.hops_are) l.is_hop)
   hop_of o (External x) other = by_way x.is_way.reaches
     where
-      by_sent : (hops : ℕ) → IsSent said root o hops → (i : ℕ) × IsTrue (has_interface hops i)
-      by_sent hops s = let l = leaves_by said root s.originator s.way s.reached s.of_another in
+      by_sent : (hops : ℕ) → IsSent contents root o hops → (i : ℕ) × IsTrue (has_interface hops i)
+      by_sent hops s = let l = leaves_by contents root s.originator s.way s.reached s.of_another in
           let Has : ℕ → Type 0 = λ h. IsTrue (has_interface h l.interface) in
           (l.interface, subst Has (sym s.hops_are) l.is_hop)
 
-      by_way : IsBoundaryWay said root x.originator x.is_way.boundary → (i : ℕ)
+      by_way : IsBoundaryWay contents root x.originator x.is_way.boundary → (i : ℕ)
           × IsTrue (has_interface o.hops i)
       by_way (Inside r) = by_sent o.hops (by_boundary o x r)
       by_way (Outside never b) =
@@ -169,22 +171,22 @@ module _ (said : Said) (plain : AreBoundariesPlain said) (root : Root) where
 -- ---- on to the last router
 
 module _ (hops : EachHopIsNearer) (end : RoutesEndAtTheNetwork)
-    (toward : EachHopLeadsToAnOriginator) (said : Said) (routers : List Root)
-    (table : Root → List Route) (are : AreRouters said routers table)
-    (within : AreBoundariesPlain said)
+    (toward : EachHopLeadsToAnOriginator) (contents : Contents) (routers : List Root)
+    (table : Root → List Route) (are : AreRouters contents routers table)
+    (within : AreBoundariesPlain contents)
     (prefix : Network) where
   pub record ArrivesFor (first : Stop) : Type 0 where
     pub others : List Stop
-    pub passed_on : IsPassedFurther said prefix (first ∷ others)
-    pub is_last : IsTheLast said (last_of first others)
+    pub passed_on : IsPassedFurther contents prefix (first ∷ others)
+    pub is_last : IsTheLast contents (last_of first others)
 
   abbrev pub IsOne : Stop → Type 0
   IsOne stop = IsStopAmong routers table prefix stop
 
-  candidate : (stop : Stop) → IsOne stop → IsCandidate said stop.root stop.route
+  candidate : (stop : Stop) → IsOne stop → IsCandidate contents stop.root stop.route
   candidate stop one = ((are.is_table stop.root one.among).each stop.route).0 one.has_route
 
-  forwards : (stop : Stop) → IsOne stop → ForwardsFor said prefix stop
+  forwards : (stop : Stop) → IsOne stop → ForwardsFor contents prefix stop
   forwards stop one = record {
     own = are.own stop.root one.among;
     candidate = candidate stop one;
@@ -195,7 +197,7 @@ module _ (hops : EachHopIsNearer) (end : RoutesEndAtTheNetwork)
   ArrivesAtBetter stop = (next : Stop) → IsOne next → IsBetter next.route stop.route
       → ArrivesFor next
 
-  on : (stop next : Stop) → IsOne stop → HandsFurther said stop.root stop.route next.root.router
+  on : (stop next : Stop) → IsOne stop → HandsFurther contents stop.root stop.route next.root.router
       → ArrivesFor next → ArrivesFor stop
   on stop next one hands rest = record {
     others = next ∷ rest.others;
@@ -206,11 +208,13 @@ module _ (hops : EachHopIsNearer) (end : RoutesEndAtTheNetwork)
   -- what happens to a packet by a next hop: if it goes on, to a better route
   pub data Turn (stop : Stop) (i : ℕ) : Type 0 where
     Home : i ≡ 0 → stop.route.kind ≡ Intra
-        → Attaches said (ARouter stop.root.router) stop.route.prefix stop.route.cost → Turn stop i
-    Out : (originator : ℕ) → IsOtherEnd said stop.root i originator
-        → HandsToward said stop.root stop.route originator originator → Turn stop i
-    Next : (next : Stop) → IsOne next → IsOtherEnd said stop.root i next.root.router
-        → HandsFurther said stop.root stop.route next.root.router → IsBetter next.route stop.route
+        → Attaches contents (ARouter stop.root.router) stop.route.prefix stop.route.cost → Turn stop
+            i
+    Out : (originator : ℕ) → IsOtherEnd contents stop.root i originator
+        → HandsToward contents stop.root stop.route originator originator → Turn stop i
+    Next : (next : Stop) → IsOne next → IsOtherEnd contents stop.root i next.root.router
+        → HandsFurther contents stop.root stop.route next.root.router → IsBetter next.route
+            stop.route
         → Turn stop i
 
   -- by an intra-area route
@@ -218,14 +222,14 @@ module _ (hops : EachHopIsNearer) (end : RoutesEndAtTheNetwork)
       → IsTrue (has_interface stop.route.hops i) → Turn stop i
   inside stop one intra i away t =
       let next = are.joined stop.root one.among stop.route one.has_route i away t in
-      let hands : HandsOn said stop.root stop.route next.0.router = record {
+      let hands : HandsOn contents stop.root stop.route next.0.router = record {
         interface = i;
         away = away;
         is_hop = t;
         other_end = next.2;
       } in
       let own = are.own next.0 next.1 in
-      let r = hops.has_one said stop.root next.0 stop.route (candidate stop one) intra hands own
+      let r = hops.has_one contents stop.root next.0 stop.route (candidate stop one) intra hands own
       (table next.0) (are.is_table next.0 next.1) in
       let there : Stop = record { root = next.0; route = r.0 } in
       let other : IsOne there = record {
@@ -233,7 +237,8 @@ module _ (hops : EachHopIsNearer) (end : RoutesEndAtTheNetwork)
         has_route = r.1;
         is_for = r.2 ∙ one.is_for;
       } in
-      let near = hops.nearer said stop.root next.0 stop.route (candidate stop one) intra hands own
+      let near = hops.nearer contents stop.root next.0 stop.route (candidate stop one) intra hands
+          own
       r.0 (candidate there other) r.2 in
       Next there other next.2 (InTheArea intra hands) (ByCost (ap rank (near.0 ∙ sym intra)) near.1)
 
@@ -245,22 +250,22 @@ module _ (hops : EachHopIsNearer) (end : RoutesEndAtTheNetwork)
         | inr none ↦
             let itself : i ≡ 0 = omega (arith, none) in
             let P : ℕ → Type 0 = λ k. IsTrue (has_interface stop.route.hops k) in
-            Home itself intra (end.attached said stop.root stop.route (candidate stop one) intra
+            Home itself intra (end.attached contents stop.root stop.route (candidate stop one) intra
             (subst P itself t))
       ]
 
   -- toward another router
-  outside : (stop : Stop) → IsOne stop → (o : Offer) → IsBest said stop.root stop.route.prefix o
-      → (i : ℕ) → IsTrue (has_interface o.hops i) → SentBy said stop.root o i → Turn stop i
+  outside : (stop : Stop) → IsOne stop → (o : Offer) → IsBest contents stop.root stop.route.prefix o
+      → (i : ℕ) → IsTrue (has_interface o.hops i) → SentBy contents stop.root o i → Turn stop i
   outside stop one o best i is_hop by =
       let s = by.sent in
       let Has : ℕ → Type 0 = λ hops. IsTrue (has_interface hops i) in
       let k = candidate stop one in
-      let away : 0 < i = away_by said stop.root s.originator s.way s.reached i
+      let away : 0 < i = away_by contents stop.root s.originator s.way s.reached i
       (subst Has s.hops_are by.has) in
       let t : IsTrue (has_interface stop.route.hops i) = (k.hops i).1 (o, best, is_hop) in
       let next = are.joined stop.root one.among stop.route one.has_route i away t in
-      let hands : HandsToward said stop.root stop.route next.0.router s.originator = record {
+      let hands : HandsToward contents stop.root stop.route next.0.router s.originator = record {
         offer = o;
         is_best = best;
         hops = by.hops;
@@ -271,12 +276,13 @@ module _ (hops : EachHopIsNearer) (end : RoutesEndAtTheNetwork)
       } in
       elim (cases_eq next.0.router s.originator) [
         | inl e ↦ (
-            let P : ℕ → Type 0 = λ n. HandsToward said stop.root stop.route n s.originator in
-            let Q : ℕ → Type 0 = λ n. IsOtherEnd said stop.root i n in
+            let P : ℕ → Type 0 = λ n. HandsToward contents stop.root stop.route n s.originator in
+            let Q : ℕ → Type 0 = λ n. IsOtherEnd contents stop.root i n in
             Out s.originator (subst Q e next.2) (subst P e hands))
         | inr other ↦
             let own = are.own next.0 next.1 in
-            let r = toward.has_one said stop.root next.0 stop.route s.originator k hands own other
+            let r = toward.has_one contents stop.root next.0 stop.route s.originator k hands own
+                other
             (table next.0) (are.is_table next.0 next.1) in
             let there : Stop = record { root = next.0; route = r.0 } in
             let another : IsOne there = record {
@@ -285,17 +291,17 @@ module _ (hops : EachHopIsNearer) (end : RoutesEndAtTheNetwork)
               is_for = r.2 ∙ one.is_for;
             } in
             let good : IsBetter r.0 stop.route =
-            toward.better said stop.root next.0 stop.route s.originator k hands own other r.0
+            toward.better contents stop.root next.0 stop.route s.originator k hands own other r.0
             (candidate there another) r.2 in
             Next there another next.2 (TowardAnother s.originator hands other) good
       ]
 
   -- a route that isn't intra-area comes from no intra-area offer
   other_kind : (stop : Stop) → IsOne stop → (stop.route.kind ≡ Intra → ⊥) → (o : Offer)
-      → IsBest said stop.root stop.route.prefix o → rank o.kind ≡ 0 → ⊥
+      → IsBest contents stop.root stop.route.prefix o → rank o.kind ≡ 0 → ⊥
   other_kind stop one other o best e =
       other (same_kind stop.route.kind Intra
-      ((candidate_is_as_good said stop.root stop.route o (candidate stop one) best).kind ∙ e))
+      ((candidate_is_as_good contents stop.root stop.route o (candidate stop one) best).kind ∙ e))
 
   turn : (stop : Stop) → IsOne stop → (i : ℕ) → IsTrue (has_interface stop.route.hops i)
       → Turn stop i
@@ -305,7 +311,7 @@ module _ (hops : EachHopIsNearer) (end : RoutesEndAtTheNetwork)
         | inr other ↦
             let o = ((candidate stop one).hops i).0 t in
             outside stop one o.0 o.1 i o.2
-            (sent said within stop.root o.0 o.1.offered (other_kind stop one other o.0 o.1) i
+            (sent contents within stop.root o.0 o.1.offered (other_kind stop one other o.0 o.1) i
             o.2)
       ]
 
@@ -314,18 +320,18 @@ module _ (hops : EachHopIsNearer) (end : RoutesEndAtTheNetwork)
   some_hop stop one =
       let k = candidate stop one in
       elim (within_or_not stop.route.kind) [
-        | inl intra ↦ end.some_hop said stop.root stop.route k intra
+        | inl intra ↦ end.some_hop contents stop.root stop.route k intra
         | inr other ↦
-            let h = hop_of said within stop.root k.first k.is_best.offered
+            let h = hop_of contents within stop.root k.first k.is_best.offered
             (other_kind stop one other k.first k.is_best) in
             (h.0, (k.hops h.0).1 (k.first, k.is_best, h.1))
       ]
 
   pub followed : (stop : Stop) → IsOne stop → (i : ℕ) → IsTrue (has_interface stop.route.hops i)
-      → IsFollowed said routers table stop i
+      → IsFollowed contents routers table stop i
   followed stop one i t = by_turn (turn stop one i t)
     where
-      by_turn : Turn stop i → IsFollowed said routers table stop i
+      by_turn : Turn stop i → IsFollowed contents routers table stop i
       by_turn (Home e intra at) = AtHome e at
       by_turn (Out originator there hands) = AtTheOriginator originator there hands
       by_turn (Next next other there hands good) = Further next (record {
@@ -414,20 +420,21 @@ each_among routers table prefix stops all stop t =
 
 pub all_arrive : CandidatesAreCheapestWalks → EveryOfferHasACandidate → AllPacketsArrive
 all_arrive laws every = record {
-  arrives = λ said routers table are within prefix first one.
+  arrives = λ contents routers table are within prefix first one.
       let one_of : IsStopAmong routers table first.route.prefix first = record {
         among = one.among;
         has_route = one.has_route;
         is_for = refl;
       } in
-      let a = kinds (each_is_nearer laws every) (last_hop laws) (to_an_originator every) said
+      let a = kinds (each_is_nearer laws every) (last_hop laws) (to_an_originator every) contents
       routers table are within first.route.prefix (suc (rank first.route.kind)) first one_of
       (omega arith) in
       record { others = a.others; passed_on = a.passed_on; is_last = a.is_last };
-  short = λ said routers table are within prefix stops passed all.
+  short = λ contents routers table are within prefix stops passed all.
       no_longer (λ (s : Stop). s.root) stops routers (each_among routers table prefix stops all)
-      (none_twice laws said prefix stops passed);
-  each_hop = λ said routers table are within prefix stop one i t. followed
-      (each_is_nearer laws every) (last_hop laws) (to_an_originator every) said routers table are
+      (none_twice laws contents prefix stops passed);
+  each_hop = λ contents routers table are within prefix stop one i t. followed
+      (each_is_nearer laws every) (last_hop laws) (to_an_originator every) contents routers table
+          are
       within prefix stop one i t;
 }

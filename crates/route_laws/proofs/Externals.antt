@@ -32,7 +32,7 @@ use Rattle.route_laws.proofs.Parts.{not_under, one_below, one_of}
 use Rattle.route_laws.proofs.TwoRouters.{distance, far, far_way, hops, near, nearby}
 use Rattle.route_laws.proofs.TwoRouters.{next_is_offered, next_offer, other_offer, own_is_better}
 use Rattle.route_laws.proofs.TwoRouters.{own_is_offered, own_offer, reaches_far, stubs}
-use Rattle.routes.specs.Said.{Said, said_at, said_by}
+use Rattle.routes.specs.Contents.{Contents, contents_at, contents_of}
 use Rattle.routes.specs.Routes.{IsForwarded, IsNoWorse, IsRouteAmong}
 use Rattle.route_laws.proofs.NoSummaries.{is_inside, is_within, nothing_between}
 use Rattle.routes.specs.Summaries.{IsBoundaryWay, OffersInside}
@@ -46,8 +46,8 @@ use Rattle.route_laws.proofs.OneOffer.{each_stub}
 abbrev others : Entries
 others = announced_entries ++ passed_over
 
-abbrev said : Said
-said = said_at 0 (database destinations)
+abbrev contents : Contents
+contents = contents_at 0 (database destinations)
 
 labels : AreChecked near_router (sayings destinations) distance hops
 labels = record { start = refl; routers = refl; links = refl }
@@ -60,16 +60,16 @@ near_net = network_24 10 0 1
 abbrev next_net : Network
 next_net = network_24 10 0 2
 
-within : (o : Offer) → OffersWithin said near_router o → Contains nearby o
+within : (o : Offer) → OffersWithin contents near_router o → Contains nearby o
 within = each_stub destinations near_router (λ o. Contains nearby o) refl (stubs others labels)
 
-nearby_inside : (o : Offer) → OffersInside said near_router o → Contains nearby o
+nearby_inside : (o : Offer) → OffersInside contents near_router o → Contains nearby o
 nearby_inside o x = within o (is_within 0 destinations refl near_router o x)
 
-own_there : OffersWithin said near_router own_offer
+own_there : OffersWithin contents near_router own_offer
 own_there = own_is_offered others labels
 
-next_there : OffersWithin said near_router next_offer
+next_there : OffersWithin contents near_router next_offer
 next_there = next_is_offered others labels
 
 -- ---- forwarding addresses
@@ -81,34 +81,34 @@ abbrev own_way : Way
 own_way = record { distance = 10; hops = 1 }
 
 -- every offer within the area has such a prefix
-lengths : (r : Route) → IsRouteAmong (OffersInside said near_router) r → r.prefix.length ≤ 24
-lengths = each_route (OffersInside said near_router) nearby nearby_inside
+lengths : (r : Route) → IsRouteAmong (OffersInside contents near_router) r → r.prefix.length ≤ 24
+lengths = each_route (OffersInside contents near_router) nearby nearby_inside
     (λ (n : Network). n.length ≤ 24) (omega arith, (omega arith, (omega arith, tt)))
 
-next_forwarded : IsForwarded (OffersInside said near_router) (ipv4 10 0 2 9) next_way
+next_forwarded : IsForwarded (OffersInside contents near_router) (ipv4 10 0 2 9) next_way
 next_forwarded = record {
   by = route_of next_offer;
-  is_route = alone_among (OffersInside said near_router) next_offer (inl next_there)
-      (lone (OffersInside said near_router) nearby nearby_inside 2 next_offer refl refl);
+  is_route = alone_among (OffersInside contents near_router) next_offer (inl next_there)
+      (lone (OffersInside contents near_router) nearby nearby_inside 2 next_offer refl refl);
   under = refl;
   longest = λ r k u. lengths r k;
   is = refl;
 }
 
-own_forwarded : IsForwarded (OffersInside said near_router) (ipv4 10 0 1 9) own_way
+own_forwarded : IsForwarded (OffersInside contents near_router) (ipv4 10 0 1 9) own_way
 own_forwarded = record {
   by = route_of own_offer;
-  is_route = alone_among (OffersInside said near_router) own_offer (inl own_there)
-      (beaten (OffersInside said near_router) nearby nearby_inside own_offer
+  is_route = alone_among (OffersInside contents near_router) own_offer (inl own_there)
+      (beaten (OffersInside contents near_router) nearby nearby_inside own_offer
       (itself own_offer, (own_is_better, (elsewhere own_offer next_offer refl, tt))));
   under = refl;
   longest = λ r k u. lengths r k;
   is = refl;
 }
 
-no_forward : (way : Way) → IsForwarded (OffersInside said near_router) (ipv4 172 16 0 1) way → ⊥
+no_forward : (way : Way) → IsForwarded (OffersInside contents near_router) (ipv4 172 16 0 1) way → ⊥
 no_forward way f =
-    each_route (OffersInside said near_router) nearby nearby_inside
+    each_route (OffersInside contents near_router) nearby nearby_inside
     (λ (n : Network). IsUnder (ipv4 172 16 0 1) n → ⊥) (
       not_under (ipv4 172 16 0 1) near_net refl,
       (
@@ -148,8 +148,8 @@ offers = own_offer ∷ other_offer ∷ next_offer ∷ cheap_offer ∷ first_offe
     ∷ by_own_offer ∷ []
 
 abbrev IsKnown : Key → ExternalLsa → Type 0
-IsKnown k lsa = Says said k (body.External lsa) → (o : Offer)
-    → IsOfferOf said near_router k.link_state_id k.advertising_router lsa o → Contains offers o
+IsKnown k lsa = Says contents k (body.External lsa) → (o : Offer)
+    → IsOfferOf contents near_router k.link_state_id k.advertising_router lsa o → Contains offers o
 
 -- ---- those that offer nothing
 
@@ -186,7 +186,7 @@ old_lsa = external Type1 20 0 0
 too_old : IsKnown (key 5 (ipv4 198 18 4 0) far) old_lsa
 too_old s o g =
     let e : None ≡ Some (body.External old_lsa) =
-    sym (ap (said_by 0) (finite.get-from_entries keys_total destinations
+    sym (ap (contents_of 0) (finite.get-from_entries keys_total destinations
     (key 5 (ipv4 198 18 4 0) far))) ∙ s in
     absurd (cc)
 
@@ -204,22 +204,22 @@ unmasked s o g =
 
 -- ---- each of the others
 
-reaches : IsBoundaryWay said near_router far far_way
+reaches : IsBoundaryWay contents near_router far far_way
 reaches = reaches_far others labels
 
-cheap_counts : CountsAsExternal said near_router (ipv4 203 0 113 0) far cheap_lsa 24
+cheap_counts : CountsAsExternal contents near_router (ipv4 203 0 113 0) far cheap_lsa 24
 cheap_counts = counts_24 destinations near_router (ipv4 203 0 113 0) far cheap_lsa refl
     (omega arith) (λ e. omega (arith, e)) refl
 
-first_counts : CountsAsExternal said near_router (ipv4 203 0 113 1) far first_lsa 24
+first_counts : CountsAsExternal contents near_router (ipv4 203 0 113 1) far first_lsa 24
 first_counts = counts_24 destinations near_router (ipv4 203 0 113 1) far first_lsa refl
     (omega arith) (λ e. omega (arith, e)) refl
 
-next_counts : CountsAsExternal said near_router (ipv4 198 51 100 0) far next_lsa 24
+next_counts : CountsAsExternal contents near_router (ipv4 198 51 100 0) far next_lsa 24
 next_counts = counts_24 destinations near_router (ipv4 198 51 100 0) far next_lsa refl
     (omega arith) (λ e. omega (arith, e)) refl
 
-own_counts : CountsAsExternal said near_router (ipv4 192 0 2 0) far own_lsa 24
+own_counts : CountsAsExternal contents near_router (ipv4 192 0 2 0) far own_lsa 24
 own_counts = counts_24 destinations near_router (ipv4 192 0 2 0) far own_lsa refl (omega arith)
     (λ e. omega (arith, e)) refl
 
@@ -233,7 +233,7 @@ cheap_known : IsKnown (key 5 (ipv4 203 0 113 0) far) cheap_lsa
 cheap_known s o g = (
   3,
   omega arith,
-  only_directly said near_router (ipv4 203 0 113 0) far cheap_lsa 24 cheap_counts refl far_way
+  only_directly contents near_router (ipv4 203 0 113 0) far cheap_lsa 24 cheap_counts refl far_way
       reaches o g,
 )
 
@@ -241,7 +241,7 @@ first_known : IsKnown (key 5 (ipv4 203 0 113 1) far) first_lsa
 first_known s o g = (
   4,
   omega arith,
-  only_directly said near_router (ipv4 203 0 113 1) far first_lsa 24 first_counts refl far_way
+  only_directly contents near_router (ipv4 203 0 113 1) far first_lsa 24 first_counts refl far_way
       reaches o g,
 )
 
@@ -249,7 +249,7 @@ next_known : IsKnown (key 5 (ipv4 198 51 100 0) far) next_lsa
 next_known s o g = (
   5,
   omega arith,
-  only_by_address said near_router (ipv4 198 51 100 0) far next_lsa 24 next_counts by_next
+  only_by_address contents near_router (ipv4 198 51 100 0) far next_lsa 24 next_counts by_next
       next_way next_forwarded o g,
 )
 
@@ -257,7 +257,7 @@ own_known : IsKnown (key 5 (ipv4 192 0 2 0) far) own_lsa
 own_known s o g = (
   6,
   omega arith,
-  only_by_address said near_router (ipv4 192 0 2 0) far own_lsa 24 own_counts by_own own_way
+  only_by_address contents near_router (ipv4 192 0 2 0) far own_lsa 24 own_counts by_own own_way
       own_forwarded o g,
 )
 
@@ -282,12 +282,12 @@ all_known = (
   ),
 )
 
-complete : (o : Offer) → Offers said near_router o → Contains offers o
+complete : (o : Offer) → Offers contents near_router o → Contains offers o
 complete o (Within x) = one_of (λ (y : Offer). Contains offers y) nearby
     ((0, omega arith, refl), ((1, omega arith, refl), ((2, omega arith, refl), tt))) o (within o x)
 complete o (Between x) = absurd (nothing_between 0 destinations refl near_router o x)
 complete o (External x) = each_external IsKnown destinations all_known (key 5 x.id x.originator)
-    x.lsa x.its x.its o (is_offer_of said near_router o x)
+    x.lsa x.its x.its o (is_offer_of contents near_router o x)
 
 -- ---- candidates
 
@@ -296,8 +296,8 @@ no_kind_before (ByKind p) = omega (arith, p)
 no_kind_before (ByCost p q) = omega (arith, p)
 no_kind_before (ByDistance p q r) = omega (arith, p)
 
-own_alone : IsAlone said near_router own_offer
-own_alone = beaten (Offers said near_router) offers complete own_offer (
+own_alone : IsAlone contents near_router own_offer
+own_alone = beaten (Offers contents near_router) offers complete own_offer (
   itself own_offer,
   (
     own_is_better,
@@ -317,8 +317,8 @@ own_alone = beaten (Offers said near_router) offers complete own_offer (
   ),
 )
 
-first_alone : IsAlone said near_router first_offer
-first_alone = beaten (Offers said near_router) offers complete first_offer (
+first_alone : IsAlone contents near_router first_offer
+first_alone = beaten (Offers contents near_router) offers complete first_offer (
   elsewhere first_offer own_offer refl,
   (
     elsewhere first_offer other_offer refl,
@@ -338,41 +338,42 @@ first_alone = beaten (Offers said near_router) offers complete first_offer (
   ),
 )
 
-first_offered : OffersExternal said near_router first_offer
-first_offered = offered_directly said near_router (ipv4 203 0 113 1) far first_lsa 24 first_counts
+first_offered : OffersExternal contents near_router first_offer
+first_offered = offered_directly contents near_router (ipv4 203 0 113 1) far first_lsa 24
+    first_counts
     refl far_way reaches
 
-by_next_offered : OffersExternal said near_router by_next_offer
-by_next_offered = offered_by_address said near_router (ipv4 198 51 100 0) far next_lsa 24
+by_next_offered : OffersExternal contents near_router by_next_offer
+by_next_offered = offered_by_address contents near_router (ipv4 198 51 100 0) far next_lsa 24
     next_counts by_next next_way next_forwarded far_way reaches
 
-by_own_offered : OffersExternal said near_router by_own_offer
-by_own_offered = offered_by_address said near_router (ipv4 192 0 2 0) far own_lsa 24 own_counts
+by_own_offered : OffersExternal contents near_router by_own_offer
+by_own_offered = offered_by_address contents near_router (ipv4 192 0 2 0) far own_lsa 24 own_counts
     by_own own_way own_forwarded far_way reaches
 
 abbrev routes : List Route
 routes = own_network ∷ next_network ∷ by_own_network ∷ by_next_network ∷ of_first_type ∷ []
 
 alone_at : (n : ℕ) (c : Offer) → slice_get offers n ≡ Some c → others_elsewhere n c offers ≡ true
-    → IsAlone said near_router c
-alone_at = lone (Offers said near_router) offers complete
+    → IsAlone contents near_router c
+alone_at = lone (Offers contents near_router) offers complete
 
-sound : AllByRecursion (λ (r : Route). IsCandidate said near_router r) routes
+sound : AllByRecursion (λ (r : Route). IsCandidate contents near_router r) routes
 sound = (
-  alone said near_router own_offer (Within own_there) own_alone,
+  alone contents near_router own_offer (Within own_there) own_alone,
   (
-    alone said near_router next_offer (Within next_there) (alone_at 2 next_offer refl refl),
+    alone contents near_router next_offer (Within next_there) (alone_at 2 next_offer refl refl),
     (
-      alone said near_router by_own_offer (External by_own_offered)
+      alone contents near_router by_own_offer (External by_own_offered)
           (alone_at 6 by_own_offer refl refl),
       (
-        alone said near_router by_next_offer (External by_next_offered)
+        alone contents near_router by_next_offer (External by_next_offered)
             (alone_at 5 by_next_offer refl refl),
-        (alone said near_router first_offer (External first_offered) first_alone, tt),
+        (alone contents near_router first_offer (External first_offered) first_alone, tt),
       ),
     ),
   ),
 )
 
 pub worked : WorkedExternals
-worked = candidates_in said near_router offers complete routes sound refl refl
+worked = candidates_in contents near_router offers complete routes sound refl refl

@@ -11,7 +11,7 @@ use Rattle.routes.specs.Candidates.Offers.{Within}
 use Rattle.routes.specs.Links.{Leads, LeadsTo}
 use Rattle.routes.specs.Offers.{intra}
 use Rattle.routes.specs.Paths.{IsWay, Way}
-use Rattle.routes.specs.Said.{Said}
+use Rattle.routes.specs.Contents.{Contents}
 use Rattle.routes.specs.declared.node.Node.{Node}
 use Rattle.routes.specs.declared.node.Node.TheVariants.{ARouter}
 use Rattle.routes.specs.declared.offer.Offer.{Offer}
@@ -55,23 +55,25 @@ has_route (r ∷ routes) prefix =
 
 -- ---- what a walk reaches is offered
 
-module _ (said : Said) (root : Root) where
+module _ (contents : Contents) (root : Root) where
   pub exit_within : (target : Node) (price exit : ℕ)
-      → LeadsTo said root (ARouter root.router) target price exit → exit < length root.addresses + 1
-  exit_within target price exit l = (counted said root target price exit l).1
+      → LeadsTo contents root (ARouter root.router) target price exit → exit < length root.addresses
+          + 1
+  exit_within target price exit l = (counted contents root target price exit l).1
 
-  offered : (prefix : Network) (cost i : ℕ) (x : IsReached said root prefix cost i) (w : Way)
-      → IsWay (Leads said root) (ARouter root.router) x.node w → (o : Offer) × Offers said root o
+  offered : (prefix : Network) (cost i : ℕ) (x : IsReached contents root prefix cost i) (w : Way)
+      → IsWay (Leads contents root) (ARouter root.router) x.node w → (o : Offer) × Offers contents
+          root o
       × (o.prefix ≡ prefix)
   offered prefix cost i x w is =
-      elim (is_root said root x.node) [
+      elim (is_root contents root x.node) [
         | inl e ↦ by_hops 1 (λ _. refl) (λ other. absurd (other e))
         | inr other ↦ by_hops w.hops (λ e. absurd (other e)) (λ _. refl)
       ]
     where
       by_hops : (hops : ℕ) → (x.node ≡ ARouter root.router → hops ≡ 1)
           → ((x.node ≡ ARouter root.router → ⊥) → hops ≡ w.hops) → (o : Offer)
-          × Offers said root o × (o.prefix ≡ prefix)
+          × Offers contents root o × (o.prefix ≡ prefix)
       by_hops hops by_root by_others = (
         intra prefix (w.distance + x.more) hops,
         Within (record {
@@ -89,26 +91,27 @@ module _ (said : Said) (root : Root) where
         refl,
       )
 
-  pub has_one : EveryOfferHasACandidate → (routes : List Route) → AreCandidates said root routes
-      → (prefix : Network) (cost i : ℕ) → IsReached said root prefix cost i → (r : Route)
+  pub has_one : EveryOfferHasACandidate → (routes : List Route) → AreCandidates contents root routes
+      → (prefix : Network) (cost i : ℕ) → IsReached contents root prefix cost i → (r : Route)
       × Contains routes r × (r.prefix ≡ prefix)
   has_one every routes are prefix cost i x =
       elim (has_route routes prefix) [
         | inl h ↦ h
         | inr none ↦ absurd (
-            least.way (Leads said root) (ARouter root.router) x.node (length root.addresses + 1)
+            least.way (Leads contents root) (ARouter root.router) x.node (length root.addresses + 1)
             (λ s l. exit_within s.target s.price s.exit l) x.walk x.is_walk (λ w.
             let o = offered prefix cost i x w.0 w.1 in
-            let r = every said root routes o.0 are o.1 in
+            let r = every contents root routes o.0 are o.1 in
             none (r.0, r.1, r.2 ∙ o.2)))
       ]
 
 pub each_is_nearer : CandidatesAreCheapestWalks → EveryOfferHasACandidate → EachHopIsNearer
 each_is_nearer laws every = record {
-  nearer = λ said root next route is within hands own. each_hop laws said root next route is within
+  nearer = λ contents root next route is within hands own. each_hop laws contents root next route is
+      within
       hands own;
-  has_one = λ said root next route is within hands own routes are.
-      let n : IsNearer said next route.prefix route.cost =
-      reached_next laws said root next route is within hands own in
-      has_one said next every routes are route.prefix n.less n.by n.reached;
+  has_one = λ contents root next route is within hands own routes are.
+      let n : IsNearer contents next route.prefix route.cost =
+      reached_next laws contents root next route is within hands own in
+      has_one contents next every routes are route.prefix n.less n.by n.reached;
 }

@@ -24,7 +24,7 @@ use Rattle.routes.specs.Links.{Counts, Leads, LeadsTo, Says}
 use Rattle.routes.specs.Offers.{IsPrefix, OffersWithin, ReachesBoundaryRouter}
 use Rattle.routes.specs.Paths.{IsLeastWalk, IsWalk, IsWay, Step, Way, price_of}
 use Rattle.routes.specs.Routes.{IsForwarded, IsRouteAmong, rank}
-use Rattle.routes.specs.Said.{Said}
+use Rattle.routes.specs.Contents.{Contents}
 use Rattle.routes.specs.Summaries.{OffersBetween, OffersInside}
 use Rattle.routes.specs.Summaries.IsBoundaryWay.{Inside}
 use Rattle.routes.specs.declared.node.Node.{Node}
@@ -54,17 +54,18 @@ use Rattle.route_laws.proofs.Members.{none_between, same_says}
 use Rattle.route_laws.proofs.Inside.{LongestInside, from_candidate, is_intra, longest_inside}
 use Rattle.route_laws.proofs.Inside.{to_candidate, within_or_not}
 
-prefix_of : (said : Said) (root : Root) (o : Offer) (x : OffersExternal said root o) → o.prefix
+prefix_of : (contents : Contents) (root : Root) (o : Offer) (x : OffersExternal contents root o)
+    → o.prefix
     ≡ x.prefix
-prefix_of said root o x = ap (λ (y : Offer). y.prefix) x.is
+prefix_of contents root o x = ap (λ (y : Offer). y.prefix) x.is
     ∙ external_prefix x.lsa.kind x.prefix x.lsa x.originator x.way
 
 -- the router that originated an AS-external-LSA advertises its destination
-tells_of : (said : Said) (root : Root) (o : Offer) (x : OffersExternal said root o)
+tells_of : (contents : Contents) (root : Root) (o : Offer) (x : OffersExternal contents root o)
     (router address : ℕ) → x.originator ≡ router → IsUnder address o.prefix
-    → TellsOf said router address o.prefix
-tells_of said root o x router address e under =
-    let S : ℕ → Type 0 = λ r. Says said (record {
+    → TellsOf contents router address o.prefix
+tells_of contents root o x router address e under =
+    let S : ℕ → Type 0 = λ r. Says contents (record {
       ls_type = 5;
       link_state_id = x.id;
       advertising_router = r;
@@ -75,7 +76,7 @@ tells_of said root o x router address e under =
       lsa = x.lsa;
       its = subst S e x.its;
       reachable = x.reachable;
-      is_prefix = subst P (sym (prefix_of said root o x)) x.is_prefix;
+      is_prefix = subst P (sym (prefix_of contents root o x)) x.is_prefix;
       under = under;
     }
 
@@ -444,21 +445,21 @@ module _ (topology : Topology) (converged : HasConverged topology)
     back_by : (place : ℕ) (a : Forwarder) → StandsAt topology place a
         → (i : ℕ) (n : IsNext place a i) → IsBack place a n.next
     back_by place a p i n =
-        let said = says_of a.router in
+        let contents = says_of a.router in
         let root = root_of n.next.router in
         let its : RouterLink = n.link.1.0 in
         let named = names topology converged premises place n.other a n.next p n.stands its
         n.link.1.1 (inl n.link.1.2) in
         let current = (member topology converged premises place n.other a n.next p n.stands).current
         in
-        let counts : Counts said root n.next.router.id PointToPoint a.router.id its.metric
+        let counts : Counts contents root n.next.router.id PointToPoint a.router.id its.metric
         (named.0 + 1) = record {
           link = its;
           its = n.link.1.1;
           is_kind = n.link.1.2;
           is_id = n.link.1.3;
           costs = refl;
-          not_free = premises.not_free said n.next.router.id n.next.router.area.links current
+          not_free = premises.not_free contents n.next.router.id n.next.router.area.links current
               (converged.up_to_date n.other n.next n.stands).costs its n.link.1.1 n.link.1.2;
           by_interface = λ _. (
             named.0,
@@ -488,7 +489,7 @@ module _ (topology : Topology) (converged : HasConverged topology)
           within_on place a p by.f.by by.among by.intra i away
           (subst Has (hops_of place a o s ∙ by.hops) is_hop) n
 
-      abbrev its_said : Said
+      abbrev its_said : Contents
       its_said = says_of a.router
 
       none_there : (x : Offer) → OffersBetween its_said (root_of n.next.router) x → ⊥
@@ -593,7 +594,7 @@ module _ (topology : Topology) (converged : HasConverged topology)
           };
         }
       where
-        its_said : Said
+        its_said : Contents
         its_said = says_of a.router
 
         U : Network → Type 0
@@ -601,7 +602,7 @@ module _ (topology : Topology) (converged : HasConverged topology)
 
         its_tells : TellsOf (says_of n.next.router) n.next.router.id address o.prefix
         its_tells =
-            let T : Said → Type 0 = λ d. TellsOf d n.next.router.id address o.prefix in
+            let T : Contents → Type 0 = λ d. TellsOf d n.next.router.id address o.prefix in
             subst T (same_says topology converged premises place n.other a n.next p n.stands)
             (tells_of its_said (root_of a.router) o s.x n.next.router.id address (sym e)
             (subst U (sym best.is_for) longest.under))

@@ -14,7 +14,7 @@ use Rattle.routes.specs.Candidates.{IsBest, IsCandidate, Offers, OffersExternal}
 use Rattle.routes.specs.Candidates.Offers.{Between, External, Within}
 use Rattle.routes.specs.Routes.{IsBestAmong, IsNoWorse, IsRouteAmong, rank}
 use Rattle.routes.specs.Routes.IsNoWorse.{ByKind}
-use Rattle.routes.specs.Said.{Said}
+use Rattle.routes.specs.Contents.{Contents}
 use Rattle.routes.specs.Summaries.{OffersBetween, OffersInside}
 use Rattle.routes.specs.declared.offer.Offer.{Offer}
 use Rattle.routes.specs.declared.root.Root.{Root}
@@ -26,11 +26,12 @@ within_or_not Inter = inr (λ e. cc)
 within_or_not External1 = inr (λ e. cc)
 within_or_not External2 = inr (λ e. cc)
 
-module _ (said : Said) (root : Root) (none : (o : Offer) → OffersBetween said root o → ⊥) where
+module _ (contents : Contents) (root : Root)
+    (none : (o : Offer) → OffersBetween contents root o → ⊥) where
   abbrev Inside : Offer → Type 0
-  Inside o = OffersInside said root o
+  Inside o = OffersInside contents root o
 
-  lifted : (o : Offer) → Inside o → Offers said root o
+  lifted : (o : Offer) → Inside o → Offers contents root o
   lifted o (inl x) = Within x
   lifted o (inr x) = Between x
 
@@ -38,34 +39,35 @@ module _ (said : Said) (root : Root) (none : (o : Offer) → OffersBetween said 
   inside_rank o (inl x) = ap (λ (y : Offer). rank y.kind) x.is
   inside_rank o (inr x) = absurd (none o x)
 
-  outside_rank : (o : Offer) → OffersExternal said root o → 0 < rank o.kind
+  outside_rank : (o : Offer) → OffersExternal contents root o → 0 < rank o.kind
   outside_rank o x =
       let P : Offer → Type 0 = λ y. 1 ≤ rank y.kind in
       let some : 1 ≤ rank o.kind = subst P (sym x.is)
       (external_rank x.lsa.kind x.prefix x.lsa x.originator x.way) in
       omega (arith, some)
 
-  lowered : (o : Offer) → Offers said root o → rank o.kind ≡ 0 → Inside o
+  lowered : (o : Offer) → Offers contents root o → rank o.kind ≡ 0 → Inside o
   lowered o (Within x) e = inl x
   lowered o (Between x) e = inr x
   lowered o (External x) e = absurd (let away = outside_rank o x in omega (arith, away, e))
 
   best_of_all : (prefix : Network) (o : Offer) → IsBestAmong Inside prefix o
-      → IsBest said root prefix o
+      → IsBest contents root prefix o
   best_of_all prefix o k = record {
     offered = lifted o k.offered;
     is_for = k.is_for;
     best = λ other given e. against other given e;
   }
     where
-      against : (other : Offer) → Offers said root other → other.prefix ≡ prefix → IsNoWorse o other
+      against : (other : Offer) → Offers contents root other → other.prefix ≡ prefix → IsNoWorse o
+          other
       against other (Within x) e = k.best other (inl x) e
       against other (Between x) e = k.best other (inr x) e
       against other (External x) e = ByKind
           (let away = outside_rank other x in let here = inside_rank o k.offered in
           omega (arith, away, here))
 
-  best_inside : (prefix : Network) (o : Offer) → IsBest said root prefix o → rank o.kind ≡ 0
+  best_inside : (prefix : Network) (o : Offer) → IsBest contents root prefix o → rank o.kind ≡ 0
       → IsBestAmong Inside prefix o
   best_inside prefix o k e = record {
     offered = lowered o k.offered e;
@@ -74,8 +76,8 @@ module _ (said : Said) (root : Root) (none : (o : Offer) → OffersBetween said 
   }
 
   -- each best offer has the same kind
-  also_inside : (prefix : Network) (first other : Offer) → IsBest said root prefix first
-      → rank first.kind ≡ 0 → IsBest said root prefix other → IsBestAmong Inside prefix other
+  also_inside : (prefix : Network) (first other : Offer) → IsBest contents root prefix first
+      → rank first.kind ≡ 0 → IsBest contents root prefix other → IsBestAmong Inside prefix other
   also_inside prefix first other k e best =
       let low = no_worse_kind other first (best.best first k.offered k.is_for) in
       best_inside prefix other best (omega (arith, low, e))
@@ -83,10 +85,10 @@ module _ (said : Said) (root : Root) (none : (o : Offer) → OffersBetween said 
   pub is_intra : (r : Route) → IsRouteAmong Inside r → r.kind ≡ Intra
   is_intra r k = same_kind r.kind Intra (ap rank k.kind ∙ inside_rank k.first k.is_best.offered)
 
-  pub to_candidate : (r : Route) → IsRouteAmong Inside r → IsCandidate said root r
+  pub to_candidate : (r : Route) → IsRouteAmong Inside r → IsCandidate contents root r
   to_candidate r k =
       let e : rank k.first.kind ≡ 0 = inside_rank k.first k.is_best.offered in
-      let best : IsBest said root r.prefix k.first = best_of_all r.prefix k.first k.is_best in
+      let best : IsBest contents root r.prefix k.first = best_of_all r.prefix k.first k.is_best in
       record {
         first = k.first;
         is_best = best;
@@ -101,7 +103,7 @@ module _ (said : Said) (root : Root) (none : (o : Offer) → OffersBetween said 
         );
       }
 
-  pub from_candidate : (r : Route) → IsCandidate said root r → r.kind ≡ Intra
+  pub from_candidate : (r : Route) → IsCandidate contents root r → r.kind ≡ Intra
       → IsRouteAmong Inside r
   from_candidate r k intra =
       let e : rank k.first.kind ≡ 0 = ap rank (sym k.kind ∙ intra) in

@@ -21,7 +21,7 @@ use Rattle.routes.specs.declared.root.Root.{Root}
 use Rattle.routes.proofs.Determined.{bit_of_member, is_member}
 use Rattle.route_laws.proofs.Entries.{Sayings, all_pass, both_true, has_link, is_no_network}
 use Rattle.route_laws.proofs.Entries.{links_of, is_said, sayings}
-use Rattle.routes.specs.Said.{said_at}
+use Rattle.routes.specs.Contents.{contents_at}
 
 -- ---- labels over any links
 
@@ -177,7 +177,7 @@ record Facts (root : Root) (distance hops : ℕ → ℕ) (v w : Node) (price exi
 
 module _ (root : Root) (moment : ℕ) (es : Entries) (distance hops : ℕ → ℕ)
     (are : AreChecked root (sayings es) distance hops) where
-  no_network : (id by router : ℕ) → ListsRouter (said_at moment (database es)) id by router → ⊥
+  no_network : (id by router : ℕ) → ListsRouter (contents_at moment (database es)) id by router → ⊥
   no_network id by router l =
       let e : false ≡ true = all_pass is_no_network (sayings es) are.routers (
         record {
@@ -191,7 +191,7 @@ module _ (root : Root) (moment : ℕ) (es : Entries) (distance hops : ℕ → �
       cc
 
   fits_it : (router : ℕ) (c : ℕ) (price exit : ℕ)
-      (k : Counts (said_at moment (database es)) root router PointToPoint c price exit)
+      (k : Counts (contents_at moment (database es)) root router PointToPoint c price exit)
       → fits_link root distance hops router k.link ≡ true
   fits_it router c price exit k =
       let e : fits root distance hops (router, k.link) ≡ true =
@@ -204,7 +204,7 @@ module _ (root : Root) (moment : ℕ) (es : Entries) (distance hops : ℕ → �
       ]
 
   link_facts : (router c price exit : ℕ)
-      (k : Counts (said_at moment (database es)) root router PointToPoint c price exit)
+      (k : Counts (contents_at moment (database es)) root router PointToPoint c price exit)
       → fits_link root distance hops router k.link ≡ true
       → Facts root distance hops (ARouter router) (ARouter k.link.link_id) k.link.metric
       exit
@@ -248,7 +248,8 @@ module _ (root : Root) (moment : ℕ) (es : Entries) (distance hops : ℕ → �
             }
       ]
 
-  facts : (v w : Node) (price exit : ℕ) → LeadsTo (said_at moment (database es)) root v w price exit
+  facts : (v w : Node) (price exit : ℕ) → LeadsTo (contents_at moment (database es)) root v w price
+      exit
       → Facts root distance hops v w price exit
   facts (ARouter a) (ARouter b) price exit l =
       let k = l.0 in
@@ -260,7 +261,7 @@ module _ (root : Root) (moment : ℕ) (es : Entries) (distance hops : ℕ → �
   facts (ANetwork id by) (ARouter b) price exit l = absurd (no_network id by b l.0)
   facts (ANetwork id by) (ANetwork other its) price exit l = absurd l
 
-  pub checked : AreLabels (Leads (said_at moment (database es)) root) (ARouter root.router)
+  pub checked : AreLabels (Leads (contents_at moment (database es)) root) (ARouter root.router)
       (at_node distance) (at_node hops)
   checked = record {
     start = are.start;

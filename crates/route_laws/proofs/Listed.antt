@@ -8,7 +8,7 @@ use Rattle.words.specs.declared.route.Route.{Route}
 use Rattle.routes.proofs.Lists.{first_is, later_is, of_cons, of_empty}
 use Rattle.routes.specs.Candidates.{AreCandidates, IsCandidate, Offers}
 use Rattle.routes.specs.Routes.{IsNoWorse, IsRouteAmong}
-use Rattle.routes.specs.Said.{Said}
+use Rattle.routes.specs.Contents.{Contents}
 use Rattle.routes.specs.declared.offer.Offer.{Offer}
 use Rattle.routes.specs.declared.root.Root.{Root}
 use Rattle.route_laws.proofs.Alone.{IsAloneAmong, all_candidates}
@@ -100,14 +100,14 @@ route_for (r ∷ routes) p e =
         λ i. record { address = at i; length = long i }
 
 -- candidates in order, with one for the prefix of each offer
-pub candidates_in : (said : Said) (root : Root) (offers : List Offer)
-    → ((o : Offer) → Offers said root o → Contains offers o) → (routes : List Route)
-    → AllByRecursion (λ (r : Route). IsCandidate said root r) routes
+pub candidates_in : (contents : Contents) (root : Root) (offers : List Offer)
+    → ((o : Offer) → Offers contents root o → Contains offers o) → (routes : List Route)
+    → AllByRecursion (λ (r : Route). IsCandidate contents root r) routes
     → list_all (λ (o : Offer). has_route routes o.prefix) offers ≡ true
-    → ascend (λ (r : Route). r.prefix) routes ≡ true → AreCandidates said root routes
-candidates_in said root offers complete routes sound covered up =
-    all_candidates said root routes
-    (one_of (λ (r : Route). IsCandidate said root r) routes sound)
+    → ascend (λ (r : Route). r.prefix) routes ≡ true → AreCandidates contents root routes
+candidates_in contents root offers complete routes sound covered up =
+    all_candidates contents root routes
+    (one_of (λ (r : Route). IsCandidate contents root r) routes sound)
     (λ o offered. route_for routes o.prefix
     (all_pass (λ (x : Offer). has_route routes x.prefix) offers covered o (complete o offered)))
     (in_order (λ (r : Route). r.prefix) routes up)

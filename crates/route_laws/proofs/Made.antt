@@ -16,23 +16,23 @@ use Rattle.routes.specs.Links.{Counts, HasLink, IsRouterLsa, LinksBack, Says}
 use Rattle.route_laws.specs.Worked.{Entries, copy_of, database, point_to_point, router_lsa}
 use Rattle.routes.specs.declared.root.Root.{Root}
 use Rattle.routes.proofs.Determined.{bit_of_member}
-use Rattle.routes.specs.Said.{said_at, said_by}
+use Rattle.routes.specs.Contents.{contents_at, contents_of}
 
 pub says : (es : Entries) (k : Key) (b : LsaBody) → finite.find key_cmp k es ≡ Some (copy_of k b)
-    → Says (said_at 0 (database es)) k b
-says es k b e = ap (said_by 0) (finite.get-from_entries keys_total es k ∙ e)
+    → Says (contents_at 0 (database es)) k b
+says es k b e = ap (contents_of 0) (finite.get-from_entries keys_total es k ∙ e)
 
 pub linked : (es : Entries) (router : ℕ) (links : List RouterLink)
-    → IsRouterLsa (said_at 0 (database es)) router (router_lsa links) → (l : RouterLink)
-    → Contains links l → HasLink (said_at 0 (database es)) router l
+    → IsRouterLsa (contents_at 0 (database es)) router (router_lsa links) → (l : RouterLink)
+    → Contains links l → HasLink (contents_at 0 (database es)) router l
 linked es router links its l among = record { lsa = router_lsa links; its = its; among = among }
 
 -- the root's link by its n-th interface
 pub from_root : (es : Entries) (root : Root) (links : List RouterLink)
-    → IsRouterLsa (said_at 0 (database es)) root.router (router_lsa links)
+    → IsRouterLsa (contents_at 0 (database es)) root.router (router_lsa links)
     → (neighbor address cost n : ℕ) → Contains links (point_to_point neighbor address cost)
     → 0 < cost → slice_get root.addresses n ≡ Some address
-    → Counts (said_at 0 (database es)) root root.router PointToPoint neighbor cost
+    → Counts (contents_at 0 (database es)) root root.router PointToPoint neighbor cost
     (n + 1)
 from_root es root links its neighbor address cost n among not_free at = record {
   link = point_to_point neighbor address cost;
@@ -46,9 +46,10 @@ from_root es root links its neighbor address cost n among not_free at = record {
 }
 
 pub from_other : (es : Entries) (root : Root) (router : ℕ) (links : List RouterLink)
-    → IsRouterLsa (said_at 0 (database es)) router (router_lsa links) → (router ≡ root.router → ⊥)
+    → IsRouterLsa (contents_at 0 (database es)) router (router_lsa links)
+        → (router ≡ root.router → ⊥)
     → (neighbor address cost : ℕ) → Contains links (point_to_point neighbor address cost)
-    → 0 < cost → Counts (said_at 0 (database es)) root router PointToPoint neighbor cost 0
+    → 0 < cost → Counts (contents_at 0 (database es)) root router PointToPoint neighbor cost 0
 from_other es root router links its other neighbor address cost among not_free = record {
   link = point_to_point neighbor address cost;
   its = linked es router links its (point_to_point neighbor address cost) among;
@@ -61,9 +62,10 @@ from_other es root router links its other neighbor address cost among not_free =
 }
 
 pub back : (es : Entries) (router : ℕ) (links : List RouterLink)
-    → IsRouterLsa (said_at 0 (database es)) router (router_lsa links) → (neighbor address cost : ℕ)
+    → IsRouterLsa (contents_at 0 (database es)) router (router_lsa links)
+        → (neighbor address cost : ℕ)
     → Contains links (point_to_point neighbor address cost)
-    → LinksBack (said_at 0 (database es)) router PointToPoint neighbor
+    → LinksBack (contents_at 0 (database es)) router PointToPoint neighbor
 back es router links its neighbor address cost among = (
   point_to_point neighbor address cost,
   linked es router links its (point_to_point neighbor address cost) among,

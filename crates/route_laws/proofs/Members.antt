@@ -9,7 +9,7 @@ use Rattle.routes.specs.Candidates.{AreCandidates}
 use Rattle.routes.specs.Links.{IsRouterLsa, Leads, LeadsTo}
 use Rattle.routes.specs.Paths.{IsWalk, IsWay, Step, Way}
 use Rattle.routes.specs.Offers.{ReachesBoundaryRouter}
-use Rattle.routes.specs.Said.{Said}
+use Rattle.routes.specs.Contents.{Contents}
 use Rattle.routes.specs.Summaries.{IsBoundaryWay, OffersBetween, ReachesBorderRouter}
 use Rattle.routes.specs.Summaries.IsBoundaryWay.{Inside, Outside}
 use Rattle.routes.specs.declared.offer.Offer.{Offer}
@@ -23,9 +23,9 @@ use Rattle.route_laws.specs.Topologies.{Forwarder, HasConverged, IsUpToDate, Sta
 use Rattle.route_laws.specs.Topologies.{Topology, root_of, says_of}
 
 -- for one router whose database says this
-pub record IsMember (said : Said) (f : Forwarder) : Type 0 where
-  pub current : IsCurrent said f.router.id f.router.area.links
-  pub candidates : AreCandidates said (root_of f.router) f.table
+pub record IsMember (contents : Contents) (f : Forwarder) : Type 0 where
+  pub current : IsCurrent contents f.router.id f.router.area.links
+  pub candidates : AreCandidates contents (root_of f.router) f.table
 
 its_own : (f : Forwarder) → IsUpToDate f → IsMember (says_of f.router) f
 its_own f u = record {
@@ -50,7 +50,7 @@ module _ (topology : Topology) (converged : HasConverged topology)
   pub member : (place other : ℕ) (a b : Forwarder) → StandsAt topology place a
       → StandsAt topology other b → IsMember (says_of a.router) b
   member place other a b p q =
-      let P : Said → Type 0 = λ s. IsMember s b in
+      let P : Contents → Type 0 = λ s. IsMember s b in
       subst P (same_says other place b a q p) (its_own b (converged.up_to_date other b q))
 
   pub addresses : (place : ℕ) (a : Forwarder) → StandsAt topology place a
@@ -76,12 +76,12 @@ module _ (topology : Topology) (converged : HasConverged topology)
       → LeadsTo (says_of a.router) (root_of b.router) from target price exit → IsAmong target
   step_among place root a b p q from target price exit f l =
       let c : Forwarder = f.forwarder in
-      let said : Said = says_of a.router in
-      let L : Node → Type 0 = λ n. LeadsTo said (root_of b.router) n target price exit in
-      let there = leads_there said (root_of b.router) (root_of c.router)
+      let contents : Contents = says_of a.router in
+      let L : Node → Type 0 = λ n. LeadsTo contents (root_of b.router) n target price exit in
+      let there = leads_there contents (root_of b.router) (root_of c.router)
       (names place f.place a c p f.stands) (ARouter c.router.id) target price exit
       (subst L f.is l) in
-      let along = premises.leads said c.router.id c.router.area.links
+      let along = premises.leads contents c.router.id c.router.area.links
       (member place f.place a c p f.stands).current (addresses f.place c f.stands) target price
       there.0 there.1 in
       let next = converged.joined f.place c f.stands there.0 along.neighbor along.is_on along.full
@@ -125,7 +125,7 @@ module _ (topology : Topology) (converged : HasConverged topology)
       let e : ARouter router ≡ ARouter g.forwarder.router.id = g.is in
       let same : router ≡ g.forwarder.router.id = cc in
       let R : ℕ → Type 0 = λ n. IsRouterLsa (says_of a.router) n r.lsa in
-      let said : Some (body.Router r.lsa) ≡ Some (router_body g.forwarder.router.area.links) =
+      let contents : Some (body.Router r.lsa) ≡ Some (router_body g.forwarder.router.area.links) =
       sym (subst R same r.its) ∙ current in
       let are : r.lsa ≡ record {
         flags = 2;

@@ -15,7 +15,7 @@ use Rattle.routes.specs.Candidates.{IsCandidate}
 use Rattle.routes.specs.Links.{Counts, HasLink, Leads, LeadsTo}
 use Rattle.routes.specs.Offers.{Attaches}
 use Rattle.routes.specs.Paths.{IsWalk, Step, price_of}
-use Rattle.routes.specs.Said.{Said}
+use Rattle.routes.specs.Contents.{Contents}
 use Rattle.routes.specs.declared.node.Node.{Node}
 use Rattle.routes.specs.declared.node.Node.TheVariants.{ANetwork, ARouter}
 use Rattle.routes.specs.declared.root.Root.{Root}
@@ -24,14 +24,14 @@ use Rattle.route_laws.specs.Forwarding.{RoutesEndAtTheNetwork}
 
 -- ---- walks from another root
 
-module _ (said : Said) (any to : Root) (own : NamesItsInterfaces said to) where
+module _ (contents : Contents) (any to : Root) (own : NamesItsInterfaces contents to) where
   counts_there : (router : ℕ) (kind : LinkKind) (id price exit : ℕ) → (kind ≡ PointToPoint)
-      ⊎ (kind ≡ Transit) → Counts said any router kind id price exit → (other : ℕ)
-      × Counts said to router kind id price other
+      ⊎ (kind ≡ Transit) → Counts contents any router kind id price exit → (other : ℕ)
+      × Counts contents to router kind id price other
   counts_there router kind id price exit is c =
       elim (cases_eq router to.router) [
         | inl e ↦
-            let Has : ℕ → Type 0 = λ r. HasLink said r c.link in
+            let Has : ℕ → Type 0 = λ r. HasLink contents r c.link in
             let Is : LinkKind → Type 0 = λ k. (k ≡ PointToPoint) ⊎ (k ≡ Transit) in
             let at = own c.link (subst Has e c.its) (subst Is (sym c.is_kind) is) in (
               at.0 + 1,
@@ -66,8 +66,9 @@ module _ (said : Said) (any to : Root) (own : NamesItsInterfaces said to) where
         )
       ]
 
-  pub leads_there : (from target : Node) (price exit : ℕ) → LeadsTo said any from target price exit
-      → (other : ℕ) × LeadsTo said to from target price other
+  pub leads_there : (from target : Node) (price exit : ℕ) → LeadsTo contents any from target price
+      exit
+      → (other : ℕ) × LeadsTo contents to from target price other
   leads_there (ARouter a) (ARouter b) price exit l =
       let c = counts_there a PointToPoint b price exit (inl refl) l.0 in
       (c.0, (c.1, l.1))
@@ -78,8 +79,8 @@ module _ (said : Said) (any to : Root) (own : NamesItsInterfaces said to) where
   leads_there (ANetwork id by) (ANetwork other its) price exit l = absurd l
 
   pub walk_there : (from node : Node) (walk : List (Step Node))
-      → IsWalk (Leads said any) from walk node → (other : List (Step Node))
-      × IsWalk (Leads said to) from other node × (price_of other ≡ price_of walk)
+      → IsWalk (Leads contents any) from walk node → (other : List (Step Node))
+      × IsWalk (Leads contents to) from other node × (price_of other ≡ price_of walk)
   walk_there from node [] is = ([], is, refl)
   walk_there from node (step ∷ rest) is =
       let first = leads_there from step.target step.price step.exit is.0 in
@@ -92,38 +93,41 @@ module _ (said : Said) (any to : Root) (own : NamesItsInterfaces said to) where
 -- ---- one hop
 
 -- a network is reached from the next router at a lower cost
-pub record IsNearer (said : Said) (next : Root) (prefix : Network) (cost : ℕ) : Type 0 where
+pub record IsNearer (contents : Contents) (next : Root) (prefix : Network) (cost : ℕ) : Type 0 where
   pub less : ℕ
   pub by : ℕ
-  pub reached : IsReached said next prefix less by
+  pub reached : IsReached contents next prefix less by
   pub is_less : less < cost
 
-pub price_of_own : (said : Said) (root : Root) (target : Node) (price exit : ℕ)
-    → LeadsTo said root (ARouter root.router) target price exit → (0 < price) × (0 < exit)
-price_of_own said root (ARouter b) price exit l = let by = l.0.by_interface refl in
+pub price_of_own : (contents : Contents) (root : Root) (target : Node) (price exit : ℕ)
+    → LeadsTo contents root (ARouter root.router) target price exit → (0 < price) × (0 < exit)
+price_of_own contents root (ARouter b) price exit l = let by = l.0.by_interface refl in
     (l.0.not_free, omega (arith, by.1))
-price_of_own said root (ANetwork id by) price exit l = let leaves = l.0.by_interface refl in
+price_of_own contents root (ANetwork id by) price exit l = let leaves = l.0.by_interface refl in
     (l.0.not_free, omega (arith, leaves.1))
 
-pub nearer : (said : Said) (root next : Root) (prefix : Network) (cost interface : ℕ)
-    → NamesItsInterfaces said next → 0 < interface → IsOtherEnd said root interface next.router
-    → IsReached said root prefix cost interface → IsNearer said next prefix cost
-nearer said root next prefix cost interface own away end x =
+pub nearer : (contents : Contents) (root next : Root) (prefix : Network) (cost interface : ℕ)
+    → NamesItsInterfaces contents next → 0 < interface → IsOtherEnd contents root interface
+        next.router
+    → IsReached contents root prefix cost interface → IsNearer contents next prefix cost
+nearer contents root next prefix cost interface own away end x =
     by_walk x.walk x.is_walk x.costs x.leaves_by
   where
-    by_walk : (walk : List (Step Node)) → IsWalk (Leads said root) (ARouter root.router) walk x.node
+    by_walk : (walk : List (Step Node)) → IsWalk (Leads contents root) (ARouter root.router) walk
+        x.node
         → cost ≡ price_of walk + x.more → interface ≡ first_exit walk
-        → IsNearer said next prefix cost
+        → IsNearer contents next prefix cost
     by_walk [] is costs leaves = absurd (omega (arith, away, leaves))
     by_walk (step ∷ rest) is costs leaves =
-        let P : ℕ → Type 0 = λ i. LeadsTo said root (ARouter root.router) step.target step.price i
+        let P : ℕ → Type 0 = λ i. LeadsTo contents root (ARouter root.router) step.target step.price
+            i
         in
         let here : step.target ≡ ARouter next.router =
         end step.target step.price (subst P (sym leaves) is.0) in
-        let W : Node → Type 0 = λ n. IsWalk (Leads said root) n rest x.node in
-        let there = walk_there said root next own (ARouter next.router) x.node rest
+        let W : Node → Type 0 = λ n. IsWalk (Leads contents root) n rest x.node in
+        let there = walk_there contents root next own (ARouter next.router) x.node rest
         (subst W here is.1) in
-        let some = price_of_own said root step.target step.price step.exit is.0 in
+        let some = price_of_own contents root step.target step.price step.exit is.0 in
         record {
           less = price_of there.0 + x.more;
           by = first_exit there.0;
@@ -139,62 +143,67 @@ nearer said root next prefix cost interface own away end x =
           is_less = omega (arith, costs, there.2, some.0);
         }
 
-pub reached_next : CandidatesAreCheapestWalks → (said : Said) (root next : Root) (route : Route)
-    → IsCandidate said root route → route.kind ≡ Intra → HandsOn said root route next.router
-    → NamesItsInterfaces said next → IsNearer said next route.prefix route.cost
-reached_next laws said root next route is within hands own =
-    nearer said root next route.prefix route.cost hands.interface own hands.away hands.other_end
-    ((laws.hops said root route is within hands.interface).0 hands.is_hop)
+pub reached_next : CandidatesAreCheapestWalks → (contents : Contents) (root next : Root)
+    (route : Route)
+    → IsCandidate contents root route → route.kind ≡ Intra → HandsOn contents root route next.router
+    → NamesItsInterfaces contents next → IsNearer contents next route.prefix route.cost
+reached_next laws contents root next route is within hands own =
+    nearer contents root next route.prefix route.cost hands.interface own hands.away hands.other_end
+    ((laws.hops contents root route is within hands.interface).0 hands.is_hop)
 
-pub each_hop : CandidatesAreCheapestWalks → (said : Said) (root next : Root) (route : Route)
-    → IsCandidate said root route → route.kind ≡ Intra → HandsOn said root route next.router
-    → NamesItsInterfaces said next → (following : Route) → IsCandidate said next following
+pub each_hop : CandidatesAreCheapestWalks → (contents : Contents) (root next : Root) (route : Route)
+    → IsCandidate contents root route → route.kind ≡ Intra → HandsOn contents root route next.router
+    → NamesItsInterfaces contents next → (following : Route) → IsCandidate contents next following
     → following.prefix ≡ route.prefix → (following.kind ≡ Intra)
     × (following.cost < route.cost)
-each_hop laws said root next route is within hands own following its same =
-    let n : IsNearer said next route.prefix route.cost =
-    reached_next laws said root next route is within hands own in
-    let P : Network → Type 0 = λ p. IsReached said next p n.less n.by in
-    let y : IsReached said next following.prefix n.less n.by = subst P (sym same) n.reached in
-    let low : following.cost ≤ n.less = laws.cheapest said next following n.less n.by its y in
-    (laws.preferred said next following n.less n.by its y, omega (arith, low, n.is_less))
+each_hop laws contents root next route is within hands own following its same =
+    let n : IsNearer contents next route.prefix route.cost =
+    reached_next laws contents root next route is within hands own in
+    let P : Network → Type 0 = λ p. IsReached contents next p n.less n.by in
+    let y : IsReached contents next following.prefix n.less n.by = subst P (sym same) n.reached in
+    let low : following.cost ≤ n.less = laws.cheapest contents next following n.less n.by its y in
+    (laws.preferred contents next following n.less n.by its y, omega (arith, low, n.is_less))
 
 -- ---- the last hop
 
-at_itself : (said : Said) (root : Root) (prefix : Network) (cost : ℕ)
-    → IsReached said root prefix cost 0 → Attaches said (ARouter root.router) prefix cost
-at_itself said root prefix cost x = by_walk x.walk x.is_walk x.costs x.leaves_by
+at_itself : (contents : Contents) (root : Root) (prefix : Network) (cost : ℕ)
+    → IsReached contents root prefix cost 0 → Attaches contents (ARouter root.router) prefix cost
+at_itself contents root prefix cost x = by_walk x.walk x.is_walk x.costs x.leaves_by
   where
-    by_walk : (walk : List (Step Node)) → IsWalk (Leads said root) (ARouter root.router) walk x.node
+    by_walk : (walk : List (Step Node)) → IsWalk (Leads contents root) (ARouter root.router) walk
+        x.node
         → cost ≡ price_of walk + x.more → 0 ≡ first_exit walk
-        → Attaches said (ARouter root.router) prefix cost
+        → Attaches contents (ARouter root.router) prefix cost
     by_walk [] is costs leaves =
         let more : x.more ≡ cost = omega (arith, costs) in
-        let P : Node → Type 0 = λ n. Attaches said n prefix x.more in
-        let Q : ℕ → Type 0 = λ m. Attaches said (ARouter root.router) prefix m in
+        let P : Node → Type 0 = λ n. Attaches contents n prefix x.more in
+        let Q : ℕ → Type 0 = λ m. Attaches contents (ARouter root.router) prefix m in
         subst Q more (subst P (sym is) x.attached)
     by_walk (step ∷ rest) is costs leaves =
-        absurd (let some = price_of_own said root step.target step.price step.exit is.0 in
+        absurd (let some = price_of_own contents root step.target step.price step.exit is.0 in
         omega (arith, leaves, some.1))
 
 pub last_hop : CandidatesAreCheapestWalks → RoutesEndAtTheNetwork
 last_hop laws = record {
-  some_hop = λ said root route is within. some said root route is within;
-  attached = λ said root route is within own. at said root route is within own;
-  ends = λ said root route is within only.
-      let hop = some said root route is within in
+  some_hop = λ contents root route is within. some contents root route is within;
+  attached = λ contents root route is within own. at contents root route is within own;
+  ends = λ contents root route is within only.
+      let hop = some contents root route is within in
       let P : ℕ → Type 0 = λ i. IsTrue (has_interface route.hops i) in
-      at said root route is within (subst P (only hop.0 hop.1) hop.1);
+      at contents root route is within (subst P (only hop.0 hop.1) hop.1);
 }
   where
-    some : (said : Said) (root : Root) (route : Route) → IsCandidate said root route → route.kind
+    some : (contents : Contents) (root : Root) (route : Route) → IsCandidate contents root route
+        → route.kind
         ≡ Intra → (interface : ℕ) × IsTrue (has_interface route.hops interface)
-    some said root route is within =
-        let x = laws.reached said root route is within in
-        (x.0, (laws.hops said root route is within x.0).1 x.1)
+    some contents root route is within =
+        let x = laws.reached contents root route is within in
+        (x.0, (laws.hops contents root route is within x.0).1 x.1)
 
-    at : (said : Said) (root : Root) (route : Route) → IsCandidate said root route → route.kind
+    at : (contents : Contents) (root : Root) (route : Route) → IsCandidate contents root route
+        → route.kind
         ≡ Intra → IsTrue (has_interface route.hops 0)
-        → Attaches said (ARouter root.router) route.prefix route.cost
-    at said root route is within own =
-        at_itself said root route.prefix route.cost ((laws.hops said root route is within 0).0 own)
+        → Attaches contents (ARouter root.router) route.prefix route.cost
+    at contents root route is within own =
+        at_itself contents root route.prefix route.cost
+            ((laws.hops contents root route is within 0).0 own)

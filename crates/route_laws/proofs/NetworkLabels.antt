@@ -30,7 +30,7 @@ use Rattle.route_laws.proofs.Entries.{mapped, is_said, sayings}
 use Rattle.route_laws.proofs.Labels.{AreLabels, either_true, exit_of, exits_in, is_point, not_both}
 use Rattle.route_laws.proofs.Labels.{subset}
 use Rattle.routes.proofs.Lists.{of_cons, of_empty}
-use Rattle.routes.specs.Said.{Said, said_at}
+use Rattle.routes.specs.Contents.{Contents, contents_at}
 
 -- ---- the routers that the network-LSAs list, by network
 
@@ -66,7 +66,7 @@ member (s ∷ ss) k n router t among =
     ]
 
 pub has_member : (moment : ℕ) (es : Entries) (id by router : ℕ)
-    → ListsRouter (said_at moment (database es)) id by router
+    → ListsRouter (contents_at moment (database es)) id by router
     → Contains (members_of (sayings es)) ((id, by), router)
 has_member moment es id by router l = member (sayings es) (record {
   ls_type = 2;
@@ -165,7 +165,7 @@ record Edge (dv hv price dw hw : ℕ) (AtRoot : Type 0) (exit : ℕ) : Type 0 wh
 module _ (root : Root) (moment : ℕ) (es : Entries) (dr hr : ℕ → ℕ) (dn hn : ℕ → ℕ → ℕ)
     (are : AreRising root (sayings es) dr hr dn hn) where
   by_link : (router price exit dw hw : ℕ) (kind : LinkKind) (id : ℕ)
-      (k : Counts (said_at moment (database es)) root router kind id price exit)
+      (k : Counts (contents_at moment (database es)) root router kind id price exit)
       → rises (dr router) (hr router) k.link.metric dw hw (leaves_by root router k.link hw)
       ≡ true → Edge (dr router) (hr router) price dw hw
       (ARouter router ≡ ARouter root.router) exit
@@ -200,7 +200,8 @@ module _ (root : Root) (moment : ℕ) (es : Entries) (dr hr : ℕ → ℕ) (dn h
       (eq-eqb x.0 m.1 router) in
       pass (nat_eq x.1.link_id m.0.0) says second (eq-eqb x.1.link_id m.0.0 id)
 
-  edge : (v w : Node) (price exit : ℕ) → LeadsTo (said_at moment (database es)) root v w price exit
+  edge : (v w : Node) (price exit : ℕ) → LeadsTo (contents_at moment (database es)) root v w price
+      exit
       → Edge (at dr dn v) (at hr hn v) price (at dr dn w) (at hr hn w) (v ≡ ARouter root.router)
       exit
   edge (ARouter a) (ARouter b) price exit l =
@@ -244,7 +245,7 @@ module _ (root : Root) (moment : ℕ) (es : Entries) (dr hr : ℕ → ℕ) (dn h
       subst P (sym l.2) (record { low = r.low; along = r.along; exits = λ at_root. absurd (cc) })
   edge (ANetwork id by) (ANetwork other its) price exit l = absurd l
 
-  pub rising : AreLabels (Leads (said_at moment (database es)) root) (ARouter root.router)
+  pub rising : AreLabels (Leads (contents_at moment (database es)) root) (ARouter root.router)
       (at dr dn) (at hr hn)
   rising = record {
     start = are.start;
@@ -272,7 +273,7 @@ has_stubs_alone router x = not (nat_eq x.0 router) || kind_is_stub x.1.kind
 module _ (root : Root) (moment : ℕ) (es : Entries) (router : ℕ)
     (stubs : list_all (has_stubs_alone router) (links_of (sayings es)) ≡ true) where
   no_link : (v : Node) (price exit : ℕ)
-      → LeadsTo (said_at moment (database es)) root v (ARouter router) price exit → ⊥
+      → LeadsTo (contents_at moment (database es)) root v (ARouter router) price exit → ⊥
   no_link (ARouter a) price exit l =
       let e = pass (nat_eq router router) (kind_is_stub l.1.0.kind)
       (all_pass (has_stubs_alone router) (links_of (sayings es)) stubs (router, l.1.0)
@@ -287,14 +288,17 @@ module _ (root : Root) (moment : ℕ) (es : Entries) (router : ℕ)
       cc
 
   pub unreached : (root.router ≡ router → ⊥) → (way : Way)
-      → IsWay (Leads (said_at moment (database es)) root) (ARouter root.router) (ARouter router) way
+      → IsWay (Leads (contents_at moment (database es)) root) (ARouter root.router) (ARouter router)
+          way
       → ⊥
   unreached other way is =
-      elim (arrives (Leads (said_at moment (database es)) root) (ARouter root.router) is.distance.0
+      elim (arrives (Leads (contents_at moment (database es)) root) (ARouter root.router)
+          is.distance.0
       (ARouter router) is.distance.1.is_walk) [
         | inl e ↦ let same : root.router ≡ router = cc in other same
         | inr k ↦
-            let P : Node → Type 0 = λ w. LeadsTo (said_at moment (database es)) root k.0 w k.1.price
+            let P : Node → Type 0 = λ w. LeadsTo (contents_at moment (database es)) root k.0 w
+                k.1.price
             k.1.exit in
             no_link k.0 k.1.price k.1.exit (subst P k.3 k.2)
       ]
@@ -302,10 +306,11 @@ module _ (root : Root) (moment : ℕ) (es : Entries) (router : ℕ)
 -- ---- the offers within the area
 
 -- a network whose way is known
-pub record NetworkOffer (said : Said) (root : Root) (id by : ℕ) (lsa : NetworkLsa) (length : ℕ)
+pub record NetworkOffer (contents : Contents) (root : Root) (id by : ℕ) (lsa : NetworkLsa)
+    (length : ℕ)
     (o : Offer) : Type 0 where
   pub way : Way
-  pub reached : IsWay (Leads said root) (ARouter root.router) (ANetwork id by) way
+  pub reached : IsWay (Leads contents root) (ARouter root.router) (ANetwork id by) way
   pub within : length ≤ 32
   pub mask : lsa.mask ≡ mask_of length
   pub is : intra (record {
@@ -317,13 +322,13 @@ module _ (moment : ℕ) (es : Entries) (root : Root) (P : Offer → Type 0) wher
   -- the router of a stub link isn't reached, or its offer has the property P
   abbrev pub IsStubKnown : ℕ → RouterLink → Type 0
   IsStubKnown router l =
-      ((way : Way) → IsWay (Leads (said_at moment (database es)) root) (ARouter root.router)
+      ((way : Way) → IsWay (Leads (contents_at moment (database es)) root) (ARouter root.router)
       (ARouter router) way → ⊥)
       ⊎ Known moment es root P router l
 
   abbrev pub IsNetworkKnown : ℕ → ℕ → NetworkLsa → Type 0
   IsNetworkKnown id by lsa = (length : ℕ) × (o : Offer)
-      × NetworkOffer (said_at moment (database es)) root id by lsa length o × P o
+      × NetworkOffer (contents_at moment (database es)) root id by lsa length o × P o
 
   module _ (stubs : (router : ℕ) (l : RouterLink)
       → Contains (filter is_stub (links_of (sayings es))) (router, l) → IsStubKnown router l)
@@ -337,8 +342,8 @@ module _ (moment : ℕ) (es : Entries) (root : Root) (P : Offer → Type 0) wher
       )
       → IsNetworkKnown id by lsa) where
     by_node : (node : Node) (prefix : Network) (more : ℕ)
-        → Attaches (said_at moment (database es)) node prefix more → (way : Way)
-        → IsWay (Leads (said_at moment (database es)) root) (ARouter root.router) node way
+        → Attaches (contents_at moment (database es)) node prefix more → (way : Way)
+        → IsWay (Leads (contents_at moment (database es)) root) (ARouter root.router) node way
         → (hops : ℕ) → (node ≡ ARouter root.router → hops ≡ 1)
         → ((node ≡ ARouter root.router → ⊥) → hops ≡ way.hops)
         → P (intra prefix (way.distance + more) hops)
@@ -349,7 +354,7 @@ module _ (moment : ℕ) (es : Entries) (root : Root) (P : Offer → Type 0) wher
           length = k.0;
         } ≡ prefix =
         one_prefix id a.0.mask k.0 prefix k.2.within k.2.mask a.2 in
-        let w : k.2.way ≡ way = one_way (Leads (said_at moment (database es)) root)
+        let w : k.2.way ≡ way = one_way (Leads (contents_at moment (database es)) root)
         (ARouter root.router) (ANetwork id by) k.2.way way k.2.reached reached in
         let m : 0 ≡ more = sym a.3 in
         let h : k.2.way.hops ≡ hops = ap (λ (x : Way). x.hops) w ∙ sym (by_others (λ e. cc)) in
@@ -365,6 +370,6 @@ module _ (moment : ℕ) (es : Entries) (root : Root) (P : Offer → Type 0) wher
               by_stub moment es root P router prefix more a k way reached hops by_root by_others
         ]
 
-    pub each_offer : (o : Offer) → OffersWithin (said_at moment (database es)) root o → P o
+    pub each_offer : (o : Offer) → OffersWithin (contents_at moment (database es)) root o → P o
     each_offer o x = subst P (sym x.is)
         (by_node x.node x.prefix x.more x.attached x.way x.reached x.hops x.by_root x.by_others)

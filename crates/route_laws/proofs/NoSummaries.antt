@@ -6,7 +6,7 @@ use Rattle.lsa.specs.declared.body.LsaBody.{LsaBody}
 use Rattle.lsa.specs.declared.body.LsaBody.TheVariants as body
 use Rattle.routes.specs.Offers.{OffersWithin, ReachesBoundaryRouter}
 use Rattle.routes.specs.Paths.{Way}
-use Rattle.routes.specs.Said.{said_at}
+use Rattle.routes.specs.Contents.{contents_at}
 use Rattle.routes.specs.Summaries.{IsBoundaryWay, OffersBetween, OffersInside, summary_key}
 use Rattle.routes.specs.Summaries.IsBoundaryWay.{Inside, Outside}
 use Rattle.routes.specs.declared.offer.Offer.{Offer}
@@ -23,7 +23,7 @@ is_no_summary (k, body.External e) = true
 
 module _ (moment : ℕ) (es : Entries) (none : list_all is_no_summary (sayings es) ≡ true)
     (root : Root) where
-  pub nothing_between : (o : Offer) → OffersBetween (said_at moment (database es)) root o → ⊥
+  pub nothing_between : (o : Offer) → OffersBetween (contents_at moment (database es)) root o → ⊥
   nothing_between o x =
       let e : false ≡ true = all_pass is_no_summary (sayings es) none
       (summary_key 3 x.id x.originator, body.NetworkSummary x.lsa)
@@ -31,14 +31,14 @@ module _ (moment : ℕ) (es : Entries) (none : list_all is_no_summary (sayings e
       x.its) in
       cc
 
-  pub is_within : (o : Offer) → OffersInside (said_at moment (database es)) root o
-      → OffersWithin (said_at moment (database es)) root o
+  pub is_within : (o : Offer) → OffersInside (contents_at moment (database es)) root o
+      → OffersWithin (contents_at moment (database es)) root o
   is_within o (inl x) = x
   is_within o (inr x) = absurd (nothing_between o x)
 
   pub is_inside : (router : ℕ) (way : Way)
-      → IsBoundaryWay (said_at moment (database es)) root router way
-      → ReachesBoundaryRouter (said_at moment (database es)) root router way
+      → IsBoundaryWay (contents_at moment (database es)) root router way
+      → ReachesBoundaryRouter (contents_at moment (database es)) root router way
   is_inside router way (Inside x) = x
   is_inside router way (Outside no_way x) =
       let t = x.advertised in

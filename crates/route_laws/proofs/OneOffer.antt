@@ -20,7 +20,7 @@ use Rattle.routes.specs.Candidates.Offers.{Between, External, Within}
 use Rattle.routes.specs.Links.{IsRouterLsa, Leads, Says}
 use Rattle.routes.specs.Paths.{IsWalk, IsWay, Step, Way, price_of}
 use Rattle.routes.specs.Routes.{IsBefore}
-use Rattle.routes.specs.Said.{Said, said_at}
+use Rattle.routes.specs.Contents.{Contents, contents_at}
 use Rattle.routes.specs.declared.node.Node.{Node}
 use Rattle.routes.specs.declared.node.Node.TheVariants.{ARouter}
 use Rattle.routes.specs.declared.offer.Offer.{Offer}
@@ -65,20 +65,20 @@ routes_in_order (o ∷ offers) up =
     (λ i j d before low. up (suc i) (suc j) d (omega (arith, before)) (omega (arith, low))))
 
 -- offers for prefixes in ascending order, and no others, are candidates
-pub candidates_of : (said : Said) (root : Root) (offers : List Offer)
+pub candidates_of : (contents : Contents) (root : Root) (offers : List Offer)
     → InOrder (λ (o : Offer). o.prefix) offers
-    → ((o : Offer) → Contains offers o → Offers said root o)
-    → ((o : Offer) → Offers said root o → Contains offers o)
-    → AreCandidates said root (map (λ (o : Offer). route_of o) offers)
-candidates_of said root offers ordered offered only =
-    all_candidates said root (map (λ (o : Offer). route_of o) offers)
+    → ((o : Offer) → Contains offers o → Offers contents root o)
+    → ((o : Offer) → Offers contents root o → Contains offers o)
+    → AreCandidates contents root (map (λ (o : Offer). route_of o) offers)
+candidates_of contents root offers ordered offered only =
+    all_candidates contents root (map (λ (o : Offer). route_of o) offers)
     (λ r t.
     let k = of_map offers r t in
-    let alone_is : IsAlone said root k.0 =
+    let alone_is : IsAlone contents root k.0 =
     λ other o same. inl (one_for_prefix (λ (x : Offer). x.prefix) offers ordered other k.0
     (only other o) k.1 same) in
-    let P : Route → Type 0 = λ x. IsCandidate said root x in
-    subst P k.2 (alone said root k.0 (offered k.0 k.1) alone_is))
+    let P : Route → Type 0 = λ x. IsCandidate contents root x in
+    subst P k.2 (alone contents root k.0 (offered k.0 k.1) alone_is))
     (λ o given. (route_of o, mapped (λ (x : Offer). route_of x) offers o (only o given), refl))
     (routes_in_order offers ordered)
 
@@ -93,11 +93,11 @@ to router exit = record { target = ARouter router; price = 5; exit = exit }
 
 abbrev pub Walk : Entries → Root → List (Step Node) → ℕ → Type 0
 Walk es root walk router =
-    IsWalk (Leads (said_at 0 (database es)) root) (ARouter root.router) walk (ARouter router)
+    IsWalk (Leads (contents_at 0 (database es)) root) (ARouter root.router) walk (ARouter router)
 
 abbrev pub IsWayFrom : Entries → Root → ℕ → Way → Type 0
 IsWayFrom es root router w =
-    IsWay (Leads (said_at 0 (database es)) root) (ARouter root.router) (ARouter router) w
+    IsWay (Leads (contents_at 0 (database es)) root) (ARouter root.router) (ARouter router) w
 
 pub way_to : (es : Entries) (root : Root) (distance hops : ℕ → ℕ)
     → AreChecked root (sayings es) distance hops → (router : ℕ) (walk : List (Step Node))
@@ -107,16 +107,16 @@ pub way_to : (es : Entries) (root : Root) (distance hops : ℕ → ℕ)
     × (price_of (first ∷ rest) ≡ distance router) × (first.exit ≡ i))
     → IsWayFrom es root router (way (distance router) (hops router))
 way_to es root distance hops are router walk is costs each =
-    way_by (Leads (said_at 0 (database es)) root) (ARouter root.router) (at_node distance)
+    way_by (Leads (contents_at 0 (database es)) root) (ARouter root.router) (at_node distance)
     (at_node hops) (checked root 0 es distance hops are) (ARouter router) walk is costs each
 
 -- ---- the offers of stub links
 
 pub stub_within : (es : Entries) (root : Root) (router : ℕ) (links : List RouterLink)
-    → IsRouterLsa (said_at 0 (database es)) router (router_lsa links) → (l : RouterLink)
+    → IsRouterLsa (contents_at 0 (database es)) router (router_lsa links) → (l : RouterLink)
     → Contains links l → l.kind ≡ Stub → (length : ℕ) (o : Offer)
-    → StubOffer (said_at 0 (database es)) root router l length o
-    → OffersWithin (said_at 0 (database es)) root o
+    → StubOffer (contents_at 0 (database es)) root router l length o
+    → OffersWithin (contents_at 0 (database es)) root o
 stub_within es root router links its l among kind length o s = record {
   node = ARouter router;
   prefix = record { address = network_address length l.link_id; length = length };
@@ -146,7 +146,7 @@ hops_from root router other hops = (λ e. absurd (other e), λ _. refl)
 -- by a known way
 pub stub_by : (es : Entries) (root : Root) (router : ℕ) (l : RouterLink) (length : ℕ) (by : Way)
     (hops : ℕ) → IsWayFrom es root router by → HopsTo root router by.hops hops → length ≤ 32
-    → l.link_data ≡ mask_of length → StubOffer (said_at 0 (database es)) root router l length
+    → l.link_data ≡ mask_of length → StubOffer (contents_at 0 (database es)) root router l length
     (intra (record {
       address = network_address length l.link_id;
       length = length;
@@ -171,7 +171,7 @@ AreStubsKnown es root P = AllByRecursion (λ (x : ℕ × RouterLink). Known 0 es
 -- without networks, an offer within the area is that of a stub link
 pub each_stub : (es : Entries) (root : Root) (P : Offer → Type 0)
     → list_all is_no_network (sayings es) ≡ true → AreStubsKnown es root P → (o : Offer)
-    → OffersWithin (said_at 0 (database es)) root o → P o
+    → OffersWithin (contents_at 0 (database es)) root o → P o
 each_stub es root P networks known o x =
     each_within 0 es root P networks
     (λ router l t. one_of (λ (y : ℕ × RouterLink). Known 0 es root P y.0 y.1)
@@ -187,7 +187,8 @@ is_router (k, body.RouterSummary s) = false
 is_router (k, body.External e) = false
 
 pub no_external : (es : Entries) → list_all is_router (sayings es) ≡ true
-    → (key : Key) (lsa : ExternalLsa) → Says (said_at 0 (database es)) key (body.External lsa) → ⊥
+    → (key : Key) (lsa : ExternalLsa) → Says (contents_at 0 (database es)) key
+        (body.External lsa) → ⊥
 no_external es all key lsa its = let e : false ≡ true =
     all_pass is_router (sayings es) all (key, body.External lsa)
     (is_said 0 es key (body.External lsa) its) in cc
@@ -196,7 +197,7 @@ pub only_within : (es : Entries) (root : Root) (offers : List Offer)
     → list_all is_router (sayings es) ≡ true → list_all is_no_network (sayings es) ≡ true
     → list_all is_no_summary (sayings es) ≡ true
     → AreStubsKnown es root (λ o. Contains offers o) → (o : Offer)
-    → Offers (said_at 0 (database es)) root o → Contains offers o
+    → Offers (contents_at 0 (database es)) root o → Contains offers o
 only_within es root offers routers networks summaries known o (Within x) =
     each_stub es root (λ y. Contains offers y) networks known o x
 only_within es root offers routers networks summaries known o (Between x) =

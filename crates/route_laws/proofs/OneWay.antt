@@ -11,7 +11,7 @@ use Rattle.routes.specs.Summaries.{IsAdvertised, IsWayBetween, OffersInside}
 use Rattle.routes.specs.Summaries.IsBoundaryWay.{Inside, Outside}
 use Rattle.routes.specs.Links.{Leads}
 use Rattle.routes.specs.declared.node.Node.TheVariants.{ARouter}
-use Rattle.routes.specs.Said.{Said}
+use Rattle.routes.specs.Contents.{Contents}
 use Rattle.routes.specs.declared.root.Root.{Root}
 
 -- whatever is offered
@@ -29,27 +29,29 @@ one_forward IsOffered address a b p q =
     p.is ∙ ap way_of same ∙ sym q.is
 
 pub forwarding : ForwardingIsDetermined
-forwarding said root = one_forward (OffersInside said root)
+forwarding contents root = one_forward (OffersInside contents root)
 
 -- ---- AS boundary routers
 
-one_between : (said : Said) (root : Root) (router : ℕ) (a b : Way) → IsWayBetween said root router a
-    → IsWayBetween said root router b → a ≡ b
-one_between said root router a b p q =
+one_between : (contents : Contents) (root : Root) (router : ℕ) (a b : Way) → IsWayBetween contents
+    root router a
+    → IsWayBetween contents root router b → a ≡ b
+one_between contents root router a b p q =
     let there : a.distance ≤ b.distance = p.least b.distance q.border q.advertised in
     let here : b.distance ≤ a.distance = q.least a.distance p.border p.advertised in
     let distance : a.distance ≡ b.distance = omega (arith, there, here) in
     let hops : a.hops ≡ b.hops = same_hops a.hops b.hops
     (λ i t. let h = (p.hops i).0 t in
-    (q.hops i).1 (h.0, subst (λ d. IsAdvertised said root router d h.0) distance h.1, h.2))
+    (q.hops i).1 (h.0, subst (λ d. IsAdvertised contents root router d h.0) distance h.1, h.2))
     (λ i t. let h = (q.hops i).0 t in
-    (p.hops i).1 (h.0, subst (λ d. IsAdvertised said root router d h.0) (sym distance) h.1, h.2)) in
+    (p.hops i).1 (h.0, subst (λ d. IsAdvertised contents root router d h.0) (sym distance) h.1,
+        h.2)) in
     λ i. record { distance = distance i; hops = hops i }
 
 pub boundary : BoundaryWaysAreDetermined
-boundary said root router a b (Inside p) (Inside q) =
-    one_way (Leads said root) (ARouter root.router) (ARouter router) a b p.reached q.reached
-boundary said root router a b (Inside p) (Outside none q) = absurd (none a p)
-boundary said root router a b (Outside none p) (Inside q) = absurd (none b q)
-boundary said root router a b (Outside none p) (Outside none_too q) =
-    one_between said root router a b p q
+boundary contents root router a b (Inside p) (Inside q) =
+    one_way (Leads contents root) (ARouter root.router) (ARouter router) a b p.reached q.reached
+boundary contents root router a b (Inside p) (Outside none q) = absurd (none a p)
+boundary contents root router a b (Outside none p) (Inside q) = absurd (none b q)
+boundary contents root router a b (Outside none p) (Outside none_too q) =
+    one_between contents root router a b p q

@@ -24,7 +24,7 @@ use Rattle.routes.specs.Paths.{IsWalk, IsWay, Step, Way, price_of}
 use Rattle.routes.specs.Routes.{IsNoWorse, rank}
 use Rattle.routes.specs.Routes.IsNoWorse.{ByCost as NoDearer, ByDistance as NoFarther}
 use Rattle.routes.specs.Routes.IsNoWorse.{ByKind as NoWorseKind}
-use Rattle.routes.specs.Said.{Said}
+use Rattle.routes.specs.Contents.{Contents}
 use Rattle.routes.specs.Summaries.{IsBoundaryWay, IsAdvertised, IsWayBetween, OffersBetween, inter}
 use Rattle.routes.specs.Summaries.IsBoundaryWay.{Inside, Outside}
 use Rattle.routes.specs.declared.node.Node.{Node}
@@ -45,28 +45,29 @@ use Rattle.route_laws.proofs.Nearer.{each_hop, price_of_own, walk_there}
 -- ---- the way from the next router
 
 -- a walk from the next router that costs less than the way
-record IsShort (said : Said) (next : Root) (node : Node) (distance : ℕ) : Type 0 where
+record IsShort (contents : Contents) (next : Root) (node : Node) (distance : ℕ) : Type 0 where
   walk : List (Step Node)
-  is_walk : IsWalk (Leads said next) (ARouter next.router) walk node
+  is_walk : IsWalk (Leads contents next) (ARouter next.router) walk node
   is_less : price_of walk < distance
 
-module _ (said : Said) (root next : Root) (own : NamesItsInterfaces said next) where
-  shorter : (node : Node) (way : Way) → IsWay (Leads said root) (ARouter root.router) node way
-      → (i : ℕ) → IsTrue (has_interface way.hops i) → IsOtherEnd said root i next.router
-      → IsShort said next node way.distance
+module _ (contents : Contents) (root next : Root) (own : NamesItsInterfaces contents next) where
+  shorter : (node : Node) (way : Way) → IsWay (Leads contents root) (ARouter root.router) node way
+      → (i : ℕ) → IsTrue (has_interface way.hops i) → IsOtherEnd contents root i next.router
+      → IsShort contents next node way.distance
   shorter node way is i t end =
       let hop = (is.hops i).0 t in
       let first : Step Node = hop.0 in
       let rest : List (Step Node) = hop.1 in
       let walk = hop.2.is_walk in
-      let P : ℕ → Type 0 = λ k. LeadsTo said root (ARouter root.router) first.target first.price k
+      let P : ℕ → Type 0 = λ k. LeadsTo contents root (ARouter root.router) first.target first.price
+          k
       in
       let here : first.target ≡ ARouter next.router =
       end first.target first.price (subst P hop.3 walk.0) in
-      let W : Node → Type 0 = λ n. IsWalk (Leads said root) n rest node in
-      let there = walk_there said root next own (ARouter next.router) node rest
+      let W : Node → Type 0 = λ n. IsWalk (Leads contents root) n rest node in
+      let there = walk_there contents root next own (ARouter next.router) node rest
       (subst W here walk.1) in
-      let some = price_of_own said root first.target first.price first.exit walk.0 in
+      let some = price_of_own contents root first.target first.price first.exit walk.0 in
       let low : price_of (first ∷ rest) ≤ price_of is.distance.0 =
       hop.2.least is.distance.0 is.distance.1.is_walk in
       record {
@@ -76,12 +77,12 @@ module _ (said : Said) (root next : Root) (own : NamesItsInterfaces said next) w
       }
 
   -- it has a way
-  way_on : (node : Node) (distance : ℕ) → IsShort said next node distance
-      → (((w : Way) × IsWay (Leads said next) (ARouter next.router) node w
+  way_on : (node : Node) (distance : ℕ) → IsShort contents next node distance
+      → (((w : Way) × IsWay (Leads contents next) (ARouter next.router) node w
       × (w.distance < distance)) → ⊥) → ⊥
   way_on node distance s none =
-      least.way (Leads said next) (ARouter next.router) node (length next.addresses + 1)
-      (λ x l. exit_within said next x.target x.price x.exit l) s.walk s.is_walk (λ w.
+      least.way (Leads contents next) (ARouter next.router) node (length next.addresses + 1)
+      (λ x l. exit_within contents next x.target x.price x.exit l) s.walk s.is_walk (λ w.
       none (
         w.0,
         w.1,
@@ -101,9 +102,9 @@ pub data Beats (a b : Offer) : Type 0 where
   Nearer : rank a.kind ≡ rank b.kind → a.cost ≡ b.cost → a.distance < b.distance → Beats a b
 
 -- a router offers the same as another one, at a lower cost
-pub record Again (said : Said) (next : Root) (o : Offer) : Type 0 where
+pub record Again (contents : Contents) (next : Root) (o : Offer) : Type 0 where
   pub offer : Offer
-  pub offered : Offers said next offer
+  pub offered : Offers contents next offer
   pub is_for : offer.prefix ≡ o.prefix
   pub beats : Beats offer o
 
@@ -123,16 +124,18 @@ pub external_beats : (t : ExternalType) (prefix : Network) (lsa : ExternalLsa) (
 external_beats Type1 prefix lsa by near far less = Cheaper refl (omega (arith, less))
 external_beats Type2 prefix lsa by near far less = Nearer refl refl less
 
-module _ (said : Said) (root next : Root) (own : NamesItsInterfaces said next) (o : Offer) (i : ℕ)
-    (end : IsOtherEnd said root i next.router) where
-  again_between : (x : OffersBetween said root o) → IsTrue (has_interface o.hops i)
-      → (next.router ≡ x.originator → ⊥) → (Again said next o → ⊥) → ⊥
+module _ (contents : Contents) (root next : Root) (own : NamesItsInterfaces contents next)
+    (o : Offer) (i : ℕ)
+    (end : IsOtherEnd contents root i next.router) where
+  again_between : (x : OffersBetween contents root o) → IsTrue (has_interface o.hops i)
+      → (next.router ≡ x.originator → ⊥) → (Again contents next o → ⊥) → ⊥
   again_between x t other none =
       let Has : ℕ → Type 0 = λ hops. IsTrue (has_interface hops i) in
-      let s = shorter said root next own (ARouter x.originator) x.border x.counts.reaches.reached i
+      let s = shorter contents root next own (ARouter x.originator) x.border
+          x.counts.reaches.reached i
       (subst Has (ap (λ (y : Offer). y.hops) x.is) t) end in
-      way_on said root next own (ARouter x.originator) x.border.distance s (λ w.
-      let P : Offer → Type 0 = λ y. Again said next y in
+      way_on contents root next own (ARouter x.originator) x.border.distance s (λ w.
+      let P : Offer → Type 0 = λ y. Again contents next y in
       none (subst P (sym x.is) (record {
         offer = inter x.prefix (w.0.distance + x.lsa.metric) w.0.hops;
         offered = Between (record {
@@ -160,16 +163,16 @@ module _ (said : Said) (root next : Root) (own : NamesItsInterfaces said next) (
       })))
 
   -- if the originator is reached within the area, the boundary way is the way to it
-  boundary_is : (router : ℕ) (way boundary : Way) → ReachesBoundaryRouter said root router way
-      → IsBoundaryWay said root router boundary → boundary ≡ way
+  boundary_is : (router : ℕ) (way boundary : Way) → ReachesBoundaryRouter contents root router way
+      → IsBoundaryWay contents root router boundary → boundary ≡ way
   boundary_is router way boundary r (Inside x) =
-      one_way (Leads said root) (ARouter root.router) (ARouter router) boundary way x.reached
+      one_way (Leads contents root) (ARouter root.router) (ARouter router) boundary way x.reached
       r.reached
   boundary_is router way boundary r (Outside never x) = absurd (never way r)
 
-  again_external : (x : OffersExternal said root o) → IsTrue (has_interface o.hops i)
-      → x.lsa.forwarding ≡ 0 → (way : Way) → ReachesBoundaryRouter said root x.originator way
-      → (next.router ≡ x.originator → ⊥) → (Again said next o → ⊥) → ⊥
+  again_external : (x : OffersExternal contents root o) → IsTrue (has_interface o.hops i)
+      → x.lsa.forwarding ≡ 0 → (way : Way) → ReachesBoundaryRouter contents root x.originator way
+      → (next.router ≡ x.originator → ⊥) → (Again contents next o → ⊥) → ⊥
   again_external x t direct way r other none =
       let Has : ℕ → Type 0 = λ hops. IsTrue (has_interface hops i) in
       let same : x.way ≡ way = x.is_way.direct direct
@@ -179,9 +182,9 @@ module _ (said : Said) (root next : Root) (own : NamesItsInterfaces said next) (
       let has : Has way.hops = subst Has
       (ap (λ (y : Offer). y.hops) is ∙ external_hops x.lsa.kind x.prefix x.lsa x.originator way)
       t in
-      let s = shorter said root next own (ARouter x.originator) way r.reached i has end in
-      way_on said root next own (ARouter x.originator) way.distance s (λ w.
-      let P : Offer → Type 0 = λ y. Again said next y in
+      let s = shorter contents root next own (ARouter x.originator) way r.reached i has end in
+      way_on contents root next own (ARouter x.originator) way.distance s (λ w.
+      let P : Offer → Type 0 = λ y. Again contents next y in
       none (subst P (sym is) (record {
         offer = external_offer x.lsa.kind x.prefix x.lsa x.originator w.0;
         offered = External (record {
@@ -215,22 +218,23 @@ module _ (said : Said) (root next : Root) (own : NamesItsInterfaces said next) (
   -- ---- toward a border router that advertises the originator
 
   -- the next router, to which a link leads, has a router-LSA
-  next_says : (node : Node) (way : Way) → IsWay (Leads said root) (ARouter root.router) node way
-      → IsTrue (has_interface way.hops i) → (lsa : RouterLsa) × IsRouterLsa said next.router lsa
+  next_says : (node : Node) (way : Way) → IsWay (Leads contents root) (ARouter root.router) node way
+      → IsTrue (has_interface way.hops i) → (lsa : RouterLsa) × IsRouterLsa contents next.router lsa
   next_says node way is t =
       let hop = (is.hops i).0 t in
       let first : Step Node = hop.0 in
-      let P : ℕ → Type 0 = λ k. LeadsTo said root (ARouter root.router) first.target first.price k
+      let P : ℕ → Type 0 = λ k. LeadsTo contents root (ARouter root.router) first.target first.price
+          k
       in
       let l = subst P hop.3 hop.2.is_walk.0 in
       let here : first.target ≡ ARouter next.router = end first.target first.price l in
-      let Q : Node → Type 0 = λ n. LeadsTo said root (ARouter root.router) n first.price i in
+      let Q : Node → Type 0 = λ n. LeadsTo contents root (ARouter root.router) n first.price i in
       let there = subst Q here l in
       (there.1.1.lsa, there.1.1.its)
 
   module _ (router : ℕ) where
     abbrev Telling : ℕ → Way → Type 0
-    Telling distance border = IsAdvertised said next router distance border
+    Telling distance border = IsAdvertised contents next router distance border
 
     abbrev LeastTelling : Type 0
     LeastTelling = (distance : ℕ) × (border : Way) × Telling distance border
@@ -259,12 +263,13 @@ module _ (said : Said) (root next : Root) (own : NamesItsInterfaces said next) (
     hop_below distance k h =
         let hop = (h.1.counts.reaches.reached.hops k).0 h.2 in
         let first : Step Node = hop.0 in
-        let low = exit_within said next first.target first.price first.exit hop.2.is_walk.0 in
+        let low = exit_within contents next first.target first.price first.exit hop.2.is_walk.0 in
         omega (arith, low, hop.3)
 
     -- the way that is advertised at the next router
     way_told : (distance : ℕ) (border : Way) → Telling distance border
-        → (((way : Way) × IsWayBetween said next router way × (way.distance ≤ distance)) → ⊥) → ⊥
+        → (((way : Way) × IsWayBetween contents next router way
+            × (way.distance ≤ distance)) → ⊥) → ⊥
     way_told distance border advertised none =
         let n : ℕ = length next.addresses + 1 in
         least_telling distance distance border (omega arith) advertised (λ l.
@@ -289,16 +294,18 @@ module _ (said : Said) (root next : Root) (own : NamesItsInterfaces said next) (
           l.3 distance border advertised,
         )))
 
-  again_told : (x : OffersExternal said root o) → x.lsa.forwarding ≡ 0
-      → ((lsa : RouterLsa) → IsRouterLsa said x.originator lsa → ⊥)
-      → (border : Way) (advertised : IsAdvertised said root x.originator x.is_way.boundary.distance
+  again_told : (x : OffersExternal contents root o) → x.lsa.forwarding ≡ 0
+      → ((lsa : RouterLsa) → IsRouterLsa contents x.originator lsa → ⊥)
+      → (border : Way) (advertised : IsAdvertised contents root x.originator
+          x.is_way.boundary.distance
       border) → IsTrue (has_interface border.hops i) → (next.router ≡ advertised.originator → ⊥)
-      → (Again said next o → ⊥) → ⊥
+      → (Again contents next o → ⊥) → ⊥
   again_told x direct foreign border advertised t other none =
-      let s = shorter said root next own (ARouter advertised.originator) border
+      let s = shorter contents root next own (ARouter advertised.originator) border
       advertised.counts.reaches.reached i t end in
-      way_on said root next own (ARouter advertised.originator) border.distance s (λ w.
-      let here : IsAdvertised said next x.originator (w.0.distance + advertised.lsa.metric) w.0 =
+      way_on contents root next own (ARouter advertised.originator) border.distance s (λ w.
+      let here : IsAdvertised contents next x.originator (w.0.distance + advertised.lsa.metric)
+          w.0 =
       record {
         originator = advertised.originator;
         lsa = advertised.lsa;
@@ -321,7 +328,7 @@ module _ (said : Said) (root next : Root) (own : NamesItsInterfaces said next) (
       let less : near.distance < far.distance =
       omega (arith, b.2, w.2, advertised.is, ap (λ (y : Way). y.distance) (x.is_way.direct direct))
       in
-      let P : Offer → Type 0 = λ y. Again said next y in
+      let P : Offer → Type 0 = λ y. Again contents next y in
       let itself = next_says (ARouter advertised.originator) border
       advertised.counts.reaches.reached t in
       none (subst P (sym x.is) (record {
@@ -332,7 +339,7 @@ module _ (said : Said) (root next : Root) (own : NamesItsInterfaces said next) (
           lsa = x.lsa;
           its = x.its;
           reachable = x.reachable;
-          of_another = λ e. (let R : ℕ → Type 0 = λ r. IsRouterLsa said r itself.0 in
+          of_another = λ e. (let R : ℕ → Type 0 = λ r. IsRouterLsa contents r itself.0 in
               foreign itself.0 (subst R (sym e) itself.1));
           prefix = x.prefix;
           is_prefix = x.is_prefix;
@@ -350,47 +357,50 @@ module _ (said : Said) (root next : Root) (own : NamesItsInterfaces said next) (
         beats = external_beats x.lsa.kind x.prefix x.lsa x.originator near far less;
       }))))
 
-  again : (originator hops : ℕ) → IsToward said root o originator hops
-      → IsTrue (has_interface hops i) → (next.router ≡ originator → ⊥) → (Again said next o → ⊥) → ⊥
+  again : (originator hops : ℕ) → IsToward contents root o originator hops
+      → IsTrue (has_interface hops i) → (next.router ≡ originator → ⊥)
+          → (Again contents next o → ⊥) → ⊥
   again originator hops (Border x e by) t other none = let Has : ℕ → Type 0 =
       λ h. IsTrue (has_interface h i) in again_between x (subst Has by t) (λ f. other (f ∙ e)) none
   again originator hops (Boundary x e direct way r by) t other none =
       let Has : ℕ → Type 0 = λ h. IsTrue (has_interface h i) in
-      let P : ℕ → Type 0 = λ n. ReachesBoundaryRouter said root n way in
+      let P : ℕ → Type 0 = λ n. ReachesBoundaryRouter contents root n way in
       again_external x (subst Has by t) direct way (subst P (sym e) r) (λ f. other (f ∙ e)) none
   again originator hops (Told x direct foreign border advertised e by) t other none =
       let Has : ℕ → Type 0 = λ h. IsTrue (has_interface h i) in
       again_told x direct foreign border advertised (subst Has by t) (λ f. other (f ∙ e)) none
 
-  short_toward : (originator hops : ℕ) → IsToward said root o originator hops
+  short_toward : (originator hops : ℕ) → IsToward contents root o originator hops
       → IsTrue (has_interface hops i) → (here : Way)
-      → IsWay (Leads said root) (ARouter root.router) (ARouter originator) here
-      → IsShort said next (ARouter originator) here.distance
+      → IsWay (Leads contents root) (ARouter root.router) (ARouter originator) here
+      → IsShort contents next (ARouter originator) here.distance
   short_toward originator hops (Border x e by) t here is =
       let Has : ℕ → Type 0 = λ h. IsTrue (has_interface h i) in
-      let R : ℕ → Type 0 = λ n. IsWay (Leads said root) (ARouter root.router) (ARouter n) x.border
+      let R : ℕ → Type 0 = λ n. IsWay (Leads contents root) (ARouter root.router) (ARouter n)
+          x.border
       in
-      let same : x.border ≡ here = one_way (Leads said root) (ARouter root.router)
+      let same : x.border ≡ here = one_way (Leads contents root) (ARouter root.router)
       (ARouter originator) x.border here (subst R e x.counts.reaches.reached) is in
-      shorter said root next own (ARouter originator) here is i
+      shorter contents root next own (ARouter originator) here is i
       (subst Has (by ∙ ap (λ (y : Offer). y.hops) x.is ∙ ap (λ (w : Way). w.hops) same) t) end
   short_toward originator hops (Boundary x e direct way r by) t here is =
       let Has : ℕ → Type 0 = λ h. IsTrue (has_interface h i) in
-      let P : ℕ → Type 0 = λ n. ReachesBoundaryRouter said root n way in
+      let P : ℕ → Type 0 = λ n. ReachesBoundaryRouter contents root n way in
       let same : x.way ≡ here = x.is_way.direct direct
       ∙ boundary_is x.originator way x.is_way.boundary (subst P (sym e) r) x.is_way.reaches
-      ∙ one_way (Leads said root) (ARouter root.router) (ARouter originator) way here
+      ∙ one_way (Leads contents root) (ARouter root.router) (ARouter originator) way here
       r.reached is in
-      shorter said root next own (ARouter originator) here is i
+      shorter contents root next own (ARouter originator) here is i
       (subst Has (by ∙ ap (λ (y : Offer). y.hops) x.is
       ∙ external_hops x.lsa.kind x.prefix x.lsa x.originator x.way
       ∙ ap (λ (w : Way). w.hops) same) t) end
   short_toward originator hops (Told x direct foreign border advertised e by) t here is =
       let Has : ℕ → Type 0 = λ h. IsTrue (has_interface h i) in
-      let R : ℕ → Type 0 = λ n. IsWay (Leads said root) (ARouter root.router) (ARouter n) border in
-      let same : border ≡ here = one_way (Leads said root) (ARouter root.router)
+      let R : ℕ → Type 0 = λ n. IsWay (Leads contents root) (ARouter root.router) (ARouter n) border
+          in
+      let same : border ≡ here = one_way (Leads contents root) (ARouter root.router)
       (ARouter originator) border here (subst R e advertised.counts.reaches.reached) is in
-      shorter said root next own (ARouter originator) here is i
+      shorter contents root next own (ARouter originator) here is i
       (subst Has (by ∙ ap (λ (w : Way). w.hops) same) t) end
 
 -- ---- better routes
@@ -456,9 +466,9 @@ is_better a b x y z g h (NoFarther p same far) (Nearer q r s) =
     ByDistance (g.kind ∙ p ∙ q ∙ sym h.kind) (omega (arith, g.cost, h.cost, same, r))
     (omega (arith, g.distance, h.distance, far, s))
 
-pub candidate_is_as_good : (said : Said) (root : Root) (r : Route) (o : Offer)
-    (k : IsCandidate said root r) → IsBest said root r.prefix o → IsAsGood r o
-candidate_is_as_good said root r o k best =
+pub candidate_is_as_good : (contents : Contents) (root : Root) (r : Route) (o : Offer)
+    (k : IsCandidate contents root r) → IsBest contents root r.prefix o → IsAsGood r o
+candidate_is_as_good contents root r o k best =
     let same : AreAlike k.first o = alike k.first o (k.is_best.best o best.offered best.is_for)
     (best.best k.first k.is_best.offered k.is_best.is_for) in
     record {
@@ -468,11 +478,12 @@ candidate_is_as_good said root r o k best =
           ∙ same.distance;
     }
 
-pub again_is_better : (said : Said) (root next : Root) (route : Route) (o : Offer)
-    → IsCandidate said root route → IsBest said root route.prefix o → ((Again said next o → ⊥) → ⊥)
-    → (following : Route) → IsCandidate said next following → following.prefix ≡ route.prefix
+pub again_is_better : (contents : Contents) (root next : Root) (route : Route) (o : Offer)
+    → IsCandidate contents root route → IsBest contents root route.prefix o
+        → ((Again contents next o → ⊥) → ⊥)
+    → (following : Route) → IsCandidate contents next following → following.prefix ≡ route.prefix
     → IsBetter following route
-again_is_better said root next route o is best again following its same =
+again_is_better contents root next route o is best again following its same =
     elim (better_or_not following route) [
       | inl good ↦ good
       | inr never ↦ absurd (again (λ a.
@@ -483,58 +494,66 @@ again_is_better said root next route o is best again following its same =
             distance = its.distance;
           } in
           never (is_better following route its.first a.offer o first
-          (candidate_is_as_good said root route o is best)
+          (candidate_is_as_good contents root route o is best)
           (its.is_best.best a.offer a.offered for_prefix) a.beats)))
     ]
 
 pub again_has_route : EveryOfferHasACandidate
-    → (said : Said) (next : Root) (prefix : Network) (o : Offer) → o.prefix ≡ prefix
-    → ((Again said next o → ⊥) → ⊥) → (routes : List Route) → AreCandidates said next routes
+    → (contents : Contents) (next : Root) (prefix : Network) (o : Offer) → o.prefix ≡ prefix
+    → ((Again contents next o → ⊥) → ⊥) → (routes : List Route) → AreCandidates contents next routes
     → (following : Route) × Contains routes following × (following.prefix ≡ prefix)
-again_has_route every said next prefix o is_for again routes are =
+again_has_route every contents next prefix o is_for again routes are =
     elim (has_route routes prefix) [
       | inl h ↦ h
       | inr none ↦ absurd (again (λ a.
-          let r = every said next routes a.offer are a.offered in
+          let r = every contents next routes a.offer are a.offered in
           none (r.0, r.1, r.2 ∙ a.is_for ∙ is_for)))
     ]
 
-module _ (said : Said) (root next : Root) (route : Route) (originator : ℕ)
-    (is : IsCandidate said root route) (hands : HandsToward said root route next.router originator)
-    (own : NamesItsInterfaces said next) where
-  one_again : (next.router ≡ originator → ⊥) → (Again said next hands.offer → ⊥) → ⊥
-  one_again other = again said root next own hands.offer hands.interface hands.other_end originator
+module _ (contents : Contents) (root next : Root) (route : Route) (originator : ℕ)
+    (is : IsCandidate contents root route)
+        (hands : HandsToward contents root route next.router originator)
+    (own : NamesItsInterfaces contents next) where
+  one_again : (next.router ≡ originator → ⊥) → (Again contents next hands.offer → ⊥) → ⊥
+  one_again other = again contents root next own hands.offer hands.interface hands.other_end
+      originator
       hands.hops hands.toward hands.is_hop other
 
   pub is_nearer : (here there : Way)
-      → IsWay (Leads said root) (ARouter root.router) (ARouter originator) here
-      → IsWay (Leads said next) (ARouter next.router) (ARouter originator) there
+      → IsWay (Leads contents root) (ARouter root.router) (ARouter originator) here
+      → IsWay (Leads contents next) (ARouter next.router) (ARouter originator) there
       → there.distance < here.distance
   is_nearer here there p q =
-      let s = short_toward said root next own hands.offer hands.interface hands.other_end originator
+      let s = short_toward contents root next own hands.offer hands.interface hands.other_end
+          originator
       hands.hops hands.toward hands.is_hop here p in
       omega (arith, q.distance.2, q.distance.1.least s.walk s.is_walk, s.is_less)
 
   pub following_is_better : (next.router ≡ originator → ⊥) → (following : Route)
-      → IsCandidate said next following → following.prefix ≡ route.prefix → IsBetter following route
+      → IsCandidate contents next following → following.prefix ≡ route.prefix → IsBetter following
+          route
   following_is_better other following its same =
-      again_is_better said root next route hands.offer is hands.is_best (one_again other) following
+      again_is_better contents root next route hands.offer is hands.is_best (one_again other)
+          following
       its same
 
   pub has_following : EveryOfferHasACandidate → (next.router ≡ originator → ⊥)
-      → (routes : List Route) → AreCandidates said next routes → (following : Route)
+      → (routes : List Route) → AreCandidates contents next routes → (following : Route)
       × Contains routes following × (following.prefix ≡ route.prefix)
   has_following every other routes are =
-      again_has_route every said next route.prefix hands.offer hands.is_best.is_for
+      again_has_route every contents next route.prefix hands.offer hands.is_best.is_for
       (one_again other) routes are
 
 pub to_an_originator : EveryOfferHasACandidate → EachHopLeadsToAnOriginator
 to_an_originator every = record {
-  nearer = λ said root next route originator is hands own. is_nearer said root next route originator
+  nearer = λ contents root next route originator is hands own. is_nearer contents root next route
+      originator
       is hands own;
-  better = λ said root next route originator is hands own. following_is_better said root next route
+  better = λ contents root next route originator is hands own. following_is_better contents root
+      next route
       originator is hands own;
-  has_one = λ said root next route originator is hands own other routes are. has_following said root
+  has_one = λ contents root next route originator is hands own other routes are. has_following
+      contents root
       next route originator is hands own every other routes are;
 }
 
@@ -557,27 +576,32 @@ not_itself a b e (ByKind p) = omega (arith, p, ap (λ (r : Route). rank r.kind) 
 not_itself a b e (ByCost p q) = omega (arith, q, ap (λ (r : Route). r.cost) e)
 not_itself a b e (ByDistance p q r) = omega (arith, r, ap (λ (x : Route). x.distance) e)
 
-module _ (laws : CandidatesAreCheapestWalks) (said : Said) (prefix : Network) where
-  first_further : (first : Stop) (others : List Stop) → IsPassedFurther said prefix (first ∷ others)
-      → ForwardsFor said prefix first
+module _ (laws : CandidatesAreCheapestWalks) (contents : Contents) (prefix : Network) where
+  first_further : (first : Stop) (others : List Stop) → IsPassedFurther contents prefix
+      (first ∷ others)
+      → ForwardsFor contents prefix first
   first_further first [] p = p
   first_further first (next ∷ others) p = p.0
 
-  hop_on : (first next : Stop) → ForwardsFor said prefix first → ForwardsFor said prefix next
-      → HandsFurther said first.root first.route next.root.router → IsBetter next.route first.route
+  hop_on : (first next : Stop) → ForwardsFor contents prefix first → ForwardsFor contents prefix
+      next
+      → HandsFurther contents first.root first.route next.root.router → IsBetter next.route
+          first.route
   hop_on first next f g (InTheArea within hands) =
-      let h = each_hop laws said first.root next.root first.route f.candidate within hands g.own
+      let h = each_hop laws contents first.root next.root first.route f.candidate within hands g.own
       next.route g.candidate (g.is_for ∙ sym f.is_for) in
       ByCost (ap rank (h.0 ∙ sym within)) h.1
   hop_on first next f g (TowardAnother originator hands other) =
-      following_is_better said first.root next.root first.route originator f.candidate hands g.own
+      following_is_better contents first.root next.root first.route originator f.candidate hands
+          g.own
       other next.route g.candidate (g.is_for ∙ sym f.is_for)
 
   record IsLater (first stop : Stop) : Type 0 where
-    forwards : ForwardsFor said prefix stop
+    forwards : ForwardsFor contents prefix stop
     is_better : IsBetter stop.route first.route
 
-  each_later : (first : Stop) (others : List Stop) → IsPassedFurther said prefix (first ∷ others)
+  each_later : (first : Stop) (others : List Stop) → IsPassedFurther contents prefix
+      (first ∷ others)
       → (k : ℕ) (d : Stop) → k < length others → IsLater first (get_or others k d)
   each_later first [] p k d low = absurd (omega (arith, low))
   each_later first (next ∷ others) p zero d low =
@@ -595,11 +619,11 @@ module _ (laws : CandidatesAreCheapestWalks) (said : Said) (prefix : Network) wh
       }
 
   record ArePair (a b : Stop) : Type 0 where
-    first : ForwardsFor said prefix a
-    second : ForwardsFor said prefix b
+    first : ForwardsFor contents prefix a
+    second : ForwardsFor contents prefix b
     is_better : IsBetter b.route a.route
 
-  pairs : (stops : List Stop) → IsPassedFurther said prefix stops → (i j : ℕ) (d : Stop) → i < j
+  pairs : (stops : List Stop) → IsPassedFurther contents prefix stops → (i j : ℕ) (d : Stop) → i < j
       → j < length stops → ArePair (get_or stops i d) (get_or stops j d)
   pairs [] p i j d before low = absurd (omega (arith, before, low))
   pairs (first ∷ others) p zero zero d before low = absurd (omega (arith, before))
@@ -612,24 +636,26 @@ module _ (laws : CandidatesAreCheapestWalks) (said : Said) (prefix : Network) wh
   pairs (first ∷ next ∷ others) p (suc i) (suc j) d before low =
       pairs (next ∷ others) p.2 i j d (omega (arith, before)) (omega (arith, low))
 
-  pub all_better : (stops : List Stop) → IsPassedFurther said prefix stops → (i j : ℕ) (d : Stop)
+  pub all_better : (stops : List Stop) → IsPassedFurther contents prefix stops → (i j : ℕ)
+      (d : Stop)
       → i < j → j < length stops → IsBetter (get_or stops j d).route (get_or stops i d).route
   all_better stops p i j d before low = (pairs stops p i j d before low).is_better
 
-  pub none_twice : (stops : List Stop) → IsPassedFurther said prefix stops → (i j : ℕ) (d : Stop)
+  pub none_twice : (stops : List Stop) → IsPassedFurther contents prefix stops → (i j : ℕ)
+      (d : Stop)
       → i < j → j < length stops → (get_or stops i d).root ≡ (get_or stops j d).root → ⊥
   none_twice stops p i j d before low same =
       let a : Stop = get_or stops i d in
       let b : Stop = get_or stops j d in
       let pair : ArePair a b = pairs stops p i j d before low in
-      let P : Root → Type 0 = λ root. IsCandidate said root b.route in
-      let e : b.route ≡ a.route = one_candidate said a.root b.route a.route
+      let P : Root → Type 0 = λ root. IsCandidate contents root b.route in
+      let e : b.route ≡ a.route = one_candidate contents a.root b.route a.route
       (subst P (sym same) pair.second.candidate) pair.first.candidate
       (pair.second.is_for ∙ sym pair.first.is_for) in
       not_itself b.route a.route e pair.is_better
 
 pub no_packet_out : CandidatesAreCheapestWalks → NoPacketReturnsOnItsWayOut
 no_packet_out laws = record {
-  better = λ said prefix stops p. all_better laws said prefix stops p;
-  no_twice = λ said prefix stops p. none_twice laws said prefix stops p;
+  better = λ contents prefix stops p. all_better laws contents prefix stops p;
+  no_twice = λ contents prefix stops p. none_twice laws contents prefix stops p;
 }

@@ -25,7 +25,7 @@ use Rattle.route_laws.proofs.Entries.{both_true}
 use Rattle.route_laws.proofs.Hops.{of_candidate}
 use Rattle.route_laws.proofs.Labels.{not_both, or_left, or_right}
 use Rattle.routes.specs.Links.{Counts, HasLink, LeadsTo}
-use Rattle.routes.specs.Said.{Said}
+use Rattle.routes.specs.Contents.{Contents}
 use Rattle.routes.specs.declared.node.Node.{Node}
 use Rattle.routes.specs.declared.node.Node.TheVariants.{ANetwork, ARouter}
 use Rattle.route_laws.specs.Forwarding.{IsOtherEnd, NamesItsInterfaces}
@@ -98,9 +98,9 @@ placed (x ∷ links) link t =
       })
     ]
 
-module _ (said : Said) (router : RouterNumber) (links : List Link)
-    (current : IsCurrent said router links) where
-  links_are : (link : RouterLink) → HasLink said router link → HasPlace links link
+module _ (contents : Contents) (router : RouterNumber) (links : List Link)
+    (current : IsCurrent contents router links) where
+  links_are : (link : RouterLink) → HasLink contents router link → HasPlace links link
   links_are link h =
       let same : Some (body.Router h.lsa) ≡ Some (router_body links) = sym h.its ∙ current in
       let are : h.lsa ≡ record { flags = 2; links = flat_map links_of links } = cc in
@@ -204,10 +204,12 @@ one_place (x ∷ links) apart (suc m) (suc n) a b p q e =
 
 -- ---- the premises
 
-names : (said : Said) (router : RouterNumber) (links : List Link) → IsCurrent said router links
-    → NamesItsInterfaces said (root_by router links)
-names said router links current link h on =
-    let a : IsAlong links link = along links link (links_are said router links current link h) on in
+names : (contents : Contents) (router : RouterNumber) (links : List Link) → IsCurrent contents
+    router links
+    → NamesItsInterfaces contents (root_by router links)
+names contents router links current link h on =
+    let a : IsAlong links link = along links link (links_are contents router links current link h)
+        on in
     let P : ℕ → Type 0 = λ address. Contains (addresses_of links) address in
     subst P (ap (λ (x : RouterLink). x.link_data) a.toward.is)
     (has_address links a.place a.at a.stands)
@@ -225,17 +227,19 @@ cost_at (x ∷ links) costs (suc place) at e =
     cost_at links (both_true (nat_le 1 x.interface.cost)
     (list_all (λ (link : Link). nat_le 1 link.interface.cost) links) costs).1 place at e
 
-not_free : (said : Said) (router : RouterNumber) (links : List Link) → IsCurrent said router links
-    → HaveCosts links → (link : RouterLink) → HasLink said router link → link.kind ≡ PointToPoint
+not_free : (contents : Contents) (router : RouterNumber) (links : List Link) → IsCurrent contents
+    router links
+    → HaveCosts links → (link : RouterLink) → HasLink contents router link → link.kind
+        ≡ PointToPoint
     → 0 < link.metric
-not_free said router links current costs link h kind =
-    let a : IsAlong links link = along links link (links_are said router links current link h)
+not_free contents router links current costs link h kind =
+    let a : IsAlong links link = along links link (links_are contents router links current link h)
     (inl kind) in
     let some = cost_at links costs a.place a.at a.stands in
     omega (arith, some, ap (λ (x : RouterLink). x.metric) a.toward.is)
 
-module _ (said : Said) (router : RouterNumber) (links : List Link)
-    (current : IsCurrent said router links) (apart : HaveOwnAddresses links) where
+module _ (contents : Contents) (router : RouterNumber) (links : List Link)
+    (current : IsCurrent contents router links) (apart : HaveOwnAddresses links) where
   -- a link that counts leads along its interface
   record Counted (id interface : ℕ) : Type 0 where
     at : Link
@@ -245,12 +249,13 @@ module _ (said : Said) (router : RouterNumber) (links : List Link)
     is_id : neighbor.router ≡ id
 
   counted : (kind : LinkKind) (id price interface : ℕ) → (kind ≡ PointToPoint) ⊎ (kind ≡ Transit)
-      → (c : Counts said (root_by router links) router kind id price interface)
+      → (c : Counts contents (root_by router links) router kind id price interface)
       → Counted id interface × (PointToPoint ≡ kind)
   counted kind id price interface on c =
       let link : RouterLink = c.link in
       let Is : LinkKind → Type 0 = λ k. (k ≡ PointToPoint) ⊎ (k ≡ Transit) in
-      let a : IsAlong links link = along links link (links_are said router links current link c.its)
+      let a : IsAlong links link = along links link
+          (links_are contents router links current link c.its)
       (subst Is (sym c.is_kind) on) in
       let by = c.by_interface refl in
       let h : HasAddress links by.0 link.link_data = of_address links by.0 link.link_data by.2 in
@@ -281,7 +286,7 @@ module _ (said : Said) (router : RouterNumber) (links : List Link)
       neighbor_there (x ∷ ls) (suc place) at e = neighbor_there ls place at e
 
   leads : (target : Node) (price interface : ℕ)
-      → LeadsTo said (root_by router links) (ARouter router) target price interface
+      → LeadsTo contents (root_by router links) (ARouter router) target price interface
       → LeadsAlong links interface target
   leads (ARouter b) price interface l =
       let c = (counted PointToPoint b price interface (inl refl) l.0).0 in
@@ -296,22 +301,22 @@ module _ (said : Said) (router : RouterNumber) (links : List Link)
       (counted Transit id price interface (inr refl) l.0).1 in cc)
 
   other_end : (interface : InterfaceNumber) (neighbor : Neighbor) → neighbor_at interface links
-      ≡ Some neighbor → IsOtherEnd said (root_by router links) interface neighbor.router
+      ≡ Some neighbor → IsOtherEnd contents (root_by router links) interface neighbor.router
   other_end interface neighbor is target price l =
       let t : LeadsAlong links interface target = leads target price interface l in
       let same : Some t.neighbor ≡ Some neighbor = sym t.is_on ∙ is in
       let one : t.neighbor ≡ neighbor = cc in
       t.is_target ∙ ap (λ (n : Neighbor). ARouter n.router) one
 
-  next_hops : (route : Route) → IsCandidate said (root_by router links) route
+  next_hops : (route : Route) → IsCandidate contents (root_by router links) route
       → (interface : InterfaceNumber) → 0 < interface → IsTrue (has_interface route.hops interface)
-      → IsNextHop said router links interface
+      → IsNextHop contents router links interface
   next_hops route k interface away t =
-      elim (of_candidate said (root_by router links) route k interface t) [
+      elim (of_candidate contents (root_by router links) route k interface t) [
         | inl none ↦ absurd (omega (arith, away, none))
         | inr left ↦
             let l = leads left.target left.price interface left.leads in
-            let P : Node → Type 0 = λ n. LeadsTo said (root_by router links) (ARouter router) n
+            let P : Node → Type 0 = λ n. LeadsTo contents (root_by router links) (ARouter router) n
             left.price interface in
             record {
               neighbor = l.neighbor;
@@ -324,9 +329,9 @@ module _ (said : Said) (router : RouterNumber) (links : List Link)
 
 pub premises : OwnRouterLsasMeetThePremises
 premises = record {
-  own = λ said router links current. names said router links current;
-  not_free = λ said router links current costs. not_free said router links current costs;
-  leads = λ said router links current apart. leads said router links current apart;
-  other_end = λ said router links current apart. other_end said router links current apart;
-  next_hops = λ said router links current apart. next_hops said router links current apart;
+  own = λ contents router links current. names contents router links current;
+  not_free = λ contents router links current costs. not_free contents router links current costs;
+  leads = λ contents router links current apart. leads contents router links current apart;
+  other_end = λ contents router links current apart. other_end contents router links current apart;
+  next_hops = λ contents router links current apart. next_hops contents router links current apart;
 }

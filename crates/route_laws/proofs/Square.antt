@@ -18,7 +18,7 @@ use Rattle.route_laws.proofs.Entries.{sayings}
 use Rattle.route_laws.proofs.Labels.{AreChecked}
 use Rattle.routes.proofs.Lists.{first_is, of_cons, of_empty}
 use Rattle.route_laws.proofs.Made.{back, from_other, from_root, one_or_two, says}
-use Rattle.routes.specs.Said.{said_at}
+use Rattle.routes.specs.Contents.{contents_at}
 use Rattle.route_laws.proofs.Ordered.{in_order}
 use Rattle.route_laws.proofs.OneOffer.{IsWayFrom, Walk, candidates_of, hops_from, only_within}
 use Rattle.route_laws.proofs.OneOffer.{stub_by, stub_within, to, way, way_to}
@@ -45,16 +45,16 @@ hops r = cond (nat_eq r left) 2 (cond (nat_eq r right) 4 (cond (nat_eq r far) 6 
 labels : AreChecked square_root (sayings square) distance hops
 labels = record { start = refl; routers = refl; links = refl }
 
-corner_says : IsRouterLsa (said_at 0 (database square)) corner (router_lsa square_corner)
+corner_says : IsRouterLsa (contents_at 0 (database square)) corner (router_lsa square_corner)
 corner_says = says square (key 1 corner corner) (body.Router (router_lsa square_corner)) refl
 
-left_says : IsRouterLsa (said_at 0 (database square)) left (router_lsa square_left)
+left_says : IsRouterLsa (contents_at 0 (database square)) left (router_lsa square_left)
 left_says = says square (key 1 left left) (body.Router (router_lsa square_left)) refl
 
-right_says : IsRouterLsa (said_at 0 (database square)) right (router_lsa square_right)
+right_says : IsRouterLsa (contents_at 0 (database square)) right (router_lsa square_right)
 right_says = says square (key 1 right right) (body.Router (router_lsa square_right)) refl
 
-far_says : IsRouterLsa (said_at 0 (database square)) far (router_lsa square_far)
+far_says : IsRouterLsa (contents_at 0 (database square)) far (router_lsa square_far)
 far_says = says square (key 1 far far) (body.Router (router_lsa square_far)) refl
 
 by_left : Walk square square_root (to left 1 ∷ to far 0 ∷ []) far
@@ -106,23 +106,23 @@ offer = intra (network_24 192 0 2) 20 6
 abbrev far_stub : RouterLink
 far_stub = stub (ipv4 192 0 2 0) mask_24 10
 
-of_stub : StubOffer (said_at 0 (database square)) square_root far far_stub 24 offer
+of_stub : StubOffer (contents_at 0 (database square)) square_root far far_stub 24 offer
 of_stub = stub_by square square_root far far_stub 24 (way 10 6) 6 way_far
     (hops_from square_root far (λ e. omega (arith, e)) 6) (omega arith) refl
 
-only_offer : (o : Offer) → Offers (said_at 0 (database square)) square_root o
+only_offer : (o : Offer) → Offers (contents_at 0 (database square)) square_root o
     → Contains (offer ∷ []) o
 only_offer = only_within square square_root (offer ∷ []) refl refl refl
     ((24, offer, of_stub, (0, omega arith, refl)), tt)
 
-offered : Offers (said_at 0 (database square)) square_root offer
+offered : Offers (contents_at 0 (database square)) square_root offer
 offered = Within (stub_within square square_root far square_far far_says far_stub
     (2, omega arith, refl) refl 24 offer of_stub)
 
-square_candidates : AreCandidates (said_at 0 (database square)) square_root (across ∷ [])
-square_candidates = candidates_of (said_at 0 (database square)) square_root (offer ∷ [])
+square_candidates : AreCandidates (contents_at 0 (database square)) square_root (across ∷ [])
+square_candidates = candidates_of (contents_at 0 (database square)) square_root (offer ∷ [])
     (in_order (λ (o : Offer). o.prefix) (offer ∷ []) refl)
-    (one_of (λ (o : Offer). Offers (said_at 0 (database square)) square_root o) (offer ∷ [])
+    (one_of (λ (o : Offer). Offers (contents_at 0 (database square)) square_root o) (offer ∷ [])
     (offered, tt))
     only_offer
 

@@ -17,7 +17,7 @@ use Rattle.routes.specs.Candidates.Offers.{Between, External, Within}
 use Rattle.routes.specs.Links.{IsRouterLsa, Leads}
 use Rattle.routes.specs.Offers.{OffersWithin, ReachesBoundaryRouter}
 use Rattle.routes.specs.Paths.{Step, Way}
-use Rattle.routes.specs.Said.{Said, said_at}
+use Rattle.routes.specs.Contents.{Contents, contents_at}
 use Rattle.routes.specs.Summaries.{CountsAsSummary, IsBoundaryWay, IsAdvertised, OffersBetween}
 use Rattle.routes.specs.Summaries.{ReachesBorderRouter, inter, summary_key}
 use Rattle.routes.specs.Summaries.IsBoundaryWay.{Inside, Outside}
@@ -94,21 +94,21 @@ module _ (flags distant_flags : ℕ) (has_e : bit_and distant_flags 2 ≡ 2) whe
   abbrev entries : Entries
   entries = told_entries flags distant_flags
 
-  abbrev said : Said
-  said = said_at 0 (database entries)
+  abbrev contents : Contents
+  contents = contents_at 0 (database entries)
 
   labels : AreChecked summaries_root (sayings entries) distance hops
   labels = record { start = refl; routers = refl; links = refl }
 
-  near_says : IsRouterLsa said near (router_lsa summaries_links)
+  near_says : IsRouterLsa contents near (router_lsa summaries_links)
   near_says = says entries (key 1 near near)
       (body.Router (router_lsa summaries_links)) refl
 
-  border_says : IsRouterLsa said border (flagged flags border_links)
+  border_says : IsRouterLsa contents border (flagged flags border_links)
   border_says = says entries (key 1 border border)
       (body.Router (flagged flags border_links)) refl
 
-  distant_says : IsRouterLsa said distant (flagged distant_flags distant_links)
+  distant_says : IsRouterLsa contents distant (flagged distant_flags distant_links)
   distant_says = says entries (key 1 distant distant)
       (body.Router (flagged distant_flags distant_links)) refl
 
@@ -165,16 +165,16 @@ module _ (flags distant_flags : ℕ) (has_e : bit_and distant_flags 2 ≡ 2) whe
       distant_walk refl (λ i t. (to_distant, [], distant_walk, refl, sym (only_two i t)))
 
   -- there are no stub networks
-  no_within : (o : Offer) → OffersWithin said summaries_root o → ⊥
+  no_within : (o : Offer) → OffersWithin contents summaries_root o → ⊥
   no_within o x = each_stub entries summaries_root (λ _. ⊥) refl tt o x
 
   -- the only router whose summaries count is the neighbor
   border_alone : (way : Way) → IsWayFrom entries summaries_root border way → border_way ≡ way
-  border_alone way is = one_way (Leads said summaries_root) (ARouter near) (ARouter border)
+  border_alone way is = one_way (Leads contents summaries_root) (ARouter near) (ARouter border)
       border_way way border_is is
 
   -- the boundary router 3.3.3.3 is reached within the area
-  to_the_distant : IsBoundaryWay said summaries_root distant distant_way
+  to_the_distant : IsBoundaryWay contents summaries_root distant distant_way
   to_the_distant = Inside (record {
     lsa = flagged distant_flags distant_links;
     its = distant_says;
@@ -183,11 +183,11 @@ module _ (flags distant_flags : ℕ) (has_e : bit_and distant_flags 2 ≡ 2) whe
   })
 
   far_alone : (way : Way) → IsWayFrom entries summaries_root distant way → distant_way ≡ way
-  far_alone way is = one_way (Leads said summaries_root) (ARouter near) (ARouter distant)
+  far_alone way is = one_way (Leads contents summaries_root) (ARouter near) (ARouter distant)
       distant_way way distant_is is
 
   -- 9.9.9.9 has no router-LSA
-  none_beyond : (way : Way) → ReachesBoundaryRouter said summaries_root beyond way → ⊥
+  none_beyond : (way : Way) → ReachesBoundaryRouter contents summaries_root beyond way → ⊥
   none_beyond way x =
       let e : false ≡ true = all_pass is_of_another (sayings entries)
       refl (key 1 beyond beyond, body.Router x.lsa)
@@ -225,29 +225,30 @@ module _ (flags distant_flags : ℕ) (has_e : bit_and distant_flags 2 ≡ 2) whe
     ),
   )
 
-  told_of : (k : Key) (says_so : LsaBody) → said k ≡ Some says_so → IsTold k says_so
+  told_of : (k : Key) (says_so : LsaBody) → contents k ≡ Some says_so → IsTold k says_so
   told_of k says_so e = one_of (λ (s : Key × LsaBody). IsTold s.0 s.1)
       (sayings entries) all_told (k, says_so)
       (is_said 0 entries k says_so e)
 
   -- the router-LSA of a neighbor
   one_router_lsa : (router its_flags : ℕ) (links : List RouterLink)
-      → IsRouterLsa said router (flagged its_flags links) → (lsa : RouterLsa)
-      → IsRouterLsa said router lsa → flagged its_flags links ≡ lsa
+      → IsRouterLsa contents router (flagged its_flags links) → (lsa : RouterLsa)
+      → IsRouterLsa contents router lsa → flagged its_flags links ≡ lsa
   one_router_lsa router its_flags links says_it lsa e =
       let both : Some (body.Router (flagged its_flags links)) ≡ Some (body.Router lsa) =
       sym says_it ∙ e in
       cc
 
   -- an inter-area offer
-  between_is : (o : Offer) → OffersBetween said summaries_root o → (of_summary ≡ o)
+  between_is : (o : Offer) → OffersBetween contents summaries_root o → (of_summary ≡ o)
       × (bit_and flags 1 ≡ 1)
   between_is o x =
       let t = told_of (summary_key 3 x.id x.originator) (body.NetworkSummary x.lsa) x.its in
       let rest = t.1 x.counts.reachable in
-      let Reaches : ℕ → Type 0 = λ router. ReachesBorderRouter said summaries_root router x.border
+      let Reaches : ℕ → Type 0 = λ router. ReachesBorderRouter contents summaries_root router
+          x.border
       in
-      let reaches : ReachesBorderRouter said summaries_root border x.border =
+      let reaches : ReachesBorderRouter contents summaries_root border x.border =
       subst Reaches t.0 x.counts.reaches in
       let w : border_way ≡ x.border = border_alone x.border reaches.reached in
       let metric : 5 ≡ x.lsa.metric = sym (ap (λ (s : SummaryLsa). s.metric) rest.1) in
@@ -270,16 +271,17 @@ module _ (flags distant_flags : ℕ) (has_e : bit_and distant_flags 2 ≡ 2) whe
 
   -- one that this neighbor advertises with this metric
   by_neighbor : (router its_flags : ℕ) (links : List RouterLink) (to_it : Way) (metric : ℕ)
-      → IsRouterLsa said router (flagged its_flags links)
+      → IsRouterLsa contents router (flagged its_flags links)
       → IsWayFrom entries summaries_root router to_it → (cost : ℕ) (its_way : Way)
-      (x : IsAdvertised said summaries_root beyond cost its_way) → x.originator ≡ router
+      (x : IsAdvertised contents summaries_root beyond cost its_way) → x.originator ≡ router
       → x.lsa ≡ summary metric
       → (cost ≡ to_it.distance + metric) × (to_it ≡ its_way) × (bit_and its_flags 1 ≡ 1)
   by_neighbor router its_flags links to_it metric says_it there cost its_way x from same =
-      let Reaches : ℕ → Type 0 = λ r. ReachesBorderRouter said summaries_root r its_way in
-      let reaches : ReachesBorderRouter said summaries_root router its_way =
+      let Reaches : ℕ → Type 0 = λ r. ReachesBorderRouter contents summaries_root r its_way in
+      let reaches : ReachesBorderRouter contents summaries_root router its_way =
       subst Reaches from x.counts.reaches in
-      let w : to_it ≡ its_way = one_way (Leads said summaries_root) (ARouter near) (ARouter router)
+      let w : to_it ≡ its_way = one_way (Leads contents summaries_root) (ARouter near)
+          (ARouter router)
       to_it its_way there reaches.reached in
       let its_metric : x.lsa.metric ≡ metric = ap (λ (s : SummaryLsa). s.metric) same in
       let far : to_it.distance ≡ its_way.distance = ap (λ (y : Way). y.distance) w in (
@@ -290,7 +292,7 @@ module _ (flags distant_flags : ℕ) (has_e : bit_and distant_flags 2 ≡ 2) whe
             ∙ reaches.has_b),
       )
 
-  told_is : (cost : ℕ) (way : Way) → IsAdvertised said summaries_root beyond cost way
+  told_is : (cost : ℕ) (way : Way) → IsAdvertised contents summaries_root beyond cost way
       → ByBorder cost way ⊎ ByDistant cost way
   told_is cost way x =
       elim (told_of (summary_key 4 beyond x.originator) (body.RouterSummary x.lsa) x.its) [
@@ -302,7 +304,7 @@ module _ (flags distant_flags : ℕ) (has_e : bit_and distant_flags 2 ≡ 2) whe
 
   -- without flag B no one advertises it
   not_beyond : (bit_and flags 1 ≡ 1 → ⊥) → (bit_and distant_flags 1 ≡ 1 → ⊥) → (way : Way)
-      → IsBoundaryWay said summaries_root beyond way → ⊥
+      → IsBoundaryWay contents summaries_root beyond way → ⊥
   not_beyond no_b nor_b way (Inside x) = none_beyond way x
   not_beyond no_b nor_b way (Outside none x) =
       elim (told_is way.distance x.border x.advertised) [
@@ -314,37 +316,37 @@ module _ (flags distant_flags : ℕ) (has_e : bit_and distant_flags 2 ≡ 2) whe
 
   abbrev IsOfferedBy : (Offer → Type 0) → Key → ExternalLsa → Type 0
   IsOfferedBy P k lsa = (o : Offer)
-      → IsOfferOf said summaries_root k.link_state_id k.advertising_router lsa o → P o
+      → IsOfferOf contents summaries_root k.link_state_id k.advertising_router lsa o → P o
 
   -- P holds of each external offer, if of those of each AS-external-LSA
   each_of_three : (P : Offer → Type 0)
       → IsOfferedBy P (key 5 (ipv4 203 0 113 0) beyond) (external Type1 20 0 0)
       → IsOfferedBy P (key 5 (ipv4 203 0 114 0) beyond) (external Type2 20 0 0)
       → IsOfferedBy P (key 5 (ipv4 203 0 115 0) distant) (external Type1 20 0 0) → (o : Offer)
-      → OffersExternal said summaries_root o → P o
+      → OffersExternal contents summaries_root o → P o
   each_of_three P first second third o x =
       each_external (IsOfferedBy P) entries
       (tt, (tt, (tt, (tt, (tt, (tt, (tt, (tt, (first, (second, (third, tt)))))))))))
-      (key 5 x.id x.originator) x.lsa x.its o (is_offer_of said summaries_root o x)
+      (key 5 x.id x.originator) x.lsa x.its o (is_offer_of contents summaries_root o x)
 
-  distant_counts : CountsAsExternal said summaries_root (ipv4 203 0 115 0) distant
+  distant_counts : CountsAsExternal contents summaries_root (ipv4 203 0 115 0) distant
       (external Type1 20 0 0) 24
   distant_counts = counts_24 entries summaries_root (ipv4 203 0 115 0) distant
       (external Type1 20 0 0) refl (omega arith) (λ e. omega (arith, e)) refl
 
   only_distant_offer : IsOfferedBy (λ o. of_distant ≡ o) (key 5 (ipv4 203 0 115 0) distant)
       (external Type1 20 0 0)
-  only_distant_offer = only_directly said summaries_root (ipv4 203 0 115 0) distant
+  only_distant_offer = only_directly contents summaries_root (ipv4 203 0 115 0) distant
       (external Type1 20 0 0) 24 distant_counts refl distant_way to_the_distant
 
-  distant_offered : Offers said summaries_root of_distant
-  distant_offered = External (offered_directly said summaries_root (ipv4 203 0 115 0) distant
+  distant_offered : Offers contents summaries_root of_distant
+  distant_offered = External (offered_directly contents summaries_root (ipv4 203 0 115 0) distant
       (external Type1 20 0 0) 24 distant_counts refl distant_way to_the_distant)
 
 -- ---- without flag B
 
-abbrev plain : Said
-plain = said_at 0 (database (told_entries 0 2))
+abbrev plain : Contents
+plain = contents_at 0 (database (told_entries 0 2))
 
 no_flag : bit_and 0 1 ≡ 1 → ⊥
 no_flag e = omega (arith, e)
@@ -371,8 +373,8 @@ without =
 
 -- ---- with flag B
 
-abbrev said_b : Said
-said_b = said_at 0 (database (told_entries 1 3))
+abbrev said_b : Contents
+said_b = contents_at 0 (database (told_entries 1 3))
 
 reaches_border : ReachesBorderRouter said_b summaries_root border border_way
 reaches_border = record {

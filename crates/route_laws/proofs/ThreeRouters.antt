@@ -20,7 +20,7 @@ use Rattle.routes.specs.Links.{IsRouterLsa, LeadsTo, Says}
 use Rattle.routes.specs.Offers.{OffersWithin, intra}
 use Rattle.routes.specs.Paths.{Way}
 use Rattle.routes.specs.Routes.IsBefore.{ByAddress}
-use Rattle.routes.specs.Said.{Said, said_at}
+use Rattle.routes.specs.Contents.{Contents, contents_at}
 use Rattle.routes.specs.declared.node.Node.TheVariants.{ARouter}
 use Rattle.routes.specs.declared.offer.Offer.{Offer}
 use Rattle.routes.specs.declared.root.Root.{Root}
@@ -35,7 +35,8 @@ use Rattle.route_laws.specs.Premises.{HaveCosts, HaveOwnAddresses}
 use Rattle.route_laws.specs.Networks.IsAttached.{ToNetwork}
 use Rattle.route_laws.specs.Networks.IsThere.{Attached}
 use Rattle.route_laws.specs.Topologies.{AreJoined, Forwarder, HandsTo, HasConverged, IsAcross}
-use Rattle.route_laws.specs.Topologies.{IsAnnouncedAt, IsCurrentForwarder, IsUpToDate, SayTheSame}
+use Rattle.route_laws.specs.Topologies.{IsAnnouncedAt, IsCurrentForwarder, IsUpToDate}
+use Rattle.route_laws.specs.Topologies.{HaveSameContents}
 use Rattle.route_laws.specs.Topologies.{Topology, says_of}
 use Rattle.route_laws.specs.WorkedTopologies.{CrossedLinksMayLoop, WorkedTopology, across_row}
 use Rattle.route_laws.specs.WorkedTopologies.{address, between, crossed_row, forwarder, full}
@@ -105,8 +106,8 @@ abbrev pub by_router : ℕ → ℕ → ℕ → ℕ → ℕ
 by_router l m r router = cond (nat_eq router left_id) l
     (cond (nat_eq router middle_id) m (cond (nat_eq router right_id) r 0))
 
-abbrev pub said_in : Entries → Said
-said_in es = said_at 0 (database es)
+abbrev pub said_in : Entries → Contents
+said_in es = contents_at 0 (database es)
 
 -- The router-LSAs of the three, with these links of the left one, whose interface has this cost,
 -- and of the middle one. There may be other LSAs, but no network-LSA or summary-LSA, and no further
@@ -421,8 +422,8 @@ middle_candidates es has = candidates_are es 5 (lsa_of left_links) (lsa_of middl
 -- ---- each router by itself
 
 pub is_current : (es : Entries) (id : ℕ) (links : List Link) (routes : List Route)
-    → Says (said_at 0 (database es)) (router_key id) (router_body links)
-    → AreCandidates (said_at 0 (database es)) (root_by id links) routes
+    → Says (contents_at 0 (database es)) (router_key id) (router_body links)
+    → AreCandidates (contents_at 0 (database es)) (root_by id links) routes
     → IsCurrentForwarder (forwarder id links es routes)
 is_current es id links routes current are = record {
   current = current;
@@ -437,8 +438,9 @@ is_current es id links routes current are = record {
 }
 
 pub up_to_date : (es : Entries) (id : ℕ) (links : List Link) (routes : List Route)
-    → Says (said_at 0 (database es)) (router_key id) (router_body links) → HaveOwnAddresses links
-    → HaveCosts links → AreCandidates (said_at 0 (database es)) (root_by id links) routes
+    → Says (contents_at 0 (database es)) (router_key id) (router_body links) → HaveOwnAddresses
+        links
+    → HaveCosts links → AreCandidates (contents_at 0 (database es)) (root_by id links) routes
     → IsUpToDate (forwarder id links es routes)
 up_to_date es id links routes current apart costs are = record {
   is_current = is_current es id links routes current are;
@@ -505,8 +507,8 @@ module _ (es : Entries) (of_left first second : Interface) (left_table middle_ta
   all_say = three_places (λ place f. says_of f.router ≡ said_in es) the_left the_middle the_right
       refl refl refl
 
-  pub all_agree : SayTheSame the_row
-  all_agree place other a b p q key = ap (λ (s : Said). s key)
+  pub all_agree : HaveSameContents the_row
+  all_agree place other a b p q key = ap (λ (s : Contents). s key)
       (all_say place a p ∙ sym (all_say other b q))
 
   pub all_joined : AreJoined the_row
@@ -644,7 +646,7 @@ pub silent : (topology : Topology) (es : Entries) → list_all is_router (saying
     → ((place : ℕ) (f : Forwarder) → slice_get topology.routers place ≡ Some f → says_of f.router
     ≡ said_in es) → (to place : ℕ) → IsAnnouncedAt topology to place → ⊥
 silent topology es routers say to place x =
-    let P : Said → Type 0 = λ s. Says s (record {
+    let P : Contents → Type 0 = λ s. Says s (record {
       ls_type = 5;
       link_state_id = x.announces.tells.id;
       advertising_router = x.forwarder.router.id;

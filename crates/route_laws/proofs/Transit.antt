@@ -35,7 +35,7 @@ use Rattle.route_laws.proofs.Made.{back, from_root, linked, one_or_two, only_one
 use Rattle.route_laws.proofs.NetworkLabels.{AreRising, IsNetworkKnown, IsStubKnown, at, each_offer}
 use Rattle.route_laws.proofs.NetworkLabels.{rising, unreached}
 use Rattle.route_laws.proofs.Parts.{apart, one_of}
-use Rattle.routes.specs.Said.{Said, said_at}
+use Rattle.routes.specs.Contents.{Contents, contents_at}
 use Rattle.routes.specs.Routes.{IsForwarded, IsNoLater, IsNoWorse, IsRouteAmong}
 use Rattle.route_laws.proofs.NoSummaries.{is_inside, is_within, nothing_between}
 use Rattle.routes.specs.Summaries.IsBoundaryWay.{Inside}
@@ -46,8 +46,8 @@ use Rattle.route_laws.proofs.ExternalOffers.{each_external, is_offer_of, offered
 use Rattle.route_laws.proofs.ExternalOffers.{offered_directly, only_by_address, only_directly}
 use Rattle.route_laws.proofs.OneOffer.{hops_from, stub_by, stub_within, way}
 
-abbrev said : Said
-said = said_at 0 (database transit_entries)
+abbrev contents : Contents
+contents = contents_at 0 (database transit_entries)
 
 abbrev root : ℕ
 root = ipv4 1 1 1 1
@@ -83,25 +83,25 @@ labels : AreRising transit_root (sayings transit_entries) dr hr dn hn
 labels = record { start = refl; points = refl; enters = refl; leaves = refl }
 
 abbrev leads : Node → Step Node → Type 0
-leads = Leads said transit_root
+leads = Leads contents transit_root
 
 -- ---- links
 
-root_says : IsRouterLsa said root (router_lsa root_links)
+root_says : IsRouterLsa contents root (router_lsa root_links)
 root_says = says transit_entries (key 1 root root) (body.Router (router_lsa root_links)) refl
 
-designated_says : IsRouterLsa said designated (router_lsa designated_links)
+designated_says : IsRouterLsa contents designated (router_lsa designated_links)
 designated_says = says transit_entries (key 1 designated designated)
     (body.Router (router_lsa designated_links)) refl
 
-other_says : IsRouterLsa said other (router_lsa other_links)
+other_says : IsRouterLsa contents other (router_lsa other_links)
 other_says = says transit_entries (key 1 other other) (body.Router (router_lsa other_links)) refl
 
-inner_says : IsRouterLsa said inner inner_lsa
+inner_says : IsRouterLsa contents inner inner_lsa
 inner_says = says transit_entries (key 1 inner inner) (body.Router inner_lsa) refl
 
 lists : (n router : ℕ) → Contains network_lsa.attached router
-    → ListsRouter said network designated router
+    → ListsRouter contents network designated router
 lists n router among = record {
   lsa = network_lsa;
   its = says transit_entries (key 2 network designated)
@@ -266,11 +266,11 @@ wide_stub = stub (ipv4 10 0 0 0) (ipv4 255 0 0 0) 1
 abbrev behind_stub : RouterLink
 behind_stub = stub (ipv4 192 0 2 0) mask_24 10
 
-wide_is : StubOffer said transit_root designated wide_stub 8 wide_offer
+wide_is : StubOffer contents transit_root designated wide_stub 8 wide_offer
 wide_is = stub_by transit_entries transit_root designated wide_stub 8 (way 10 2) 2
     designated_way (hops_from transit_root designated (λ e. omega (arith, e)) 2) (omega arith) refl
 
-behind_is : StubOffer said transit_root other behind_stub 24 behind_offer
+behind_is : StubOffer contents transit_root other behind_stub 24 behind_offer
 behind_is = stub_by transit_entries transit_root other behind_stub 24 (way 15 6) 6 other_way
     (hops_from transit_root other (λ e. omega (arith, e)) 6) (omega arith) refl
 
@@ -326,7 +326,7 @@ networks_known = (
   ),
 )
 
-within : (o : Offer) → OffersWithin said transit_root o → Contains nearby o
+within : (o : Offer) → OffersWithin contents transit_root o → Contains nearby o
 within o x =
     each_offer 0 transit_entries transit_root IsNearby
     (λ router l t. one_of (λ (y : ℕ × RouterLink). IsStubKnown 0 transit_entries transit_root
@@ -342,11 +342,11 @@ within o x =
       body.Network lsa,
     ) t) o x
 
-wide_there : OffersWithin said transit_root wide_offer
+wide_there : OffersWithin contents transit_root wide_offer
 wide_there = stub_within transit_entries transit_root designated designated_links designated_says
     wide_stub (2, omega arith, refl) refl 8 wide_offer wide_is
 
-network_there : OffersWithin said transit_root network_offer
+network_there : OffersWithin contents transit_root network_offer
 network_there = record {
   node = ANetwork network designated;
   prefix = network_24 10 1 0;
@@ -366,11 +366,11 @@ network_there = record {
   is = refl;
 }
 
-behind_there : OffersWithin said transit_root behind_offer
+behind_there : OffersWithin contents transit_root behind_offer
 behind_there = stub_within transit_entries transit_root other other_links other_says behind_stub
     (2, omega arith, refl) refl 24 behind_offer behind_is
 
-nearby_inside : (o : Offer) → OffersInside said transit_root o → Contains nearby o
+nearby_inside : (o : Offer) → OffersInside contents transit_root o → Contains nearby o
 nearby_inside o x = within o (is_within 0 transit_entries refl transit_root o x)
 
 -- ---- the forwarding address, which is in both of the nearer networks
@@ -382,15 +382,15 @@ abbrev forward_way : Way
 forward_way = record { distance = 15; hops = 2 }
 
 -- the offers within the area have such prefixes
-lengths : (r : Route) → IsRouteAmong (OffersInside said transit_root) r → r.prefix.length ≤ 24
-lengths = each_route (OffersInside said transit_root) nearby nearby_inside
+lengths : (r : Route) → IsRouteAmong (OffersInside contents transit_root) r → r.prefix.length ≤ 24
+lengths = each_route (OffersInside contents transit_root) nearby nearby_inside
     (λ (n : Network). n.length ≤ 24) (omega arith, (omega arith, (omega arith, tt)))
 
-forwarded_way : IsForwarded (OffersInside said transit_root) forwarding forward_way
+forwarded_way : IsForwarded (OffersInside contents transit_root) forwarding forward_way
 forwarded_way = record {
   by = route_of network_offer;
-  is_route = alone_among (OffersInside said transit_root) network_offer (inl network_there)
-      (lone (OffersInside said transit_root) nearby nearby_inside 1 network_offer refl refl);
+  is_route = alone_among (OffersInside contents transit_root) network_offer (inl network_there)
+      (lone (OffersInside contents transit_root) nearby nearby_inside 1 network_offer refl refl);
   under = refl;
   longest = λ r k u. lengths r k;
   is = refl;
@@ -398,7 +398,7 @@ forwarded_way = record {
 
 -- ---- what the AS-external-LSAs offer
 
-reaches_designated : IsBoundaryWay said transit_root designated (way 10 2)
+reaches_designated : IsBoundaryWay contents transit_root designated (way 10 2)
 reaches_designated = Inside (record {
   lsa = router_lsa designated_links;
   its = designated_says;
@@ -406,7 +406,7 @@ reaches_designated = Inside (record {
   reached = designated_way;
 })
 
-reaches_other : IsBoundaryWay said transit_root other (way 15 6)
+reaches_other : IsBoundaryWay contents transit_root other (way 15 6)
 reaches_other = Inside (record {
   lsa = router_lsa other_links;
   its = other_says;
@@ -444,18 +444,20 @@ offers = wide_offer ∷ network_offer ∷ behind_offer ∷ designated_offer ∷ 
 
 abbrev IsKnown : Key → ExternalLsa → Type 0
 IsKnown k lsa = (o : Offer)
-    → IsOfferOf said transit_root k.link_state_id k.advertising_router lsa o → Contains offers o
+    → IsOfferOf contents transit_root k.link_state_id k.advertising_router lsa o → Contains offers o
 
-designated_counts : CountsAsExternal said transit_root (ipv4 203 0 113 0) designated designated_lsa
+designated_counts : CountsAsExternal contents transit_root (ipv4 203 0 113 0) designated
+    designated_lsa
     24
 designated_counts = counts_24 transit_entries transit_root (ipv4 203 0 113 0) designated
     designated_lsa refl (omega arith) (λ e. omega (arith, e)) refl
 
-other_counts : CountsAsExternal said transit_root (ipv4 203 0 113 0) other other_lsa 24
+other_counts : CountsAsExternal contents transit_root (ipv4 203 0 113 0) other other_lsa 24
 other_counts = counts_24 transit_entries transit_root (ipv4 203 0 113 0) other other_lsa refl
     (omega arith) (λ e. omega (arith, e)) refl
 
-forwarded_counts : CountsAsExternal said transit_root (ipv4 203 0 114 0) designated forwarded_lsa 24
+forwarded_counts : CountsAsExternal contents transit_root (ipv4 203 0 114 0) designated
+    forwarded_lsa 24
 forwarded_counts = counts_24 transit_entries transit_root (ipv4 203 0 114 0) designated
     forwarded_lsa refl (omega arith) (λ e. omega (arith, e)) refl
 
@@ -466,7 +468,7 @@ designated_known : IsKnown (key 5 (ipv4 203 0 113 0) designated) designated_lsa
 designated_known o g = (
   3,
   omega arith,
-  only_directly said transit_root (ipv4 203 0 113 0) designated designated_lsa 24
+  only_directly contents transit_root (ipv4 203 0 113 0) designated designated_lsa 24
       designated_counts refl (way 10 2) reaches_designated o g,
 )
 
@@ -474,7 +476,7 @@ other_known : IsKnown (key 5 (ipv4 203 0 113 0) other) other_lsa
 other_known o g = (
   4,
   omega arith,
-  only_directly said transit_root (ipv4 203 0 113 0) other other_lsa 24 other_counts refl
+  only_directly contents transit_root (ipv4 203 0 113 0) other other_lsa 24 other_counts refl
       (way 15 6) reaches_other o g,
 )
 
@@ -482,7 +484,7 @@ forwarded_known : IsKnown (key 5 (ipv4 203 0 114 0) designated) forwarded_lsa
 forwarded_known o g = (
   5,
   omega arith,
-  only_by_address said transit_root (ipv4 203 0 114 0) designated forwarded_lsa 24
+  only_by_address contents transit_root (ipv4 203 0 114 0) designated forwarded_lsa 24
       forwarded_counts is_forwarded forward_way forwarded_way o g,
 )
 
@@ -532,26 +534,27 @@ all_known = (
   ),
 )
 
-complete : (o : Offer) → Offers said transit_root o → Contains offers o
+complete : (o : Offer) → Offers contents transit_root o → Contains offers o
 complete o (Within x) = one_of (λ (y : Offer). Contains offers y) nearby
     ((0, omega arith, refl), ((1, omega arith, refl), ((2, omega arith, refl), tt))) o (within o x)
 complete o (Between x) = absurd (nothing_between 0 transit_entries refl transit_root o x)
 complete o (External x) =
     each_external IsKnown transit_entries all_known (key 5 x.id x.originator) x.lsa x.its o
-    (is_offer_of said transit_root o x)
+    (is_offer_of contents transit_root o x)
 
 -- ---- the external destinations are offered
 
-designated_offered : Offers said transit_root designated_offer
-designated_offered = External (offered_directly said transit_root (ipv4 203 0 113 0) designated
+designated_offered : Offers contents transit_root designated_offer
+designated_offered = External (offered_directly contents transit_root (ipv4 203 0 113 0) designated
     designated_lsa 24 designated_counts refl (way 10 2) reaches_designated)
 
-other_offered : Offers said transit_root other_offer
-other_offered = External (offered_directly said transit_root (ipv4 203 0 113 0) other other_lsa 24
+other_offered : Offers contents transit_root other_offer
+other_offered = External (offered_directly contents transit_root (ipv4 203 0 113 0) other other_lsa
+    24
     other_counts refl (way 15 6) reaches_other)
 
-forwarded_offered : Offers said transit_root forwarded_offer
-forwarded_offered = External (offered_by_address said transit_root (ipv4 203 0 114 0) designated
+forwarded_offered : Offers contents transit_root forwarded_offer
+forwarded_offered = External (offered_by_address contents transit_root (ipv4 203 0 114 0) designated
     forwarded_lsa 24 forwarded_counts is_forwarded forward_way forwarded_way (way 10 2)
     reaches_designated)
 
@@ -592,14 +595,14 @@ alike_second o (inl e) = let P : Offer → Type 0 = λ x. IsNoWorse other_offer 
 alike_second o (inr e) = let P : Offer → Type 0 = λ x. IsNoWorse other_offer x in
     subst P e (no_worse_itself other_offer)
 
-designated_best : IsBest said transit_root shared_net designated_offer
+designated_best : IsBest contents transit_root shared_net designated_offer
 designated_best = record {
   offered = designated_offered;
   is_for = refl;
   best = λ o offered e. alike_first o (shared o (complete o offered) e);
 }
 
-other_best : IsBest said transit_root shared_net other_offer
+other_best : IsBest contents transit_root shared_net other_offer
 other_best = record {
   offered = other_offered;
   is_for = refl;
@@ -619,7 +622,7 @@ joined o (inl e) i t = subset 2 6 i refl
 joined o (inr e) i t = let P : Offer → Type 0 = λ x. IsTrue (has_interface x.hops i) in
     subst P (sym e) t
 
-shared_candidate : IsCandidate said transit_root shared_route
+shared_candidate : IsCandidate contents transit_root shared_route
 shared_candidate = record {
   first = designated_offer;
   is_best = designated_best;
@@ -638,22 +641,22 @@ abbrev routes : List Route
 routes = wide_route ∷ transit_route ∷ behind_route ∷ shared_route ∷ longest_route ∷ []
 
 alone_at : (n : ℕ) (c : Offer) → slice_get offers n ≡ Some c → others_elsewhere n c offers ≡ true
-    → IsAlone said transit_root c
-alone_at = lone (Offers said transit_root) offers complete
+    → IsAlone contents transit_root c
+alone_at = lone (Offers contents transit_root) offers complete
 
-sound : AllByRecursion (λ (r : Route). IsCandidate said transit_root r) routes
+sound : AllByRecursion (λ (r : Route). IsCandidate contents transit_root r) routes
 sound = (
-  alone said transit_root wide_offer (Within wide_there) (alone_at 0 wide_offer refl refl),
+  alone contents transit_root wide_offer (Within wide_there) (alone_at 0 wide_offer refl refl),
   (
-    alone said transit_root network_offer (Within network_there)
+    alone contents transit_root network_offer (Within network_there)
         (alone_at 1 network_offer refl refl),
     (
-      alone said transit_root behind_offer (Within behind_there)
+      alone contents transit_root behind_offer (Within behind_there)
           (alone_at 2 behind_offer refl refl),
       (
         shared_candidate,
         (
-          alone said transit_root forwarded_offer forwarded_offered
+          alone contents transit_root forwarded_offer forwarded_offered
               (alone_at 5 forwarded_offer refl refl),
           tt,
         ),
@@ -663,4 +666,4 @@ sound = (
 )
 
 pub worked : WorkedTransit
-worked = candidates_in said transit_root offers complete routes sound refl refl
+worked = candidates_in contents transit_root offers complete routes sound refl refl

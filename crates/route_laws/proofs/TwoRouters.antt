@@ -22,7 +22,7 @@ use Rattle.route_laws.proofs.Alone.{Known, StubOffer, alone, dearer, route_of}
 use Rattle.route_laws.proofs.Entries.{sayings}
 use Rattle.route_laws.proofs.Labels.{AreChecked}
 use Rattle.route_laws.proofs.Made.{back, from_root, no_hop, only_one, says}
-use Rattle.routes.specs.Said.{Said, said_at}
+use Rattle.routes.specs.Contents.{Contents, contents_at}
 use Rattle.route_laws.proofs.NoSummaries.{nothing_between}
 use Rattle.routes.specs.Summaries.IsBoundaryWay.{Inside}
 use Rattle.route_laws.proofs.Ordered.{ascend}
@@ -77,13 +77,13 @@ next_stub = stub (ipv4 10 0 2 0) mask_24 5
 
 module _ (others : Entries) (labels : AreChecked near_router (sayings (two_routers others)) distance
     hops) where
-  abbrev said : Said
-  said = said_at 0 (database (two_routers others))
+  abbrev contents : Contents
+  contents = contents_at 0 (database (two_routers others))
 
-  near_says : IsRouterLsa said near (router_lsa near_links)
+  near_says : IsRouterLsa contents near (router_lsa near_links)
   near_says = says (two_routers others) (key 1 near near) (body.Router (router_lsa near_links)) refl
 
-  far_says : IsRouterLsa said far (router_lsa far_links)
+  far_says : IsRouterLsa contents far (router_lsa far_links)
   far_says = says (two_routers others) (key 1 far far) (body.Router (router_lsa far_links)) refl
 
   abbrev across : Step Node
@@ -109,7 +109,7 @@ module _ (others : Entries) (labels : AreChecked near_router (sayings (two_route
       across_link refl (λ i t. (across, [], across_link, refl, sym (only_one i t)))
 
   -- the other one is an AS boundary router
-  pub reaches_far : IsBoundaryWay said near_router far far_way
+  pub reaches_far : IsBoundaryWay contents near_router far far_way
   reaches_far = Inside (record {
     lsa = router_lsa far_links;
     its = far_says;
@@ -117,15 +117,15 @@ module _ (others : Entries) (labels : AreChecked near_router (sayings (two_route
     reached = far_is;
   })
 
-  own_stub_is : StubOffer said near_router near own_stub 24 own_offer
+  own_stub_is : StubOffer contents near_router near own_stub 24 own_offer
   own_stub_is = stub_by (two_routers others) near_router near own_stub 24 (way 0 0) 1 near_way
       (hops_at near_router near refl 0) (omega arith) refl
 
-  other_stub_is : StubOffer said near_router far own_stub 24 other_offer
+  other_stub_is : StubOffer contents near_router far own_stub 24 other_offer
   other_stub_is = stub_by (two_routers others) near_router far own_stub 24 far_way 2 far_is
       (hops_from near_router far (λ e. omega (arith, e)) 2) (omega arith) refl
 
-  next_stub_is : StubOffer said near_router far next_stub 24 next_offer
+  next_stub_is : StubOffer contents near_router far next_stub 24 next_offer
   next_stub_is = stub_by (two_routers others) near_router far next_stub 24 far_way 2 far_is
       (hops_from near_router far (λ e. omega (arith, e)) 2) (omega arith) refl
 
@@ -142,11 +142,11 @@ module _ (others : Entries) (labels : AreChecked near_router (sayings (two_route
     ),
   )
 
-  pub own_is_offered : OffersWithin said near_router own_offer
+  pub own_is_offered : OffersWithin contents near_router own_offer
   own_is_offered = stub_within (two_routers others) near_router near near_links near_says own_stub
       (1, omega arith, refl) refl 24 own_offer own_stub_is
 
-  pub next_is_offered : OffersWithin said near_router next_offer
+  pub next_is_offered : OffersWithin contents near_router next_offer
   next_is_offered = stub_within (two_routers others) near_router far far_links far_says next_stub
       (2, omega arith, refl) refl 24 next_offer next_stub_is
 
@@ -155,8 +155,8 @@ module _ (others : Entries) (labels : AreChecked near_router (sayings (two_route
 plain_labels : AreChecked near_router (sayings (two_routers [])) distance hops
 plain_labels = record { start = refl; routers = refl; links = refl }
 
-abbrev plain : Said
-plain = said_at 0 (database (two_routers []))
+abbrev plain : Contents
+plain = contents_at 0 (database (two_routers []))
 
 plain_offers : (o : Offer) → Offers plain near_router o → Contains nearby o
 plain_offers = only_within (two_routers []) near_router nearby refl refl refl
@@ -178,8 +178,8 @@ within =
 -- ---- with an external destination
 
 module _ (t : ExternalType) where
-  abbrev abroad_says : Said
-  abroad_says = said_at 0 (database (two_routers (abroad t)))
+  abbrev abroad_says : Contents
+  abroad_says = contents_at 0 (database (two_routers (abroad t)))
 
   abbrev abroad_offer : Offer
   abroad_offer = external_offer t (network_24 203 0 113) (abroad_lsa t) far far_way

@@ -27,7 +27,7 @@ use Rattle.route_laws.proofs.Labels.{AreLabels, either_true, is_point, not_both,
 use Rattle.route_laws.proofs.Made.{back, from_root, only_one, says}
 use Rattle.route_laws.proofs.NetworkLabels.{AreRising, IsStubKnown, at, each_offer, pass, rising}
 use Rattle.route_laws.proofs.Parts.{one_of}
-use Rattle.routes.specs.Said.{Said, said_at}
+use Rattle.routes.specs.Contents.{Contents, contents_at}
 use Rattle.route_laws.proofs.NoSummaries.{nothing_between}
 use Rattle.route_laws.proofs.Ordered.{in_order}
 use Rattle.route_laws.proofs.OneOffer.{candidates_of, hops_from, no_external, stub_by, stub_within}
@@ -76,7 +76,7 @@ module _ (root : Root) (es : Entries) (inside : ℕ → Bool)
     (stay : list_all (stays_in root inside (links_of (sayings es))) (links_of (sayings es)) ≡ true)
   where
     no_back : (a b : ℕ) → has_no_back (links_of (sayings es)) a b ≡ true
-        → LinksBack (said_at 0 (database es)) b PointToPoint a → ⊥
+        → LinksBack (contents_at 0 (database es)) b PointToPoint a → ⊥
     no_back a b e l =
         let first = all_pass (λ (y : ℕ × RouterLink). not (nat_eq y.0 b) ||
         (not (is_point y.1.kind) || not (nat_eq y.1.link_id a))) (links_of (sayings es)) e
@@ -88,7 +88,7 @@ module _ (root : Root) (es : Entries) (inside : ℕ → Bool)
         not_both (nat_eq l.0.link_id a) third (eq-eqb l.0.link_id a l.3)
 
     leads_inside : (v w : Node) (price exit : ℕ)
-        → LeadsTo (said_at 0 (database es)) root v w price exit → is_inside inside v ≡ true
+        → LeadsTo (contents_at 0 (database es)) root v w price exit → is_inside inside v ≡ true
         → is_inside inside w ≡ true
     leads_inside (ARouter a) (ARouter b) price exit l t =
         let k = l.0 in
@@ -136,14 +136,15 @@ module _ (root : Root) (es : Entries) (inside : ℕ → Bool)
     leads_inside (ANetwork id by) w price exit l t = absurd (cc)
 
     walks_inside : (v : Node) (walk : List (Step Node)) (w : Node)
-        → IsWalk (Leads (said_at 0 (database es)) root) v walk w → is_inside inside v ≡ true
+        → IsWalk (Leads (contents_at 0 (database es)) root) v walk w → is_inside inside v ≡ true
         → is_inside inside w ≡ true
     walks_inside v [] w p t = subst (λ n. is_inside inside n ≡ true) p t
     walks_inside v (s ∷ walk) w p t =
         walks_inside s.target walk w p.1 (leads_inside v s.target s.price s.exit p.0 t)
 
     outside : inside root.router ≡ true → (router : ℕ) → inside router ≡ false → (way : Way)
-        → IsWay (Leads (said_at 0 (database es)) root) (ARouter root.router) (ARouter router) way
+        → IsWay (Leads (contents_at 0 (database es)) root) (ARouter root.router) (ARouter router)
+            way
         → ⊥
     outside start router e way is =
         let t : inside router ≡ true = walks_inside (ARouter root.router) is.distance.0
@@ -153,8 +154,8 @@ module _ (root : Root) (es : Entries) (inside : ℕ → Bool)
 
 -- ---- the way to the neighbor
 
-abbrev said : Said
-said = said_at 0 (database uncounted_entries)
+abbrev contents : Contents
+contents = contents_at 0 (database uncounted_entries)
 
 abbrev near : ℕ
 near = ipv4 1 1 1 1
@@ -176,12 +177,12 @@ labels : AreRising near_router (sayings uncounted_entries) dr hr none_of none_of
 labels = record { start = refl; points = refl; enters = refl; leaves = refl }
 
 abbrev leads : Node → Step Node → Type 0
-leads = Leads said near_router
+leads = Leads contents near_router
 
-near_says : IsRouterLsa said near (router_lsa counting_links)
+near_says : IsRouterLsa contents near (router_lsa counting_links)
 near_says = says uncounted_entries (key 1 near near) (body.Router (router_lsa counting_links)) refl
 
-neighbor_says : IsRouterLsa said neighbor (router_lsa neighbor_links)
+neighbor_says : IsRouterLsa contents neighbor (router_lsa neighbor_links)
 neighbor_says = says uncounted_entries (key 1 neighbor neighbor)
     (body.Router (router_lsa neighbor_links)) refl
 
@@ -225,7 +226,7 @@ neighbor_stub = stub (ipv4 192 0 2 0) mask_24 1
 abbrev IsKnown : ℕ × RouterLink → Type 0
 IsKnown x = IsStubKnown 0 uncounted_entries near_router IsOffer x.0 x.1
 
-of_stub : StubOffer said near_router neighbor neighbor_stub 24 offer
+of_stub : StubOffer contents near_router neighbor neighbor_stub 24 offer
 of_stub = stub_by uncounted_entries near_router neighbor neighbor_stub 24 (way 10 2) 2
     neighbor_way (hops_from near_router neighbor (λ e. omega (arith, e)) 2) (omega arith) refl
 
@@ -241,7 +242,7 @@ stubs_known = (
   ),
 )
 
-within : (o : Offer) → OffersWithin said near_router o → IsOffer o
+within : (o : Offer) → OffersWithin contents near_router o → IsOffer o
 within o x =
     each_offer 0 uncounted_entries near_router IsOffer
     (λ router l t. one_of IsKnown (filter is_stub (links_of (sayings uncounted_entries)))
@@ -257,17 +258,17 @@ within o x =
     ) t in cc))
     o x
 
-only_offer : (o : Offer) → Offers said near_router o → IsOffer o
+only_offer : (o : Offer) → Offers contents near_router o → IsOffer o
 only_offer o (Within x) = within o x
 only_offer o (Between x) = absurd (nothing_between 0 uncounted_entries refl near_router o x)
 only_offer o (External x) = absurd (no_external uncounted_entries refl _ x.lsa x.its)
 
-offered : Offers said near_router offer
+offered : Offers contents near_router offer
 offered = Within (stub_within uncounted_entries near_router neighbor neighbor_links neighbor_says
     neighbor_stub (4, omega arith, refl) refl 24 offer of_stub)
 
 pub worked : WorkedUncounted
 worked =
-    candidates_of said near_router (offer ∷ [])
+    candidates_of contents near_router (offer ∷ [])
     (in_order (λ (o : Offer). o.prefix) (offer ∷ []) refl)
-    (one_of (λ (o : Offer). Offers said near_router o) (offer ∷ []) (offered, tt)) only_offer
+    (one_of (λ (o : Offer). Offers contents near_router o) (offer ∷ []) (offered, tt)) only_offer

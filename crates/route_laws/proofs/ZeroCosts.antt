@@ -21,7 +21,7 @@ use Rattle.routes.specs.Links.{IsRouterLsa, Leads, LeadsTo, Says}
 use Rattle.routes.specs.Offers.{Attaches, IsPrefix, OffersWithin}
 use Rattle.routes.specs.Paths.{IsWalk, IsWay, Step, Way}
 use Rattle.routes.specs.Routes.{IsForwarded, IsRouteAmong}
-use Rattle.routes.specs.Said.{Said, said_at}
+use Rattle.routes.specs.Contents.{Contents, contents_at}
 use Rattle.routes.specs.Summaries.{OffersInside}
 use Rattle.routes.specs.Summaries.IsBoundaryWay.{Inside}
 use Rattle.routes.specs.declared.node.Node.{Node}
@@ -58,8 +58,8 @@ use Rattle.route_laws.proofs.ExternalOffers.{is_offer_of, offered_by_address, on
 use Rattle.route_laws.proofs.Parts.{not_under, one_of}
 use Rattle.adjacency.specs.declared.interface.Interface.{Interface}
 
-abbrev zero_says : Said
-zero_says = said_at 0 (database zero_cost)
+abbrev zero_says : Contents
+zero_says = contents_at 0 (database zero_cost)
 
 left_says : IsRouterLsa zero_says left_id (router_lsa (lsa_of zero_links))
 left_says = says zero_cost (router_key left_id) (router_body zero_links) refl

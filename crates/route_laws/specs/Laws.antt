@@ -6,7 +6,7 @@ use Rattle.routes.specs.Candidates.{AreCandidates, IsCandidate}
 use Rattle.routes.specs.Paths.{Way}
 use Rattle.routes.specs.Tables.{Answers, HasAnswer, IsLetIn, IsStale, IsTable}
 use Rattle.routes.specs.declared.root.Root.{Root}
-use Rattle.routes.specs.Said.{Said}
+use Rattle.routes.specs.Contents.{Contents}
 use Rattle.routes.specs.Routes.{IsForwarded}
 use Rattle.routes.specs.Summaries.{IsBoundaryWay, OffersInside}
 
@@ -15,42 +15,44 @@ use Rattle.routes.specs.Summaries.{IsBoundaryWay, OffersInside}
 -- a forwarding address has only one way
 abbrev pub ForwardingIsDetermined : Type 0
 ForwardingIsDetermined =
-    (said : Said) (root : Root) (address : ℕ) (a b : Way)
-    → IsForwarded (OffersInside said root) address a
-    → IsForwarded (OffersInside said root) address b → a ≡ b
+    (contents : Contents) (root : Root) (address : ℕ) (a b : Way)
+    → IsForwarded (OffersInside contents root) address a
+    → IsForwarded (OffersInside contents root) address b → a ≡ b
 
 -- an AS boundary router has only one way, within the area or between areas
 abbrev pub BoundaryWaysAreDetermined : Type 0
 BoundaryWaysAreDetermined =
-    (said : Said) (root : Root) (router : ℕ) (a b : Way) → IsBoundaryWay said root router a
-    → IsBoundaryWay said root router b → a ≡ b
+    (contents : Contents) (root : Root) (router : ℕ) (a b : Way) → IsBoundaryWay contents root
+        router a
+    → IsBoundaryWay contents root router b → a ≡ b
 
 -- ---- the table
 
 abbrev pub TablesAreDetermined : Type 0
 TablesAreDetermined =
-    (said : Said) (root : Root) (answers : Answers) (left right : List Route)
-    → IsTable said root answers left → IsTable said root answers right → left ≡ right
+    (contents : Contents) (root : Root) (answers : Answers) (left right : List Route)
+    → IsTable contents root answers left → IsTable contents root answers right → left ≡ right
 
 -- each candidate was asked about, and let in
-abbrev pub LetsAllIn : Said → Root → Answers → Type 0
-LetsAllIn said root answers = (r : Route) → IsCandidate said root r → IsLetIn answers r
+abbrev pub LetsAllIn : Contents → Root → Answers → Type 0
+LetsAllIn contents root answers = (r : Route) → IsCandidate contents root r → IsLetIn answers r
 
 -- the table has a route if and only if it is among the candidates and is let in, so it has none
 -- before the first answers, and all if all are let in
 pub record TablesArePartsOfCandidates : Type 0 where
-  pub part : (said : Said) (root : Root) (answers : Answers) (routes table : List Route)
-      → AreCandidates said root routes → IsTable said root answers table
+  pub part : (contents : Contents) (root : Root) (answers : Answers) (routes table : List Route)
+      → AreCandidates contents root routes → IsTable contents root answers table
       → (r : Route) → Contains table r ↔ (Contains routes r × IsLetIn answers r)
-  pub empty : (said : Said) (root : Root) (table : List Route) → IsTable said root [] table
+  pub empty : (contents : Contents) (root : Root) (table : List Route) → IsTable contents root []
+      table
       → table ≡ []
-  pub whole : (said : Said) (root : Root) (answers : Answers) (routes table : List Route)
-      → AreCandidates said root routes → IsTable said root answers table
-      → LetsAllIn said root answers → table ≡ routes
+  pub whole : (contents : Contents) (root : Root) (answers : Answers) (routes table : List Route)
+      → AreCandidates contents root routes → IsTable contents root answers table
+      → LetsAllIn contents root answers → table ≡ routes
 
 -- right after answers to all candidates the table isn't stale
 abbrev pub AnswersToAllAreNotStale : Type 0
 AnswersToAllAreNotStale =
-    (said : Said) (root : Root) (answers : Answers) (routes : List Route)
-    → AreCandidates said root routes
-    → ((r : Route) → Contains routes r → HasAnswer answers r) → IsStale said root answers → ⊥
+    (contents : Contents) (root : Root) (answers : Answers) (routes : List Route)
+    → AreCandidates contents root routes
+    → ((r : Route) → Contains routes r → HasAnswer answers r) → IsStale contents root answers → ⊥

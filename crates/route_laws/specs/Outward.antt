@@ -16,7 +16,7 @@ use Rattle.routes.specs.Links.{IsRouterLsa, Leads, Says}
 use Rattle.routes.specs.Offers.{Attaches, ReachesBoundaryRouter}
 use Rattle.routes.specs.Paths.{IsWay, Way}
 use Rattle.routes.specs.Routes.{rank}
-use Rattle.routes.specs.Said.{Said}
+use Rattle.routes.specs.Contents.{Contents}
 use Rattle.routes.specs.Summaries.{IsAdvertised, OffersBetween, summary_key}
 use Rattle.routes.specs.declared.node.Node.TheVariants.{ARouter}
 use Rattle.routes.specs.declared.offer.Offer.{Offer}
@@ -27,35 +27,37 @@ use Rattle.route_laws.specs.Forwarding.{NamesItsInterfaces, Stop, last_of}
 -- ---- one hop
 
 -- the offer leads to this router, from whose LSA it comes, by these interfaces
-pub data IsToward (said : Said) (root : Root) (offer : Offer) (router hops : ℕ) : Type 0 where
+pub data IsToward (contents : Contents) (root : Root) (offer : Offer) (router hops : ℕ) : Type 0
+    where
   -- an area border router, which advertises the network in another area
-  Border : (between : OffersBetween said root offer) → between.originator ≡ router
-      → hops ≡ offer.hops → IsToward said root offer router hops
+  Border : (between : OffersBetween contents root offer) → between.originator ≡ router
+      → hops ≡ offer.hops → IsToward contents root offer router hops
   -- an AS boundary router within the area, which advertises the destination without a forwarding
   -- address
-  Boundary : (external : OffersExternal said root offer) → external.originator ≡ router
+  Boundary : (external : OffersExternal contents root offer) → external.originator ≡ router
       → external.lsa.forwarding ≡ 0
-      → (way : Way) → ReachesBoundaryRouter said root router way → hops ≡ offer.hops
-      → IsToward said root offer router hops
+      → (way : Way) → ReachesBoundaryRouter contents root router way → hops ≡ offer.hops
+      → IsToward contents root offer router hops
   -- an area border router, which advertises such an AS boundary router in another area; this area
   -- has no router-LSA of that
-  Told : (external : OffersExternal said root offer) → external.lsa.forwarding ≡ 0
-      → ((lsa : RouterLsa) → IsRouterLsa said external.originator lsa → ⊥) → (border : Way)
-      → (advertised : IsAdvertised said root external.originator
+  Told : (external : OffersExternal contents root offer) → external.lsa.forwarding ≡ 0
+      → ((lsa : RouterLsa) → IsRouterLsa contents external.originator lsa → ⊥) → (border : Way)
+      → (advertised : IsAdvertised contents root external.originator
       external.is_way.boundary.distance border) → advertised.originator ≡ router
-      → hops ≡ border.hops → IsToward said root offer router hops
+      → hops ≡ border.hops → IsToward contents root offer router hops
 
 -- a router forwards packets to the next router by a route: by a next hop that the route has from
 -- one of the best offers for the prefix, which leads to this originator
-pub record HandsToward (said : Said) (root : Root) (route : Route) (next originator : ℕ) : Type 0
+pub record HandsToward (contents : Contents) (root : Root) (route : Route) (next originator : ℕ) :
+    Type 0
   where
     pub offer : Offer
-    pub is_best : IsBest said root route.prefix offer
+    pub is_best : IsBest contents root route.prefix offer
     pub hops : ℕ
-    pub toward : IsToward said root offer originator hops
+    pub toward : IsToward contents root offer originator hops
     pub interface : ℕ
     pub is_hop : IsTrue (has_interface hops interface)
-    pub other_end : IsOtherEnd said root interface next
+    pub other_end : IsOtherEnd contents root interface next
 
 -- by kind, then cost, then distance, strictly
 pub data IsBetter (a b : Route) : Type 0 where
@@ -64,79 +66,80 @@ pub data IsBetter (a b : Route) : Type 0 where
   ByDistance : rank a.kind ≡ rank b.kind → a.cost ≡ b.cost → a.distance < b.distance → IsBetter a b
 
 -- a property of each router that forwards packets toward an originator to the next router
-abbrev pub OfEachHopToward : (Said → Root → Route → Root → ℕ → Type 0) → Type 0
+abbrev pub OfEachHopToward : (Contents → Root → Route → Root → ℕ → Type 0) → Type 0
 OfEachHopToward Holds =
-    (said : Said) (root next : Root) (route : Route) (originator : ℕ)
-    → IsCandidate said root route → HandsToward said root route next.router originator
-    → NamesItsInterfaces said next → Holds said root route next originator
+    (contents : Contents) (root next : Root) (route : Route) (originator : ℕ)
+    → IsCandidate contents root route → HandsToward contents root route next.router originator
+    → NamesItsInterfaces contents next → Holds contents root route next originator
 
 pub record EachHopLeadsToAnOriginator : Type 0 where
   -- the next router is nearer to the originator, or is the originator itself
-  pub nearer : OfEachHopToward (λ said root route next originator. (here there : Way)
-      → IsWay (Leads said root) (ARouter root.router) (ARouter originator) here
-      → IsWay (Leads said next) (ARouter next.router) (ARouter originator) there
+  pub nearer : OfEachHopToward (λ contents root route next originator. (here there : Way)
+      → IsWay (Leads contents root) (ARouter root.router) (ARouter originator) here
+      → IsWay (Leads contents next) (ARouter next.router) (ARouter originator) there
       → there.distance < here.distance)
   -- unless it is the originator, its route with the same prefix is better
-  pub better : OfEachHopToward (λ said root route next originator. next.router ≢ originator
-      → (following : Route) → IsCandidate said next following → following.prefix ≡ route.prefix
+  pub better : OfEachHopToward (λ contents root route next originator. next.router ≢ originator
+      → (following : Route) → IsCandidate contents next following → following.prefix ≡ route.prefix
       → IsBetter following route)
   -- and it has one
-  pub has_one : OfEachHopToward (λ said root route next originator. next.router ≢ originator
-      → (routes : List Route) → AreCandidates said next routes
+  pub has_one : OfEachHopToward (λ contents root route next originator. next.router ≢ originator
+      → (routes : List Route) → AreCandidates contents next routes
       → (following : Route) × Contains routes following × (following.prefix ≡ route.prefix))
 
 -- ---- many hops
 
 -- a router forwards packets to one that isn't their end: within the area, or toward another router
-pub data HandsFurther (said : Said) (root : Root) (route : Route) (next : ℕ) : Type 0 where
-  InTheArea : route.kind ≡ Intra → HandsOn said root route next → HandsFurther said root route next
-  TowardAnother : (originator : ℕ) → HandsToward said root route next originator
-      → next ≢ originator → HandsFurther said root route next
+pub data HandsFurther (contents : Contents) (root : Root) (route : Route) (next : ℕ) : Type 0 where
+  InTheArea : route.kind ≡ Intra → HandsOn contents root route next → HandsFurther contents root
+      route next
+  TowardAnother : (originator : ℕ) → HandsToward contents root route next originator
+      → next ≢ originator → HandsFurther contents root route next
 
 -- each router forwards packets for the prefix to the next one
-abbrev pub IsPassedFurther : Said → Network → List Stop → Type 0
-IsPassedFurther said prefix [] = Unit {0}
-IsPassedFurther said prefix (last ∷ []) = ForwardsFor said prefix last
-IsPassedFurther said prefix (stop ∷ next ∷ others) =
-    ForwardsFor said prefix stop × HandsFurther said stop.root stop.route next.root.router
-    × IsPassedFurther said prefix (next ∷ others)
+abbrev pub IsPassedFurther : Contents → Network → List Stop → Type 0
+IsPassedFurther contents prefix [] = Unit {0}
+IsPassedFurther contents prefix (last ∷ []) = ForwardsFor contents prefix last
+IsPassedFurther contents prefix (stop ∷ next ∷ others) =
+    ForwardsFor contents prefix stop × HandsFurther contents stop.root stop.route next.root.router
+    × IsPassedFurther contents prefix (next ∷ others)
 
 pub record NoPacketReturnsOnItsWayOut : Type 0 where
   -- each later route is better
-  pub better : (said : Said) (prefix : Network) (stops : List Stop)
-      → IsPassedFurther said prefix stops
+  pub better : (contents : Contents) (prefix : Network) (stops : List Stop)
+      → IsPassedFurther contents prefix stops
       → AllPairs (λ (a : Stop) (b : Stop). IsBetter b.route a.route) stops
   -- no router is in the list twice
-  pub no_twice : (said : Said) (prefix : Network) (stops : List Stop)
-      → IsPassedFurther said prefix stops
+  pub no_twice : (contents : Contents) (prefix : Network) (stops : List Stop)
+      → IsPassedFurther contents prefix stops
       → AllPairs (λ (a : Stop) (b : Stop). a.root ≢ b.root) stops
 
 -- ---- arrival
 
 -- AS-external-LSAs have no forwarding address, and an AS boundary router that a summary-LSA
 -- advertises is in another area: this area has no router-LSA of it
-pub record AreBoundariesPlain (said : Said) : Type 0 where
+pub record AreBoundariesPlain (contents : Contents) : Type 0 where
   pub direct : (id originator : ℕ) (lsa : ExternalLsa)
-      → Says said (record { ls_type = 5; link_state_id = id; advertising_router = originator })
+      → Says contents (record { ls_type = 5; link_state_id = id; advertising_router = originator })
       (body.External lsa) → lsa.forwarding ≡ 0
   pub elsewhere : (router originator : ℕ) (lsa : SummaryLsa)
-      → Says said (summary_key 4 router originator) (body.RouterSummary lsa)
-      → (its : RouterLsa) → IsRouterLsa said router its → ⊥
+      → Says contents (summary_key 4 router originator) (body.RouterSummary lsa)
+      → (its : RouterLsa) → IsRouterLsa contents router its → ⊥
 
 -- the last router on a packet's path is attached to the network, or forwards the packet to the
 -- originator of the LSA that its route comes from
-pub data IsTheLast (said : Said) (stop : Stop) : Type 0 where
+pub data IsTheLast (contents : Contents) (stop : Stop) : Type 0 where
   Attached : stop.route.kind ≡ Intra
-      → Attaches said (ARouter stop.root.router) stop.route.prefix stop.route.cost
-      → IsTheLast said stop
+      → Attaches contents (ARouter stop.root.router) stop.route.prefix stop.route.cost
+      → IsTheLast contents stop
   BeforeTheOriginator : (originator : ℕ)
-      → HandsToward said stop.root stop.route originator originator → IsTheLast said stop
+      → HandsToward contents stop.root stop.route originator originator → IsTheLast contents stop
 
 -- routers that forward a packet up to the last one
-pub record ArrivesOutside (said : Said) (first : Stop) : Type 0 where
+pub record ArrivesOutside (contents : Contents) (first : Stop) : Type 0 where
   pub others : List Stop
-  pub passed_on : IsPassedFurther said first.route.prefix (first ∷ others)
-  pub is_last : IsTheLast said (last_of first others)
+  pub passed_on : IsPassedFurther contents first.route.prefix (first ∷ others)
+  pub is_last : IsTheLast contents (last_of first others)
 
 -- one of these routers, with a route for the prefix
 pub record IsStopAmong (routers : List Root) (table : Root → List Route) (prefix : Network)
@@ -146,39 +149,40 @@ pub record IsStopAmong (routers : List Root) (table : Root → List Route) (pref
   pub is_for : stop.route.prefix ≡ prefix
 
 -- a property of routers with the same database and tables of all their candidates
-abbrev pub OfRouters : (Said → List Root → (Root → List Route) → Type 0) → Type 0
+abbrev pub OfRouters : (Contents → List Root → (Root → List Route) → Type 0) → Type 0
 OfRouters Holds =
-    (said : Said) (routers : List Root) (table : Root → List Route)
-    → AreRouters said routers table → AreBoundariesPlain said → Holds said routers table
+    (contents : Contents) (routers : List Root) (table : Root → List Route)
+    → AreRouters contents routers table → AreBoundariesPlain contents → Holds contents routers table
 
 -- what happens to a packet that a router sends by this interface
-pub data IsFollowed (said : Said) (routers : List Root) (table : Root → List Route) (stop : Stop)
+pub data IsFollowed (contents : Contents) (routers : List Root) (table : Root → List Route)
+    (stop : Stop)
     (interface : ℕ) : Type 0 where
   -- 0 stands for the router itself, which is attached to the network
   AtHome : interface ≡ 0
-      → Attaches said (ARouter stop.root.router) stop.route.prefix stop.route.cost
-      → IsFollowed said routers table stop interface
+      → Attaches contents (ARouter stop.root.router) stop.route.prefix stop.route.cost
+      → IsFollowed contents routers table stop interface
   -- the router at the other end has a route for the prefix
   Further : (next : Stop) → IsStopAmong routers table stop.route.prefix next
-      → IsOtherEnd said stop.root interface next.root.router
-      → HandsFurther said stop.root stop.route next.root.router
-      → IsFollowed said routers table stop interface
+      → IsOtherEnd contents stop.root interface next.root.router
+      → HandsFurther contents stop.root stop.route next.root.router
+      → IsFollowed contents routers table stop interface
   -- the router at the other end is the originator
-  AtTheOriginator : (originator : ℕ) → IsOtherEnd said stop.root interface originator
-      → HandsToward said stop.root stop.route originator originator
-      → IsFollowed said routers table stop interface
+  AtTheOriginator : (originator : ℕ) → IsOtherEnd contents stop.root interface originator
+      → HandsToward contents stop.root stop.route originator originator
+      → IsFollowed contents routers table stop interface
 
 -- packets for which a router has a route of any kind arrive
 pub record AllPacketsArrive : Type 0 where
   -- by some path
-  pub arrives : OfRouters (λ said routers table. (prefix : Network) (first : Stop)
-      → IsStopAmong routers table prefix first → ArrivesOutside said first)
+  pub arrives : OfRouters (λ contents routers table. (prefix : Network) (first : Stop)
+      → IsStopAmong routers table prefix first → ArrivesOutside contents first)
   -- and by each path, whichever next hops the routers choose: each of them leads on, or to the end
-  pub each_hop : OfRouters (λ said routers table. (prefix : Network) (stop : Stop)
+  pub each_hop : OfRouters (λ contents routers table. (prefix : Network) (stop : Stop)
       → IsStopAmong routers table prefix stop → (interface : ℕ)
       → IsTrue (has_interface stop.route.hops interface)
-      → IsFollowed said routers table stop interface)
+      → IsFollowed contents routers table stop interface)
   -- no path has more routers than there are
-  pub short : OfRouters (λ said routers table. (prefix : Network) (stops : List Stop)
-      → IsPassedFurther said prefix stops → All (IsStopAmong routers table prefix) stops
+  pub short : OfRouters (λ contents routers table. (prefix : Network) (stops : List Stop)
+      → IsPassedFurther contents prefix stops → All (IsStopAmong routers table prefix) stops
       → length stops ≤ length routers)

@@ -14,14 +14,14 @@ use Rattle.event_rules.specs.Routers.{are_distinct}
 use Rattle.received.specs.Links.{Link, neighbor_at}
 use Rattle.routes.specs.Candidates.{IsCandidate}
 use Rattle.routes.specs.Links.{HasLink, LeadsTo, Says}
-use Rattle.routes.specs.Said.{Said}
+use Rattle.routes.specs.Contents.{Contents}
 use Rattle.routes.specs.declared.node.Node.{Node}
 use Rattle.routes.specs.declared.node.Node.TheVariants.{ARouter}
 use Rattle.route_laws.specs.Forwarding.{IsOtherEnd, NamesItsInterfaces}
 
 -- the database has the router-LSA for these interfaces and neighbors
-abbrev pub IsCurrent : Said → RouterNumber → List Link → Type 0
-IsCurrent said router links = Says said (router_key router) (router_body links)
+abbrev pub IsCurrent : Contents → RouterNumber → List Link → Type 0
+IsCurrent contents router links = Says contents (router_key router) (router_body links)
 
 -- no two interfaces have the same address, as in each valid configuration
 abbrev pub HaveOwnAddresses : List Link → Type 0
@@ -40,39 +40,40 @@ pub record LeadsAlong (links : List Link) (interface : InterfaceNumber) (target 
     pub is_target : target ≡ ARouter neighbor.router
 
 -- the interface has a Full neighbor, to which a link by it leads that counts
-pub record IsNextHop (said : Said) (router : RouterNumber) (links : List Link)
+pub record IsNextHop (contents : Contents) (router : RouterNumber) (links : List Link)
     (interface : InterfaceNumber) : Type 0 where
   pub neighbor : Neighbor
   pub is_on : neighbor_at interface links ≡ Some neighbor
   pub full : IsTrue (is_full neighbor.state)
   pub price : ℕ
-  pub leads : LeadsTo said (root_by router links) (ARouter router) (ARouter neighbor.router) price
+  pub leads : LeadsTo contents (root_by router links) (ARouter router) (ARouter neighbor.router)
+      price
       interface
 
 pub record OwnRouterLsasMeetThePremises : Type 0 where
   -- it names the router's interfaces
-  pub own : (said : Said) (router : RouterNumber) (links : List Link)
-      → IsCurrent said router links → NamesItsInterfaces said (root_by router links)
+  pub own : (contents : Contents) (router : RouterNumber) (links : List Link)
+      → IsCurrent contents router links → NamesItsInterfaces contents (root_by router links)
   -- its point-to-point links have a metric, so that they count
-  pub not_free : (said : Said) (router : RouterNumber) (links : List Link)
-      → IsCurrent said router links → HaveCosts links → (link : RouterLink)
-      → HasLink said router link → link.kind ≡ PointToPoint → 0 < link.metric
+  pub not_free : (contents : Contents) (router : RouterNumber) (links : List Link)
+      → IsCurrent contents router links → HaveCosts links → (link : RouterLink)
+      → HasLink contents router link → link.kind ≡ PointToPoint → 0 < link.metric
   -- each of its links that counts leads to the Full neighbor on the interface that it uses
-  pub leads : (said : Said) (router : RouterNumber) (links : List Link)
-      → IsCurrent said router links → HaveOwnAddresses links
+  pub leads : (contents : Contents) (router : RouterNumber) (links : List Link)
+      → IsCurrent contents router links → HaveOwnAddresses links
       → (target : Node) (price interface : ℕ)
-      → LeadsTo said (root_by router links) (ARouter router) target price interface
+      → LeadsTo contents (root_by router links) (ARouter router) target price interface
       → LeadsAlong links interface target
   -- so the neighbor on an interface is the router at its other end
-  pub other_end : (said : Said) (router : RouterNumber) (links : List Link)
-      → IsCurrent said router links → HaveOwnAddresses links
+  pub other_end : (contents : Contents) (router : RouterNumber) (links : List Link)
+      → IsCurrent contents router links → HaveOwnAddresses links
       → (interface : InterfaceNumber) (neighbor : Neighbor)
       → neighbor_at interface links ≡ Some neighbor
-      → IsOtherEnd said (root_by router links) interface neighbor.router
+      → IsOtherEnd contents (root_by router links) interface neighbor.router
   -- and each next hop of each candidate, except 0, is an interface with a Full neighbor, to which a
   -- link by it leads that counts
-  pub next_hops : (said : Said) (router : RouterNumber) (links : List Link)
-      → IsCurrent said router links → HaveOwnAddresses links
-      → (route : Route) → IsCandidate said (root_by router links) route
+  pub next_hops : (contents : Contents) (router : RouterNumber) (links : List Link)
+      → IsCurrent contents router links → HaveOwnAddresses links
+      → (route : Route) → IsCandidate contents (root_by router links) route
       → (interface : InterfaceNumber) → 0 < interface
-      → IsTrue (has_interface route.hops interface) → IsNextHop said router links interface
+      → IsTrue (has_interface route.hops interface) → IsNextHop contents router links interface

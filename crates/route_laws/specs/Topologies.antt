@@ -16,7 +16,7 @@ use Rattle.candidates.specs.Borders.{IsLongest}
 use Rattle.received.specs.Links.{neighbor_at}
 use Rattle.routes.specs.Links.{Says}
 use Rattle.routes.specs.Offers.{IsPrefix}
-use Rattle.routes.specs.Said.{Said, said_at}
+use Rattle.routes.specs.Contents.{Contents, contents_at}
 use Rattle.routes.specs.declared.root.Root.{Root}
 use Rattle.route_laws.specs.Laws.{LetsAllIn}
 use Rattle.route_laws.specs.Premises.{HaveCosts, HaveOwnAddresses, IsCurrent}
@@ -38,8 +38,8 @@ abbrev pub StandsAt : Topology → ℕ → Forwarder → Type 0
 StandsAt topology place forwarder = slice_get topology.routers place ≡ Some forwarder
 
 -- what the LSAs of its database say at the moment of its last event
-abbrev pub says_of : Router → Said
-says_of router = said_at router.moment router.area.database
+abbrev pub says_of : Router → Contents
+says_of router = contents_at router.moment router.area.database
 
 -- the root of its walks
 abbrev pub root_of : Router → Root
@@ -94,14 +94,14 @@ AreUpToDate topology =
     (place : ℕ) (forwarder : Forwarder) → StandsAt topology place forwarder → IsUpToDate forwarder
 
 -- the databases of all routers say the same, each at its own moment
-abbrev pub SayTheSame : Topology → Type 0
-SayTheSame topology =
+abbrev pub HaveSameContents : Topology → Type 0
+HaveSameContents topology =
     (place other : ℕ) (a b : Forwarder) → StandsAt topology place a → StandsAt topology other b
     → (key : Key) → says_of a.router key ≡ says_of b.router key
 
 pub record HasConverged (topology : Topology) : Type 0 where
   pub up_to_date : AreUpToDate topology
-  pub agree : SayTheSame topology
+  pub agree : HaveSameContents topology
   pub joined : AreJoined topology
 
 -- ---- forwarding
@@ -120,11 +120,12 @@ pub record HandsTo (topology : Topology) (address : ℕ) (from to : ℕ) : Type 
 
 -- a self-originated AS-external-LSA of the router advertises this destination, which contains the
 -- address, with a metric below LSInfinity
-pub record TellsOf (said : Said) (router : RouterNumber) (address : ℕ) (prefix : Network) : Type 0
+pub record TellsOf (contents : Contents) (router : RouterNumber) (address : ℕ) (prefix : Network) :
+    Type 0
   where
     pub id : ℕ
     pub lsa : ExternalLsa
-    pub its : Says said (external_key id router) (body.External lsa)
+    pub its : Says contents (external_key id router) (body.External lsa)
     pub reachable : lsa.metric < 16777215
     pub is_prefix : IsPrefix id lsa.mask prefix
     pub under : IsUnder address prefix

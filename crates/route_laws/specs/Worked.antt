@@ -19,7 +19,7 @@ use Rattle.lsdb.specs.Keys.{key_cmp}
 use Rattle.routes.specs.Candidates.{AreCandidates}
 use Rattle.routes.specs.Tables.{IsTable}
 use Rattle.routes.specs.declared.root.Root.{Root}
-use Rattle.routes.specs.Said.{said_at}
+use Rattle.routes.specs.Contents.{contents_at}
 
 -- ---- shorthand for the examples
 
@@ -118,9 +118,10 @@ across =
     record { prefix = network_24 192 0 2; kind = Intra; cost = 20; distance = 0; hops = 6; tag = 0 }
 
 pub record WorkedSquare : Type 0 where
-  pub candidates : AreCandidates (said_at 0 (database square)) square_root (across ∷ [])
-  pub let_in : IsTable (said_at 0 (database square)) square_root ((across, 0) ∷ []) (across ∷ [])
-  pub vetoed : IsTable (said_at 0 (database square)) square_root ((across, 1) ∷ []) []
+  pub candidates : AreCandidates (contents_at 0 (database square)) square_root (across ∷ [])
+  pub let_in : IsTable (contents_at 0 (database square)) square_root ((across, 0) ∷ [])
+      (across ∷ [])
+  pub vetoed : IsTable (contents_at 0 (database square)) square_root ((across, 1) ∷ []) []
 
 -- ---- two routers on one link; the other one has a further network and an external destination
 
@@ -177,9 +178,9 @@ abroad_2 = record {
 }
 
 pub record WorkedTwoRouters : Type 0 where
-  pub within : AreCandidates (said_at 0 (database (two_routers []))) near_router
+  pub within : AreCandidates (contents_at 0 (database (two_routers []))) near_router
       (own_network ∷ next_network ∷ [])
-  pub type_1 : AreCandidates (said_at 0 (database (two_routers (abroad Type1)))) near_router
+  pub type_1 : AreCandidates (contents_at 0 (database (two_routers (abroad Type1)))) near_router
       (own_network ∷ next_network ∷ abroad_1 ∷ [])
-  pub type_2 : AreCandidates (said_at 0 (database (two_routers (abroad Type2)))) near_router
+  pub type_2 : AreCandidates (contents_at 0 (database (two_routers (abroad Type2)))) near_router
       (own_network ∷ next_network ∷ abroad_2 ∷ [])

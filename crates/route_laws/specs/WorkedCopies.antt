@@ -6,8 +6,8 @@ use Rattle.words.specs.Numbers.{Moment, Seconds}
 use Rattle.words.specs.declared.key.Key.{Key}
 use Rattle.lsa.specs.declared.body.LsaBody.{LsaBody}
 use Rattle.lsdb.specs.Copies.{Database, DatabaseCopy}
-use Rattle.kept_routes.specs.Sameness.{AreLsasUnchanged, IsLsaUnchanged, SayTheSame}
-use Rattle.routes.specs.Said.{Said}
+use Rattle.kept_routes.specs.Sameness.{AreLsasUnchanged, IsLsaUnchanged, HaveSameContents}
+use Rattle.routes.specs.Contents.{Contents}
 
 -- ---- one LSA
 
@@ -83,10 +83,10 @@ pub record WorkedCopies : Type 0 where
 -- ---- types
 
 -- the LSAs of a type have this body, and no others say anything
-abbrev pub saying : ℕ → LsaBody → Said
+abbrev pub saying : ℕ → LsaBody → Contents
 saying ls_type says key = if key.ls_type == ls_type then Some says else None
 
-abbrev pub silent : Said
+abbrev pub silent : Contents
 silent key = None
 
 abbrev pub key : ℕ → Key
@@ -100,15 +100,15 @@ pub record Comes (key : Key) (copy : DatabaseCopy) (old new : Database) : Type 0
 
 pub record WorkedTypes : Type 0 where
   -- those of the last type and of types before it count, and those of later types don't
-  pub before : (b : LsaBody) → SayTheSame (Some 2) silent (saying 1 b) → ⊥
-  pub last : (b : LsaBody) → SayTheSame (Some 2) silent (saying 2 b) → ⊥
-  pub behind : (b : LsaBody) → SayTheSame (Some 2) silent (saying 3 b)
+  pub before : (b : LsaBody) → HaveSameContents (Some 2) silent (saying 1 b) → ⊥
+  pub last : (b : LsaBody) → HaveSameContents (Some 2) silent (saying 2 b) → ⊥
+  pub behind : (b : LsaBody) → HaveSameContents (Some 2) silent (saying 3 b)
   -- without a last type, all count
-  pub every : (b : LsaBody) → SayTheSame None silent (saying 5 b) → ⊥
+  pub every : (b : LsaBody) → HaveSameContents None silent (saying 5 b) → ⊥
   -- their bodies count, and whether one is removed
-  pub other : (b c : LsaBody) → b ≢ c → SayTheSame (Some 2) (saying 2 b) (saying 2 c) → ⊥
-  pub leaves : (b : LsaBody) → SayTheSame (Some 2) (saying 2 b) silent → ⊥
-  pub same : (b : LsaBody) → SayTheSame (Some 2) (saying 2 b) (saying 2 b)
+  pub other : (b c : LsaBody) → b ≢ c → HaveSameContents (Some 2) (saying 2 b) (saying 2 c) → ⊥
+  pub leaves : (b : LsaBody) → HaveSameContents (Some 2) (saying 2 b) silent → ⊥
+  pub same : (b : LsaBody) → HaveSameContents (Some 2) (saying 2 b) (saying 2 b)
   -- the same with copies, one of which is added between moments 100 and 110
   pub comes_before : (b : LsaBody) (old new : Database)
       → Comes (key 1) (copy b (pos 4) 10 105) old new → AreLsasUnchanged (Some 2) 100 110 old

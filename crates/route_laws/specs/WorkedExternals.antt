@@ -12,7 +12,7 @@ use Rattle.lsdb.specs.Headers.{lsa_aged}
 use Rattle.routes.specs.Candidates.{AreCandidates}
 use Rattle.route_laws.specs.Worked.{Entries, database, ipv4, mask_24, near_router, network_24}
 use Rattle.route_laws.specs.Worked.{next_network, of_external, own_network, two_routers}
-use Rattle.routes.specs.Said.{said_at}
+use Rattle.routes.specs.Contents.{contents_at}
 
 abbrev pub external : ExternalType → ℕ → ℕ → ℕ → ExternalLsa
 external kind metric forwarding tag = record {
@@ -95,5 +95,5 @@ of_first_type = record {
 
 abbrev pub WorkedExternals : Type 0
 WorkedExternals =
-    AreCandidates (said_at 0 (database destinations)) near_router
+    AreCandidates (contents_at 0 (database destinations)) near_router
     (own_network ∷ next_network ∷ by_own_network ∷ by_next_network ∷ of_first_type ∷ [])

@@ -13,7 +13,7 @@ use Rattle.route_laws.specs.Worked.{Entries, database, ipv4, mask_24, network_24
 use Rattle.route_laws.specs.Worked.{of_external, point_to_point, stub}
 use Rattle.route_laws.specs.WorkedExternals.{external}
 use Rattle.routes.specs.Candidates.{AreCandidates}
-use Rattle.routes.specs.Said.{Said, said_at}
+use Rattle.routes.specs.Contents.{Contents, contents_at}
 use Rattle.routes.specs.Tables.{IsTable}
 use Rattle.routes.specs.declared.root.Root.{Root}
 use Rattle.route_laws.specs.Forwarding.{AreRouters, ForwardsFor, ForwardsTo, HandsOn, IsPassedOn}
@@ -56,8 +56,8 @@ row =
     ∷ of_external (ipv4 203 0 113 0) (ipv4 3 3 3 3) (external Type1 20 0 0)
     ∷ []
 
-abbrev pub row_says : Said
-row_says = said_at 0 (database row)
+abbrev pub row_says : Contents
+row_says = contents_at 0 (database row)
 
 -- the routes to the three networks, with these costs and next hops
 

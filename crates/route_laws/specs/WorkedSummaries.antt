@@ -10,7 +10,7 @@ use Rattle.lsa.specs.declared.body.RouterLink.{RouterLink}
 use Rattle.lsa.specs.declared.body.SummaryLsa.{SummaryLsa}
 use Rattle.lsdb.specs.Copies.{DatabaseCopy}
 use Rattle.routes.specs.Candidates.{AreCandidates}
-use Rattle.routes.specs.Said.{said_at}
+use Rattle.routes.specs.Contents.{contents_at}
 use Rattle.routes.specs.declared.root.Root.{Root}
 use Rattle.route_laws.specs.Worked.{Entries, copy_of, database, ipv4, key, mask_24, network_24}
 use Rattle.route_laws.specs.Worked.{of_external, of_router, point_to_point}
@@ -118,8 +118,8 @@ distant_route = record {
 
 pub record WorkedSummaries : Type 0 where
   -- both neighbors are area border routers, and the second one is an AS boundary router
-  pub with_b : AreCandidates (said_at 0 (database (told_entries 1 3))) summaries_root
+  pub with_b : AreCandidates (contents_at 0 (database (told_entries 1 3))) summaries_root
       (between_route ∷ beyond_1 ∷ beyond_2 ∷ distant_route ∷ [])
   -- neither is an area border router
-  pub without_b : AreCandidates (said_at 0 (database (told_entries 0 2))) summaries_root
+  pub without_b : AreCandidates (contents_at 0 (database (told_entries 0 2))) summaries_root
       (distant_route ∷ [])

@@ -27,7 +27,7 @@ use Rattle.route_laws.specs.Networks.{IsThere}
 use Rattle.route_laws.specs.Topologies.{AreJoined, AreUpToDate, Forwarder, HandsTo}
 use Rattle.route_laws.specs.Topologies.{HasConverged}
 use Rattle.route_laws.specs.Topologies.{IsCurrentForwarder, IsHandedAlong, IsUpToDate}
-use Rattle.route_laws.specs.Topologies.{SayTheSame, StandsAt, TellsOf, Topology, says_of}
+use Rattle.route_laws.specs.Topologies.{HaveSameContents, StandsAt, TellsOf, Topology, says_of}
 
 -- ---- three routers in a row, on links with cost 5; the interface of the left one is in
 -- 192.0.2.0/23, that of the right one in 192.0.2.0/24, and both of the middle one in 10.0.0.0/24
@@ -218,7 +218,7 @@ crossed_row = record in_a_row { across = across_row 0 }
 -- back to the left one
 pub record CrossedLinksMayLoop : Type 0 where
   pub up_to_date : AreUpToDate crossed_row
-  pub agree : SayTheSame crossed_row
+  pub agree : HaveSameContents crossed_row
   pub comes_back : IsHandedAlong crossed_row address (0 ∷ 1 ∷ 0 ∷ [])
 
 -- ---- the left and the middle router; the middle one has restarted, and doesn't have the right one
@@ -285,7 +285,7 @@ pub record EqualAddressesMayLoop : Type 0 where
   pub costs : HaveCosts equal_links
   pub others : (place : ℕ) (other : Forwarder) → StandsAt with_equal_addresses place other
       → place ≢ 1 → IsUpToDate other
-  pub agree : SayTheSame with_equal_addresses
+  pub agree : HaveSameContents with_equal_addresses
   pub joined : AreJoined with_equal_addresses
   pub comes_back : IsHandedAlong with_equal_addresses address (0 ∷ 1 ∷ 0 ∷ [])
 
@@ -346,7 +346,7 @@ pub record ZeroCostsMayLosePackets : Type 0 where
   pub addresses : HaveOwnAddresses zero_links
   pub others : (place : ℕ) (other : Forwarder) → StandsAt with_zero_cost place other
       → place ≢ 0 → IsUpToDate other
-  pub agree : SayTheSame with_zero_cost
+  pub agree : HaveSameContents with_zero_cost
   pub joined : AreJoined with_zero_cost
   pub has_route : IsLongest zero_middle.table address_abroad abroad
   pub handed_along : IsHandedAlong with_zero_cost address_abroad (1 ∷ 0 ∷ [])

@@ -17,7 +17,7 @@ use Rattle.route_laws.specs.Worked.{Entries, copy_of, database, ipv4, key, mask_
 use Rattle.route_laws.specs.Worked.{of_external, of_router, point_to_point, stub}
 use Rattle.route_laws.specs.WorkedExternals.{external}
 use Rattle.routes.specs.declared.root.Root.{Root}
-use Rattle.routes.specs.Said.{said_at}
+use Rattle.routes.specs.Contents.{contents_at}
 
 -- a router's link to a transit network: the address of its Designated Router, and the router's own
 -- there
@@ -132,5 +132,5 @@ longest_route = record {
 
 abbrev pub WorkedTransit : Type 0
 WorkedTransit =
-    AreCandidates (said_at 0 (database transit_entries)) transit_root
+    AreCandidates (contents_at 0 (database transit_entries)) transit_root
     (wide_route ∷ transit_route ∷ behind_route ∷ shared_route ∷ longest_route ∷ [])

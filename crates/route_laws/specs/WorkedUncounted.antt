@@ -8,7 +8,7 @@ use Rattle.lsa.specs.declared.body.LinkKind.TheVariants.{Virtual}
 use Rattle.routes.specs.Candidates.{AreCandidates}
 use Rattle.route_laws.specs.Worked.{Entries, database, ipv4, mask_24, near_router, network_24}
 use Rattle.route_laws.specs.Worked.{of_router, point_to_point, stub}
-use Rattle.routes.specs.Said.{said_at}
+use Rattle.routes.specs.Contents.{contents_at}
 
 abbrev pub virtual : ℕ → ℕ → ℕ → RouterLink
 virtual neighbor address cost =
@@ -51,4 +51,4 @@ neighbor_route =
 
 abbrev pub WorkedUncounted : Type 0
 WorkedUncounted =
-    AreCandidates (said_at 0 (database uncounted_entries)) near_router (neighbor_route ∷ [])
+    AreCandidates (contents_at 0 (database uncounted_entries)) near_router (neighbor_route ∷ [])

@@ -7,14 +7,15 @@ use Rattle.routes.specs.Laws.{WaysRestOnLinks}
 use Rattle.routes.specs.Links.{Counts, HasLink, Leads, LeadsTo, LinksBack, ListsRouter, network_key}
 use Rattle.routes.specs.Links.{router_key}
 use Rattle.routes.specs.Paths.{IsLeastWalk, IsWalk, IsWay, Step, Way}
-use Rattle.routes.specs.Said.{Said}
+use Rattle.routes.specs.Contents.{Contents}
 use Rattle.routes.specs.declared.node.Node.{Node}
 use Rattle.routes.specs.declared.node.Node.TheVariants.{ANetwork, ARouter}
 use Rattle.routes.specs.declared.root.Root.{Root}
 
 -- ---- links
 
-module _ (old new : Said) (same : (key : Key) → key.ls_type ≤ 2 → old key ≡ new key) (root : Root)
+module _ (old new : Contents) (same : (key : Key) → key.ls_type ≤ 2 → old key ≡ new key)
+    (root : Root)
   where
     has_link : (router : ℕ) (link : RouterLink) → HasLink old router link → HasLink new router link
     has_link router link h = record {

@@ -64,7 +64,7 @@ one_way leads from to a b p q =
     λ i. record { distance = distance i; hops = hops i }
 
 pub ways : WaysAreDetermined
-ways said root from to a b p q = one_way (Leads said root) from to a b p q
+ways contents root from to a b p q = one_way (Leads contents root) from to a b p q
 
 -- ---- equally good offers
 
@@ -148,7 +148,7 @@ one_route IsOffered r s p q e =
     }
 
 pub one_candidate : OneCandidateForEachPrefix
-one_candidate said root r s p q e = one_route (Offers said root) r s p q e
+one_candidate contents root r s p q e = one_route (Offers contents root) r s p q e
 
 pub never_both : (a b : Network) → IsBefore a b → IsBefore b a → ⊥
 never_both a b (ByAddress p) (ByAddress q) = omega (arith, p, q)
@@ -166,6 +166,6 @@ same_routes left right = same_lists (λ (a : Route) (b : Route). IsBefore a.pref
     (λ (a : Route) (b : Route). never_both a.prefix b.prefix) left right
 
 pub candidates : CandidatesAreDetermined
-candidates said root left right p q =
+candidates contents root left right p q =
     same_routes left right p.ascending q.ascending (λ r t. (q.each r).1 ((p.each r).0 t))
     (λ r t. (p.each r).1 ((q.each r).0 t))

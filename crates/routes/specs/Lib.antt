@@ -1,4 +1,4 @@
-pub mod Said
+pub mod Contents
 pub mod Paths
 pub mod Links
 pub mod Routes

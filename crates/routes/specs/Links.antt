@@ -15,40 +15,40 @@ use Rattle.routes.specs.Paths.{Step}
 use Rattle.routes.specs.declared.node.Node.{Node}
 use Rattle.routes.specs.declared.node.Node.TheVariants.{ANetwork, ARouter}
 use Rattle.routes.specs.declared.root.Root.{Root}
-use Rattle.routes.specs.Said.{Said}
+use Rattle.routes.specs.Contents.{Contents}
 
 -- the LSA of this key says this
-abbrev pub Says : Said → Key → LsaBody → Type 0
-Says said key body = said key ≡ Some body
+abbrev pub Says : Contents → Key → LsaBody → Type 0
+Says contents key body = contents key ≡ Some body
 
 abbrev pub network_key : ℕ → ℕ → Key
 network_key id by = record { ls_type = 2; link_state_id = id; advertising_router = by }
 
-abbrev pub IsRouterLsa : Said → ℕ → RouterLsa → Type 0
-IsRouterLsa said router r = Says said (router_key router) (body.Router r)
+abbrev pub IsRouterLsa : Contents → ℕ → RouterLsa → Type 0
+IsRouterLsa contents router r = Says contents (router_key router) (body.Router r)
 
-abbrev pub IsNetworkLsa : Said → ℕ → ℕ → NetworkLsa → Type 0
-IsNetworkLsa said id by n = Says said (network_key id by) (body.Network n)
+abbrev pub IsNetworkLsa : Contents → ℕ → ℕ → NetworkLsa → Type 0
+IsNetworkLsa contents id by n = Says contents (network_key id by) (body.Network n)
 
 -- a link of the router's LSA
-pub record HasLink (said : Said) (router : ℕ) (link : RouterLink) : Type 0 where
+pub record HasLink (contents : Contents) (router : ℕ) (link : RouterLink) : Type 0 where
   pub lsa : RouterLsa
-  pub its : IsRouterLsa said router lsa
+  pub its : IsRouterLsa contents router lsa
   pub among : Contains lsa.links link
 
 -- the network-LSA lists the router
-pub record ListsRouter (said : Said) (id by router : ℕ) : Type 0 where
+pub record ListsRouter (contents : Contents) (id by router : ℕ) : Type 0 where
   pub lsa : NetworkLsa
-  pub its : IsNetworkLsa said id by lsa
+  pub its : IsNetworkLsa contents id by lsa
   pub among : Contains lsa.attached router
 
 -- A link of this kind and cost to this Link ID that may count: its metric isn't 0, and at the root
 -- its data is the address of an own interface, by which the root sends; for other routers the exit
 -- is 0.
-pub record Counts (said : Said) (root : Root) (router : ℕ) (kind : LinkKind)
+pub record Counts (contents : Contents) (root : Root) (router : ℕ) (kind : LinkKind)
     (id price exit : ℕ) : Type 0 where
   pub link : RouterLink
-  pub its : HasLink said router link
+  pub its : HasLink contents router link
   pub is_kind : link.kind ≡ kind
   pub is_id : link.link_id ≡ id
   pub costs : link.metric ≡ price
@@ -58,20 +58,20 @@ pub record Counts (said : Said) (root : Root) (router : ℕ) (kind : LinkKind)
   pub elsewhere : ¬ (router ≡ root.router) → exit ≡ 0
 
 -- some link of this kind back to this Link ID
-abbrev pub LinksBack : Said → ℕ → LinkKind → ℕ → Type 0
-LinksBack said router kind id =
-    (link : RouterLink) × HasLink said router link × (link.kind ≡ kind) × (link.link_id ≡ id)
+abbrev pub LinksBack : Contents → ℕ → LinkKind → ℕ → Type 0
+LinksBack contents router kind id =
+    (link : RouterLink) × HasLink contents router link × (link.kind ≡ kind) × (link.link_id ≡ id)
 
 -- a link counts only if the other end links back; a network leads to each router that it lists at
 -- cost 0
-abbrev pub LeadsTo : Said → Root → Node → Node → ℕ → ℕ → Type 0
-LeadsTo said root (ARouter a) (ARouter b) price exit =
-    Counts said root a PointToPoint b price exit × LinksBack said b PointToPoint a
-LeadsTo said root (ARouter a) (ANetwork id by) price exit =
-    Counts said root a Transit id price exit × ListsRouter said id by a
-LeadsTo said root (ANetwork id by) (ARouter b) price exit =
-    ListsRouter said id by b × LinksBack said b Transit id × (price ≡ 0) × (exit ≡ 0)
-LeadsTo said root (ANetwork id by) (ANetwork other its) price exit = ⊥
+abbrev pub LeadsTo : Contents → Root → Node → Node → ℕ → ℕ → Type 0
+LeadsTo contents root (ARouter a) (ARouter b) price exit =
+    Counts contents root a PointToPoint b price exit × LinksBack contents b PointToPoint a
+LeadsTo contents root (ARouter a) (ANetwork id by) price exit =
+    Counts contents root a Transit id price exit × ListsRouter contents id by a
+LeadsTo contents root (ANetwork id by) (ARouter b) price exit =
+    ListsRouter contents id by b × LinksBack contents b Transit id × (price ≡ 0) × (exit ≡ 0)
+LeadsTo contents root (ANetwork id by) (ANetwork other its) price exit = ⊥
 
-abbrev pub Leads : Said → Root → Node → Step Node → Type 0
-Leads said root from step = LeadsTo said root from step.target step.price step.exit
+abbrev pub Leads : Contents → Root → Node → Step Node → Type 0
+Leads contents root from step = LeadsTo contents root from step.target step.price step.exit

@@ -12,7 +12,7 @@ use Rattle.routes.specs.declared.node.Node.TheVariants.{ANetwork, ARouter}
 use Rattle.routes.specs.Paths.{IsWay, Way}
 use Rattle.routes.specs.declared.offer.Offer.{Offer}
 use Rattle.routes.specs.declared.root.Root.{Root}
-use Rattle.routes.specs.Said.{Said}
+use Rattle.routes.specs.Contents.{Contents}
 
 -- the network of the address under a contiguous mask
 abbrev pub IsPrefix : ℕ → ℕ → Network → Type 0
@@ -36,22 +36,22 @@ intra prefix cost hops =
 
 -- the network is the node's own, or a stub link of the router leads to it, at this cost in addition
 -- to the way to the node
-abbrev pub Attaches : Said → Node → Network → ℕ → Type 0
-Attaches said (ANetwork id by) prefix more =
-    (lsa : NetworkLsa) × IsNetworkLsa said id by lsa × IsPrefix id lsa.mask prefix × (more ≡ 0)
-Attaches said (ARouter router) prefix more =
-    (link : RouterLink) × HasLink said router link × (link.kind ≡ Stub)
+abbrev pub Attaches : Contents → Node → Network → ℕ → Type 0
+Attaches contents (ANetwork id by) prefix more =
+    (lsa : NetworkLsa) × IsNetworkLsa contents id by lsa × IsPrefix id lsa.mask prefix × (more ≡ 0)
+Attaches contents (ARouter router) prefix more =
+    (link : RouterLink) × HasLink contents router link × (link.kind ≡ Stub)
     × IsPrefix link.link_id link.link_data prefix × (more ≡ link.metric)
 
 -- a reachable node offers what it attaches, with the next hops of the way to it; the root's own
 -- networks have only hop 0
-pub record OffersWithin (said : Said) (root : Root) (o : Offer) : Type 0 where
+pub record OffersWithin (contents : Contents) (root : Root) (o : Offer) : Type 0 where
   pub node : Node
   pub prefix : Network
   pub more : ℕ
-  pub attached : Attaches said node prefix more
+  pub attached : Attaches contents node prefix more
   pub way : Way
-  pub reached : IsWay (Leads said root) (ARouter root.router) node way
+  pub reached : IsWay (Leads contents root) (ARouter root.router) node way
   pub hops : ℕ
   pub by_root : node ≡ ARouter root.router → hops ≡ 1
   pub by_others : ¬ (node ≡ ARouter root.router) → hops ≡ way.hops
@@ -60,9 +60,9 @@ pub record OffersWithin (said : Said) (root : Root) (o : Offer) : Type 0 where
 -- ---- external destinations (section 16.4)
 
 -- the originator is reachable, and its flags have bit E
-pub record ReachesBoundaryRouter (said : Said) (root : Root) (originator : ℕ)
+pub record ReachesBoundaryRouter (contents : Contents) (root : Root) (originator : ℕ)
     (way : Way) : Type 0 where
   pub lsa : RouterLsa
-  pub its : IsRouterLsa said originator lsa
+  pub its : IsRouterLsa contents originator lsa
   pub has_e : bit_and lsa.flags 2 ≡ 2
-  pub reached : IsWay (Leads said root) (ARouter root.router) (ARouter originator) way
+  pub reached : IsWay (Leads contents root) (ARouter root.router) (ARouter originator) way

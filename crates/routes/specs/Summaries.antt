@@ -12,25 +12,26 @@ use Rattle.lsa.specs.declared.body.SummaryLsa.{SummaryLsa}
 use Rattle.routes.specs.Links.{IsRouterLsa, Leads, Says}
 use Rattle.routes.specs.Offers.{IsPrefix, OffersWithin, ReachesBoundaryRouter}
 use Rattle.routes.specs.Paths.{IsWay, Way}
-use Rattle.routes.specs.Said.{Said}
+use Rattle.routes.specs.Contents.{Contents}
 use Rattle.routes.specs.declared.node.Node.TheVariants.{ARouter}
 use Rattle.routes.specs.declared.offer.Offer.{Offer}
 use Rattle.routes.specs.declared.root.Root.{Root}
 
 -- the router is reachable, and its flags have bit B
-pub record ReachesBorderRouter (said : Said) (root : Root) (router : ℕ) (way : Way) : Type 0 where
+pub record ReachesBorderRouter (contents : Contents) (root : Root) (router : ℕ) (way : Way) : Type 0
+    where
   pub lsa : RouterLsa
-  pub its : IsRouterLsa said router lsa
+  pub its : IsRouterLsa contents router lsa
   pub has_b : bit_and lsa.flags 1 ≡ 1
-  pub reached : IsWay (Leads said root) (ARouter root.router) (ARouter router) way
+  pub reached : IsWay (Leads contents root) (ARouter root.router) (ARouter router) way
 
 -- a summary-LSA with a metric below LSInfinity, of another router, which is an area border router
 -- reached by this way
-pub record CountsAsSummary (said : Said) (root : Root) (originator : ℕ) (lsa : SummaryLsa)
+pub record CountsAsSummary (contents : Contents) (root : Root) (originator : ℕ) (lsa : SummaryLsa)
     (border : Way) : Type 0 where
   pub reachable : lsa.metric < ls_infinity
   pub of_another : originator ≢ root.router
-  pub reaches : ReachesBorderRouter said root originator border
+  pub reaches : ReachesBorderRouter contents root originator border
 
 abbrev pub summary_key : ℕ → ℕ → ℕ → Key
 summary_key ls_type id originator =
@@ -50,44 +51,45 @@ inter prefix cost hops =
       originator = 0;
     }
 
-pub record OffersBetween (said : Said) (root : Root) (o : Offer) : Type 0 where
+pub record OffersBetween (contents : Contents) (root : Root) (o : Offer) : Type 0 where
   pub id : ℕ
   pub originator : ℕ
   pub lsa : SummaryLsa
-  pub its : Says said (summary_key 3 id originator) (body.NetworkSummary lsa)
+  pub its : Says contents (summary_key 3 id originator) (body.NetworkSummary lsa)
   pub border : Way
-  pub counts : CountsAsSummary said root originator lsa border
+  pub counts : CountsAsSummary contents root originator lsa border
   pub prefix : Network
   pub is_prefix : IsPrefix id lsa.mask prefix
   pub is : o ≡ inter prefix (border.distance + lsa.metric) border.hops
 
 -- the offers that a forwarding address may be reached by
-abbrev pub OffersInside : Said → Root → Offer → Type 0
-OffersInside said root o = OffersWithin said root o ⊎ OffersBetween said root o
+abbrev pub OffersInside : Contents → Root → Offer → Type 0
+OffersInside contents root o = OffersWithin contents root o ⊎ OffersBetween contents root o
 
 -- ---- AS boundary routers (section 16.4)
 
 -- an area border router advertises a way with this cost to the router
-pub record IsAdvertised (said : Said) (root : Root) (router distance : ℕ) (border : Way) : Type 0
+pub record IsAdvertised (contents : Contents) (root : Root) (router distance : ℕ) (border : Way) :
+    Type 0
   where
     pub originator : ℕ
     pub lsa : SummaryLsa
-    pub its : Says said (summary_key 4 router originator) (body.RouterSummary lsa)
-    pub counts : CountsAsSummary said root originator lsa border
+    pub its : Says contents (summary_key 4 router originator) (body.RouterSummary lsa)
+    pub counts : CountsAsSummary contents root originator lsa border
     pub is : distance ≡ border.distance + lsa.metric
 
 -- the least cost among those ways, with the next hops of all of that cost
-pub record IsWayBetween (said : Said) (root : Root) (router : ℕ) (way : Way) : Type 0 where
+pub record IsWayBetween (contents : Contents) (root : Root) (router : ℕ) (way : Way) : Type 0 where
   pub border : Way
-  pub advertised : IsAdvertised said root router way.distance border
-  pub least : (distance : ℕ) (other : Way) → IsAdvertised said root router distance other
+  pub advertised : IsAdvertised contents root router way.distance border
+  pub least : (distance : ℕ) (other : Way) → IsAdvertised contents root router distance other
       → way.distance ≤ distance
   pub hops : (interface : ℕ) → IsTrue (has_interface way.hops interface)
-      ↔ ((other : Way) × IsAdvertised said root router way.distance other
+      ↔ ((other : Way) × IsAdvertised contents root router way.distance other
       × IsTrue (has_interface other.hops interface))
 
 -- within the area if there is such a way, else between areas
-pub data IsBoundaryWay (said : Said) (root : Root) (router : ℕ) (way : Way) : Type 0 where
-  Inside : ReachesBoundaryRouter said root router way → IsBoundaryWay said root router way
-  Outside : ((other : Way) → ReachesBoundaryRouter said root router other → ⊥)
-      → IsWayBetween said root router way → IsBoundaryWay said root router way
+pub data IsBoundaryWay (contents : Contents) (root : Root) (router : ℕ) (way : Way) : Type 0 where
+  Inside : ReachesBoundaryRouter contents root router way → IsBoundaryWay contents root router way
+  Outside : ((other : Way) → ReachesBoundaryRouter contents root router other → ⊥)
+      → IsWayBetween contents root router way → IsBoundaryWay contents root router way

@@ -5,7 +5,7 @@ use Rattle.std.specs.List.{AllPairs, Contains}
 use Rattle.words.specs.declared.route.Route.{Route}
 use Rattle.routes.specs.Candidates.{IsCandidate}
 use Rattle.routes.specs.declared.root.Root.{Root}
-use Rattle.routes.specs.Said.{Said}
+use Rattle.routes.specs.Contents.{Contents}
 use Rattle.routes.specs.Routes.{IsBefore}
 
 -- routes with the words that were answered about them, 0 to let the route in; empty before the
@@ -22,11 +22,12 @@ abbrev pub HasAnswer : Answers → Route → Type 0
 HasAnswer answers r = (word : ℕ) × Contains answers (r, word)
 
 -- exactly the candidates that were let in, in the order of their prefixes
-pub record IsTable (said : Said) (root : Root) (answers : Answers)
+pub record IsTable (contents : Contents) (root : Root) (answers : Answers)
     (table : List Route) : Type 0 where
-  pub each : (r : Route) → Contains table r ↔ (IsCandidate said root r × IsLetIn answers r)
+  pub each : (r : Route) → Contains table r ↔ (IsCandidate contents root r × IsLetIn answers r)
   pub ascending : AllPairs (λ (a : Route) (b : Route). IsBefore a.prefix b.prefix) table
 
 -- some candidate has no answer, so that the program is to be asked again
-abbrev pub IsStale : Said → Root → Answers → Type 0
-IsStale said root answers = (r : Route) × IsCandidate said root r × (HasAnswer answers r → ⊥)
+abbrev pub IsStale : Contents → Root → Answers → Type 0
+IsStale contents root answers = (r : Route) × IsCandidate contents root r
+    × (HasAnswer answers r → ⊥)

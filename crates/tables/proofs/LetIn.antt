@@ -10,7 +10,7 @@ use Rattle.std.proofs.lemmas.List.Quantifiers.{all_pairs_push}
 use Rattle.words.specs.declared.route.Route.{Route}
 use Rattle.routes.specs.Candidates.{AreCandidates}
 use Rattle.routes.specs.Routes.{IsBefore}
-use Rattle.routes.specs.Said.{Said}
+use Rattle.routes.specs.Contents.{Contents}
 use Rattle.routes.specs.Tables.{Answers, HasAnswer, IsLetIn, IsStale, IsTable}
 use Rattle.routes.specs.declared.root.Root.{Root}
 use Rattle.routes.proofs.Listed.{other_default}
@@ -134,9 +134,9 @@ lack_by made answers routes b same lacks = (
 )
 
 pub are_table : (answers : Answers) (candidates table : List Route)
-    → AreLetIn answers candidates table → (said : Said) (root : Root)
-    → AreCandidates said root candidates → IsTable said root answers table
-are_table answers candidates table of said root are = record {
+    → AreLetIn answers candidates table → (contents : Contents) (root : Root)
+    → AreCandidates contents root candidates → IsTable contents root answers table
+are_table answers candidates table of contents root are = record {
   each = λ r. (
     (λ t. let h = (of.each r).0 t in ((are.each r).0 h.0, h.1)),
     (λ h. (of.each r).1 ((are.each r).1 h.0, h.1)),
@@ -145,9 +145,9 @@ are_table answers candidates table of said root are = record {
 }
 
 pub tells_stale : (answers : Answers) (candidates : List Route) (b : Bool)
-    → (IsTrue b ↔ LacksAnswers answers candidates) → (said : Said) (root : Root)
-    → AreCandidates said root candidates → (IsTrue b ↔ IsStale said root answers)
-tells_stale answers candidates b lacks said root are = (
+    → (IsTrue b ↔ LacksAnswers answers candidates) → (contents : Contents) (root : Root)
+    → AreCandidates contents root candidates → (IsTrue b ↔ IsStale contents root answers)
+tells_stale answers candidates b lacks contents root are = (
   λ t. let h = lacks.0 t in (h.0, (are.each h.0).0 h.1, h.2),
   λ stale. lacks.1 (stale.0, (are.each stale.0).1 stale.1, stale.2),
 )

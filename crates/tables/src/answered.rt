@@ -3,7 +3,7 @@ ghost use Rattle.std.specs.Prelude.{◌≡◌, ◌↔◌, ◌<◌, ◌≤◌, �
 ghost use Rattle.std.specs.Prelude.{length, slice_get};
 ghost use Rattle.std.specs.List.Sorted.{IsSorted};
 ghost use Rattle.routes.specs.Candidates.{AreCandidates};
-ghost use Rattle.routes.specs.Said.{Said};
+ghost use Rattle.routes.specs.Contents.{Contents};
 ghost use Rattle.routes.specs.Tables.{IsStale, IsTable};
 ghost use Rattle.routes.specs.declared.root.Root.{Root};
 ghost use Rattle.tables.specs.Orders.{answer_cmp};
@@ -29,8 +29,9 @@ pub fn table(
     candidates: &[Route],
     answers: &[(Route, u64)],
 ) -> Result<Vec<Route>, AllocError>
-    ensures { IfOk result (λ table. (said : Said) (root : Root)
-        → AreCandidates said root candidates.now → IsTable said root answers.now table.items) }
+    ensures { IfOk result (λ table. (contents : Contents) (root : Root)
+        → AreCandidates contents root candidates.now → IsTable contents root answers.now
+        table.items) }
 {
     if are_in_order(answers) {
         let table = let_in(alloc, candidates, answers)?;
@@ -52,9 +53,9 @@ pub fn is_stale(
     candidates: &[Route],
     answers: &[(Route, u64)],
 ) -> Result<bool, AllocError>
-    ensures { IfOk result (λ stale. (said : Said) (root : Root)
-        → AreCandidates said root candidates.now
-        → (IsTrue stale ↔ IsStale said root answers.now)) }
+    ensures { IfOk result (λ stale. (contents : Contents) (root : Root)
+        → AreCandidates contents root candidates.now
+        → (IsTrue stale ↔ IsStale contents root answers.now)) }
 {
     let met = answered_in_turn(candidates, answers);
     if met >= candidates.len() {

@@ -3,7 +3,7 @@ ghost use Rattle.std.specs.Prelude.{◌≡◌, ◌↔◌, ◌<◌, ◌≤◌, �
 ghost use Rattle.std.specs.Prelude.{length, slice_get};
 ghost use Rattle.pages.specs.Answers.{all_in};
 ghost use Rattle.routes.specs.Candidates.{AreCandidates};
-ghost use Rattle.routes.specs.Said.{Said};
+ghost use Rattle.routes.specs.Contents.{Contents};
 ghost use Rattle.routes.specs.Tables.{IsStale, IsTable};
 ghost use Rattle.routes.specs.declared.root.Root.{Root};
 ghost use Rattle.words.specs.declared.route.Route.{Route as RouteValue};
@@ -18,8 +18,9 @@ use words::Route;
 /// # Errors
 /// `AllocError` if an allocation is refused.
 pub fn table_of(candidates: &Pages<Route>, answers: &RouteAnswers) -> Result<Vec<Route>, AllocError>
-    ensures { IfOk result (λ table. (said : Said) (root : Root)
-        → AreCandidates said root candidates.now → IsTable said root answers.now table.items) }
+    ensures { IfOk result (λ table. (contents : Contents) (root : Root)
+        → AreCandidates contents root candidates.now → IsTable contents root answers.now
+        table.items) }
 {
     let alloc = candidates.allocator();
     let routes = candidates.to_vec()?;
@@ -34,9 +35,9 @@ pub fn table_of(candidates: &Pages<Route>, answers: &RouteAnswers) -> Result<Vec
 /// # Errors
 /// `AllocError` if an allocation is refused.
 pub fn lacks_answers(candidates: &Pages<Route>, answers: &RouteAnswers) -> Result<bool, AllocError>
-    ensures { IfOk result (λ stale. (said : Said) (root : Root)
-        → AreCandidates said root candidates.now
-        → (IsTrue stale ↔ IsStale said root answers.now)) }
+    ensures { IfOk result (λ stale. (contents : Contents) (root : Root)
+        → AreCandidates contents root candidates.now
+        → (IsTrue stale ↔ IsStale contents root answers.now)) }
 {
     match answers.kept() {
         Ok(each) => lacks_each(candidates, each),
@@ -52,9 +53,9 @@ pub fn lacks_answers(candidates: &Pages<Route>, answers: &RouteAnswers) -> Resul
 
 // The same, where the answers are kept one by one.
 fn lacks_each(candidates: &Pages<Route>, answers: &[(Route, u64)]) -> Result<bool, AllocError>
-    ensures { IfOk result (λ stale. (said : Said) (root : Root)
-        → AreCandidates said root candidates.now
-        → (IsTrue stale ↔ IsStale said root answers.now)) }
+    ensures { IfOk result (λ stale. (contents : Contents) (root : Root)
+        → AreCandidates contents root candidates.now
+        → (IsTrue stale ↔ IsStale contents root answers.now)) }
 {
     let alloc = candidates.allocator();
     let routes = candidates.to_vec()?;
@@ -64,9 +65,9 @@ fn lacks_each(candidates: &Pages<Route>, answers: &[(Route, u64)]) -> Result<boo
 
 // The same, where each of these routes was answered with 0. `None` if that takes a search.
 fn compared(candidates: &Pages<Route>, answered: &Pages<Route>) -> Option<bool>
-    ensures { IfSome result (λ stale. (said : Said) (root : Root)
-        → AreCandidates said root candidates.now
-        → (IsTrue stale ↔ IsStale said root (all_in answered.now))) }
+    ensures { IfSome result (λ stale. (contents : Contents) (root : Root)
+        → AreCandidates contents root candidates.now
+        → (IsTrue stale ↔ IsStale contents root (all_in answered.now))) }
 {
     let met = met_in_turn(candidates, answered);
     if met >= candidates.len() {

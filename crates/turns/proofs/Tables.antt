@@ -16,7 +16,7 @@ use Rattle.tables.specs.Orders.{answer_cmp}
 use Rattle.tables.specs.Parts.{AreLetIn}
 use Rattle.tables.specs.Rows.{rows_of}
 use Rattle.flood.specs.area_routes.Offers.{root_by}
-use Rattle.tables.specs.routes.Said.{said_at}
+use Rattle.tables.specs.routes.Contents.{contents_at}
 use Rattle.flood.specs.event_rules.Routers.{Router}
 use Rattle.flood.specs.Offers.{AreCandidatesNow, IsOffered}
 
@@ -92,13 +92,13 @@ pub rows_beside : (r : Router) (candidates : List Route) → AreCandidatesNow r 
     → (rows : List TableRow) × IsOffered r candidates rows
 rows_beside r candidates are =
     let table = all_let_in r.answers candidates in
-    let said = said_at r.moment r.area.database in
+    let contents = contents_at r.moment r.area.database in
     let root = root_by r.id r.area.links in (
       rows_of table.0,
       record {
         are_candidates = are;
         table = table.0;
-        is_table = are_table r.answers candidates table.0 table.1 said root are;
+        is_table = are_table r.answers candidates table.0 table.1 contents root are;
         are_rows = refl;
       },
     )

@@ -4,7 +4,7 @@ ghost use Rattle.std.specs.Prelude.{◌≡◌, IfOk, option_copied};
 ghost use Rattle.std.specs.FinMap as finite;
 ghost use Rattle.std.specs.List.{Contains};
 ghost use Rattle.lsdb.specs.Changes.{ContentsAgree};
-ghost use Rattle.lsdb.specs.Copies.{said_by};
+ghost use Rattle.lsdb.specs.Copies.{contents_of};
 ghost use Rattle.words.specs.declared.key.Key.{Key as KeyValue};
 
 use super::{Lsdb, SameUpTo};
@@ -39,7 +39,8 @@ impl Lsdb {
     /// The body that the copy of this key had when the database was last committed, if there was
     /// one below MaxAge at the moment. It visits the edits since then.
     pub fn committed_body_at(&self, moment: Second, key: &Key) -> Option<&LsaBody>
-        ensures { option_copied result ≡ said_by moment (finite.get self.now.committed key.now) }
+        ensures { option_copied result ≡ contents_of moment
+            (finite.get self.now.committed key.now) }
     {
         match self.copies.committed_get(key) {
             None => None,

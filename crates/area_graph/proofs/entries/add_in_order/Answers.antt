@@ -1,6 +1,6 @@
 use Rattle.std.proofs.Common.{List, [], subst}
 use Rattle.std.specs.List.{Contains}
-use Rattle.routes.specs.Said.{said_at}
+use Rattle.routes.specs.Contents.{contents_at}
 use Rattle.area_graph.specs.Entries.{TellsOf}
 use Rattle.area_graph.specs.Graphs.{Adds}
 use Rattle.area_graph.specs.declared.entry.AdvertisedLink.{AdvertisedLink}
@@ -10,7 +10,7 @@ use Rattle.area_graph.proofs.entries.add_in_order.Goals as goal
 pub returns : goal.returns
 returns c =
     let P : AdvertisedLink → Type 0 =
-    TellsOf (said_at c.args.advertised.now.moment c.args.advertised.now.db.now.present)
+    TellsOf (contents_at c.args.advertised.now.moment c.args.advertised.now.db.now.present)
     c.args.node.now c.args.place in
     let old = c.args.entries.now.items in
     let new = c.push_all.new.entries.items in

@@ -1,10 +1,10 @@
 use Rattle.std.proofs.Common.{[]}
-use Rattle.routes.specs.Said.{said_at}
+use Rattle.routes.specs.Contents.{contents_at}
 use Rattle.area_graph.specs.Graphs.{Adds}
 use Rattle.area_graph.proofs.Told.{FromBelow}
 use Rattle.area_graph.proofs.entries.entries_of.Given as goal
 
 abbrev pub invariant-loop-at : goal.invariant-loop-at
-invariant-loop-at l = Adds (FromBelow (said_at l.advertised.moment l.advertised.db.now.present)
+invariant-loop-at l = Adds (FromBelow (contents_at l.advertised.moment l.advertised.db.now.present)
     l.nodes l.at) []
     l.entries.items

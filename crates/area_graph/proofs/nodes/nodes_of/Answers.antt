@@ -3,7 +3,7 @@ use Rattle.std.proofs.Common.{Option, ◌++◌}
 use Rattle.std.proofs.lemmas.List.{append-nil}
 use Rattle.std.specs.FinMap as finite
 use Rattle.std.specs.List.{cons_option, filter_map}
-use Rattle.routes.specs.Said.{said_at}
+use Rattle.routes.specs.Contents.{contents_at}
 use Rattle.routes.specs.declared.node.Node.{Node}
 use Rattle.area_graph.specs.Nodes.{AreNodes, node_of}
 use Rattle.area_graph.proofs.KeyNodes.{all_bodies, are_nodes, few, kept_more}
@@ -30,12 +30,12 @@ loop-one-preserved c =
 
 pub returns-clause-nodes : goal.returns-clause-nodes
 returns-clause-nodes c =
-    let said = said_at c.args.moment c.args.db.now.present in
-    let P : List Node → Type 0 = λ nodes. AreNodes said nodes in
+    let contents = contents_at c.args.moment c.args.db.now.present in
+    let P : List Node → Type 0 = λ nodes. AreNodes contents nodes in
     subst P (sym (all_bodies c.loop-one.nodes.items c.deref-one-items.result.now
     c.in_ok-bodies.bodies.items c.loop-one.one-index c.deref-one-items.ensures.value
     c.loop-one-test.false c.loop-one.invariant))
-    (are_nodes said c.in_ok-bodies.bodies.items c.in_ok-bodies.ensures.bodies)
+    (are_nodes contents c.in_ok-bodies.bodies.items c.in_ok-bodies.ensures.bodies)
 
 pub returns-clause-few : goal.returns-clause-few
 returns-clause-few c =

@@ -1,14 +1,14 @@
 use Rattle.std.proofs.Common.{[], ◌∷◌, length, arith, refl, ap}
 use Rattle.std.proofs.lemmas.List.{length-append}
 use Rattle.std.proofs.lemmas.Option.{slice_get_read}
-use Rattle.routes.specs.Said.{said_at}
+use Rattle.routes.specs.Contents.{contents_at}
 use Rattle.area_graph.specs.Graphs.{StandsAt}
 use Rattle.area_graph.proofs.Whole.{one_more}
 use Rattle.area_graph.proofs.vertices.vertices_of.Goals as goal
 
 pub loop-at-preserved : goal.loop-at-preserved
 loop-at-preserved c =
-    let said = said_at c.args.advertised.now.moment c.args.advertised.now.db.now.present in
+    let contents = contents_at c.args.advertised.now.moment c.args.advertised.now.db.now.present in
     let nodes = c.args.area.now.nodes.now in
     let old = c.loop-at.graph.items in
     let node = c.index-nodes-at.result in
@@ -24,7 +24,7 @@ loop-at-preserved c =
         c.loop-at.invariant.count,
       );
       each = rw c.in_ok-push.ensures.items
-          (one_more said c.args.root.now nodes old c.loop-at.at node c.in_ok-vertex.vertex
+          (one_more contents c.args.root.now nodes old c.loop-at.at node c.in_ok-vertex.vertex
           c.loop-at.invariant.count here c.loop-at.invariant.each c.in_ok-vertex.ensures);
     }
 

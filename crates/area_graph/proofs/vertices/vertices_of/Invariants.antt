@@ -1,5 +1,5 @@
 use Rattle.std.proofs.Common.{◌≡◌, ◌≤◌, ℕ, Some, slice_get}
-use Rattle.routes.specs.Said.{said_at}
+use Rattle.routes.specs.Contents.{contents_at}
 use Rattle.routes.specs.declared.graph.Vertex.{Vertex}
 use Rattle.routes.specs.declared.node.Node.{Node}
 use Rattle.area_graph.specs.Graphs.{IsVertexOf, StandsAt}
@@ -12,7 +12,7 @@ invariant-loop-at l = record {
   count : length l.graph.items ≡ l.at;
   each : (at : ℕ) (node : Node) (vertex : Vertex) → StandsAt l.area.nodes.now node at
       → slice_get l.graph.items at ≡ Some vertex
-      → IsVertexOf (said_at l.advertised.moment l.advertised.db.now.present) l.root
+      → IsVertexOf (contents_at l.advertised.moment l.advertised.db.now.present) l.root
       l.area.nodes.now node
       vertex;
 }

@@ -3,13 +3,13 @@ use Rattle.std.specs.Prelude.{IfSome}
 use Rattle.words.specs.declared.route.Route.{Route}
 use Rattle.area_routes.specs.Kept.{HaveAnother}
 use Rattle.routes.specs.Candidates.{AreCandidates}
-use Rattle.routes.specs.Said.{said_at}
+use Rattle.routes.specs.Contents.{contents_at}
 use Rattle.area_routes.proofs.following.follow_some.Goals as goal
 
 pub follow_from-requires-clause-routes : goal.follow_from-requires-clause-routes
 follow_from-requires-clause-routes c =
     subst (λ (o : Option (List Route)). IfSome o
-    (λ routes. AreCandidates (said_at c.args.before c.args.area.now.committed.database)
+    (λ routes. AreCandidates (contents_at c.args.before c.args.area.now.committed.database)
     c.args.walk.now.root routes))
     c.in-Some.is c.requires.routes
 

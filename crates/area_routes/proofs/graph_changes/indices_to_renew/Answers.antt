@@ -2,7 +2,7 @@ use Rattle.std.proofs.Common.{◌≤◌, ℕ, List, arith}
 use Rattle.area_routes.specs.GraphChanges.{IsCovered}
 use Rattle.area_routes.proofs.Fronts.{front_all, front_more}
 use Rattle.area_routes.proofs.Stay.{covered_more}
-use Rattle.routes.specs.Said.{said_at}
+use Rattle.routes.specs.Contents.{contents_at}
 use Rattle.words.specs.declared.key.Key.{Key}
 use Rattle.area_routes.proofs.graph_changes.indices_to_renew.Goals as goal
 use Rattle.area_routes.proofs.graph_changes.indices_to_renew.Goals.{then-key-le-NETWORK_LSA+in_ok-note_key+else-not-branch+else-are_many}
@@ -10,8 +10,8 @@ use Rattle.area_routes.proofs.graph_changes.indices_to_renew.Goals.{else-key-le-
 
 pub loop-key-preserved : goal.loop-key-preserved
 loop-key-preserved c =
-    let old = said_at c.args.before c.args.at.now.db.now.committed in
-    let new = said_at c.args.at.now.moment c.args.at.now.db.now.present in
+    let old = contents_at c.args.before c.args.at.now.db.now.committed in
+    let new = contents_at c.args.at.now.moment c.args.at.now.db.now.present in
     let nodes = c.args.at.now.nodes.now in
     let keys = c.args.keys.now in
     let i = c.loop-key.key-index in
@@ -32,8 +32,8 @@ loop-key-preserved c =
 
 pub returns : goal.returns
 returns c =
-    let old = said_at c.args.before c.args.at.now.db.now.committed in
-    let new = said_at c.args.at.now.moment c.args.at.now.db.now.present in
+    let old = contents_at c.args.before c.args.at.now.db.now.committed in
+    let new = contents_at c.args.at.now.moment c.args.at.now.db.now.present in
     front_all (λ (k : Key). k.ls_type ≤ 2
     → IsCovered old new c.args.at.now.nodes.now c.loop-key.places.items k) c.args.keys.now
     c.loop-key.key-index (omega (arith, c.loop-key-test.false)) c.loop-key.invariant

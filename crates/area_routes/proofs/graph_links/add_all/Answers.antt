@@ -4,13 +4,13 @@ use Rattle.routes.specs.declared.graph.VertexLink.{VertexLink}
 use Rattle.area_graph.specs.Graphs.{Adds, OfEach}
 use Rattle.area_graph.proofs.Lists.{each_all, each_more, each_none}
 use Rattle.area_routes.specs.GraphLinks.{IsToEnd}
-use Rattle.routes.specs.Said.{said_at}
+use Rattle.routes.specs.Contents.{contents_at}
 use Rattle.area_routes.proofs.graph_links.add_all.Goals as goal
 
 pub loop-advertised-init : goal.loop-advertised-init
 loop-advertised-init c =
     let Q : RouterLink → VertexLink → Type 0 = IsToEnd
-    (said_at c.args.at.now.moment c.args.at.now.db.now.present) c.args.root.now
+    (contents_at c.args.at.now.moment c.args.at.now.db.now.present) c.args.root.now
     c.args.at.now.nodes.now c.args.router in
     record {
       adds = each_none Q c.as_slice-advertised-items.result.now c.args.links.now.items;
@@ -20,7 +20,7 @@ loop-advertised-init c =
 pub loop-advertised-preserved : goal.loop-advertised-preserved
 loop-advertised-preserved c =
     let Q : RouterLink → VertexLink → Type 0 = IsToEnd
-    (said_at c.args.at.now.moment c.args.at.now.db.now.present) c.args.root.now
+    (contents_at c.args.at.now.moment c.args.at.now.db.now.present) c.args.root.now
     c.args.at.now.nodes.now c.args.router in
     record {
       adds = each_more Q c.as_slice-advertised-items.result.now c.loop-advertised.advertised-index
@@ -33,7 +33,7 @@ loop-advertised-preserved c =
 pub returns-clause-adds : goal.returns-clause-adds
 returns-clause-adds c =
     let Q : RouterLink → VertexLink → Type 0 = IsToEnd
-    (said_at c.args.at.now.moment c.args.at.now.db.now.present) c.args.root.now
+    (contents_at c.args.at.now.moment c.args.at.now.db.now.present) c.args.root.now
     c.args.at.now.nodes.now c.args.router in
     let P : List RouterLink → Type 0 =
     λ told_links. Adds (OfEach Q told_links) c.args.links.now.items

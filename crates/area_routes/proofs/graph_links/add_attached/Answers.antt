@@ -6,31 +6,31 @@ use Rattle.area_graph.proofs.Lists.{each_all, each_more, each_none}
 use Rattle.area_graph.proofs.Steps.{pushed_fits}
 use Rattle.area_routes.specs.GraphLinks.{IsAttached, IsNeighbor}
 use Rattle.area_routes.proofs.Neighbors.{not_attached, to_attached}
-use Rattle.routes.specs.Said.{said_at}
+use Rattle.routes.specs.Contents.{contents_at}
 use Rattle.area_routes.proofs.graph_links.add_attached.Goals as goal
 use Rattle.area_routes.proofs.graph_links.add_attached.Goals.{in-Some+in_ok-push, in_default}
 
 pub loop-router-init : goal.loop-router-init
 loop-router-init c =
-    let said = said_at c.args.at.now.moment c.args.at.now.db.now.present in
+    let contents = contents_at c.args.at.now.moment c.args.at.now.db.now.present in
     record {
-      adds = each_none (IsAttached said c.args.at.now.nodes.now c.args.id)
+      adds = each_none (IsAttached contents c.args.at.now.nodes.now c.args.id)
           c.as_slice-router-items.result.now c.args.links.now.items;
       fits = λ all. all;
     }
 
 pub loop-router-preserved : goal.loop-router-preserved
 loop-router-preserved c =
-    let said = said_at c.args.at.now.moment c.args.at.now.db.now.present in
+    let contents = contents_at c.args.at.now.moment c.args.at.now.db.now.present in
     let nodes = c.args.at.now.nodes.now in
     let router = c.router-item.result in
     let id = c.args.id in
-    let Q : ℕ → VertexLink → Type 0 = IsAttached said nodes id in
+    let Q : ℕ → VertexLink → Type 0 = IsAttached contents nodes id in
     let items = c.as_slice-router-items.result.now in
     let i = c.loop-router.router-index in
     let first = c.args.links.now.items in
     let old = c.loop-router.links.items in
-    let N : ℕ → Option ℕ → Type 0 = λ n o. IsNeighbor said nodes router Transit n o in
+    let N : ℕ → Option ℕ → Type 0 = λ n o. IsNeighbor contents nodes router Transit n o in
     let is = λ (o : Option ℕ) (e : c.neighbor_at.result ≡ o). subst (N id) e
     (subst (λ n. N n c.neighbor_at.result) c.number.ensures c.neighbor_at.ensures) in
     record {
@@ -39,13 +39,13 @@ loop-router-preserved c =
             rw (w.links-is, w.in_ok-push.ensures.items)
             (each_more Q items i router first old _ c.loop-router-test.true c.router-item.is
             c.loop-router.invariant.adds
-            (to_attached said nodes id router w.in-Some.to old c.requires.ascend
+            (to_attached contents nodes id router w.in-Some.to old c.requires.ascend
             (is (Some w.in-Some.to) w.in-Some.is)))
         | in_default w ↦
             rw w.links-is
             (each_more Q items i router first old old c.loop-router-test.true c.router-item.is
             c.loop-router.invariant.adds
-            (not_attached said nodes id router old (is None w.in_default.is)))
+            (not_attached contents nodes id router old (is None w.in_default.is)))
       ];
       fits = elim c.match-neighbor_at.branch [
         | in-Some+in_ok-push w ↦ rw (w.links-is, w.in_ok-push.ensures.items)
@@ -60,8 +60,8 @@ loop-router-preserved c =
 
 pub returns-clause-adds : goal.returns-clause-adds
 returns-clause-adds c =
-    let said = said_at c.args.at.now.moment c.args.at.now.db.now.present in
-    let Q : ℕ → VertexLink → Type 0 = IsAttached said c.args.at.now.nodes.now c.args.id in
+    let contents = contents_at c.args.at.now.moment c.args.at.now.db.now.present in
+    let Q : ℕ → VertexLink → Type 0 = IsAttached contents c.args.at.now.nodes.now c.args.id in
     let P : List ℕ → Type 0 = λ routers. Adds (OfEach Q routers) c.args.links.now.items
     c.loop-router.links.items in
     subst P c.as_slice-router-items.ensures

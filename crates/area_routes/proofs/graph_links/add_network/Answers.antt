@@ -5,24 +5,24 @@ use Rattle.area_graph.proofs.Steps.{on_ok}
 use Rattle.area_graph.specs.Entries.{IsListedAt}
 use Rattle.area_graph.specs.Graphs.{Adds}
 use Rattle.area_graph.specs.Links.{IsExitTo}
-use Rattle.routes.specs.Said.{said_at}
+use Rattle.routes.specs.Contents.{contents_at}
 use Rattle.area_routes.specs.GraphLinks.{IsToNetworkAt}
 use Rattle.area_routes.proofs.Neighbors.{no_network, to_network}
 use Rattle.area_routes.proofs.graph_links.add_network.Goals as goal
 
 pub returns-then-not-lists_at-clause-adds : goal.returns-then-not-lists_at-clause-adds
 returns-then-not-lists_at-clause-adds c =
-    let said = said_at c.args.at.now.moment c.args.at.now.db.now.present in
+    let contents = contents_at c.args.at.now.moment c.args.at.now.db.now.present in
     let nodes = c.args.at.now.nodes.now in
-    let L : ℕ → Type 0 = λ id. IsListedAt said nodes c.args.router id c.args.place in
+    let L : ℕ → Type 0 = λ id. IsListedAt contents nodes c.args.router id c.args.place in
     let away : c.lists_at.result ≡ false = grind (arith, common_steps) in
-    no_network said c.args.root.now nodes c.args.router c.args.advertised.now c.args.place
+    no_network contents c.args.root.now nodes c.args.router c.args.advertised.now c.args.place
     c.args.links.now.items
     (λ l. false≢true (sym away ∙ c.lists_at.ensures.1 (subst L (sym c.new.ensures) l)))
 
 pub returns-clause-adds : goal.returns-clause-adds
 returns-clause-adds c =
-    let said = said_at c.args.at.now.moment c.args.at.now.db.now.present in
+    let contents = contents_at c.args.at.now.moment c.args.at.now.db.now.present in
     let root = c.args.root.now in
     let nodes = c.args.at.now.nodes.now in
     let router = c.args.router in
@@ -30,10 +30,11 @@ returns-clause-adds c =
     let place = c.args.place in
     let old = c.args.links.now.items in
     let new = c.add_exits.new.links.items in
-    let L : ℕ → Type 0 = λ id. IsListedAt said nodes router id place in
+    let L : ℕ → Type 0 = λ id. IsListedAt contents nodes router id place in
     let here : c.lists_at.result ≡ true = grind (arith, common_steps) in
     on_ok c.add_exits.result (Adds (IsExitTo root router place advertised.metric
     advertised.link_data) old new)
-    (Adds (IsToNetworkAt said root nodes router advertised place) old new)
-    (to_network said root nodes router advertised place old new c.requires.is_kind c.requires.counts
+    (Adds (IsToNetworkAt contents root nodes router advertised place) old new)
+    (to_network contents root nodes router advertised place old new c.requires.is_kind
+    c.requires.counts
     (subst L c.new.ensures (c.lists_at.ensures.0 here))) c.add_exits.ensures.adds

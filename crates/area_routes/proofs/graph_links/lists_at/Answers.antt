@@ -2,7 +2,7 @@ use Rattle.std.proofs.Common.{ℕ, Option, subst}
 use Rattle.std.specs.Prelude.{MatchOption}
 use Rattle.area_graph.specs.Graphs.{StandsAt}
 use Rattle.routes.specs.Links.{ListsRouter}
-use Rattle.routes.specs.Said.{said_at}
+use Rattle.routes.specs.Contents.{contents_at}
 use Rattle.routes.specs.declared.node.Node.TheVariants.{ANetwork}
 use Rattle.area_routes.proofs.Neighbors.{one_network}
 use Rattle.area_routes.proofs.graph_links.lists_at.Goals as goal
@@ -19,7 +19,7 @@ returns-in-None c =
 
 pub returns-in-Some : goal.returns-in-Some
 returns-in-Some c =
-    let said = said_at c.args.at.now.moment c.args.at.now.db.now.present in
+    let contents = contents_at c.args.at.now.moment c.args.at.now.db.now.present in
     let nodes = c.args.at.now.nodes.now in
     let place = c.args.place in
     let id = c.args.id in
@@ -29,6 +29,6 @@ returns-in-Some c =
     (λ its. StandsAt nodes (ANetwork id its) place)) c.in-Some.is c.advertiser_at.ensures in (
       (λ t. (by, here, c.lists.ensures.0 t)),
       (λ l.
-          let L : ℕ → Type 0 = λ n. ListsRouter said id n c.args.router in
+          let L : ℕ → Type 0 = λ n. ListsRouter contents id n c.args.router in
           c.lists.ensures.1 (subst L (one_network nodes id l.0 by place l.1 here) l.2)),
     )

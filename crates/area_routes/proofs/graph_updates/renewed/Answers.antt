@@ -4,14 +4,14 @@ use Rattle.area_graph.proofs.Whole.{is_graph}
 use Rattle.area_graph.specs.Graphs.{AreVertices}
 use Rattle.area_routes.specs.Vertices.{IsRenewed}
 use Rattle.area_routes.proofs.Stay.{AreEither, all_renewed, one_renewed}
-use Rattle.routes.specs.Said.{Said, said_at}
+use Rattle.routes.specs.Contents.{Contents, contents_at}
 use Rattle.routes.specs.declared.node.Node.{Node}
 use Rattle.area_routes.proofs.graph_updates.renewed.Goals as goal
 
 pub loop-place-preserved : goal.loop-place-preserved
 loop-place-preserved c =
-    let old : Said = said_at c.args.before c.args.db.now.committed in
-    let new : Said = said_at c.args.moment c.args.db.now.present in
+    let old : Contents = contents_at c.args.before c.args.db.now.committed in
+    let new : Contents = contents_at c.args.moment c.args.db.now.present in
     let root = c.args.graph.root in
     let nodes = c.args.graph.nodes.items in
     let places = c.args.places.now in
@@ -30,8 +30,8 @@ loop-place-preserved c =
 
 pub returns-clause-graph : goal.returns-clause-graph
 returns-clause-graph c =
-    let old : Said = said_at c.args.before c.args.db.now.committed in
-    let new : Said = said_at c.args.moment c.args.db.now.present in
+    let old : Contents = contents_at c.args.before c.args.db.now.committed in
+    let new : Contents = contents_at c.args.moment c.args.db.now.present in
     let root = c.args.graph.root in
     let nodes = c.args.graph.nodes.items in
     let graph = c.loop-place.vertices.items in

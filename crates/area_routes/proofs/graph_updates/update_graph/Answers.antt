@@ -1,21 +1,21 @@
 use Rattle.std.proofs.Common.{ℕ, List, [], Some, Option, sym, subst}
 use Rattle.std.specs.Prelude.{IfSome}
-use Rattle.external_updates.specs.Changes.{OthersSayTheSame}
+use Rattle.external_updates.specs.Changes.{OthersHaveSameContents}
 use Rattle.area_routes.specs.GraphChanges.{AreCovered}
 use Rattle.area_routes.specs.Vertices.{StayUnlessAmong}
 use Rattle.area_routes.proofs.Stay.{all_covered, all_stay, nodes_stay, same_covered, vertices_stay}
-use Rattle.kept_routes.specs.Sameness.{SayTheSame}
-use Rattle.routes.specs.Said.{Said, said_at}
+use Rattle.kept_routes.specs.Sameness.{HaveSameContents}
+use Rattle.routes.specs.Contents.{Contents, contents_at}
 use Rattle.routes.specs.declared.node.Node.{Node}
 use Rattle.words.specs.declared.key.Key.{Key}
 use Rattle.area_routes.proofs.graph_updates.update_graph.Goals as goal
 
 pub returns-then-branch-clause-graph : goal.returns-then-branch-clause-graph
 returns-then-branch-clause-graph c =
-    let old : Said = said_at c.args.before c.args.db.now.committed in
-    let new : Said = said_at c.args.moment c.args.db.now.present in
+    let old : Contents = contents_at c.args.before c.args.db.now.committed in
+    let new : Contents = contents_at c.args.moment c.args.db.now.present in
     let graph = c.args.graph in
-    let same : SayTheSame (Some 2) old new =
+    let same : HaveSameContents (Some 2) old new =
     c.in_ok-lsas_are_unchanged.ensures.same c.if-branch.true in
     record {
       nodes = nodes_stay old new graph.nodes.items [] (same_covered old new graph.nodes.items same)
@@ -27,8 +27,8 @@ returns-then-branch-clause-graph c =
 
 pub renewed-requires-clause-nodes : goal.renewed-requires-clause-nodes
 renewed-requires-clause-nodes c =
-    let old : Said = said_at c.args.before c.args.db.now.committed in
-    let new : Said = said_at c.args.moment c.args.db.now.present in
+    let old : Contents = contents_at c.args.before c.args.db.now.committed in
+    let new : Contents = contents_at c.args.moment c.args.db.now.present in
     let nodes = c.args.graph.nodes.items in
     let places = c.in-Some.places.items in
     let covered : AreCovered old new c.deref.result.now places c.deref-2.result.now =
@@ -38,16 +38,16 @@ renewed-requires-clause-nodes c =
     let on_nodes : AreCovered old new nodes places c.deref-2.result.now =
     subst (λ (ns : List Node). AreCovered old new ns places c.deref-2.result.now)
     c.deref.ensures.value covered in
-    let others : OthersSayTheSame c.deref-2.result.now old new =
-    subst (λ (ks : List Key). OthersSayTheSame ks old new) (sym c.deref-2.ensures.value)
+    let others : OthersHaveSameContents c.deref-2.result.now old new =
+    subst (λ (ks : List Key). OthersHaveSameContents ks old new) (sym c.deref-2.ensures.value)
     c.in_ok-keys.ensures in
     nodes_stay old new nodes places (all_covered old new nodes places c.deref-2.result.now others
     on_nodes) c.requires.graph.nodes
 
 pub renewed-requires-clause-others : goal.renewed-requires-clause-others
 renewed-requires-clause-others c =
-    let old : Said = said_at c.args.before c.args.db.now.committed in
-    let new : Said = said_at c.args.moment c.args.db.now.present in
+    let old : Contents = contents_at c.args.before c.args.db.now.committed in
+    let new : Contents = contents_at c.args.moment c.args.db.now.present in
     let root = c.args.graph.root in
     let nodes = c.args.graph.nodes.items in
     let places = c.in-Some.places.items in
@@ -58,8 +58,8 @@ renewed-requires-clause-others c =
     let on_nodes : AreCovered old new nodes places c.deref-2.result.now =
     subst (λ (ns : List Node). AreCovered old new ns places c.deref-2.result.now)
     c.deref.ensures.value covered in
-    let others : OthersSayTheSame c.deref-2.result.now old new =
-    subst (λ (ks : List Key). OthersSayTheSame ks old new) (sym c.deref-2.ensures.value)
+    let others : OthersHaveSameContents c.deref-2.result.now old new =
+    subst (λ (ks : List Key). OthersHaveSameContents ks old new) (sym c.deref-2.ensures.value)
     c.in_ok-keys.ensures in
     subst (λ (ps : List ℕ). StayUnlessAmong old new root nodes ps)
     (sym c.deref-in-Some-2.ensures.value)

@@ -1,7 +1,7 @@
 use Rattle.std.proofs.Common.{Some, sym, subst}
 use Rattle.std.proofs.lemmas.Result.{IfOk-weaker}
 use Rattle.lsdb.specs.Bodies.{AreBodies, InOrder}
-use Rattle.routes.specs.Said.{Said, said_at}
+use Rattle.routes.specs.Contents.{Contents, contents_at}
 use Rattle.candidates.proofs.Each.{up_to_bodies}
 use Rattle.candidates.proofs.calculation.inner_at.Goals as goal
 
@@ -14,8 +14,9 @@ inner_of-requires-clause-order g c =
 
 pub returns-clause-inner : goal.returns-clause-inner
 returns-clause-inner g c =
-    let said : Said = said_at c.args.moment c.args.db.now.present in
-    IfOk-weaker c.inner_of.result _ _ (λ inner is. is said c.requires.ways
-    (up_to_bodies 4 said c.deref.result.now
-    (subst (AreBodies (Some 4) said) (sym c.deref.ensures.value) c.in_ok-bodies.ensures.bodies)))
+    let contents : Contents = contents_at c.args.moment c.args.db.now.present in
+    IfOk-weaker c.inner_of.result _ _ (λ inner is. is contents c.requires.ways
+    (up_to_bodies 4 contents c.deref.result.now
+    (subst (AreBodies (Some 4) contents) (sym c.deref.ensures.value)
+    c.in_ok-bodies.ensures.bodies)))
     c.inner_of.ensures.inner

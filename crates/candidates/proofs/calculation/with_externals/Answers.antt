@@ -37,7 +37,7 @@ push_externals-requires-clause-lengths c =
     subst P (sym c.deref-4.ensures.value) c.requires.lengths
 
 pub returns : goal.returns
-returns c said ways are inner tell =
+returns c contents ways are inner tell =
     let root = c.args.root.now in
     let externals = c.args.externals.now in
     let it = c.args.inner.now in
@@ -59,17 +59,18 @@ returns c said ways are inner tell =
     let third : Q it.flagged.items it.advertised.items it.networks.items =
     subst (λ (rs : List Route). Q it.flagged.items it.advertised.items rs) c.deref-4.ensures.value
     second in
-    let offered : (o : Offer) → Contains c.extend_from_slice.new.self.items o ↔ OffersInside said
-    root o = subst (λ (xs : List Offer). (o : Offer) → Contains xs o ↔ OffersInside said root o)
+    let offered : (o : Offer) → Contains c.extend_from_slice.new.self.items o ↔ OffersInside
+    contents
+    root o = subst (λ (xs : List Offer). (o : Offer) → Contains xs o ↔ OffersInside contents root o)
     (sym copied) inner.offers in
-    are_candidates said root ways are it.flagged.items inner.flagged externals tell
+    are_candidates contents root ways are it.flagged.items inner.flagged externals tell
     it.advertised.items
     it.networks.items inner.advertised inner.networks
     c.extend_from_slice.new.self.items c.push_externals.new.offers.items c.in_ok-routes.routes.items
     offered third c.in_ok-routes.ensures.routes
 
 pub returns-then-is_empty : goal.returns-then-is_empty
-returns-then-is_empty c said ways are inner tell =
+returns-then-is_empty c contents ways are inner tell =
     let root = c.args.root.now in
     let it = c.args.inner.now in
     let offers = it.offers.items in
@@ -85,17 +86,18 @@ returns-then-is_empty c said ways are inner tell =
     ) in
     let among : AreRoutesAmong (λ o. Contains offers o) networks = record {
       each = λ r. (
-        (λ t. same_offers (OffersInside said root) (λ o. Contains offers o) r
+        (λ t. same_offers (OffersInside contents root) (λ o. Contains offers o) r
             (λ o e p. (inner.offers o).1 p) (λ o e q. (inner.offers o).0 q)
             ((inner.networks.each r).0 t)),
         (λ k. (inner.networks.each r).1
-            (same_offers (λ o. Contains offers o) (OffersInside said root) r
+            (same_offers (λ o. Contains offers o) (OffersInside contents root) r
             (λ o e q. (inner.offers o).0 q) (λ o e p. (inner.offers o).1 p) k)),
       );
       ascending = inner.networks.ascending;
     } in
-    subst (AreCandidates said root) (sym (c.in_ok-networks.ensures.items ∙ c.deref.ensures.value))
-    (are_candidates said root ways are it.flagged.items inner.flagged c.args.externals.now tell
+    subst (AreCandidates contents root) (sym
+    (c.in_ok-networks.ensures.items ∙ c.deref.ensures.value))
+    (are_candidates contents root ways are it.flagged.items inner.flagged c.args.externals.now tell
     it.advertised.items networks inner.advertised inner.networks
     offers offers networks inner.offers
     (λ o. (

@@ -35,9 +35,9 @@ loop-one-preserved g c =
     ]
 
 pub returns-clause-flagged : goal.returns-clause-flagged
-returns-clause-flagged g c said have =
+returns-clause-flagged g c contents have =
     let ways = g.W.Ways.ways c.args.ways.now in
-    are_flagged ways said c.args.bodies.now c.loop-one.routers.items have
+    are_flagged ways contents c.args.bodies.now c.loop-one.routers.items have
     (all_told (TellsFlags ways) c.args.bodies.now c.loop-one.one-index c.loop-one.routers.items
     (omega (arith, c.loop-one-test.false)) c.loop-one.invariant)
 

@@ -30,24 +30,25 @@ returns-clause-searchable g c = record {
 }
 
 pub returns-clause-inner : goal.returns-clause-inner
-returns-clause-inner g c said are have =
+returns-clause-inner g c contents are have =
     let root = c.args.root.now in
     let ways = g.W.Ways.ways c.args.ways.now in
     let bodies = c.args.bodies.now in
     let routers = c.in_ok-flagged.flagged.items in
-    let flagged = c.in_ok-flagged.ensures.flagged said (fewer 4 1 said bodies (omega arith) have) in
+    let flagged = c.in_ok-flagged.ensures.flagged contents
+    (fewer 4 1 contents bodies (omega arith) have) in
     let advertised = subst (λ (rs : List Flagged). AreRoutesAmong (OfEach (Tells root rs) bodies)
     c.in_ok-advertised.advertised.items) c.deref.ensures.value c.in_ok-advertised.ensures.routes in
     let added = subst (λ (rs : List Flagged). Adds [] c.in_ok-offers.offers.items
     (OfEach (IsInner root ways rs) bodies)) c.deref-2.ensures.value c.in_ok-offers.ensures.adds
     in
-    let inside = of_inside said root ways are routers flagged bodies have
+    let inside = of_inside contents root ways are routers flagged bodies have
     c.in_ok-offers.offers.items added in
     record {
       flagged = flagged;
-      advertised = of_told said root ways are routers flagged bodies have
+      advertised = of_told contents root ways are routers flagged bodies have
           c.in_ok-advertised.advertised.items advertised;
-      networks = of_networks said root ways are routers flagged bodies have
+      networks = of_networks contents root ways are routers flagged bodies have
           c.in_ok-offers.offers.items c.in_ok-networks.networks.items added
           c.in_ok-networks.ensures.routes;
       offers = λ o. (

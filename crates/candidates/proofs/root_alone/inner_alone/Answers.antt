@@ -7,7 +7,7 @@ use Rattle.lsa.specs.declared.body.LsaBody.{LsaBody}
 use Rattle.routes.proofs.Lists.{of_empty}
 use Rattle.routes.specs.Links.{router_key}
 use Rattle.routes.specs.Routes.{AreRoutesAmong}
-use Rattle.routes.specs.Said.{Said, said_at}
+use Rattle.routes.specs.Contents.{Contents, contents_at}
 use Rattle.routes.specs.Summaries.{OffersInside}
 use Rattle.routes.specs.declared.offer.Offer.{Offer}
 use Rattle.candidates.specs.Alone.{OfOne}
@@ -58,17 +58,18 @@ pub returns-clause-inner : goal.returns-clause-inner
 returns-clause-inner g c =
     let root = c.args.root.now in
     let ways = g.W.Ways.ways c.args.ways.now in
-    let said : Said = said_at c.args.moment c.args.db.now.present in
+    let contents : Contents = contents_at c.args.moment c.args.db.now.present in
     let own_key : Key = router_key root.router in
     let advertised : Option LsaBody = option_copied c.body_at-body.result in
-    let own : advertised ≡ said own_key = c.body_at-body.ensures ∙ ap said c.own_key-key.ensures in
+    let own : advertised ≡ contents own_key = c.body_at-body.ensures ∙ ap contents
+    c.own_key-key.ensures in
     let just : IsJust (OfOne (TellsFlags ways) own_key advertised) c.flagged_by.result =
     subst (λ (k : Key). IsJust (OfOne (TellsFlags ways) k advertised) c.flagged_by.result)
     c.own_key-key.ensures c.flagged_by.ensures in
     let routers = c.in_ok-flagged.flagged.items in
-    let flagged : AreFlagged said ways routers =
-    subst (AreFlagged said ways) (sym c.in_ok-flagged.ensures)
-    (one_flagged root ways c.requires.alone said advertised own c.flagged_by.result just) in
+    let flagged : AreFlagged contents ways routers =
+    subst (AreFlagged contents ways) (sym c.in_ok-flagged.ensures)
+    (one_flagged root ways c.requires.alone contents advertised own c.flagged_by.result just) in
     let offers = c.push_by.new.offers.items in
     let by_list : Adds c.new-offers.result.items offers (OfOne (IsInner root ways routers)
     c.own_key-key.result advertised) =
@@ -83,18 +84,21 @@ returns-clause-inner g c =
     subst (λ (xs : List Offer). Adds xs offers
     (OfOne (IsInner root ways routers) own_key advertised))
     c.new-offers.ensures.items by_key in
-    let inside : (o : Offer) → Contains offers o ↔ OffersInside said root o =
-    own_inside root ways c.requires.alone said advertised own c.requires.ways routers flagged offers
+    let inside : (o : Offer) → Contains offers o ↔ OffersInside contents root o =
+    own_inside root ways c.requires.alone contents advertised own c.requires.ways routers flagged
+    offers
     adds in
     record {
       flagged = flagged;
-      advertised = none_told root ways c.requires.alone said advertised own c.requires.ways routers
+      advertised = none_told root ways c.requires.alone contents advertised own c.requires.ways
+          routers
           flagged
           c.in_ok-advertised.advertised.items
           (subst (λ (xs : List Offer). AreRoutesAmong (λ o. Contains xs o)
           c.in_ok-advertised.advertised.items)
           c.new-none.ensures.items c.in_ok-advertised.ensures.routes);
-      networks = own_networks root ways c.requires.alone said advertised own c.requires.ways routers
+      networks = own_networks root ways c.requires.alone contents advertised own c.requires.ways
+          routers
           flagged offers c.in_ok-networks.networks.items adds c.in_ok-networks.ensures.routes;
       offers = λ o. (
         (λ t. (inside o).0 ((c.routes_of_offers-2.ensures.same o).0 t)),

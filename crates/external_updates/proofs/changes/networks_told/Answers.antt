@@ -4,7 +4,7 @@ use Rattle.std.proofs.lemmas.List.{take_all, take_more}
 use Rattle.std.proofs.lemmas.List.Elements.{Contains-push_cases}
 use Rattle.words.specs.declared.key.Key.{Key}
 use Rattle.routes.proofs.Lists.{of_empty}
-use Rattle.routes.specs.Said.{said_at}
+use Rattle.routes.specs.Contents.{contents_at}
 use Rattle.external_updates.specs.Changes.{AreAllAdvertised, TellsOf}
 use Rattle.external_updates.proofs.changes.networks_told.Goals as goal
 
@@ -13,8 +13,8 @@ loop-key-init c key prefix among t = absurd (of_empty key among)
 
 pub loop-key-preserved : goal.loop-key-preserved
 loop-key-preserved c key prefix among t =
-    let old = said_at c.args.before c.args.db.now.committed in
-    let new = said_at c.args.moment c.args.db.now.present in
+    let old = contents_at c.args.before c.args.db.now.committed in
+    let new = contents_at c.args.moment c.args.db.now.present in
     let xs = c.args.keys.now in
     let i = c.loop-key.key-index in
     let x = c.key-item.result in
@@ -37,7 +37,7 @@ loop-key-preserved c key prefix among t =
 
 pub returns : goal.returns
 returns c =
-    subst (λ ks. AreAllAdvertised (said_at c.args.before c.args.db.now.committed)
-    (said_at c.args.moment c.args.db.now.present) ks c.loop-key.prefixes.items)
+    subst (λ ks. AreAllAdvertised (contents_at c.args.before c.args.db.now.committed)
+    (contents_at c.args.moment c.args.db.now.present) ks c.loop-key.prefixes.items)
     (take_all c.loop-key.key-index c.args.keys.now (omega (arith, c.loop-key-test.false)))
     c.loop-key.invariant

@@ -1,7 +1,7 @@
 use Rattle.std.proofs.Common.{List, ap, subst, sym, ◌∙◌}
 use Rattle.std.specs.Prelude.{slice_get}
 use Rattle.candidates.specs.Gathering.{Adds, OfEach}
-use Rattle.routes.specs.Said.{said_at}
+use Rattle.routes.specs.Contents.{contents_at}
 use Rattle.routes.specs.declared.offer.Offer.{Offer}
 use Rattle.external_updates.specs.Destinations.{IsBestTo, IsTo}
 use Rattle.external_updates.proofs.Best.{is_best}
@@ -12,7 +12,7 @@ push_externals_to-requires c = c.requires.inner.searchable
 
 pub returns : goal.returns
 returns c =
-    let said = said_at c.args.moment c.args.db.now.present in
+    let contents = contents_at c.args.moment c.args.db.now.present in
     let prefix = c.args.prefix in
     let read = c.first_of.ensures ∙ ap (λ rs. slice_get rs 0) c.deref-2.ensures.value in
     let first = c.push_inner_to.new.offers.items in
@@ -20,7 +20,7 @@ returns c =
     (OfEach (IsTo prefix) os)) c.deref.ensures.value c.in_ok-push_inner_to.ensures in
     let inside = subst (λ (os : List Offer). Adds os first
     (OfEach (IsTo prefix) c.args.inner.now.offers.items)) c.new-offers.ensures.items some in
-    subst (IsBestTo said c.args.root.now prefix) (sym read)
+    subst (IsBestTo contents c.args.root.now prefix) (sym read)
     (is_best c.args.moment c.args.db.now.present c.args.root.now c.args.inner.now prefix
     c.requires.inner c.args.keys.now c.requires.keys
     first c.push_externals_to.new.offers.items inside c.in_ok-push_externals_to.ensures

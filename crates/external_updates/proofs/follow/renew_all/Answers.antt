@@ -4,7 +4,7 @@ use Rattle.std.proofs.lemmas.Bool.{and_cases, and_parts}
 use Rattle.std.proofs.lemmas.List.{take_all, take_more}
 use Rattle.std.proofs.lemmas.Option.{same_Some}
 use Rattle.words.specs.Prefixes.{Network}
-use Rattle.routes.specs.Said.{said_at}
+use Rattle.routes.specs.Contents.{contents_at}
 use Rattle.external_updates.specs.Placing.{AreHalfway}
 use Rattle.external_updates.proofs.Halfway.{HasAnotherOf, all_another, first_another, none_yet}
 use Rattle.external_updates.proofs.Halfway.{one_more, still_another}
@@ -13,7 +13,8 @@ use Rattle.external_updates.proofs.follow.renew_all.Goals as goal
 pub loop-prefix-init : goal.loop-prefix-init
 loop-prefix-init c = record {
   ascend = c.requires.ascend;
-  halfway = λ old are. none_yet old (said_at c.args.moment c.args.db.now.present) c.args.root.now
+  halfway = λ old are. none_yet old (contents_at c.args.moment c.args.db.now.present)
+      c.args.root.now
       c.args.routes.now are;
   among = λ on r t. t;
   another = λ off old are. absurd (let no : true ≡ false = off in cc);
@@ -21,7 +22,7 @@ loop-prefix-init c = record {
 
 pub loop-prefix-preserved : goal.loop-prefix-preserved
 loop-prefix-preserved c =
-    let new = said_at c.args.moment c.args.db.now.present in
+    let new = contents_at c.args.moment c.args.db.now.present in
     let root = c.args.root.now in
     let xs = c.args.prefixes.now in
     let i = c.loop-prefix.prefix-index in
@@ -55,7 +56,7 @@ loop-prefix-preserved c =
 
 pub returns-clause-halfway : goal.returns-clause-halfway
 returns-clause-halfway c t old are =
-    subst (λ (ps : List Network). AreHalfway old (said_at c.args.moment c.args.db.now.present)
+    subst (λ (ps : List Network). AreHalfway old (contents_at c.args.moment c.args.db.now.present)
     c.args.root.now ps c.loop-prefix.routes)
     (take_all c.loop-prefix.prefix-index c.args.prefixes.now
     (omega (arith, c.loop-prefix-test.false))) (c.loop-prefix.invariant.halfway old are)
@@ -65,7 +66,7 @@ returns-clause-among c is = c.loop-prefix.invariant.among (same_Some _ _ is)
 
 pub returns-clause-another : goal.returns-clause-another
 returns-clause-another c is old are =
-    let new = said_at c.args.moment c.args.db.now.present in
+    let new = contents_at c.args.moment c.args.db.now.present in
     let root = c.args.root.now in
     let i = c.loop-prefix.prefix-index in
     let xs = c.args.prefixes.now in

@@ -1,10 +1,10 @@
 use Rattle.std.proofs.Common.{inl, inr}
-use Rattle.routes.specs.Said.{said_at}
+use Rattle.routes.specs.Contents.{contents_at}
 use Rattle.external_updates.proofs.Best.{best_is_for}
 use Rattle.external_updates.proofs.follow.renew_by.Goals as goal
 
 pub place-requires-clause-its : goal.place-requires-clause-its
-place-requires-clause-its c = best_is_for (said_at c.args.moment c.args.db.now.present)
+place-requires-clause-its c = best_is_for (contents_at c.args.moment c.args.db.now.present)
     c.args.root.now c.args.prefix c.in_ok-best.best c.in_ok-best.ensures
 
 pub returns-clause-renewed : goal.returns-clause-renewed

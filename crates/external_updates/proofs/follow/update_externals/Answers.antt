@@ -1,8 +1,8 @@
 use Rattle.std.proofs.Common.{Bool, List, Some, is_some, ap, subst, sym, ◌∙◌}
 use Rattle.words.specs.Prefixes.{Network}
 use Rattle.words.specs.declared.key.Key.{Key}
-use Rattle.routes.specs.Said.{said_at}
-use Rattle.external_updates.specs.Changes.{AreAllAdvertised, OthersSayTheSame}
+use Rattle.routes.specs.Contents.{contents_at}
+use Rattle.external_updates.specs.Changes.{AreAllAdvertised, OthersHaveSameContents}
 use Rattle.external_updates.proofs.Halfway.{all_done}
 use Rattle.external_updates.proofs.follow.update_externals.Goals as goal
 
@@ -11,12 +11,13 @@ renew_all-requires-clause-ascend c = c.requires.routes.ascending
 
 pub returns-then-none_new : goal.returns-then-none_new
 returns-then-none_new c =
-    let old = said_at c.args.before c.args.db.now.committed in
-    let new = said_at c.args.moment c.args.db.now.present in
+    let old = contents_at c.args.before c.args.db.now.committed in
+    let new = contents_at c.args.moment c.args.db.now.present in
     let root = c.args.root.now in
     let keys = c.deref.result.now in
     let prefixes = c.deref-2.result.now in
-    let others = subst (λ (ks : List Key). OthersSayTheSame ks old new) (sym c.deref.ensures.value)
+    let others = subst (λ (ks : List Key). OthersHaveSameContents ks old new)
+    (sym c.deref.ensures.value)
     c.in_ok-keys.ensures in
     let advertised = subst (λ (ps : List Network). AreAllAdvertised old new keys ps)
     (sym c.deref-2.ensures.value) c.in_ok-prefixes.ensures in (
@@ -27,12 +28,13 @@ returns-then-none_new c =
 
 pub returns : goal.returns
 returns c =
-    let old = said_at c.args.before c.args.db.now.committed in
-    let new = said_at c.args.moment c.args.db.now.present in
+    let old = contents_at c.args.before c.args.db.now.committed in
+    let new = contents_at c.args.moment c.args.db.now.present in
     let root = c.args.root.now in
     let keys = c.deref.result.now in
     let prefixes = c.deref-2.result.now in
-    let others = subst (λ (ks : List Key). OthersSayTheSame ks old new) (sym c.deref.ensures.value)
+    let others = subst (λ (ks : List Key). OthersHaveSameContents ks old new)
+    (sym c.deref.ensures.value)
     c.in_ok-keys.ensures in
     let advertised = subst (λ (ps : List Network). AreAllAdvertised old new keys ps)
     (sym c.deref-2.ensures.value) c.in_ok-prefixes.ensures in (

@@ -16,7 +16,7 @@ returns-then-met-candidates c =
     )
 
 pub returns-then-not-is_answered_from : goal.returns-then-not-is_answered_from
-returns-then-not-is_answered_from c said root are =
+returns-then-not-is_answered_from c contents root are =
     let answers = c.args.answers.now in
     let candidates = c.args.candidates.now in
     let met = c.answered_in_turn-met.result in
@@ -24,7 +24,7 @@ returns-then-not-is_answered_from c said root are =
     let lacks = one_lacks answers candidates met c.index-candidates-met.result
     c.if-met-candidates.false c.index-candidates-met.is are.ascending
     c.answered_in_turn-met.ensures.each behind in
-    tells_stale answers candidates true ((λ t. lacks), (λ any. refl)) said root are
+    tells_stale answers candidates true ((λ t. lacks), (λ any. refl)) contents root are
 
 pub returns-then-are_in_order : goal.returns-then-are_in_order
 returns-then-are_in_order c = tells_stale c.args.answers.now c.args.candidates.now

@@ -23,7 +23,7 @@ returns-then-met-len c =
     )
 
 pub returns : goal.returns
-returns c said root are =
+returns c contents root are =
     let answered = c.args.answered.now in
     let candidates = c.args.candidates.now in
     let met = c.met_in_turn-met.result in
@@ -36,4 +36,4 @@ returns c said root are =
     in
     let lacks = one_lacks (all_in answered) candidates met route inside here are.ascending
     (are_met answered candidates met c.met_in_turn-met.ensures.each) behind in
-    tells_stale (all_in answered) candidates true ((λ t. lacks), (λ any. refl)) said root are
+    tells_stale (all_in answered) candidates true ((λ t. lacks), (λ any. refl)) contents root are

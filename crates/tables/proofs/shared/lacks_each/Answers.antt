@@ -4,7 +4,7 @@ use Rattle.routes.specs.Candidates.{AreCandidates}
 use Rattle.tables.proofs.shared.lacks_each.Goals as goal
 
 pub returns : goal.returns
-returns c said root are =
+returns c contents root are =
     let same = c.deref.ensures.value ∙ c.in_ok-routes.ensures in
-    c.in_ok-stale.ensures said root (subst (λ (rs : List Route). AreCandidates said root rs)
+    c.in_ok-stale.ensures contents root (subst (λ (rs : List Route). AreCandidates contents root rs)
     (sym same) are)

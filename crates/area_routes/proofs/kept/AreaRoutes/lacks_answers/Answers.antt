@@ -8,64 +8,64 @@ use Rattle.kept_routes.specs.Kept.{IsWalkOf}
 use Rattle.candidates.specs.Externals.{AreExternals}
 use Rattle.candidates.specs.declared.externals.ExternalAdvertisement.{ExternalAdvertisement}
 use Rattle.routes.specs.Candidates.{AreCandidates}
-use Rattle.routes.specs.Said.{said_at}
+use Rattle.routes.specs.Contents.{contents_at}
 use Rattle.routes.specs.declared.root.Root.{Root}
 use Rattle.area_routes.proofs.kept.AreaRoutes.lacks_answers.Goals as goal
 
 pub returns-in-Some-clause-lacks : goal.returns-in-Some-clause-lacks
 returns-in-Some-clause-lacks c =
-    let said = said_at c.args.moment c.args.area.now.present.database in
+    let contents = contents_at c.args.moment c.args.area.now.present.database in
     let root = root_by c.args.router c.args.area.now.present.links in
     let is : c.args.self.now.candidates ≡ Some c.in-Some.candidates =
     ap (λ (k : KeptRoutes). k.candidates) (sym c.self.view_is) ∙ c.in-Some.is in
-    let kept = subst (λ (o : Option (List Route)). IfSome o (AreCandidates said root)) is
+    let kept = subst (λ (o : Option (List Route)). IfSome o (AreCandidates contents root)) is
     c.requires.routes.candidates in
-    c.in_ok-lacks.ensures said root kept
+    c.in_ok-lacks.ensures contents root kept
 
 pub calculated-requires-clause-walk : goal.calculated-requires-clause-walk
 calculated-requires-clause-walk c =
-    let said = said_at c.args.moment c.args.area.now.present.database in
-    subst (λ (k : KeptRoutes). IsWalkOf said k.walk) (sym c.self.view_is)
+    let contents = contents_at c.args.moment c.args.area.now.present.database in
+    subst (λ (k : KeptRoutes). IsWalkOf contents k.walk) (sym c.self.view_is)
     (c.requires.routes.walk.walk c.requires.behind)
 
 pub calculated-requires-clause-externals : goal.calculated-requires-clause-externals
 calculated-requires-clause-externals c =
-    let said = said_at c.args.moment c.args.area.now.present.database in
-    subst (λ (k : KeptRoutes). KnowsExternals said k) (sym c.self.view_is)
+    let contents = contents_at c.args.moment c.args.area.now.present.database in
+    subst (λ (k : KeptRoutes). KnowsExternals contents k) (sym c.self.view_is)
     c.requires.routes.externals
 
 pub returns-clause-lacks : goal.returns-clause-lacks
 returns-clause-lacks c =
-    let said = said_at c.args.moment c.args.area.now.present.database in
+    let contents = contents_at c.args.moment c.args.area.now.present.database in
     let root = root_by c.args.router c.args.area.now.present.links in
     let items = c.in_ok-made.made.calculated.routes.items in
     let begins : c.self.inside.walk.root ≡ root =
     ap (λ (k : KeptRoutes). k.walk.root) c.self.view_is
     ∙ c.requires.routes.walk.root c.requires.behind in
     let are =
-    subst (λ (xs : List Route). AreCandidates said root xs)
+    subst (λ (xs : List Route). AreCandidates contents root xs)
     (sym (c.in_ok-pages.ensures ∙ c.deref.ensures.value))
-    (subst (λ (r : Root). AreCandidates said r items) begins c.in_ok-made.ensures.routes) in
-    c.in_ok-lacks-2.ensures said root are
+    (subst (λ (r : Root). AreCandidates contents r items) begins c.in_ok-made.ensures.routes) in
+    c.in_ok-lacks-2.ensures contents root are
 
 pub returns-clause-inner : goal.returns-clause-inner
 returns-clause-inner c =
-    let said = said_at c.args.moment c.args.area.now.present.database in
+    let contents = contents_at c.args.moment c.args.area.now.present.database in
     let root = root_by c.args.router c.args.area.now.present.links in
     let inner = c.in_ok-made.made.calculated.inner in
     let begins : c.self.inside.walk.root ≡ root =
     ap (λ (k : KeptRoutes). k.walk.root) c.self.view_is
     ∙ c.requires.routes.walk.root c.requires.behind in
-    subst (λ (r : Root). AreInnerBy said r c.self.inside.walk inner) begins
+    subst (λ (r : Root). AreInnerBy contents r c.self.inside.walk inner) begins
     c.in_ok-made.ensures.inner
 
 pub returns-clause-externals : goal.returns-clause-externals
 returns-clause-externals c =
-    let said = said_at c.args.moment c.args.area.now.present.database in
-    let knew = subst (λ (k : KeptRoutes). KnowsExternals said k) (sym c.self.view_is)
+    let contents = contents_at c.args.moment c.args.area.now.present.database in
+    let knew = subst (λ (k : KeptRoutes). KnowsExternals contents k) (sym c.self.view_is)
     c.requires.routes.externals in
-    c.kept_or.ensures said
+    c.kept_or.ensures contents
     (subst (λ (o : Option (Vec ExternalAdvertisement)). IfSome o
-    (λ advertised. AreExternals said advertised.items))
+    (λ advertised. AreExternals contents advertised.items))
     (sym c.take-kept.ensures.value) knew)
     c.in_ok-made.ensures.externals

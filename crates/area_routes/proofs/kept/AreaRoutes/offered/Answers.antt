@@ -3,18 +3,18 @@ use Rattle.std.specs.Prelude.{List}
 use Rattle.words.specs.declared.route.Route.{Route}
 use Rattle.area_routes.specs.Offers.{root_by}
 use Rattle.routes.specs.Candidates.{AreCandidates}
-use Rattle.routes.specs.Said.{said_at}
+use Rattle.routes.specs.Contents.{contents_at}
 use Rattle.tables.specs.Rows.{rows_of}
 use Rattle.area_routes.proofs.kept.AreaRoutes.offered.Goals as goal
 
 pub returns : goal.returns
 returns c =
-    let said = said_at c.args.moment c.args.area.now.present.database in
+    let contents = contents_at c.args.moment c.args.area.now.present.database in
     let root = root_by c.args.router c.args.area.now.present.links in
     record {
-      are_candidates = subst (λ (xs : List Route). AreCandidates said root xs)
+      are_candidates = subst (λ (xs : List Route). AreCandidates contents root xs)
           (sym c.in_ok-candidates.ensures) c.in_ok-shared.ensures;
       table = c.in_ok-table.table.items;
-      is_table = c.in_ok-table.ensures said root c.in_ok-shared.ensures;
+      is_table = c.in_ok-table.ensures contents root c.in_ok-shared.ensures;
       are_rows = c.in_ok-rows.ensures ∙ ap rows_of c.deref.ensures.value;
     }

@@ -1,9 +1,9 @@
 use Rattle.area_routes.specs.Offers.{root_by}
-use Rattle.routes.specs.Said.{said_at}
+use Rattle.routes.specs.Contents.{contents_at}
 use Rattle.area_routes.proofs.kept.AreaRoutes.table.Goals as goal
 
 pub returns : goal.returns
 returns c =
-    let said = said_at c.args.moment c.args.area.now.present.database in
+    let contents = contents_at c.args.moment c.args.area.now.present.database in
     let root = root_by c.args.router c.args.area.now.present.links in
-    c.in_ok-table.ensures said root c.in_ok-candidates.ensures
+    c.in_ok-table.ensures contents root c.in_ok-candidates.ensures

@@ -6,7 +6,7 @@ use Rattle.candidates.specs.declared.externals.ExternalAdvertisement.{ExternalAd
 use Rattle.area_routes.specs.Kept.{AreOffersOf, KeptRoutes, KnowsAnswered, KeepsWalkUnlessChanged}
 use Rattle.area_routes.specs.Offers.{root_by}
 use Rattle.area_routes.proofs.Externals.{both_else, externals_after, same_but}
-use Rattle.routes.specs.Said.{said_at}
+use Rattle.routes.specs.Contents.{contents_at}
 use Rattle.area_routes.proofs.kept.AreaRoutes.update.Goals as goal
 
 pub update_routes-requires-clause-routes : goal.update_routes-requires-clause-routes
@@ -18,8 +18,8 @@ update_routes-requires-clause-routes c = record {
 
 pub returns-clause-routes : goal.returns-clause-routes
 returns-clause-routes c =
-    let old = said_at c.args.before c.args.area.now.committed.database in
-    let new = said_at c.args.moment c.args.area.now.present.database in
+    let old = contents_at c.args.before c.args.area.now.committed.database in
+    let new = contents_at c.args.moment c.args.area.now.present.database in
     let router = c.args.router in
     let area = c.args.area.now.present in
     let next = c.update_routes.new.self in
@@ -48,7 +48,7 @@ returns-clause-routes c =
 
 pub returns-clause-answered : goal.returns-clause-answered
 returns-clause-answered c answers knows =
-    let new = said_at c.args.moment c.args.area.now.present.database in
+    let new = contents_at c.args.moment c.args.area.now.present.database in
     let root = root_by c.args.router c.args.area.now.present.links in
     let same = both_else c.update_routes.new.self c.keep_externals.new.self c.update_graph.new.self
     c.keep_externals.ensures.others c.update_graph.ensures.others in

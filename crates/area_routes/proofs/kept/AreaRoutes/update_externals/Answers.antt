@@ -11,23 +11,24 @@ use Rattle.area_routes.proofs.Candidates.{and_true, none_another}
 use Rattle.external_updates.specs.Placing.{HasAnother}
 use Rattle.kept_routes.specs.Kept.{IsWalkOf}
 use Rattle.routes.specs.Candidates.{AreCandidates}
-use Rattle.routes.specs.Said.{said_at}
+use Rattle.routes.specs.Contents.{contents_at}
 use Rattle.routes.specs.declared.root.Root.{Root}
 use Rattle.area_routes.proofs.kept.AreaRoutes.update_externals.Goals as goal
 
 pub followed-next-requires-clause-walk : goal.followed-next-requires-clause-walk
 followed-next-requires-clause-walk c =
-    subst (λ (k : KeptRoutes). IsWalkOf (said_at c.args.moment c.args.area.now.present.database)
+    subst (λ (k : KeptRoutes). IsWalkOf (contents_at c.args.moment c.args.area.now.present.database)
     k.walk) (sym c.self.view_is) c.requires.walk
 
 pub followed-next-requires-clause-inner : goal.followed-next-requires-clause-inner
 followed-next-requires-clause-inner c =
-    subst (λ (k : KeptRoutes). KnowsInner (said_at c.args.moment c.args.area.now.present.database)
+    subst (λ (k : KeptRoutes). KnowsInner
+    (contents_at c.args.moment c.args.area.now.present.database)
     k.walk.root k) (sym c.self.view_is) c.requires.inner
 
 pub followed-next-requires-clause-routes : goal.followed-next-requires-clause-routes
 followed-next-requires-clause-routes c =
-    let old = said_at c.args.before c.args.area.now.committed.database in
+    let old = contents_at c.args.before c.args.area.now.committed.database in
     let knew = subst (λ (k : KeptRoutes). KnowsCandidates old k.walk.root k) (sym c.self.view_is)
     c.requires.candidates in
     subst (λ (o : Option (List Route)). IfSome o
@@ -36,7 +37,7 @@ followed-next-requires-clause-routes c =
 
 pub returns-clause-candidates : goal.returns-clause-candidates
 returns-clause-candidates c =
-    let new = said_at c.args.moment c.args.area.now.present.database in
+    let new = contents_at c.args.moment c.args.area.now.present.database in
     let items = c.in-Some.next.candidates in
     let all = subst (λ (o : Option Next). IfSome o
     (λ next. AreCandidates new c.self.inside.walk.root next.candidates)) c.in-Some.is
@@ -46,14 +47,14 @@ returns-clause-candidates c =
 
 pub returns-clause-inner : goal.returns-clause-inner
 returns-clause-inner c =
-    let new = said_at c.args.moment c.args.area.now.present.database in
+    let new = contents_at c.args.moment c.args.area.now.present.database in
     subst (λ (k : KeptRoutes). IfSome k.inner (AreInnerBy new c.args.self.now.walk.root k.walk))
     (sym c.self.view_is) c.requires.inner
 
 pub returns-clause-answered : goal.returns-clause-answered
 returns-clause-answered c answers knew on stale =
-    let old = said_at c.args.before c.args.area.now.committed.database in
-    let new = said_at c.args.moment c.args.area.now.present.database in
+    let old = contents_at c.args.before c.args.area.now.committed.database in
+    let new = contents_at c.args.moment c.args.area.now.present.database in
     let root = c.self.inside.walk.root in
     let same = ap (λ (k : KeptRoutes). k.walk.root) c.self.view_is in
     let were = and_parts _ _ (on) in
@@ -83,7 +84,7 @@ returns-clause-none_new c brings =
 
 pub returns-in_default-clause-inner : goal.returns-in_default-clause-inner
 returns-in_default-clause-inner c =
-    let new = said_at c.args.moment c.args.area.now.present.database in
+    let new = contents_at c.args.moment c.args.area.now.present.database in
     subst (λ (k : KeptRoutes). IfSome k.inner (AreInnerBy new c.args.self.now.walk.root k.walk))
     (sym c.self.view_is) c.requires.inner
 

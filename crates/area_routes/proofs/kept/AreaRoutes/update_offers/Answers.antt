@@ -1,5 +1,5 @@
 use mathlib.Core.Bool.{false≢true}
-use Rattle.routes.specs.Said.{said_at}
+use Rattle.routes.specs.Contents.{contents_at}
 use Rattle.area_routes.proofs.Candidates.{inner_carried}
 use Rattle.area_routes.proofs.kept.AreaRoutes.update_offers.Goals as goal
 
@@ -8,8 +8,8 @@ update_externals-requires-clause-same c = c.in-Ok.ensures.same c.if-same.true
 
 pub update_externals-requires-clause-inner : goal.update_externals-requires-clause-inner
 update_externals-requires-clause-inner c =
-    let old = said_at c.args.before c.args.area.now.committed.database in
-    let new = said_at c.args.moment c.args.area.now.present.database in
+    let old = contents_at c.args.before c.args.area.now.committed.database in
+    let new = contents_at c.args.moment c.args.area.now.present.database in
     let kept = c.args.self.now in
     inner_carried c.inner_routes_are_kept.ensures old new kept.walk.root kept.walk
     (c.in-Ok.ensures.same c.if-same.true) kept.inner c.requires.inner

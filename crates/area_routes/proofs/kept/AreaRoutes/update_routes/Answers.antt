@@ -6,21 +6,21 @@ use Rattle.area_routes.proofs.AfterExternals.{still_answered, still_inner, still
 use Rattle.area_routes.proofs.AfterExternals.{still_walks}
 use Rattle.kept_routes.specs.Externals.{AreOfferingLsasUnchanged, OfferTheSame}
 use Rattle.kept_routes.specs.Kept.{IsWalkOf, KeptWalk}
-use Rattle.routes.specs.Said.{said_at}
+use Rattle.routes.specs.Contents.{contents_at}
 use Rattle.routes.specs.declared.root.Root.{Root}
 use Rattle.area_routes.proofs.kept.AreaRoutes.update_routes.Goals as goal
 
 pub leaves_candidates-requires-clause-walk : goal.leaves_candidates-requires-clause-walk
 leaves_candidates-requires-clause-walk c =
-    let old = said_at c.args.before c.args.area.now.committed.database in
+    let old = contents_at c.args.before c.args.area.now.committed.database in
     let on = ap (λ (k : KeptRoutes). k.behind) (sym c.self.view_is) ∙ c.if-self.false in
     subst (λ (k : KeptRoutes). IsWalkOf old k.walk) (sym c.self.view_is)
     (c.requires.routes.walk.walk on)
 
 pub returns-then-branch-2-clause-routes : goal.returns-then-branch-2-clause-routes
 returns-then-branch-2-clause-routes c =
-    let old = said_at c.args.before c.args.area.now.committed.database in
-    let new = said_at c.args.moment c.args.area.now.present.database in
+    let old = contents_at c.args.before c.args.area.now.committed.database in
+    let new = contents_at c.args.moment c.args.area.now.present.database in
     let was = root_by c.args.router c.args.area.now.committed.links in
     let is = root_by c.args.router c.args.area.now.present.links in
     let kept = c.args.self.now in
@@ -47,8 +47,8 @@ returns-then-branch-2-clause-routes c =
 
 pub returns-then-branch-2-clause-answered : goal.returns-then-branch-2-clause-answered
 returns-then-branch-2-clause-answered c answers knows =
-    let old = said_at c.args.before c.args.area.now.committed.database in
-    let new = said_at c.args.moment c.args.area.now.present.database in
+    let old = contents_at c.args.before c.args.area.now.committed.database in
+    let new = contents_at c.args.moment c.args.area.now.present.database in
     let was = root_by c.args.router c.args.area.now.committed.links in
     let is = root_by c.args.router c.args.area.now.present.links in
     let kept = c.args.self.now in
@@ -79,30 +79,30 @@ returns-then-branch-2-clause-walks c = record {
 
 pub update_offers-requires-clause-walk : goal.update_offers-requires-clause-walk
 update_offers-requires-clause-walk c =
-    let old = said_at c.args.before c.args.area.now.committed.database in
-    let new = said_at c.args.moment c.args.area.now.present.database in
+    let old = contents_at c.args.before c.args.area.now.committed.database in
+    let new = contents_at c.args.moment c.args.area.now.present.database in
     let on = ap (λ (k : KeptRoutes). k.behind) (sym c.self.view_is) ∙ c.if-self.false in
     c.walks_are_kept.ensures old new c.args.self.now.walk
     (c.in_ok-area_lsas_are_unchanged.ensures.same c.if-branch.true) (c.requires.routes.walk.walk on)
 
 pub update_offers-requires-clause-candidates : goal.update_offers-requires-clause-candidates
 update_offers-requires-clause-candidates c =
-    let old = said_at c.args.before c.args.area.now.committed.database in
+    let old = contents_at c.args.before c.args.area.now.committed.database in
     let on = ap (λ (k : KeptRoutes). k.behind) (sym c.self.view_is) ∙ c.if-self.false in
     subst (λ (r : Root). KnowsCandidates old r c.args.self.now)
     (sym (c.requires.routes.walk.root on)) c.requires.routes.candidates
 
 pub update_offers-requires-clause-inner : goal.update_offers-requires-clause-inner
 update_offers-requires-clause-inner c =
-    let old = said_at c.args.before c.args.area.now.committed.database in
+    let old = contents_at c.args.before c.args.area.now.committed.database in
     let on = ap (λ (k : KeptRoutes). k.behind) (sym c.self.view_is) ∙ c.if-self.false in
     subst (λ (r : Root). KnowsInner old r c.args.self.now) (sym (c.requires.routes.walk.root on))
     c.requires.routes.inner
 
 pub returns-then-branch-clause-routes : goal.returns-then-branch-clause-routes
 returns-then-branch-clause-routes c =
-    let old = said_at c.args.before c.args.area.now.committed.database in
-    let new = said_at c.args.moment c.args.area.now.present.database in
+    let old = contents_at c.args.before c.args.area.now.committed.database in
+    let new = contents_at c.args.moment c.args.area.now.present.database in
     let is = root_by c.args.router c.args.area.now.present.links in
     let on = ap (λ (k : KeptRoutes). k.behind) (sym c.self.view_is) ∙ c.if-self.false in
     let walks = c.walks_are_kept.ensures old new c.args.self.now.walk
@@ -125,8 +125,8 @@ returns-then-branch-clause-routes c =
 
 pub returns-then-branch-clause-answered : goal.returns-then-branch-clause-answered
 returns-then-branch-clause-answered c answers knows =
-    let old = said_at c.args.before c.args.area.now.committed.database in
-    let new = said_at c.args.moment c.args.area.now.present.database in
+    let old = contents_at c.args.before c.args.area.now.committed.database in
+    let new = contents_at c.args.moment c.args.area.now.present.database in
     let is = root_by c.args.router c.args.area.now.present.links in
     let kept = c.args.self.now in
     let on = ap (λ (k : KeptRoutes). k.behind) (sym c.self.view_is) ∙ c.if-self.false in

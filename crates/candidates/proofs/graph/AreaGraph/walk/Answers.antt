@@ -13,20 +13,20 @@ use Rattle.candidates.proofs.graph.AreaGraph.walk.Goals as goal
 use Rattle.candidates.specs.Reached.{NodeWays, way_beside, way_in}
 
 pub returns-in_ok-reached-in-None-clause-ways : goal.returns-in_ok-reached-in-None-clause-ways
-returns-in_ok-reached-in-None-clause-ways c said is =
+returns-in_ok-reached-in-None-clause-ways c contents is =
     let root = c.args.self.now.root in
     let own : Node = ARouter root.router in
     let nodes = c.args.self.now.nodes.items in
     let M : List Node → Type 0 = λ ns. (at : ℕ) → slice_get ns at ≡ Some own → ⊥ in
     let missing = subst M c.deref.ensures.value c.in-None.ensures.missing in
-    let none : HasLsa said own → ⊥ = λ has. let place =
+    let none : HasLsa contents own → ⊥ = λ has. let place =
     placed nodes own ((is.nodes.each own).1 has) in missing place.0 place.1 in
-    let P : NodeWays → Type 0 = λ reached. AreWays said root (way_in reached) in
+    let P : NodeWays → Type 0 = λ reached. AreWays contents root (way_in reached) in
     subst P (sym c.in_ok-reached-in-None.ensures)
-    (alone_ways said root (without_lsa said root none))
+    (alone_ways contents root (without_lsa contents root none))
 
 pub returns-in_ok-slots-in-Some-clause-ways : goal.returns-in_ok-slots-in-Some-clause-ways
-returns-in_ok-slots-in-Some-clause-ways c said is =
+returns-in_ok-slots-in-Some-clause-ways c contents is =
     let root = c.args.self.now.root in
     let nodes = c.args.self.now.nodes.items in
     let graph = c.args.self.now.vertices.items in
@@ -36,10 +36,10 @@ returns-in_ok-slots-in-Some-clause-ways c said is =
     let A : Graph → Type 0 = λ g. (v : ℕ) → IsAnswer g at v (get_or ways v None) in
     let copied : c.in_ok-nodes-in-Some.nodes.items ≡ nodes =
     c.in_ok-nodes-in-Some.ensures.items ∙ c.deref-in-Some-2.ensures.value in
-    let P : NodeWays → Type 0 = λ reached. AreWays said root (way_in reached) in
-    let Q : List Node → Type 0 = λ ns. AreWays said root (λ node. way_beside ns ways node) in
-    let all : Q nodes = are_ways said root nodes graph ways at is.nodes
-    (is_graph_of said root nodes graph is.nodes is.vertices)
+    let P : NodeWays → Type 0 = λ reached. AreWays contents root (way_in reached) in
+    let Q : List Node → Type 0 = λ ns. AreWays contents root (λ node. way_beside ns ways node) in
+    let all : Q nodes = are_ways contents root nodes graph ways at is.nodes
+    (is_graph_of contents root nodes graph is.nodes is.vertices)
     (subst F c.deref.ensures.value c.in-Some.ensures.found)
     (subst A c.deref-in-Some.ensures.value c.in_ok-ways-in-Some.ensures.answers) in
     subst P (sym c.new.ensures) (subst Q (sym copied) all)

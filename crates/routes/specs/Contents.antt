@@ -4,11 +4,11 @@ use Rattle.std.specs.FinMap as finite
 use Rattle.words.specs.declared.key.Key.{Key}
 use Rattle.lsa.specs.declared.body.LsaBody.{LsaBody}
 use Rattle.lsdb.specs.Copies.{Database}
-pub use Rattle.lsdb.specs.Copies.{said_by}
+pub use Rattle.lsdb.specs.Copies.{contents_of}
 
 -- what the LSA of each key says, if there is one
-abbrev pub Said : Type 0
-Said = Key → Option LsaBody
+abbrev pub Contents : Type 0
+Contents = Key → Option LsaBody
 
-abbrev pub said_at : ℕ → Database → Said
-said_at moment db key = said_by moment (finite.get db key)
+abbrev pub contents_at : ℕ → Database → Contents
+contents_at moment db key = contents_of moment (finite.get db key)
