@@ -142,8 +142,8 @@ module _ (contents : Contents) (root : Root) (nodes : List Node) (g : Graph)
       → (link : VertexLink) × HasLink g at link × IsNoDearer (StandsAt nodes) step link
   forth v at step here l =
       let to = placed nodes step.target
-      ((are.each step.target).1 (far_end contents root v step.target step.price step.exit l)) in
-      let link : VertexLink = record { to = to.0; cost = step.price; interface = step.exit } in
+      ((are.each step.target).1 (far_end contents root v step.target step.cost step.exit l)) in
+      let link : VertexLink = record { to = to.0; cost = step.cost; interface = step.exit } in
       let vertex = element g at (omega (arith, s.count, slice_get_within nodes at v here)) in
       let is = s.each at v vertex.0 here vertex.1 in
       let found = is.links.each link (record { target = step.target; stands = to.1; leads = l }) in
@@ -158,7 +158,7 @@ module _ (contents : Contents) (root : Root) (nodes : List Node) (g : Graph)
         },
         record {
           target = subst P (sym found.2.same_end) to.1;
-          price = found.2.costs;
+          cost = found.2.costs;
           exit = sym found.2.same_exit;
         },
       )
@@ -170,10 +170,10 @@ module _ (contents : Contents) (root : Root) (nodes : List Node) (g : Graph)
       let from = is.links.only link (contained has.vertex.links.items has.place link has.among) in
       let step : Step Node = record {
         target = from.target;
-        price = link.cost;
+        cost = link.cost;
         exit = link.interface;
       } in
-      (step, from.leads, record { target = from.stands; price = refl; exit = refl })
+      (step, from.leads, record { target = from.stands; cost = refl; exit = refl })
 
   pub is_graph_of : IsGraphOf (Leads contents root) (StandsAt nodes) g
   is_graph_of = record {

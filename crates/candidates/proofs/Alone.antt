@@ -34,7 +34,7 @@ alone_ascends root = λ i j d before within. absurd (omega (arith, before, withi
 by_lsa : (contents : Contents) (root : Root) (router : ℕ) (step : Step Node)
     → Leads contents root (ARouter router) step → HasLsa contents (ARouter router)
 by_lsa contents root router step leads =
-    near_end contents root (ARouter router) step.target step.price step.exit leads
+    near_end contents root (ARouter router) step.target step.cost step.exit leads
 
 module _ (contents : Contents) (root : Root)
     (still : (step : Step Node) → Leads contents root (ARouter root.router) step → ⊥) where
@@ -94,7 +94,7 @@ pub without_way_out : (contents : Contents) (root : Root) → HasNoWayOut conten
     → (step : Step Node) → Leads contents root (ARouter root.router) step → ⊥
 without_way_out contents root nowhere step leads = on step.target leads
   where
-    on : (target : Node) → LeadsTo contents root (ARouter root.router) target step.price
+    on : (target : Node) → LeadsTo contents root (ARouter root.router) target step.cost
         step.exit → ⊥
     on (ARouter b) to = false≢true (passes to.0.its.lsa.links to.0.link PointToPoint
         (nowhere to.0.its.lsa to.0.its.its) to.0.its.among to.0.is_kind)

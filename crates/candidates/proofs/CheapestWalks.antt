@@ -24,7 +24,7 @@ use Rattle.routes.specs.declared.node.Node.TheVariants.{ANetwork, ARouter}
 use Rattle.routes.specs.Offers.{OffersWithin, intra}
 use Rattle.routes.specs.declared.offer.Offer.{Offer}
 use Rattle.routes.specs.Routes.IsNoWorse.{ByCost, ByDistance, ByKind}
-use Rattle.routes.specs.Paths.{IsLeastWalk, IsWalk, IsWay, Step, Way, price_of}
+use Rattle.routes.specs.Paths.{IsLeastWalk, IsWalk, IsWay, Step, Way, cost_of}
 use Rattle.routes.specs.declared.root.Root.{Root}
 use Rattle.routes.proofs.Determined.{AreAlike, alike, as_good, bit_of_member}
 use Rattle.candidates.proofs.LeastWalks as least
@@ -99,7 +99,7 @@ module _ (contents : Contents) (root : Root) where
 
   least_is : (node : Node) (w : Way) → IsWay (Leads contents root) (ARouter root.router) node w
       → (walk : List (Step Node)) → IsWalk (Leads contents root) (ARouter root.router) walk node
-      → w.distance ≡ price_of walk → IsLeastWalk (Leads contents root) (ARouter root.router) walk
+      → w.distance ≡ cost_of walk → IsLeastWalk (Leads contents root) (ARouter root.router) walk
       node
   least_is node w is walk p e = record {
     is_walk = p;
@@ -107,16 +107,16 @@ module _ (contents : Contents) (root : Root) where
   }
 
   at_root : (node : Node) (walk : List (Step Node)) (i : ℕ)
-      → IsWalk (Leads contents root) (ARouter root.router) walk node → price_of walk ≡ 0
+      → IsWalk (Leads contents root) (ARouter root.router) walk node → cost_of walk ≡ 0
       → i ≡ first_exit walk → IsTrue (has_interface 1 i)
   at_root node [] i p e f = let P : ℕ → Type 0 = λ k. IsTrue (has_interface 1 k) in
       subst P (sym f) refl
   at_root node (step ∷ rest) i p e f =
-      absurd (let free = counted step.target step.price step.exit p.0 in omega (arith, free.0, e))
+      absurd (let free = counted step.target step.cost step.exit p.0 in omega (arith, free.0, e))
 
   elsewhere : (node : Node) (w : Way) → IsWay (Leads contents root) (ARouter root.router) node w
       → (node ≡ ARouter root.router → ⊥) → (walk : List (Step Node)) (i : ℕ)
-      → IsWalk (Leads contents root) (ARouter root.router) walk node → w.distance ≡ price_of walk
+      → IsWalk (Leads contents root) (ARouter root.router) walk node → w.distance ≡ cost_of walk
       → i ≡ first_exit walk → IsTrue (has_interface w.hops i)
   elsewhere node w is other [] i p e f = absurd (other (sym p))
   elsewhere node w is other (step ∷ rest) i p e f =
@@ -136,7 +136,7 @@ module _ (contents : Contents) (root : Root) where
       → x.node ≡ ARouter root.router → (w : Way)
       → IsWay (Leads contents root) (ARouter root.router) x.node w → Stands prefix cost i
   stands_at_root prefix cost i x e w is =
-      let near : w.distance ≤ price_of x.walk =
+      let near : w.distance ≤ cost_of x.walk =
       omega (arith, is.distance.2, is.distance.1.least x.walk x.is_walk) in
       let nothing : w.distance ≤ 0 = omega (arith, is.distance.2, is.distance.1.least [] (sym e)) in
       record {
@@ -165,7 +165,7 @@ module _ (contents : Contents) (root : Root) where
       → (x.node ≡ ARouter root.router → ⊥) → (w : Way)
       → IsWay (Leads contents root) (ARouter root.router) x.node w → Stands prefix cost i
   stands_elsewhere prefix cost i x other w is =
-      let near : w.distance ≤ price_of x.walk =
+      let near : w.distance ≤ cost_of x.walk =
       omega (arith, is.distance.2, is.distance.1.least x.walk x.is_walk) in
       record {
         offer = intra prefix (w.distance + x.more) w.hops;
@@ -193,7 +193,7 @@ module _ (contents : Contents) (root : Root) where
       → (Stands prefix cost i → ⊥) → ⊥
   stands prefix cost i x none =
       least.way (Leads contents root) (ARouter root.router) x.node (length root.addresses + 1)
-      (λ s l. (counted s.target s.price s.exit l).1) x.walk x.is_walk (λ w.
+      (λ s l. (counted s.target s.cost s.exit l).1) x.walk x.is_walk (λ w.
       elim (is_root x.node) [
         | inl e ↦ none (stands_at_root prefix cost i x e w.0 w.1)
         | inr other ↦ none (stands_elsewhere prefix cost i x other w.0 w.1)
@@ -254,7 +254,7 @@ module _ (contents : Contents) (root : Root) where
             }
         | inr other ↦
             let hop = (x.reached.hops i).0 (subst Has (x.by_others other) has) in
-            let same : x.way.distance ≡ price_of (hop.0 ∷ hop.1) =
+            let same : x.way.distance ≡ cost_of (hop.0 ∷ hop.1) =
             omega (
               arith,
               x.reached.distance.2,

@@ -6,11 +6,11 @@ use Rattle.std.specs.Int.{bit_at}
 use Rattle.std.proofs.lemmas.Bool.{cases_lt}
 use Rattle.std.proofs.lemmas.Nat.Bits.{bit_at_above, bit_at_cat_high, bit_at_cat_low}
 use Rattle.words.specs.Interfaces.{has_interface}
-use Rattle.routes.specs.Paths.{IsLeastWalk, IsWalk, IsWay, Step, Way, price_of}
+use Rattle.routes.specs.Paths.{IsLeastWalk, IsWalk, IsWay, Step, Way, cost_of}
 use Rattle.routes.proofs.Determined.{bit_of_member, is_member}
 
 pub least_walk : {V : Type 0} (leads : V → Step V → Type 0) (from to : V) (n : ℕ)
-    (walk : List (Step V)) → price_of walk ≤ n → IsWalk leads from walk to
+    (walk : List (Step V)) → cost_of walk ≤ n → IsWalk leads from walk to
     → (((w : List (Step V)) × IsLeastWalk leads from w to) → ⊥) → ⊥
 least_walk {V} leads from to zero walk within is none = none (
   walk,
@@ -25,7 +25,7 @@ least_walk {V} leads from to (suc n) walk within is none =
       record {
         is_walk = is;
         least = λ other p.
-            elim (cases_lt (price_of other) (price_of walk)) [
+            elim (cases_lt (cost_of other) (cost_of walk)) [
               | inl less ↦ absurd (least_walk leads from to n other (omega (arith, less, within)) p
                   none)
               | inr more ↦ more
@@ -93,10 +93,10 @@ pub way : {V : Type 0} (leads : V → Step V → Type 0) (from to : V) (n : ℕ)
 way {V} leads from to n bounded walk is none =
     let First : ℕ → Type 0 = λ i. (first : Step V) × (rest : List (Step V))
     × IsLeastWalk leads from (first ∷ rest) to × (first.exit ≡ i) in
-    least_walk leads from to (price_of walk) walk (omega arith) is (λ w.
+    least_walk leads from to (cost_of walk) walk (omega arith) is (λ w.
     chosen First n (λ c.
     none (
-      record { distance = price_of w.0; hops = c.hops },
+      record { distance = cost_of w.0; hops = c.hops },
       record {
         distance = (w.0, w.1, refl);
         hops = λ i.

@@ -145,7 +145,7 @@ module _ (contents : Contents) (root : Root) where
       → IsTrue (has_interface w.hops i) → i < limit
   of_way node w is i t =
       let hop = (is.hops i).0 t in
-      let low = (reached.counted contents root hop.0.target hop.0.price hop.0.exit
+      let low = (reached.counted contents root hop.0.target hop.0.cost hop.0.exit
       hop.2.is_walk.0).1 in
       omega (arith, low, hop.3)
 

@@ -23,7 +23,7 @@ use Rattle.candidates.specs.Reached.{way_beside}
 pub far : (contents : Contents) (root : Root) (from : Node) (step : Step Node) → Leads contents root
     from step
     → HasLsa contents step.target
-far contents root from step leads = far_end contents root from step.target step.price step.exit
+far contents root from step leads = far_end contents root from step.target step.cost step.exit
     leads
 
 pub ends : (contents : Contents) (root : Root) (from : Node) → HasLsa contents from

@@ -8,7 +8,7 @@ use Rattle.words.specs.declared.route.RouteKind.TheVariants.{Intra}
 use Rattle.routes.specs.Candidates.{AreCandidates, IsCandidate, Offers}
 use Rattle.routes.specs.Links.{Leads}
 use Rattle.routes.specs.Offers.{Attaches}
-use Rattle.routes.specs.Paths.{IsWalk, Step, price_of}
+use Rattle.routes.specs.Paths.{IsWalk, Step, cost_of}
 use Rattle.routes.specs.Contents.{Contents}
 use Rattle.routes.specs.declared.node.Node.{Node}
 use Rattle.routes.specs.declared.node.Node.TheVariants.{ARouter}
@@ -41,7 +41,7 @@ pub record IsReached (contents : Contents) (root : Root) (prefix : Network) (cos
     pub attached : Attaches contents node prefix more
     pub walk : List (Step Node)
     pub is_walk : IsWalk (Leads contents root) (ARouter root.router) walk node
-    pub costs : cost ≡ price_of walk + more
+    pub costs : cost ≡ cost_of walk + more
     pub leaves_by : interface ≡ first_exit walk
 
 -- how candidates relate to walks: those within the area are the cheapest walks, with all their

@@ -20,7 +20,7 @@ module _ (old new : Contents) (root : Root) (same : HaveSameContents (Some 2) ol
       → IsWalk (Leads new root) from walk to → IsWalk (Leads old root) from walk to
   walked_before from [] to is = is
   walked_before from (s ∷ walk) to is = (
-    leads new old (λ key low. sym (same key low)) root from s.target s.price s.exit is.0,
+    leads new old (λ key low. sym (same key low)) root from s.target s.cost s.exit is.0,
     walked_before s.target walk to is.1,
   )
 

@@ -7,7 +7,7 @@ use Rattle.area_routes.specs.Offers.{root_by}
 use Rattle.event_rules.specs.Originations.{router_body, router_key}
 use Rattle.routes.specs.Candidates.{AreCandidates, OffersExternal}
 use Rattle.routes.specs.Links.{IsRouterLsa, LeadsTo}
-use Rattle.routes.specs.Paths.{Step, price_of}
+use Rattle.routes.specs.Paths.{Step, cost_of}
 use Rattle.routes.specs.Contents.{Contents, contents_at}
 use Rattle.routes.specs.declared.node.Node.{Node}
 use Rattle.routes.specs.declared.node.Node.TheVariants.{ARouter}
@@ -93,7 +93,7 @@ middle_checked = record { start = refl; routers = refl; links = refl }
 -- a first hop to the router, at its distance
 abbrev HasFirst : ℕ → ℕ → Type 0
 HasFirst router i = (first : Step Node) × (rest : List (Step Node))
-    × Walk equal at_middle (first ∷ rest) router × (price_of (first ∷ rest) ≡ 5) × (first.exit ≡ i)
+    × Walk equal at_middle (first ∷ rest) router × (cost_of (first ∷ rest) ≡ 5) × (first.exit ≡ i)
 
 left_by : (i : ℕ) → IsTrue (has_interface 6 i) → HasFirst left_id i
 left_by i t =

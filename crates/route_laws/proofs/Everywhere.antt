@@ -69,7 +69,7 @@ away_by : (contents : Contents) (root : Root) (router : ℕ) (way : Way)
 away_by contents root router way is i t =
     let hop = (is.hops i).0 t in
     let first : Step Node = hop.0 in
-    let some = price_of_own contents root first.target first.price first.exit hop.2.is_walk.0 in
+    let some = price_of_own contents root first.target first.cost first.exit hop.2.is_walk.0 in
     omega (arith, some.1, hop.3)
 
 -- an offer toward a router, with the way that has these hops

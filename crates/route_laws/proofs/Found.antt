@@ -99,7 +99,7 @@ module _ (contents : Contents) (root : Root) where
         | inl h ↦ h
         | inr none ↦ absurd (
             least.way (Leads contents root) (ARouter root.router) x.node (length root.addresses + 1)
-            (λ s l. exit_within s.target s.price s.exit l) x.walk x.is_walk (λ w.
+            (λ s l. exit_within s.target s.cost s.exit l) x.walk x.is_walk (λ w.
             let o = offered prefix cost i x w.0 w.1 in
             let r = every contents root routes o.0 are o.1 in
             none (r.0, r.1, r.2 ∙ o.2)))

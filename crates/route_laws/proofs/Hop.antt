@@ -22,7 +22,7 @@ use Rattle.routes.specs.Candidates.{IsBest, IsCandidate, Offers, OffersExternal,
 use Rattle.routes.specs.Candidates.Offers.{Between, External, Within}
 use Rattle.routes.specs.Links.{Counts, Leads, LeadsTo, Says}
 use Rattle.routes.specs.Offers.{IsPrefix, OffersWithin, ReachesBoundaryRouter}
-use Rattle.routes.specs.Paths.{IsLeastWalk, IsWalk, IsWay, Step, Way, price_of}
+use Rattle.routes.specs.Paths.{IsLeastWalk, IsWalk, IsWay, Step, Way, cost_of}
 use Rattle.routes.specs.Routes.{IsForwarded, IsRouteAmong, rank}
 use Rattle.routes.specs.Contents.{Contents}
 use Rattle.routes.specs.Summaries.{OffersBetween, OffersInside}
@@ -96,7 +96,7 @@ module _ (topology : Topology) (converged : HasConverged topology)
       (link : LeadsTo (says_of a.router) (root_of a.router) (ARouter a.router.id)
       (ARouter b.router.id) price exit) where
     abbrev step : Step Node
-    step = record { target = ARouter b.router.id; price = price; exit = exit }
+    step = record { target = ARouter b.router.id; cost = price; exit = exit }
 
     -- a walk of the other router as one of this router
     record IsWalkHere (node : Node) : Type 0 where
@@ -126,7 +126,7 @@ module _ (topology : Topology) (converged : HasConverged topology)
         → HasIntra o.prefix
     within_here o x =
         let w = walk_here x.node x.way x.reached in
-        let cost : ℕ = price + price_of w.walk + x.more in
+        let cost : ℕ = price + cost_of w.walk + x.more in
         let y : IsReached (says_of a.router) (root_of a.router) x.prefix cost exit = record {
           node = x.node;
           more = x.more;
@@ -215,7 +215,7 @@ module _ (topology : Topology) (converged : HasConverged topology)
           | inr none ↦ absurd (
               least.way (Leads (says_of a.router) (root_of a.router)) (ARouter a.router.id)
               (ARouter x.originator) (length (root_of a.router).addresses + 1)
-              (λ s l. exit_within (says_of a.router) (root_of a.router) s.target s.price s.exit l)
+              (λ s l. exit_within (says_of a.router) (root_of a.router) s.target s.cost s.exit l)
               (step ∷ w.walk) (link, w.is_walk) (λ boundary.
               let there = way_here o x boundary.0 in
               let own : Offer = external_offer x.lsa.kind x.prefix x.lsa x.originator there.way in
@@ -309,9 +309,9 @@ module _ (topology : Topology) (converged : HasConverged topology)
     pub is_across : topology.across place interface ≡ Some other
     pub next : Forwarder
     pub stands : StandsAt topology other next
-    pub price : ℕ
+    pub cost : ℕ
     pub link : LeadsTo (says_of a.router) (root_of a.router) (ARouter a.router.id)
-        (ARouter next.router.id) price interface
+        (ARouter next.router.id) cost interface
     pub end : IsOtherEnd (says_of a.router) (root_of a.router) interface next.router.id
 
   pub candidate : (place : ℕ) (a : Forwarder) → StandsAt topology place a → (r : Route)
@@ -330,14 +330,14 @@ module _ (topology : Topology) (converged : HasConverged topology)
       let end = premises.other_end (says_of a.router) a.router.id a.router.area.links current apart
       i hop.neighbor hop.is_on in
       let L : ℕ → Type 0 = λ n. LeadsTo (says_of a.router) (root_of a.router) (ARouter a.router.id)
-      (ARouter n) hop.price i in
+      (ARouter n) hop.cost i in
       let E : ℕ → Type 0 = λ n. IsOtherEnd (says_of a.router) (root_of a.router) i n in
       record {
         other = across.other;
         is_across = across.is_across;
         next = across.forwarder;
         stands = across.stands;
-        price = hop.price;
+        cost = hop.cost;
         link = subst L (sym across.is) hop.leads;
         end = subst E (sym across.is) end;
       }
@@ -437,10 +437,10 @@ module _ (topology : Topology) (converged : HasConverged topology)
 
     -- a link leads back
     record IsBack (place : ℕ) (a b : Forwarder) : Type 0 where
-      price : ℕ
+      cost : ℕ
       exit : ℕ
       link : LeadsTo (says_of a.router) (root_of b.router) (ARouter b.router.id)
-          (ARouter a.router.id) price exit
+          (ARouter a.router.id) cost exit
 
     back_by : (place : ℕ) (a : Forwarder) → StandsAt topology place a
         → (i : ℕ) (n : IsNext place a i) → IsBack place a n.next
@@ -470,7 +470,7 @@ module _ (topology : Topology) (converged : HasConverged topology)
           elsewhere = λ other. absurd (other refl);
         } in
         record {
-          price = its.metric;
+          cost = its.metric;
           exit = named.0 + 1;
           link = (counts, (n.link.0.link, n.link.0.its, n.link.0.is_kind, n.link.0.is_id));
         }
@@ -508,7 +508,7 @@ module _ (topology : Topology) (converged : HasConverged topology)
                 ((its.candidates.each on.following).0 on.among) on.intra;
             under = subst U (sym on.is_for) by.f.under;
             longest = λ r k under.
-                let h = inside_here place n.other a n.next p n.stands n.price i n.link r k in
+                let h = inside_here place n.other a n.next p n.stands n.cost i n.link r k in
                 let here : IsRouteAmong (OffersInside its_said (root_of a.router)) h.route =
                 from_candidate its_said (root_of a.router)
                 (none_between topology converged premises place place a a p p) h.route
@@ -534,12 +534,12 @@ module _ (topology : Topology) (converged : HasConverged topology)
           s.inside.reached.distance.1.is_walk in
           let first : Step Node = record {
             target = ARouter a.router.id;
-            price = home.price;
+            cost = home.cost;
             exit = home.exit;
           } in
           least.way (Leads its_said (root_of n.next.router)) (ARouter n.next.router.id)
           (ARouter s.x.originator) (length (root_of n.next.router).addresses + 1)
-          (λ st l. exit_within its_said (root_of n.next.router) st.target st.price st.exit l)
+          (λ st l. exit_within its_said (root_of n.next.router) st.target st.cost st.exit l)
           (first ∷ there.0) (home.link, there.1) (λ boundary.
           let far : Way = s.x.way in
           let near : Way = record { distance = on.following.cost; hops = on.following.hops } in
@@ -619,7 +619,7 @@ module _ (topology : Topology) (converged : HasConverged topology)
         not_within : (route : Route) → Contains n.next.table route → route.prefix ≡ r.prefix
             → route.kind ≡ Intra → ⊥
         not_within route t same intra =
-            let h = inside_here place n.other a n.next p n.stands n.price i n.link route
+            let h = inside_here place n.other a n.next p n.stands n.cost i n.link route
             (from_candidate its_said (root_of n.next.router) none_there route
             (among_theirs route t) intra) in
             let B : Network → Type 0 = λ m. IsBest its_said (root_of a.router) m o in
@@ -644,7 +644,7 @@ module _ (topology : Topology) (converged : HasConverged topology)
         before : (route : Route) → IsLongest n.next.table address route → ComesBefore o.prefix route
         before route its =
             let low : route.prefix.length ≤ r.prefix.length =
-            no_longer place n.other a n.next p n.stands n.price i n.link address r longest
+            no_longer place n.other a n.next p n.stands n.cost i n.link address r longest
             silent route its.among its.under in
             let size : o.prefix.length ≡ r.prefix.length =
             ap (λ (m : Network). m.length) best.is_for in
@@ -729,7 +729,7 @@ module _ (topology : Topology) (converged : HasConverged topology)
         (subst Has (hops_of place a o s ∙ ap (λ (w : Way). w.hops) (s.x.is_way.direct direct))
         t) in
         let first : Step Node = hop.0 in
-        let some = price_of_own (says_of a.router) (root_of a.router) first.target first.price
+        let some = price_of_own (says_of a.router) (root_of a.router) first.target first.cost
         first.exit hop.2.is_walk.0 in
         omega (arith, some.1, hop.3)
 
@@ -836,7 +836,7 @@ module _ (topology : Topology) (converged : HasConverged topology)
               under = subst U (sym same) longest.under;
               longest = λ other its under.
                   let low : other.prefix.length ≤ r.prefix.length =
-                  no_longer place n.other a n.next p n.stands n.price i n.link address r longest
+                  no_longer place n.other a n.next p n.stands n.cost i n.link address r longest
                   (λ x. silent (record {
                     forwarder = a;
                     stands = p;

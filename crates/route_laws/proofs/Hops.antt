@@ -22,8 +22,8 @@ use Rattle.route_laws.proofs.Outward.{external_hops}
 -- a link of the root that counts uses the interface
 pub record IsLeft (contents : Contents) (root : Root) (interface : ℕ) : Type 0 where
   pub target : Node
-  pub price : ℕ
-  pub leads : LeadsTo contents root (ARouter root.router) target price interface
+  pub cost : ℕ
+  pub leads : LeadsTo contents root (ARouter root.router) target cost interface
 
 module _ (contents : Contents) (root : Root) where
   abbrev pub IsHop : ℕ → Type 0
@@ -37,12 +37,12 @@ module _ (contents : Contents) (root : Root) where
   of_way node w is i t =
       let hop = (is.hops i).0 t in
       let first : Step Node = hop.0 in
-      let P : ℕ → Type 0 = λ k. LeadsTo contents root (ARouter root.router) first.target first.price
+      let P : ℕ → Type 0 = λ k. LeadsTo contents root (ARouter root.router) first.target first.cost
           k
       in
       inr (record {
         target = first.target;
-        price = first.price;
+        cost = first.cost;
         leads = subst P hop.3 hop.2.is_walk.0;
       })
 

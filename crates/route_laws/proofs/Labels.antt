@@ -15,7 +15,7 @@ use Rattle.lsa.specs.declared.body.LinkKind.TheVariants.{PointToPoint, Stub, Tra
 use Rattle.routes.specs.Links.{Counts, Leads, LeadsTo, ListsRouter}
 use Rattle.routes.specs.declared.node.Node.{Node}
 use Rattle.routes.specs.declared.node.Node.TheVariants.{ANetwork, ARouter}
-use Rattle.routes.specs.Paths.{IsLeastWalk, IsWalk, IsWay, Step, price_of}
+use Rattle.routes.specs.Paths.{IsLeastWalk, IsWalk, IsWay, Step, cost_of}
 use Rattle.route_laws.specs.Worked.{Entries, database}
 use Rattle.routes.specs.declared.root.Root.{Root}
 use Rattle.routes.proofs.Determined.{bit_of_member, is_member}
@@ -30,39 +30,39 @@ use Rattle.routes.specs.Contents.{contents_at}
 pub record AreLabels {V : Type 0} (leads : V → Step V → Type 0) (from : V) (distance hops : V → ℕ) :
     Type 0 where
   pub start : distance from ≡ 0
-  pub low : (v : V) (s : Step V) → leads v s → distance s.target ≤ distance v + s.price
-  pub along : (v : V) (s : Step V) → leads v s → distance s.target ≡ distance v + s.price → (i : ℕ)
+  pub low : (v : V) (s : Step V) → leads v s → distance s.target ≤ distance v + s.cost
+  pub along : (v : V) (s : Step V) → leads v s → distance s.target ≡ distance v + s.cost → (i : ℕ)
       → IsTrue (has_interface (hops v) i) → IsTrue (has_interface (hops s.target) i)
-  pub exits : (s : Step V) → leads from s → distance s.target ≡ distance from + s.price
+  pub exits : (s : Step V) → leads from s → distance s.target ≡ distance from + s.cost
       → IsTrue (has_interface (hops s.target) s.exit)
 
 module _ {V : Type 0} (leads : V → Step V → Type 0) (from : V) (distance hops : V → ℕ)
     (are : AreLabels leads from distance hops) where
   costs : (v : V) (walk : List (Step V)) (w : V) → IsWalk leads v walk w → distance w
-      ≤ distance v + price_of walk
+      ≤ distance v + cost_of walk
   costs v [] w p = let e : distance v ≡ distance w = ap distance p in omega (arith, e)
   costs v (s ∷ walk) w p = omega (arith, are.low v s p.0, costs s.target walk w p.1)
 
   carries : (v : V) (walk : List (Step V)) (w : V) → IsWalk leads v walk w → distance w
-      ≡ distance v + price_of walk → (i : ℕ) → IsTrue (has_interface (hops v) i)
+      ≡ distance v + cost_of walk → (i : ℕ) → IsTrue (has_interface (hops v) i)
       → IsTrue (has_interface (hops w) i)
   carries v [] w p e i t = let P : V → Type 0 = λ x. IsTrue (has_interface (hops x) i) in
       subst P p t
   carries v (s ∷ walk) w p e i t =
-      let low : distance s.target ≤ distance v + s.price = are.low v s p.0 in
-      let rest : distance w ≤ distance s.target + price_of walk = costs s.target walk w p.1 in
+      let low : distance s.target ≤ distance v + s.cost = are.low v s p.0 in
+      let rest : distance w ≤ distance s.target + cost_of walk = costs s.target walk w p.1 in
       carries s.target walk w p.1 (omega (arith, low, rest, e)) i
       (are.along v s p.0 (omega (arith, low, rest, e)) i t)
 
   leaves : (s : Step V) (walk : List (Step V)) (w : V) → IsWalk leads from (s ∷ walk) w → distance w
-      ≡ price_of (s ∷ walk) → IsTrue (has_interface (hops w) s.exit)
+      ≡ cost_of (s ∷ walk) → IsTrue (has_interface (hops w) s.exit)
   leaves s walk w p e =
-      let low : distance s.target ≤ distance from + s.price = are.low from s p.0 in
-      let rest : distance w ≤ distance s.target + price_of walk = costs s.target walk w p.1 in
+      let low : distance s.target ≤ distance from + s.cost = are.low from s p.0 in
+      let rest : distance w ≤ distance s.target + cost_of walk = costs s.target walk w p.1 in
       carries s.target walk w p.1 (omega (arith, low, rest, e, are.start)) s.exit
       (are.exits s p.0 (omega (arith, low, rest, e, are.start)))
 
-  least : (walk : List (Step V)) (w : V) → IsWalk leads from walk w → price_of walk ≡ distance w
+  least : (walk : List (Step V)) (w : V) → IsWalk leads from walk w → cost_of walk ≡ distance w
       → IsLeastWalk leads from walk w
   least walk w p e = record {
     is_walk = p;
@@ -70,17 +70,17 @@ module _ {V : Type 0} (leads : V → Step V → Type 0) (from : V) (distance hop
   }
 
   -- a walk with exactly the distance, and one for each next hop, make the labels the way
-  pub way_by : (w : V) (walk : List (Step V)) → IsWalk leads from walk w → price_of walk
+  pub way_by : (w : V) (walk : List (Step V)) → IsWalk leads from walk w → cost_of walk
       ≡ distance w → ((i : ℕ) → IsTrue (has_interface (hops w) i) → (first : Step V)
       × (rest : List (Step V)) × IsWalk leads from (first ∷ rest) w
-      × (price_of (first ∷ rest) ≡ distance w) × (first.exit ≡ i))
+      × (cost_of (first ∷ rest) ≡ distance w) × (first.exit ≡ i))
       → IsWay leads from w (record { distance = distance w; hops = hops w })
   way_by w walk p e each = record {
     distance = (walk, least walk w p e, e);
     hops = λ i. (
       (λ t. let k = each i t in (k.0, k.1, least (k.0 ∷ k.1) w k.2 k.3, k.4)),
       (λ k.
-          let same : distance w ≡ price_of (k.0 ∷ k.1) =
+          let same : distance w ≡ cost_of (k.0 ∷ k.1) =
           omega (arith, e, k.2.least walk p, costs from (k.0 ∷ k.1) w k.2.is_walk, are.start) in
           let P : ℕ → Type 0 = λ n. IsTrue (has_interface (hops w) n) in
           subst P k.3 (leaves k.0 k.1 w k.2.is_walk same)),
@@ -265,8 +265,8 @@ module _ (root : Root) (moment : ℕ) (es : Entries) (distance hops : ℕ → �
       (at_node distance) (at_node hops)
   checked = record {
     start = are.start;
-    low = λ v s l. (facts v s.target s.price s.exit l).low;
+    low = λ v s l. (facts v s.target s.cost s.exit l).low;
     along = λ v s l same i t. subset (at_node hops v) (at_node hops s.target) i
-        ((facts v s.target s.price s.exit l).along same) t;
-    exits = λ s l same. (facts (ARouter root.router) s.target s.price s.exit l).exits refl same;
+        ((facts v s.target s.cost s.exit l).along same) t;
+    exits = λ s l same. (facts (ARouter root.router) s.target s.cost s.exit l).exits refl same;
   }

@@ -9,7 +9,7 @@ use Rattle.candidates.specs.Laws.{CandidatesAreCheapestWalks, EveryOfferHasACand
 use Rattle.candidates.specs.Laws.{first_exit}
 use Rattle.routes.specs.Candidates.{IsCandidate}
 use Rattle.routes.specs.Links.{Leads, LeadsTo}
-use Rattle.routes.specs.Paths.{IsWalk, Step, price_of}
+use Rattle.routes.specs.Paths.{IsWalk, Step, cost_of}
 use Rattle.routes.specs.Contents.{Contents}
 use Rattle.routes.specs.declared.node.Node.{Node}
 use Rattle.routes.specs.declared.node.Node.TheVariants.{ARouter}
@@ -27,9 +27,9 @@ same_prefix address a b p q long =
 
 -- the first link of the walk of a route
 record Link (contents : Contents) (root : Root) (next : ℕ) : Type 0 where
-  price : ℕ
+  cost : ℕ
   exit : ℕ
-  leads : LeadsTo contents root (ARouter root.router) (ARouter next) price exit
+  leads : LeadsTo contents root (ARouter root.router) (ARouter next) cost exit
 
 first_link : CandidatesAreCheapestWalks → (contents : Contents) (root : Root) (route : Route)
     (next : ℕ)
@@ -46,15 +46,15 @@ first_link laws contents root route next is within hands = by_walk x.walk x.node
         ≡ first_exit walk → Link contents root next
     by_walk [] node p leaves = absurd (omega (arith, hands.away, leaves))
     by_walk (step ∷ rest) node p leaves =
-        let P : ℕ → Type 0 = λ i. LeadsTo contents root (ARouter root.router) step.target step.price
+        let P : ℕ → Type 0 = λ i. LeadsTo contents root (ARouter root.router) step.target step.cost
             i
         in
         let here : step.target ≡ ARouter next =
-        hands.other_end step.target step.price (subst P (sym leaves) p.0) in
-        let Q : Node → Type 0 = λ n. LeadsTo contents root (ARouter root.router) n step.price
+        hands.other_end step.target step.cost (subst P (sym leaves) p.0) in
+        let Q : Node → Type 0 = λ n. LeadsTo contents root (ARouter root.router) n step.cost
             step.exit
         in
-        record { price = step.price; exit = step.exit; leads = subst Q here p.0 }
+        record { cost = step.cost; exit = step.exit; leads = subst Q here p.0 }
 
 module _ (laws : CandidatesAreCheapestWalks) (every : EveryOfferHasACandidate) (contents : Contents)
     (let_in : Network → Bool) (address : ℕ) where
@@ -98,10 +98,10 @@ module _ (laws : CandidatesAreCheapestWalks) (every : EveryOfferHasACandidate) (
       x.is_walk in
       let step : Step Node = record {
         target = ARouter next.root.router;
-        price = l.price;
+        cost = l.cost;
         exit = l.exit;
       } in
-      let y : IsReached contents stop.root next.route.prefix (l.price + price_of back.0 + x.more)
+      let y : IsReached contents stop.root next.route.prefix (l.cost + cost_of back.0 + x.more)
           l.exit
       = record {
         node = x.node;
@@ -114,7 +114,7 @@ module _ (laws : CandidatesAreCheapestWalks) (every : EveryOfferHasACandidate) (
       } in
       let again : next.route.prefix.length ≤ stop.route.prefix.length =
       no_longer stop f next.route.prefix g.longest.under
-      ((g.is_part next.route).0 g.longest.among).1 (l.price + price_of back.0 + x.more)
+      ((g.is_part next.route).0 g.longest.among).1 (l.cost + cost_of back.0 + x.more)
       l.exit y in
       same_prefix address next.route.prefix stop.route.prefix g.longest.under f.longest.under
       (omega (arith, forth, again))

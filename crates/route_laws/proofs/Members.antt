@@ -101,7 +101,7 @@ module _ (topology : Topology) (converged : HasConverged topology)
       subst P is f
   walk_among place root a b p q from node (step ∷ rest) f is =
       walk_among place root a b p q step.target node rest
-      (step_among place root a b p q from step.target step.price step.exit f is.0) is.1
+      (step_among place root a b p q from step.target step.cost step.exit f is.0) is.1
 
   pub reached_among : (place root : ℕ) (a b : Forwarder) → StandsAt topology place a
       → StandsAt topology root b → (node : Node) (way : Way)

@@ -14,7 +14,7 @@ use Rattle.candidates.specs.Laws.{CandidatesAreCheapestWalks, IsReached, first_e
 use Rattle.routes.specs.Candidates.{IsCandidate}
 use Rattle.routes.specs.Links.{Counts, HasLink, Leads, LeadsTo}
 use Rattle.routes.specs.Offers.{Attaches}
-use Rattle.routes.specs.Paths.{IsWalk, Step, price_of}
+use Rattle.routes.specs.Paths.{IsWalk, Step, cost_of}
 use Rattle.routes.specs.Contents.{Contents}
 use Rattle.routes.specs.declared.node.Node.{Node}
 use Rattle.routes.specs.declared.node.Node.TheVariants.{ANetwork, ARouter}
@@ -80,12 +80,12 @@ module _ (contents : Contents) (any to : Root) (own : NamesItsInterfaces content
 
   pub walk_there : (from node : Node) (walk : List (Step Node))
       → IsWalk (Leads contents any) from walk node → (other : List (Step Node))
-      × IsWalk (Leads contents to) from other node × (price_of other ≡ price_of walk)
+      × IsWalk (Leads contents to) from other node × (cost_of other ≡ cost_of walk)
   walk_there from node [] is = ([], is, refl)
   walk_there from node (step ∷ rest) is =
-      let first = leads_there from step.target step.price step.exit is.0 in
+      let first = leads_there from step.target step.cost step.exit is.0 in
       let others = walk_there step.target node rest is.1 in (
-        record { target = step.target; price = step.price; exit = first.0 } ∷ others.0,
+        record { target = step.target; cost = step.cost; exit = first.0 } ∷ others.0,
         (first.1, others.1),
         omega (arith, others.2),
       )
@@ -115,21 +115,21 @@ nearer contents root next prefix cost interface own away end x =
   where
     by_walk : (walk : List (Step Node)) → IsWalk (Leads contents root) (ARouter root.router) walk
         x.node
-        → cost ≡ price_of walk + x.more → interface ≡ first_exit walk
+        → cost ≡ cost_of walk + x.more → interface ≡ first_exit walk
         → IsNearer contents next prefix cost
     by_walk [] is costs leaves = absurd (omega (arith, away, leaves))
     by_walk (step ∷ rest) is costs leaves =
-        let P : ℕ → Type 0 = λ i. LeadsTo contents root (ARouter root.router) step.target step.price
+        let P : ℕ → Type 0 = λ i. LeadsTo contents root (ARouter root.router) step.target step.cost
             i
         in
         let here : step.target ≡ ARouter next.router =
-        end step.target step.price (subst P (sym leaves) is.0) in
+        end step.target step.cost (subst P (sym leaves) is.0) in
         let W : Node → Type 0 = λ n. IsWalk (Leads contents root) n rest x.node in
         let there = walk_there contents root next own (ARouter next.router) x.node rest
         (subst W here is.1) in
-        let some = price_of_own contents root step.target step.price step.exit is.0 in
+        let some = price_of_own contents root step.target step.cost step.exit is.0 in
         record {
-          less = price_of there.0 + x.more;
+          less = cost_of there.0 + x.more;
           by = first_exit there.0;
           reached = record {
             node = x.node;
@@ -172,7 +172,7 @@ at_itself contents root prefix cost x = by_walk x.walk x.is_walk x.costs x.leave
   where
     by_walk : (walk : List (Step Node)) → IsWalk (Leads contents root) (ARouter root.router) walk
         x.node
-        → cost ≡ price_of walk + x.more → 0 ≡ first_exit walk
+        → cost ≡ cost_of walk + x.more → 0 ≡ first_exit walk
         → Attaches contents (ARouter root.router) prefix cost
     by_walk [] is costs leaves =
         let more : x.more ≡ cost = omega (arith, costs) in
@@ -180,7 +180,7 @@ at_itself contents root prefix cost x = by_walk x.walk x.is_walk x.costs x.leave
         let Q : ℕ → Type 0 = λ m. Attaches contents (ARouter root.router) prefix m in
         subst Q more (subst P (sym is) x.attached)
     by_walk (step ∷ rest) is costs leaves =
-        absurd (let some = price_of_own contents root step.target step.price step.exit is.0 in
+        absurd (let some = price_of_own contents root step.target step.cost step.exit is.0 in
         omega (arith, leaves, some.1))
 
 pub last_hop : CandidatesAreCheapestWalks → RoutesEndAtTheNetwork

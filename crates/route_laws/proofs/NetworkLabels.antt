@@ -249,10 +249,10 @@ module _ (root : Root) (moment : ℕ) (es : Entries) (dr hr : ℕ → ℕ) (dn h
       (at dr dn) (at hr hn)
   rising = record {
     start = are.start;
-    low = λ v s l. (edge v s.target s.price s.exit l).low;
+    low = λ v s l. (edge v s.target s.cost s.exit l).low;
     along = λ v s l same i t. subset (at hr hn v) (at hr hn s.target) i
-        ((edge v s.target s.price s.exit l).along same) t;
-    exits = λ s l same. (edge (ARouter root.router) s.target s.price s.exit l).exits refl same;
+        ((edge v s.target s.cost s.exit l).along same) t;
+    exits = λ s l same. (edge (ARouter root.router) s.target s.cost s.exit l).exits refl same;
   }
 
 -- ---- routers to which no link leads
@@ -298,9 +298,9 @@ module _ (root : Root) (moment : ℕ) (es : Entries) (router : ℕ)
         | inl e ↦ let same : root.router ≡ router = cc in other same
         | inr k ↦
             let P : Node → Type 0 = λ w. LeadsTo (contents_at moment (database es)) root k.0 w
-                k.1.price
+                k.1.cost
             k.1.exit in
-            no_link k.0 k.1.price k.1.exit (subst P k.3 k.2)
+            no_link k.0 k.1.cost k.1.exit (subst P k.3 k.2)
       ]
 
 -- ---- the offers within the area

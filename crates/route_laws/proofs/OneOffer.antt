@@ -18,7 +18,7 @@ use Rattle.routes.proofs.Lists.{first_is, later_is, of_cons, of_empty}
 use Rattle.routes.specs.Candidates.{AreCandidates, IsCandidate, Offers}
 use Rattle.routes.specs.Candidates.Offers.{Between, External, Within}
 use Rattle.routes.specs.Links.{IsRouterLsa, Leads, Says}
-use Rattle.routes.specs.Paths.{IsWalk, IsWay, Step, Way, price_of}
+use Rattle.routes.specs.Paths.{IsWalk, IsWay, Step, Way, cost_of}
 use Rattle.routes.specs.Routes.{IsBefore}
 use Rattle.routes.specs.Contents.{Contents, contents_at}
 use Rattle.routes.specs.declared.node.Node.{Node}
@@ -89,7 +89,7 @@ way distance hops = record { distance = distance; hops = hops }
 
 -- by a point-to-point link with cost 5
 abbrev pub to : ℕ → ℕ → Step Node
-to router exit = record { target = ARouter router; price = 5; exit = exit }
+to router exit = record { target = ARouter router; cost = 5; exit = exit }
 
 abbrev pub Walk : Entries → Root → List (Step Node) → ℕ → Type 0
 Walk es root walk router =
@@ -101,10 +101,10 @@ IsWayFrom es root router w =
 
 pub way_to : (es : Entries) (root : Root) (distance hops : ℕ → ℕ)
     → AreChecked root (sayings es) distance hops → (router : ℕ) (walk : List (Step Node))
-    → Walk es root walk router → price_of walk ≡ distance router
+    → Walk es root walk router → cost_of walk ≡ distance router
     → ((i : ℕ) → IsTrue (has_interface (hops router) i) → (first : Step Node)
     × (rest : List (Step Node)) × Walk es root (first ∷ rest) router
-    × (price_of (first ∷ rest) ≡ distance router) × (first.exit ≡ i))
+    × (cost_of (first ∷ rest) ≡ distance router) × (first.exit ≡ i))
     → IsWayFrom es root router (way (distance router) (hops router))
 way_to es root distance hops are router walk is costs each =
     way_by (Leads (contents_at 0 (database es)) root) (ARouter root.router) (at_node distance)

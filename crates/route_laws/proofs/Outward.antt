@@ -20,7 +20,7 @@ use Rattle.routes.specs.Candidates.{external_offer}
 use Rattle.routes.specs.Candidates.Offers.{Between, External}
 use Rattle.routes.specs.Links.{IsRouterLsa, Leads, LeadsTo}
 use Rattle.routes.specs.Offers.{ReachesBoundaryRouter}
-use Rattle.routes.specs.Paths.{IsWalk, IsWay, Step, Way, price_of}
+use Rattle.routes.specs.Paths.{IsWalk, IsWay, Step, Way, cost_of}
 use Rattle.routes.specs.Routes.{IsNoWorse, rank}
 use Rattle.routes.specs.Routes.IsNoWorse.{ByCost as NoDearer, ByDistance as NoFarther}
 use Rattle.routes.specs.Routes.IsNoWorse.{ByKind as NoWorseKind}
@@ -48,7 +48,7 @@ use Rattle.route_laws.proofs.Nearer.{each_hop, price_of_own, walk_there}
 record IsShort (contents : Contents) (next : Root) (node : Node) (distance : ℕ) : Type 0 where
   walk : List (Step Node)
   is_walk : IsWalk (Leads contents next) (ARouter next.router) walk node
-  is_less : price_of walk < distance
+  is_less : cost_of walk < distance
 
 module _ (contents : Contents) (root next : Root) (own : NamesItsInterfaces contents next) where
   shorter : (node : Node) (way : Way) → IsWay (Leads contents root) (ARouter root.router) node way
@@ -59,16 +59,16 @@ module _ (contents : Contents) (root next : Root) (own : NamesItsInterfaces cont
       let first : Step Node = hop.0 in
       let rest : List (Step Node) = hop.1 in
       let walk = hop.2.is_walk in
-      let P : ℕ → Type 0 = λ k. LeadsTo contents root (ARouter root.router) first.target first.price
+      let P : ℕ → Type 0 = λ k. LeadsTo contents root (ARouter root.router) first.target first.cost
           k
       in
       let here : first.target ≡ ARouter next.router =
-      end first.target first.price (subst P hop.3 walk.0) in
+      end first.target first.cost (subst P hop.3 walk.0) in
       let W : Node → Type 0 = λ n. IsWalk (Leads contents root) n rest node in
       let there = walk_there contents root next own (ARouter next.router) node rest
       (subst W here walk.1) in
-      let some = price_of_own contents root first.target first.price first.exit walk.0 in
-      let low : price_of (first ∷ rest) ≤ price_of is.distance.0 =
+      let some = price_of_own contents root first.target first.cost first.exit walk.0 in
+      let low : cost_of (first ∷ rest) ≤ cost_of is.distance.0 =
       hop.2.least is.distance.0 is.distance.1.is_walk in
       record {
         walk = there.0;
@@ -82,7 +82,7 @@ module _ (contents : Contents) (root next : Root) (own : NamesItsInterfaces cont
       × (w.distance < distance)) → ⊥) → ⊥
   way_on node distance s none =
       least.way (Leads contents next) (ARouter next.router) node (length next.addresses + 1)
-      (λ x l. exit_within contents next x.target x.price x.exit l) s.walk s.is_walk (λ w.
+      (λ x l. exit_within contents next x.target x.cost x.exit l) s.walk s.is_walk (λ w.
       none (
         w.0,
         w.1,
@@ -223,12 +223,12 @@ module _ (contents : Contents) (root next : Root) (own : NamesItsInterfaces cont
   next_says node way is t =
       let hop = (is.hops i).0 t in
       let first : Step Node = hop.0 in
-      let P : ℕ → Type 0 = λ k. LeadsTo contents root (ARouter root.router) first.target first.price
+      let P : ℕ → Type 0 = λ k. LeadsTo contents root (ARouter root.router) first.target first.cost
           k
       in
       let l = subst P hop.3 hop.2.is_walk.0 in
-      let here : first.target ≡ ARouter next.router = end first.target first.price l in
-      let Q : Node → Type 0 = λ n. LeadsTo contents root (ARouter root.router) n first.price i in
+      let here : first.target ≡ ARouter next.router = end first.target first.cost l in
+      let Q : Node → Type 0 = λ n. LeadsTo contents root (ARouter root.router) n first.cost i in
       let there = subst Q here l in
       (there.1.1.lsa, there.1.1.its)
 
@@ -263,7 +263,7 @@ module _ (contents : Contents) (root next : Root) (own : NamesItsInterfaces cont
     hop_below distance k h =
         let hop = (h.1.counts.reaches.reached.hops k).0 h.2 in
         let first : Step Node = hop.0 in
-        let low = exit_within contents next first.target first.price first.exit hop.2.is_walk.0 in
+        let low = exit_within contents next first.target first.cost first.exit hop.2.is_walk.0 in
         omega (arith, low, hop.3)
 
     -- the way that is advertised at the next router

@@ -315,14 +315,14 @@ module _ (contents : Contents) (router : RouterNumber) (links : List Link)
       elim (of_candidate contents (root_by router links) route k interface t) [
         | inl none ↦ absurd (omega (arith, away, none))
         | inr left ↦
-            let l = leads left.target left.price interface left.leads in
+            let l = leads left.target left.cost interface left.leads in
             let P : Node → Type 0 = λ n. LeadsTo contents (root_by router links) (ARouter router) n
-            left.price interface in
+            left.cost interface in
             record {
               neighbor = l.neighbor;
               is_on = l.is_on;
               full = l.full;
-              price = left.price;
+              cost = left.cost;
               leads = subst P l.is_target left.leads;
             }
       ]

@@ -145,7 +145,7 @@ near_walk : (from : Node) (walk : List (Step Node)) (node : Node) → IsNear fro
     → IsWalk (Leads row_says renumbered_middle) from walk node → IsNear node
 near_walk from [] node near is = let P : Node → Type 0 = λ n. IsNear n in subst P is near
 near_walk from (step ∷ rest) node near is =
-    near_walk step.target rest node (near_any from step.target step.price step.exit near is.0) is.1
+    near_walk step.target rest node (near_any from step.target step.cost step.exit near is.0) is.1
 
 right_far : (w : Way) → IsWayFrom row renumbered_middle at_right w → ⊥
 right_far w is = not_right at_right

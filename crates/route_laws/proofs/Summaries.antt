@@ -113,10 +113,10 @@ module _ (flags distant_flags : ℕ) (has_e : bit_and distant_flags 2 ≡ 2) whe
       (body.Router (flagged distant_flags distant_links)) refl
 
   abbrev to_border : Step Node
-  to_border = record { target = ARouter border; price = 10; exit = 1 }
+  to_border = record { target = ARouter border; cost = 10; exit = 1 }
 
   abbrev to_distant : Step Node
-  to_distant = record { target = ARouter distant; price = 100; exit = 2 }
+  to_distant = record { target = ARouter distant; cost = 100; exit = 2 }
 
   border_walk : Walk entries summaries_root (to_border ∷ []) border
   border_walk = (

@@ -110,16 +110,16 @@ lists n router among = record {
 }
 
 abbrev to_designated : Step Node
-to_designated = record { target = ARouter designated; price = 10; exit = 1 }
+to_designated = record { target = ARouter designated; cost = 10; exit = 1 }
 
 abbrev to_other : Step Node
-to_other = record { target = ARouter other; price = 15; exit = 2 }
+to_other = record { target = ARouter other; cost = 15; exit = 2 }
 
 abbrev to_network : Step Node
-to_network = record { target = ANetwork network designated; price = 5; exit = 0 }
+to_network = record { target = ANetwork network designated; cost = 5; exit = 0 }
 
 abbrev over_network : ℕ → Step Node
-over_network router = record { target = ARouter router; price = 0; exit = 0 }
+over_network router = record { target = ARouter router; cost = 0; exit = 0 }
 
 first_link : leads (ARouter root) to_designated
 first_link = (

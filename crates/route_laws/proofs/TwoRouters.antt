@@ -87,7 +87,7 @@ module _ (others : Entries) (labels : AreChecked near_router (sayings (two_route
   far_says = says (two_routers others) (key 1 far far) (body.Router (router_lsa far_links)) refl
 
   abbrev across : Step Node
-  across = record { target = ARouter far; price = 10; exit = 1 }
+  across = record { target = ARouter far; cost = 10; exit = 1 }
 
   across_link : Walk (two_routers others) near_router (across ∷ []) far
   across_link = (

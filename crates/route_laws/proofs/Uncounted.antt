@@ -140,7 +140,7 @@ module _ (root : Root) (es : Entries) (inside : ℕ → Bool)
         → is_inside inside w ≡ true
     walks_inside v [] w p t = subst (λ n. is_inside inside n ≡ true) p t
     walks_inside v (s ∷ walk) w p t =
-        walks_inside s.target walk w p.1 (leads_inside v s.target s.price s.exit p.0 t)
+        walks_inside s.target walk w p.1 (leads_inside v s.target s.cost s.exit p.0 t)
 
     outside : inside root.router ≡ true → (router : ℕ) → inside router ≡ false → (way : Way)
         → IsWay (Leads (contents_at 0 (database es)) root) (ARouter root.router) (ARouter router)
@@ -187,7 +187,7 @@ neighbor_says = says uncounted_entries (key 1 neighbor neighbor)
     (body.Router (router_lsa neighbor_links)) refl
 
 abbrev to_neighbor : Step Node
-to_neighbor = record { target = ARouter neighbor; price = 10; exit = 1 }
+to_neighbor = record { target = ARouter neighbor; cost = 10; exit = 1 }
 
 link : leads (ARouter near) to_neighbor
 link = (

@@ -136,7 +136,7 @@ nowhere (ANetwork id by) price exit l =
 stays_home : (walk : List (Step Node)) (node : Node)
     → IsWalk (Leads zero_says at_left) (ARouter left_id) walk node → ARouter left_id ≡ node
 stays_home [] node p = p
-stays_home (s ∷ rest) node p = absurd (nowhere s.target s.price s.exit p.0)
+stays_home (s ∷ rest) node p = absurd (nowhere s.target s.cost s.exit p.0)
 
 at_home : (node : Node) (w : Way) → IsWay (Leads zero_says at_left) (ARouter left_id) node w
     → ARouter left_id ≡ node

@@ -45,9 +45,9 @@ pub record IsNextHop (contents : Contents) (router : RouterNumber) (links : List
   pub neighbor : Neighbor
   pub is_on : neighbor_at interface links ≡ Some neighbor
   pub full : IsTrue (is_full neighbor.state)
-  pub price : ℕ
+  pub cost : ℕ
   pub leads : LeadsTo contents (root_by router links) (ARouter router) (ARouter neighbor.router)
-      price
+      cost
       interface
 
 pub record OwnRouterLsasMeetThePremises : Type 0 where
@@ -61,8 +61,8 @@ pub record OwnRouterLsasMeetThePremises : Type 0 where
   -- each of its links that counts leads to the Full neighbor on the interface that it uses
   pub leads : (contents : Contents) (router : RouterNumber) (links : List Link)
       → IsCurrent contents router links → HaveOwnAddresses links
-      → (target : Node) (price interface : ℕ)
-      → LeadsTo contents (root_by router links) (ARouter router) target price interface
+      → (target : Node) (cost interface : ℕ)
+      → LeadsTo contents (root_by router links) (ARouter router) target cost interface
       → LeadsAlong links interface target
   -- so the neighbor on an interface is the router at its other end
   pub other_end : (contents : Contents) (router : RouterNumber) (links : List Link)

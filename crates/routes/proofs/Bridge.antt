@@ -3,7 +3,7 @@ use Rattle.std.proofs.Common.{◌≡◌, ℕ, ◌+◌, ◌≤◌, List, [], ◌�
 use Rattle.std.proofs.Common.{◌∙◌, subst}
 use Rattle.std.proofs.lemmas.List.Sums.{sum_by-cons}
 use Rattle.routes.specs.Graphs.{Graph, IsAnswer, IsGraphOf, IsWalk, cost}
-use Rattle.routes.specs.Paths.{Step, price_of}
+use Rattle.routes.specs.Paths.{Step, cost_of}
 use Rattle.routes.specs.Paths as paths
 use Rattle.routes.specs.declared.graph.VertexLink.{VertexLink}
 use Rattle.routes.specs.declared.graph.Way.{Way}
@@ -24,11 +24,11 @@ record Walks (g : Graph) (at to price : ℕ) : Type 0 where
 record Paths {V : Type 0} (leads : V → Step V → Type 0) (from to : V) (price : ℕ) : Type 0 where
   path : List (Step V)
   is_walk : paths.IsWalk leads from path to
-  same : price_of path ≡ price
+  same : cost_of path ≡ price
 
 walk_of : {V : Type 0} (leads : V → Step V → Type 0) (number : V → ℕ → Type 0) (g : Graph)
     → IsGraphOf leads number g → (v : V) (at : ℕ) (ss : List (Step V)) (w : V) (to : ℕ)
-    → number v at → number w to → paths.IsWalk leads v ss w → Walks g at to (price_of ss)
+    → number v at → number w to → paths.IsWalk leads v ss w → Walks g at to (cost_of ss)
 walk_of {V} leads number g is v at [] w to nv nw p =
     let P : V → Type 0 = λ x. number x to in
     record {
@@ -42,7 +42,7 @@ walk_of {V} leads number g is v at (s ∷ ss) w to nv nw p =
     record {
       walk = link.0 ∷ rest.walk;
       is_walk = (link.1, rest.is_walk);
-      cheap = omega (arith, cost-cons link.0 rest.walk, rest.cheap, link.2.price);
+      cheap = omega (arith, cost-cons link.0 rest.walk, rest.cheap, link.2.cost);
     }
 
 path_of : {V : Type 0} (leads : V → Step V → Type 0) (number : V → ℕ → Type 0) (g : Graph)
@@ -57,7 +57,7 @@ path_of {V} leads number g is v at (l ∷ ls) w to nv nw p =
     record {
       path = step.0 ∷ rest.path;
       is_walk = (step.1, rest.is_walk);
-      same = omega (arith, cost-cons l ls, rest.same, step.2.price);
+      same = omega (arith, cost-cons l ls, rest.same, step.2.cost);
     }
 
 -- the answer of the graph for one vertex is that for what the vertex stands for
@@ -100,7 +100,7 @@ bridged leads number g is v w at to nv nw (Some way) h =
                       arith,
                       rest.same,
                       k.cheap,
-                      step.2.price,
+                      step.2.cost,
                       cost-cons hop.0 hop.1,
                       hop.2.least k.walk k.is_walk,
                     );
@@ -121,7 +121,7 @@ bridged leads number g is v w at to nv nw (Some way) h =
                       arith,
                       rest.cheap,
                       k.same,
-                      link.2.price,
+                      link.2.cost,
                       cost-cons link.0 rest.walk,
                       y.2.least k.path k.is_walk,
                     );

@@ -94,6 +94,6 @@ module _ {V : Type 0} (P Q : V → Step V → Type 0) (forth : (v : V) (s : Step
 pub carried : WaysRestOnLinks
 carried old new root same from to way is =
     way_over (Leads old root) (Leads new root)
-    (λ v s l. leads old new same root v s.target s.price s.exit l)
-    (λ v s l. leads new old (λ key low. sym (same key low)) root v s.target s.price s.exit l)
+    (λ v s l. leads old new same root v s.target s.cost s.exit l)
+    (λ v s l. leads new old (λ key low. sym (same key low)) root v s.target s.cost s.exit l)
     from to way is

@@ -46,13 +46,13 @@ pub record ListsRouter (contents : Contents) (id by router : ℕ) : Type 0 where
 -- its data is the address of an own interface, by which the root sends; for other routers the exit
 -- is 0.
 pub record Counts (contents : Contents) (root : Root) (router : ℕ) (kind : LinkKind)
-    (id price exit : ℕ) : Type 0 where
+    (id cost exit : ℕ) : Type 0 where
   pub link : RouterLink
   pub its : HasLink contents router link
   pub is_kind : link.kind ≡ kind
   pub is_id : link.link_id ≡ id
-  pub costs : link.metric ≡ price
-  pub not_free : 0 < price
+  pub costs : link.metric ≡ cost
+  pub not_free : 0 < cost
   pub by_interface : router ≡ root.router
       → (n : ℕ) × (exit ≡ n + 1) × (slice_get root.addresses n ≡ Some link.link_data)
   pub elsewhere : ¬ (router ≡ root.router) → exit ≡ 0
@@ -65,13 +65,13 @@ LinksBack contents router kind id =
 -- a link counts only if the other end links back; a network leads to each router that it lists at
 -- cost 0
 abbrev pub LeadsTo : Contents → Root → Node → Node → ℕ → ℕ → Type 0
-LeadsTo contents root (ARouter a) (ARouter b) price exit =
-    Counts contents root a PointToPoint b price exit × LinksBack contents b PointToPoint a
-LeadsTo contents root (ARouter a) (ANetwork id by) price exit =
-    Counts contents root a Transit id price exit × ListsRouter contents id by a
-LeadsTo contents root (ANetwork id by) (ARouter b) price exit =
-    ListsRouter contents id by b × LinksBack contents b Transit id × (price ≡ 0) × (exit ≡ 0)
-LeadsTo contents root (ANetwork id by) (ANetwork other its) price exit = ⊥
+LeadsTo contents root (ARouter a) (ARouter b) cost exit =
+    Counts contents root a PointToPoint b cost exit × LinksBack contents b PointToPoint a
+LeadsTo contents root (ARouter a) (ANetwork id by) cost exit =
+    Counts contents root a Transit id cost exit × ListsRouter contents id by a
+LeadsTo contents root (ANetwork id by) (ARouter b) cost exit =
+    ListsRouter contents id by b × LinksBack contents b Transit id × (cost ≡ 0) × (exit ≡ 0)
+LeadsTo contents root (ANetwork id by) (ANetwork other its) cost exit = ⊥
 
 abbrev pub Leads : Contents → Root → Node → Step Node → Type 0
-Leads contents root from step = LeadsTo contents root from step.target step.price step.exit
+Leads contents root from step = LeadsTo contents root from step.target step.cost step.exit

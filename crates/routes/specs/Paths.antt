@@ -7,7 +7,7 @@ use Rattle.words.specs.Interfaces.{has_interface}
 -- vertices)
 pub record Step (V : Type 0) : Type 0 where
   pub target : V
-  pub price : ℕ
+  pub cost : ℕ
   pub exit : ℕ
 
 -- the links lead from one vertex to the other, each from where the one before it ends
@@ -15,15 +15,15 @@ abbrev pub IsWalk : {V : Type 0} → (V → Step V → Type 0) → V → List (S
 IsWalk leads from [] to = from ≡ to
 IsWalk leads from (step ∷ rest) to = leads from step × IsWalk leads step.target rest to
 
-abbrev pub price_of : {V : Type 0} → List (Step V) → ℕ
-price_of [] = 0
-price_of (step ∷ rest) = step.price + price_of rest
+abbrev pub cost_of : {V : Type 0} → List (Step V) → ℕ
+cost_of [] = 0
+cost_of (step ∷ rest) = step.cost + cost_of rest
 
 -- a walk that costs no more than any other between its ends
 pub record IsLeastWalk {V : Type 0} (leads : V → Step V → Type 0) (from : V) (walk : List (Step V))
     (to : V) : Type 0 where
   pub is_walk : IsWalk leads from walk to
-  pub least : (other : List (Step V)) → IsWalk leads from other to → price_of walk ≤ price_of other
+  pub least : (other : List (Step V)) → IsWalk leads from other to → cost_of walk ≤ cost_of other
 
 -- the least cost, and the interfaces of the first links of all least-cost walks as a set
 pub record Way : Type 0 where
@@ -33,7 +33,7 @@ pub record Way : Type 0 where
 -- the way to a vertex: its distance, and exactly the next hops
 pub record IsWay {V : Type 0} (leads : V → Step V → Type 0) (from to : V) (way : Way) : Type 0 where
   pub distance : (walk : List (Step V)) × IsLeastWalk leads from walk to
-      × (price_of walk ≡ way.distance)
+      × (cost_of walk ≡ way.distance)
   pub hops : (interface : ℕ)
       → IsTrue (has_interface way.hops interface)
       ↔ ((first : Step V) × (rest : List (Step V)) × IsLeastWalk leads from (first ∷ rest) to
