@@ -8,7 +8,7 @@ ghost use Rattle.flood.specs.Drafts.{AreDrafts};
 
 use adjacency::Draft;
 use event_rules::Out;
-use packing::put_outs;
+use packing::push_packets;
 use std::alloc::{AllocError, Global};
 use words::RouterId;
 
@@ -31,7 +31,7 @@ pub fn outs(alloc: Global, own: RouterId, drafts: Vec<Draft>) -> Result<Vec<Out>
     let mut outs = Vec::new(alloc);
     let mut interface = 1;
     for draft in drafts {
-        put_outs(alloc, &mut outs, own, interface, draft)?;
+        push_packets(alloc, &mut outs, own, interface, draft)?;
         interface += 1;
     }
     Ok(outs)

@@ -8,4 +8,4 @@ mod order;
 mod packing;
 mod writing;
 
-pub use writing::put_outs;
+pub use writing::push_packets;

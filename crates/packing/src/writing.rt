@@ -17,7 +17,7 @@ use std::alloc::{AllocError, Global};
 use words::{RouterId, Sequence};
 
 // Adds one more packet.
-fn put_out(
+fn push_packet(
     alloc: Global,
     outs: &mut Vec<Out>,
     own: RouterId,
@@ -46,7 +46,7 @@ fn put_out(
 ///
 /// # Errors
 /// `AllocError` if an allocation is refused; some of the packets may have been appended then.
-pub fn put_outs(
+pub fn push_packets(
     alloc: Global,
     outs: &mut Vec<Out>,
     own: RouterId,
@@ -63,7 +63,7 @@ pub fn put_outs(
         (bodies link.interface.delay (filter_map (at_interface interface) sends))) }
 {
     for body in bodies(alloc, draft)? {
-        put_out(alloc, outs, own, interface, body)?;
+        push_packet(alloc, outs, own, interface, body)?;
     }
     Ok(())
 }

@@ -9,8 +9,8 @@ use Rattle.event_rules.specs.Routers.{Router}
 use Rattle.event_rules.specs.Ticks.{send_acknowledgments, send_all_again, send_hellos}
 
 -- a self-originated LSA is installed and flooded; it no longer waits, and MinLSInterval starts
-abbrev pub put_out : Moment → Key → Lsa → EventState → EventState
-put_out moment key lsa p =
+abbrev pub install_and_flood_own : Moment → Key → Lsa → EventState → EventState
+install_and_flood_own moment key lsa p =
     on_router (as_originated moment key) (on_area (install_and_flood moment lsa) p)
 
 -- what a Tick retransmits, delayed acknowledgments, and Hellos

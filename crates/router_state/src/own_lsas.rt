@@ -2,7 +2,7 @@
 ghost use Rattle.std.specs.Prelude.{◌≡◌};
 ghost use Rattle.event_rules.specs.Originations.{flush, is_due, refresh_time_is_over};
 ghost use Rattle.router_state.specs.Making.{RouterDoes};
-ghost use Rattle.router_state.specs.Parts.{put_out};
+ghost use Rattle.router_state.specs.Parts.{install_and_flood_own};
 
 use crate::router::Router;
 use flooding::DatabaseCopy;
@@ -48,7 +48,7 @@ impl Router {
         key: &Key,
         lsa: Lsa,
     ) -> Result<(), AllocError>
-        ensures { RouterDoes (put_out moment key.now lsa) self.old self.new result }
+        ensures { RouterDoes (install_and_flood_own moment key.now lsa) self.old self.new result }
     {
         self.area.install_and_flood_own(alloc, moment, lsa)?;
         self.waiting.remove(key)?;

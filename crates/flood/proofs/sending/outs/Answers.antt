@@ -14,8 +14,8 @@ loop-draft-init c =
       omega (arith, count, c.requires.few),
     )
 
-pub put_outs-requires : goal.put_outs-requires
-put_outs-requires c =
+pub push_packets-requires : goal.push_packets-requires
+push_packets-requires c =
     let gives = c.into_iter-draft-iterator.ensures.into_iter_gives in
     next_draft c.args.own (into_iter_items c.into_iter-draft-iterator.result) c.loop-draft.interface
     c.loop-draft.outs.items (into_iter_items c.loop-draft.draft-iterator)
@@ -38,11 +38,11 @@ loop-draft-preserved c =
     let gone = steps.1 in
     let short = ap length steps.0 in (
       one_sent c.args.own (into_iter_items c.into_iter-draft-iterator.result) c.loop-draft.interface
-          c.loop-draft.outs.items c.put_outs.new.outs.items
+          c.loop-draft.outs.items c.push_packets.new.outs.items
           (into_iter_items c.loop-draft.draft-iterator) (into_iter_items c.next.new.self)
           c.in-Some.draft
-          c.loop-draft.invariant.0 steps.0 c.in_ok-put_outs.ensures.outs
-          c.in_ok-put_outs.ensures.texts,
+          c.loop-draft.invariant.0 steps.0 c.in_ok-push_packets.ensures.outs
+          c.in_ok-push_packets.ensures.texts,
       omega arith,
       omega arith,
     )

@@ -3,7 +3,7 @@ use Rattle.std.specs.List.{AllByRecursion}
 use Rattle.std.specs.Vec.Iter.{into_iter_items, into_iter_len}
 use Rattle.event_rules.specs.Packing.{out_of}
 use Rattle.packing.specs.Texts.{CanBeSent, IsSentText}
-use Rattle.packing.proofs.writing.put_outs.Given as goal
+use Rattle.packing.proofs.writing.push_packets.Given as goal
 
 -- sending the rest gives the whole result
 abbrev pub invariant-loop-body : goal.invariant-loop-body

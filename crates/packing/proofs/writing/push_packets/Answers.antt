@@ -6,7 +6,7 @@ use Rattle.packing.specs.Texts.{CanBeSent, IsSentText}
 use Rattle.packing.proofs.Drafted.{draft_room, draft_says}
 use Rattle.packing.proofs.Packs.{all_moved, none_left, one_moved}
 use Rattle.packing.proofs.Whole.{draft_can_be_sent}
-use Rattle.packing.proofs.writing.put_outs.Goals as goal
+use Rattle.packing.proofs.writing.push_packets.Goals as goal
 
 pub bodies-requires : goal.bodies-requires
 bodies-requires c = draft_room c.args.interface c.requires.0 c.requires.1 c.args.draft c.requires.2
@@ -22,27 +22,27 @@ loop-body-init c =
       λ sent. sent,
     )
 
-pub put_out-requires-clause-room : goal.put_out-requires-clause-room
-put_out-requires-clause-room c = (subst (λ bs. AllByRecursion CanBeSent bs)
+pub push_packet-requires-clause-room : goal.push_packet-requires-clause-room
+push_packet-requires-clause-room c = (subst (λ bs. AllByRecursion CanBeSent bs)
     c.in-Some.ensures.steps.0 c.loop-body.invariant.1).0.0
 
-pub put_out-requires-clause-whole : goal.put_out-requires-clause-whole
-put_out-requires-clause-whole c = (subst (λ bs. AllByRecursion CanBeSent bs)
+pub push_packet-requires-clause-whole : goal.push_packet-requires-clause-whole
+push_packet-requires-clause-whole c = (subst (λ bs. AllByRecursion CanBeSent bs)
     c.in-Some.ensures.steps.0 c.loop-body.invariant.1).0.1
 
 pub loop-body-preserved : goal.loop-body-preserved
 loop-body-preserved c =
     let steps = c.in-Some.ensures.steps in
     let out = out_of c.args.own c.args.interface in (
-      one_moved out c.loop-body.outs.items c.put_out.new.outs.items
+      one_moved out c.loop-body.outs.items c.push_packet.new.outs.items
           (into_iter_items c.loop-body.body-iterator) (into_iter_items c.next.new.self)
           c.in-Some.body (out c.in-Some.body) _
-          c.loop-body.invariant.0 steps.0 refl c.in_ok-put_out.ensures.out,
+          c.loop-body.invariant.0 steps.0 refl c.in_ok-push_packet.ensures.out,
       (subst (λ bs. AllByRecursion CanBeSent bs) steps.0 c.loop-body.invariant.1).1,
       let was = c.loop-body.invariant.2 in let gone = steps.1 in let short = ap length steps.0 in
           omega arith,
       λ sent. c.loop-body.invariant.3 (subst (λ bs. AllByRecursion (IsSentText c.args.own) bs)
-          (sym steps.0) (c.in_ok-put_out.ensures.text, sent)),
+          (sym steps.0) (c.in_ok-push_packet.ensures.text, sent)),
     )
 
 pub returns-clause-outs : goal.returns-clause-outs

@@ -1,7 +1,7 @@
 use Rattle.std.proofs.Common.{subst}
 use Rattle.packet.specs.Text.{PacketText}
 use Rattle.event_rules.specs.Packing.{packet_of}
-use Rattle.packing.proofs.writing.put_out.Goals as goal
+use Rattle.packing.proofs.writing.push_packet.Goals as goal
 
 pub returns-clause-text : goal.returns-clause-text
 returns-clause-text c =
