@@ -17,7 +17,7 @@ use Rattle.event_rules.specs.EventState.{EventState, flood_from_nobody, on_route
 use Rattle.event_rules.specs.Originations.{flush, flush_copy, has_max_sequence, has_room}
 use Rattle.event_rules.specs.Originations.{install_and_flood, may_originate, new_instance}
 use Rattle.event_rules.specs.Originations.{originate}
-use Rattle.event_rules.specs.Originations.{originate_body, originate_or_put_off, put_off}
+use Rattle.event_rules.specs.Originations.{originate_body, originate_or_postpone, postpone}
 use Rattle.event_rules.specs.Originations.{router_key}
 use Rattle.event_rules.specs.Originations.{wanted_body}
 use Rattle.event_rules.specs.Routers.{Router}
@@ -58,7 +58,7 @@ module _ (own moment : ℕ) (X : Outcome → Type 0) where
         in
         record { so = record { area = q.0; announced = h.so.announced }; still = q.1 }
 
-    waits : (k : Key) (p : EventState) → Going p → Going (on_router (put_off k) p)
+    waits : (k : Key) (p : EventState) → Going p → Going (on_router (postpone k) p)
     waits k p h = record {
       so = record { area = h.so.area; announced = h.so.announced };
       still = h.still;
@@ -71,9 +71,9 @@ module _ (own moment : ℕ) (X : Outcome → Type 0) where
     body_goes may_now k (Some says) p its wants h =
         chosen Going (has_max_sequence (finite.get p.router.area.database k)) (flush moment k p)
         (cond (may_now && may_originate moment k p.router) (originate moment k says p)
-        (on_router (put_off k) p)) (λ is. flush_goes k p h)
+        (on_router (postpone k) p)) (λ is. flush_goes k p h)
         (λ is. chosen Going (may_now && may_originate moment k p.router)
-        (originate moment k says p) (on_router (put_off k) p)
+        (originate moment k says p) (on_router (postpone k) p)
         (λ may. record {
           so = record {
             area = (order_kept own).originates moment k says p its is wants (MayGrow.Anyway tt)
@@ -96,7 +96,7 @@ module _ (own moment : ℕ) (X : Outcome → Type 0) where
         → Going (originate_router_lsa before moment p)
     describes before p h =
         chosen Going (links_differ before p.router.area.links && not (is_current moment p.router))
-        (originate_or_put_off moment (router_key p.router.id) p) p
+        (originate_or_postpone moment (router_key p.router.id) p) p
         (λ is. body_goes (has_room (router_key p.router.id) p.router) (router_key p.router.id)
         (wanted_body p.router (router_key p.router.id)) p
         ((order_kept own).own_router p.router h.so.announced) refl h) (λ is. h)
@@ -105,7 +105,7 @@ module _ (own moment : ℕ) (X : Outcome → Type 0) where
         → Going (put_off_router_lsa before p)
     describes_later before p h =
         chosen Going (links_differ before p.router.area.links)
-        (on_router (put_off (router_key p.router.id)) p) p
+        (on_router (postpone (router_key p.router.id)) p) p
         (λ is. waits (router_key p.router.id) p h) (λ is. h)
 
     -- then copies leave the database, or stay

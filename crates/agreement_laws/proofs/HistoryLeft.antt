@@ -34,8 +34,8 @@ use Rattle.event_rules.specs.EventState.{EventState, on_area, on_router}
 use Rattle.event_rules.specs.Hellos.{hello_on}
 use Rattle.event_rules.specs.Originations.{flush, has_max_sequence, has_room, interval_is_over}
 use Rattle.event_rules.specs.Originations.{is_recent, originate, originate_body}
-use Rattle.event_rules.specs.Originations.{originate_or_put_off}
-use Rattle.event_rules.specs.Originations.{put_off, router_body, router_key}
+use Rattle.event_rules.specs.Originations.{originate_or_postpone}
+use Rattle.event_rules.specs.Originations.{postpone, router_body, router_key}
 use Rattle.event_rules.specs.Packets.{after_packet}
 use Rattle.event_rules.specs.Routers.{Router}
 use Rattle.event_rules.specs.Ticks.{after_tick}
@@ -341,15 +341,15 @@ and_false true = refl
 and_false false = refl
 
 abbrev waiting : EventState
-waiting = on_router (put_off (router_key 1)) finished
+waiting = on_router (postpone (router_key 1)) finished
 
 waits : originate_router_lsa replied.router.area.links 0 finished ≡ waiting
 waits =
     (λ i. cond (true && not (is_at 0 (still_recent i) && copy_has_body
     (router_body finished.router.area.links) (found 1 a i)))
-    (originate_or_put_off 0 (router_key 1) finished) finished)
+    (originate_or_postpone 0 (router_key 1) finished) finished)
     ∙ (λ i. cond (true && not (true && has_not_told i))
-    (originate_or_put_off 0 (router_key 1) finished) finished)
+    (originate_or_postpone 0 (router_key 1) finished) finished)
     ∙ ap (λ says. originate_body (has_room (router_key 1) finished.router) 0 (router_key 1) says
     finished) (wanted finished.router)
     ∙ (λ i. cond (has_max_sequence (found 1 a i)) (flush 0 (router_key 1) finished)

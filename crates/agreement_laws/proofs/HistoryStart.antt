@@ -23,7 +23,7 @@ use Rattle.event_rules.specs.EventState.{EventState, on_area, on_router}
 use Rattle.event_rules.specs.Events.{initial}
 use Rattle.event_rules.specs.Originations.{as_originated, flush, has_max_sequence, has_room}
 use Rattle.event_rules.specs.Originations.{install_and_flood, interval_is_over, new_instance}
-use Rattle.event_rules.specs.Originations.{originate_body, put_off, router_body, router_key}
+use Rattle.event_rules.specs.Originations.{originate_body, postpone, router_body, router_key}
 use Rattle.event_rules.specs.Routers.{Router, fresh_link, unannounced_router}
 use Rattle.flood_laws.proofs.Limits.{new_key, tied_key}
 use Rattle.flood_laws.proofs.Owing.{put_other, put_same}
@@ -125,7 +125,7 @@ begins_so id address =
     ap (λ (q : EventState). q.router)
     ((λ i. originate_body (room i) 0 key (wanted p.router i) p)
     ∙ (λ i. cond (has_max_sequence (none i)) (flush 0 key p)
-    (cond (true && interval_is_over 0 (never i)) (told (none i)) (on_router (put_off key) p))))
+    (cond (true && interval_is_over 0 (never i)) (told (none i)) (on_router (postpone key) p))))
 
 -- ---- the one copy
 

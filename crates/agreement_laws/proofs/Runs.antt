@@ -29,7 +29,7 @@ use Rattle.event_rules.specs.EventState.{EventState, flood_from_nobody, on_route
 use Rattle.event_rules.specs.Events.{Happens, Run, Step, initial}
 use Rattle.event_rules.specs.Originations.{flush, flush_copy, has_max_sequence, has_room}
 use Rattle.event_rules.specs.Originations.{may_originate}
-use Rattle.event_rules.specs.Originations.{new_instance, originate, originate_body, put_off}
+use Rattle.event_rules.specs.Originations.{new_instance, originate, originate_body, postpone}
 use Rattle.event_rules.specs.Originations.{router_key}
 use Rattle.event_rules.specs.Originations.{wanted_body}
 use Rattle.event_rules.specs.Packing.{out_of}
@@ -81,13 +81,13 @@ module _ (number : ℕ) (at : ℕ) where
   originated_alone may_now moment key (Some says) p is =
       chosen Alone (has_max_sequence (finite.get p.router.area.database key)) (flush moment key p)
       (cond (may_now && may_originate moment key p.router) (originate moment key says p)
-      (on_router (put_off key) p))
+      (on_router (postpone key) p))
       (λ e. (
         flushed_alone moment key (finite.get p.router.area.database key) (outcome p) is.0,
         is.1,
       ))
       (λ e. chosen Alone (may_now && may_originate moment key p.router)
-      (originate moment key says p) (on_router (put_off key) p)
+      (originate moment key says p) (on_router (postpone key) p)
       (λ e.
       let lsa : Lsa = new_instance key (finite.get p.router.area.database key) says in (
         flooded_alone moment lsa (on_database (install_originated moment lsa) (outcome p)) is.0,

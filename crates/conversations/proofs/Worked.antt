@@ -10,7 +10,7 @@ use Rattle.event_rules.proofs.Sends.{no_outs_from}
 use Rattle.conversations.proofs.WorkedEnds.{begins, ends}
 use Rattle.conversations.proofs.WorkedUpdates.{start}
 use Rattle.event_rules.specs.Originations.{external_key, flush, has_max_sequence, may_originate}
-use Rattle.event_rules.specs.Originations.{originate, put_off}
+use Rattle.event_rules.specs.Originations.{originate, postpone}
 use Rattle.event_rules.specs.Refusals.{is_taken, of_event}
 use Rattle.event_rules.specs.Routers.{Occurrence}
 use Rattle.conversations.specs.Worked.{WorkedEvents, destination, ten}
@@ -45,10 +45,10 @@ worked = record {
   wraps = λ may_now moment key says c p there max.
       ap (λ o. cond (has_max_sequence o) (flush moment key p)
       (cond (may_now && may_originate moment key p.router) (originate moment key says p)
-      (on_router (put_off key) p))) there
+      (on_router (postpone key) p))) there
       ∙ ap (λ s. cond (is_eq (int_cmp s (pos 2147483647))) (flush moment key p)
       (cond (may_now && may_originate moment key p.router) (originate moment key says p)
-      (on_router (put_off key) p))) max;
+      (on_router (postpone key) p))) max;
   grows = λ lsa. refl;
   grows_no_more = λ lsa. refl;
 }

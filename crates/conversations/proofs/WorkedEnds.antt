@@ -29,7 +29,7 @@ use Rattle.event_rules.specs.Endings.{originate_router_lsa, put_off_router_lsa, 
 use Rattle.event_rules.specs.Endings.{link_loading_done, loading_done, loading_done_on, end_event}
 use Rattle.event_rules.specs.Endings.{is_current, links_differ, remove_aged, request_all, same_body}
 use Rattle.event_rules.specs.Endings.{flood_if_aged, stays, stays_as}
-use Rattle.event_rules.specs.Originations.{originate_or_put_off, put_off, router_body, router_key}
+use Rattle.event_rules.specs.Originations.{originate_or_postpone, postpone, router_body, router_key}
 use Rattle.event_rules.specs.EventState.{EventState, flood_from_nobody, on_area, on_router}
 use Rattle.event_rules.specs.Routers.{Router}
 use Rattle.conversations.proofs.WorkedLinks.{each_rest, left_false, right_false, same_rest}
@@ -111,10 +111,10 @@ pub describes_not : (before : List Link) (moment : ℕ) (p : EventState)
     → links_differ before p.router.area.links ≡ false → originate_router_lsa before moment p ≡ p
 describes_not before moment p e = ap
     (λ b. cond (b && not (is_current moment p.router))
-    (originate_or_put_off moment (router_key p.router.id) p) p) e
+    (originate_or_postpone moment (router_key p.router.id) p) p) e
 
 pub describes_not_later : (p : EventState) → put_off_router_lsa p.router.area.links p ≡ p
-describes_not_later p = ap (λ b. cond b (on_router (put_off (router_key p.router.id)) p) p)
+describes_not_later p = ap (λ b. cond b (on_router (postpone (router_key p.router.id)) p) p)
     (differ_not p.router.area.links p.router.area.links refl)
 
 -- ---- nothing is requested

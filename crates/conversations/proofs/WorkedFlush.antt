@@ -29,7 +29,7 @@ use Rattle.event_rules.specs.Events.{Happens}
 use Rattle.event_rules.specs.Originations.{flush, flush_copy, has_max_sequence, has_room}
 use Rattle.event_rules.specs.Originations.{should_originate}
 use Rattle.event_rules.specs.Originations.{may_originate, originate, originate_body, router_body}
-use Rattle.event_rules.specs.Originations.{router_key, originate_or_flush, put_off, wanted_body}
+use Rattle.event_rules.specs.Originations.{router_key, originate_or_flush, postpone, wanted_body}
 use Rattle.event_rules.specs.Packets.{after_lsa, after_packet, receive_acknowledgment}
 use Rattle.event_rules.specs.Packing.{outs_of}
 use Rattle.event_rules.specs.EventState.{EventState, flood_from_nobody, on_area, on_router}
@@ -93,7 +93,7 @@ settles r link n moment lsa mine last young =
     ap is_max_age (same_age lsa.header.age moment young) ∙ is_young lsa.header.age young in
     let o : Outcome = record { area = p.router.area; sends = [] } in
     let rest : EventState = cond (has_room key p.router && may_originate moment key p.router)
-    (originate moment key (router_body p.router.area.links) p) (on_router (put_off key) p) in
+    (originate moment key (router_body p.router.area.links) p) (on_router (postpone key) p) in
     (λ i. cond (own i) (originate_or_flush (should_originate (wanted_body p.router (mine i))) moment
     (mine i) p) p)
     ∙ (λ i. originate_or_flush (should_originate (wanted p.router i)) moment key p)

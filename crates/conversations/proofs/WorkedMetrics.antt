@@ -21,7 +21,7 @@ use Rattle.event_rules.specs.EventState.{EventState, on_area, on_router}
 use Rattle.event_rules.specs.Originations.{announced_body, as_originated, external_body}
 use Rattle.event_rules.specs.Originations.{external_key}
 use Rattle.event_rules.specs.Originations.{flush, flush_copy, has_max_sequence, install_and_flood}
-use Rattle.event_rules.specs.Originations.{new_instance, originate_anyway, originate_body, put_off}
+use Rattle.event_rules.specs.Originations.{new_instance, originate_anyway, originate_body, postpone}
 use Rattle.event_rules.specs.Originations.{wanted_body}
 use Rattle.event_rules.specs.Routers.{Occurrence, Router}
 use Rattle.conversations.specs.WorkedMetrics.{MayAnnounce, MetricsAnnounceOrWithhold}
@@ -78,7 +78,7 @@ announces old new moment tag e outs rest may event =
     ∙ (λ i. cond (has_max_sequence (may.no_copy i)) (flush moment key q)
     (cond (true && may.is_over i) (on_router (as_originated moment key)
     (on_area (install_and_flood moment (new_instance key (may.no_copy i) says)) q))
-    (on_router (put_off key) q))) in
+    (on_router (postpone key) q))) in
     let end : end_event old moment event.after ≡ ended moment said =
     ap (end_event old moment) own ∙ ends old moment said
     (stepped_seen (flood_to moment None lsa) (flooding_keeps moment None lsa) old.area.links)

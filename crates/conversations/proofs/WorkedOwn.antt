@@ -30,9 +30,9 @@ use Rattle.event_rules.specs.Originations.{announced_body, as_originated, flush,
 use Rattle.event_rules.specs.Originations.{has_room, install_and_flood, interval_is_over}
 use Rattle.event_rules.specs.Originations.{is_own_external, may_originate, should_originate}
 use Rattle.event_rules.specs.Originations.{new_instance}
-use Rattle.event_rules.specs.Originations.{originate_body, originate_or_put_off, own_externals}
+use Rattle.event_rules.specs.Originations.{originate_body, originate_or_postpone, own_externals}
 use Rattle.event_rules.specs.Originations.{router_body}
-use Rattle.event_rules.specs.Originations.{router_key, originate_or_flush, put_off, wanted_body}
+use Rattle.event_rules.specs.Originations.{router_key, originate_or_flush, postpone, wanted_body}
 use Rattle.event_rules.specs.Packets.{after_lsa}
 use Rattle.event_rules.specs.Packing.{outs_of}
 use Rattle.event_rules.specs.EventState.{EventState, on_area, on_router}
@@ -113,13 +113,13 @@ abbrev described : Bool → ℕ → DatabaseCopy → EventState → EventState
 described over moment own p =
     cond over (on_router (as_originated moment (router_key p.router.id))
     (on_area (install_and_flood moment (next_router_lsa p.router own)) p))
-    (on_router (put_off (router_key p.router.id)) p)
+    (on_router (postpone (router_key p.router.id)) p)
 
 describes : (over : Bool) (moment : ℕ) (own : DatabaseCopy) (p : EventState)
     → finite.get p.router.area.database (router_key p.router.id) ≡ Some own
     → has_max_sequence (Some own) ≡ false
     → may_originate moment (router_key p.router.id) p.router ≡ over
-    → originate_or_put_off moment (router_key p.router.id) p ≡ described over moment own p
+    → originate_or_postpone moment (router_key p.router.id) p ≡ described over moment own p
 describes over moment own p there counts may =
     let key : Key = router_key p.router.id in
     let says : LsaBody = router_body p.router.area.links in
@@ -131,7 +131,7 @@ describes over moment own p there counts may =
     ∙ (λ i. cond (has_max_sequence (there i)) (flush moment key p)
     (cond (true && may i) (on_router (as_originated moment key)
     (on_area (install_and_flood moment (new_instance key (there i) says)) p))
-    (on_router (put_off key) p)))
+    (on_router (postpone key) p)))
     ∙ (λ i. cond (counts i) (flush moment key p) (described over moment own p))
 
 -- ---- the complete event
@@ -154,7 +154,7 @@ ending r link n moment lsa own over meet unsaid is_over =
     let p : EventState = put r link moment lsa (full lsa n) in
     let later : EventState → EventState =
     λ q. last moment (put_off_router_lsa q.router.area.links (loading_done q)) in
-    let told : EventState = originate_or_put_off moment (router_key r.id) p in
+    let told : EventState = originate_or_postpone moment (router_key r.id) p in
     let still : finite.get p.router.area.database (router_key r.id) ≡ Some own =
     own_stays r.area.database lsa (router_key r.id) own moment meet.is_absent meet.own_there in
     ap (λ q. later (originate_router_lsa old.area.links moment q))

@@ -27,7 +27,7 @@ use Rattle.event_rules.specs.Originations.{as_originated, due_keys, flush, forge
 use Rattle.event_rules.specs.Originations.{has_max_sequence, has_room, install_and_flood}
 use Rattle.event_rules.specs.Originations.{interval_is_over, is_due, is_recent, may_originate}
 use Rattle.event_rules.specs.Originations.{new_instance, originate_body, originate_due}
-use Rattle.event_rules.specs.Originations.{originate_or_put_off, put_off, router_body, router_key}
+use Rattle.event_rules.specs.Originations.{originate_or_postpone, postpone, router_body, router_key}
 use Rattle.event_rules.specs.Packing.{outs_of}
 use Rattle.event_rules.specs.EventState.{EventState, on_area, on_router}
 use Rattle.event_rules.specs.Routers.{Occurrence, Router}
@@ -100,7 +100,7 @@ originates : (moment : ℕ) (copy : Option DatabaseCopy) (p : EventState)
     → finite.get p.router.area.database (router_key p.router.id) ≡ copy → has_max_sequence copy
     ≡ false → has_room (router_key p.router.id) p.router ≡ true
     → may_originate moment (router_key p.router.id) p.router ≡ true
-    → originate_or_put_off moment (router_key p.router.id) p ≡ told moment copy p
+    → originate_or_postpone moment (router_key p.router.id) p ≡ told moment copy p
 originates moment copy p there counts room may =
     let key : Key = router_key p.router.id in
     let says : LsaBody = router_body p.router.area.links in
@@ -108,7 +108,7 @@ originates moment copy p there counts room may =
     ∙ (λ i. cond (has_max_sequence (there i)) (flush moment key p)
     (cond (true && may i) (on_router (as_originated moment key)
     (on_area (install_and_flood moment (new_instance key (there i) says)) p))
-    (on_router (put_off key) p)))
+    (on_router (postpone key) p)))
     ∙ (λ i. cond (counts i) (flush moment key p) (told moment copy p))
 
 alone_due : (r : Router) (moment : ℕ) → finite.keys r.announced ≡ []

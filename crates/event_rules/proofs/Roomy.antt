@@ -54,7 +54,7 @@ use Rattle.event_rules.specs.Endings.{flood_if_aged}
 use Rattle.event_rules.specs.Events.{Happens, Run, Step, initial}
 use Rattle.event_rules.specs.Hellos.{accepts, hello_is_due, heard_of, hello_on, names}
 use Rattle.event_rules.specs.Originations.{due_keys, install_and_flood, new_instance}
-use Rattle.event_rules.specs.Originations.{originate_or_put_off}
+use Rattle.event_rules.specs.Originations.{originate_or_postpone}
 use Rattle.event_rules.specs.Originations.{router_key, wanted_body}
 use Rattle.event_rules.specs.Packets.{accept_hello, receive_hello_on, requested_lsas, with_neighbor}
 use Rattle.event_rules.specs.EventState.{EventState, flood_from_nobody}
@@ -384,7 +384,7 @@ first_roomy c e =
       };
       announced = tt;
     } in
-    let so : OfEvent roomy (originate_or_put_off c.start (router_key c.router) start) =
+    let so : OfEvent roomy (originate_or_postpone c.start (router_key c.router) start) =
     originate_or_wait_kept roomy parts_roomy c.start (router_key c.router) start tt at in
     record { fit = so.area.fit; lists = so.area.lists; few = so.area.few }
 

@@ -45,9 +45,9 @@ use Rattle.event_rules.specs.Originations.{install_and_flood, may_originate, sho
 use Rattle.event_rules.specs.Originations.{new_instance}
 use Rattle.event_rules.specs.Originations.{originate, originate_anyway, originate_body}
 use Rattle.event_rules.specs.Originations.{originate_due}
-use Rattle.event_rules.specs.Originations.{originate_or_put_off, router_key}
+use Rattle.event_rules.specs.Originations.{originate_or_postpone, router_key}
 use Rattle.event_rules.specs.Originations.{receive_self_originated}
-use Rattle.event_rules.specs.Originations.{originate_or_flush, put_off, wanted_body}
+use Rattle.event_rules.specs.Originations.{originate_or_flush, postpone, wanted_body}
 use Rattle.event_rules.specs.Packets.{after_lsa, after_lsas, after_packet, receive_acknowledgment}
 use Rattle.event_rules.specs.Packets.{receive_hello}
 use Rattle.event_rules.specs.Packets.{after_unread, case_in, from_neighbor, is_heard}
@@ -195,7 +195,7 @@ module _ (i : Invariant) (kept : IsKeptByParts i) where
       on_area_kept (flush_copy moment key (finite.get p.router.area.database key)) p
       (λ a. copy_flushed moment key (finite.get p.router.area.database key) (outcome p) refl a) h
 
-  waits_kept : (key : Key) (p : EventState) → InProgress p → InProgress (on_router (put_off key) p)
+  waits_kept : (key : Key) (p : EventState) → InProgress p → InProgress (on_router (postpone key) p)
   waits_kept key p h = record { area = h.area; announced = h.announced }
 
   body_kept : (may_now : Bool) (moment : ℕ) (key : Key) (says : Option LsaBody) (p : EventState)
@@ -206,10 +206,10 @@ module _ (i : Invariant) (kept : IsKeptByParts i) where
       chosen InProgress (has_max_sequence (finite.get p.router.area.database key))
       (flush moment key p)
       (cond (may_now && may_originate moment key p.router) (originate moment key says p)
-      (on_router (put_off key) p))
+      (on_router (postpone key) p))
       (λ is. flush_kept moment key p h)
       (λ is. chosen InProgress (may_now && may_originate moment key p.router)
-      (originate moment key says p) (on_router (put_off key) p)
+      (originate moment key says p) (on_router (postpone key) p)
       (λ may. record {
         area = kept.originates moment key says p own is wants
             (grows (first_so may_now (may_originate moment key p.router) may)) h;
@@ -222,7 +222,7 @@ module _ (i : Invariant) (kept : IsKeptByParts i) where
       first_so false b e = absurd cc
 
   pub originate_or_wait_kept : (moment : ℕ) (key : Key) (p : EventState) → i.of_key key
-      → InProgress p → InProgress (originate_or_put_off moment key p)
+      → InProgress p → InProgress (originate_or_postpone moment key p)
   originate_or_wait_kept moment key p own h =
       body_kept (has_room key p.router) moment key (wanted_body p.router key) p own refl
       (λ is. MayGrow.HasRoom is) h
@@ -231,7 +231,7 @@ module _ (i : Invariant) (kept : IsKeptByParts i) where
       → InProgress p → InProgress (originate_due moment keys p)
   due_kept moment [] p own h = h
   due_kept moment (key ∷ keys) p own h =
-      due_kept moment keys (originate_or_put_off moment key p) own.1
+      due_kept moment keys (originate_or_postpone moment key p) own.1
       (originate_or_wait_kept moment key p own.0 h)
 
   wanted_settled : (b : Bool) (moment : ℕ) (key : Key) (p : EventState) → i.of_key key
@@ -425,7 +425,7 @@ module _ (i : Invariant) (kept : IsKeptByParts i) where
       → InProgress (originate_router_lsa before moment p)
   described before moment p h =
       chosen InProgress (links_differ before p.router.area.links && not
-      (is_current moment p.router)) (originate_or_put_off moment (router_key p.router.id) p) p
+      (is_current moment p.router)) (originate_or_postpone moment (router_key p.router.id) p) p
       (λ is. originate_or_wait_kept moment (router_key p.router.id) p
       (kept.own_router p.router h.announced) h) (λ is. h)
 
@@ -433,7 +433,7 @@ module _ (i : Invariant) (kept : IsKeptByParts i) where
       → InProgress (put_off_router_lsa before p)
   described_later before p h =
       chosen InProgress (links_differ before p.router.area.links)
-      (on_router (put_off (router_key p.router.id)) p) p
+      (on_router (postpone (router_key p.router.id)) p) p
       (λ is. waits_kept (router_key p.router.id) p h) (λ is. h)
 
   aged_removed : (moment : ℕ) (o : Outcome) → OfOutcome i o → OfOutcome i (remove_aged moment o)

@@ -15,7 +15,7 @@ use Rattle.received.specs.adjacency.Neighbors.{Neighbor}
 use Rattle.received.specs.adjacency.Requests.{request_next}
 use Rattle.received.specs.Links.{Area, Link, any_has_retransmission, any_exchange_or_loading}
 use Rattle.received.specs.Outcomes.{Outcome, each_neighbor, on_database, on_links}
-use Rattle.event_rules.specs.Originations.{originate_or_put_off, put_off, router_body, router_key}
+use Rattle.event_rules.specs.Originations.{originate_or_postpone, postpone, router_body, router_key}
 use Rattle.event_rules.specs.EventState.{EventState, flood_from_nobody, on_area, on_router}
 use Rattle.event_rules.specs.Routers.{Router}
 
@@ -77,13 +77,13 @@ is_current moment r =
 abbrev pub originate_router_lsa : List Link → Moment → EventState → EventState
 originate_router_lsa before moment p =
     if links_differ before p.router.area.links && not (is_current moment p.router)
-    then originate_or_put_off moment (router_key p.router.id) p else p
+    then originate_or_postpone moment (router_key p.router.id) p else p
 
 -- flooding the router-LSA may meet a neighbor's last request, which makes that neighbor Full: the
 -- link to it waits for a Tick
 abbrev pub put_off_router_lsa : List Link → EventState → EventState
 put_off_router_lsa before p =
-    if links_differ before p.router.area.links then on_router (put_off (router_key p.router.id)) p
+    if links_differ before p.router.area.links then on_router (postpone (router_key p.router.id)) p
     else p
 
 -- ---- Link State Requests (section 10.9)

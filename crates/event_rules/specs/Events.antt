@@ -10,7 +10,7 @@ use Rattle.event_rules.specs.declared.model.Out.{Out}
 use Rattle.event_rules.specs.Commands.{after_install, after_link_down, after_redistribute}
 use Rattle.event_rules.specs.Commands.{after_withdraw}
 use Rattle.event_rules.specs.Endings.{start_event, end_event}
-use Rattle.event_rules.specs.Originations.{originate_or_put_off, router_key}
+use Rattle.event_rules.specs.Originations.{originate_or_postpone, router_key}
 use Rattle.event_rules.specs.Packets.{after_packet}
 use Rattle.event_rules.specs.Packing.{outs_of}
 use Rattle.event_rules.specs.EventState.{EventState}
@@ -61,7 +61,7 @@ Run old (s ∷ steps) new =
 -- the router at its start: the router-LSA is originated, and there is no neighbor to send it to
 abbrev pub initial : Config → Router
 initial c =
-    (originate_or_put_off c.start (router_key c.router) (record {
+    (originate_or_postpone c.start (router_key c.router) (record {
       router = unannounced_router c;
       sends = [];
     })).router

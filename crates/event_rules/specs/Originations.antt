@@ -161,8 +161,8 @@ may_originate moment key r = interval_is_over moment (finite.get r.originated ke
 abbrev pub has_room : Key → Router → Bool
 has_room key r = has_room_for r.id key r.area.database
 
-abbrev pub put_off : Key → Router → Router
-put_off key r = record r { waiting = set.insert r.waiting key }
+abbrev pub postpone : Key → Router → Router
+postpone key r = record r { waiting = set.insert r.waiting key }
 
 -- at once, if `may_now` and MinLSInterval allow it, else at a Tick; after MaxSequenceNumber the
 -- copy is flushed first, and the LSA is originated when the copy has been removed from the database
@@ -171,11 +171,11 @@ originate_body may_now moment key None p = p
 originate_body may_now moment key (Some says) p =
     if has_max_sequence (finite.get p.router.area.database key) then flush moment key p
     else if may_now && may_originate moment key p.router then originate moment key says p
-    else on_router (put_off key) p
+    else on_router (postpone key) p
 
 -- now only if there is room for it
-abbrev pub originate_or_put_off : Moment → Key → EventState → EventState
-originate_or_put_off moment key p =
+abbrev pub originate_or_postpone : Moment → Key → EventState → EventState
+originate_or_postpone moment key p =
     originate_body (has_room key p.router) moment key (wanted_body p.router key) p
 
 -- even if there is no room; `Redistribute` checks the limits afterwards
@@ -198,7 +198,7 @@ due_keys moment r = filter (is_due moment r) (wanted_keys r)
 
 abbrev pub originate_due : Moment → List Key → EventState → EventState
 originate_due moment keys p =
-    fold (λ (q : EventState) (key : Key). originate_or_put_off moment key q) p keys
+    fold (λ (q : EventState) (key : Key). originate_or_postpone moment key q) p keys
 
 -- originations are forgotten after MinLSInterval
 abbrev pub is_recent : Moment → Option Moment → Bool
@@ -219,7 +219,7 @@ should_originate None = false
 should_originate (Some says) = true
 
 abbrev pub originate_or_flush : Bool → Moment → Key → EventState → EventState
-originate_or_flush true moment key p = originate_or_put_off moment key p
+originate_or_flush true moment key p = originate_or_postpone moment key p
 originate_or_flush false moment key p = flush moment key p
 
 -- a self-originated LSA that was received and installed: a wanted one is originated again with the

@@ -35,8 +35,8 @@ use Rattle.event_rules.specs.Originations.{has_max_sequence, has_room, should_or
 use Rattle.event_rules.specs.Originations.{may_originate}
 use Rattle.event_rules.specs.Originations.{originate, originate_anyway, originate_body}
 use Rattle.event_rules.specs.Originations.{originate_due}
-use Rattle.event_rules.specs.Originations.{originate_or_flush, originate_or_put_off}
-use Rattle.event_rules.specs.Originations.{put_off, receive_self_originated, router_key}
+use Rattle.event_rules.specs.Originations.{originate_or_flush, originate_or_postpone}
+use Rattle.event_rules.specs.Originations.{postpone, receive_self_originated, router_key}
 use Rattle.event_rules.specs.Originations.{wanted_body}
 use Rattle.event_rules.specs.Packets.{after_lsas, after_packet, after_self_originated}
 use Rattle.event_rules.specs.Packets.{receive_acknowledgment}
@@ -65,16 +65,16 @@ body_stays may_now moment key None p = refl
 body_stays may_now moment key (Some says) p =
     either (has_max_sequence (finite.get p.router.area.database key)) (flush moment key p)
     (cond (may_now && may_originate moment key p.router) (originate moment key says p)
-    (on_router (put_off key) p)) p refl
+    (on_router (postpone key) p)) p refl
     (either (may_now && may_originate moment key p.router) (originate moment key says p)
-    (on_router (put_off key) p) p refl refl)
+    (on_router (postpone key) p) p refl refl)
 
-waits : (moment : ℕ) (key : Key) (p : EventState) → of (originate_or_put_off moment key p) ≡ of p
+waits : (moment : ℕ) (key : Key) (p : EventState) → of (originate_or_postpone moment key p) ≡ of p
 waits moment key p = body_stays (has_room key p.router) moment key (wanted_body p.router key) p
 
 all_due : (moment : ℕ) (keys : List Key) (p : EventState) → of (originate_due moment keys p) ≡ of p
 all_due moment [] p = refl
-all_due moment (key ∷ keys) p = all_due moment keys (originate_or_put_off moment key p)
+all_due moment (key ∷ keys) p = all_due moment keys (originate_or_postpone moment key p)
     ∙ waits moment key p
 
 wanted_or_not : (b : Bool) (moment : ℕ) (key : Key) (p : EventState)
@@ -186,12 +186,12 @@ described_stays : (before : List Link) (moment : ℕ) (p : EventState)
     → of (originate_router_lsa before moment p) ≡ of p
 described_stays before moment p =
     either (links_differ before p.router.area.links && not (is_current moment p.router))
-    (originate_or_put_off moment (router_key p.router.id) p) p p
+    (originate_or_postpone moment (router_key p.router.id) p) p p
     (waits moment (router_key p.router.id) p) refl
 
 later_stays : (before : List Link) (p : EventState) → of (put_off_router_lsa before p) ≡ of p
 later_stays before p = either (links_differ before p.router.area.links)
-    (on_router (put_off (router_key p.router.id)) p) p p refl refl
+    (on_router (postpone (router_key p.router.id)) p) p p refl refl
 
 ended_stays : (old : Router) (moment : ℕ) (p : EventState) → of (end_event old moment p) ≡ of p
 ended_stays old moment p =

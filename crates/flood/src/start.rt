@@ -7,7 +7,7 @@ ghost use Rattle.flood.specs.Starts.{fresh_kept};
 use adjacency::Interface;
 use area_routes::Link;
 use event_rules::Config;
-use procedures::{Router, originate_or_put_off};
+use procedures::{Router, originate_or_postpone};
 use std::alloc::{AllocError, Global};
 use words::router_key;
 
@@ -30,7 +30,7 @@ fn originate_first_router_lsa(
     requires { router.old.present ≡ unannounced_router config.now }
     ensures { OnOk result (router.new.present ≡ initial config.now) }
 {
-    originate_or_put_off(router, alloc, config.start, &router_key(config.router))
+    originate_or_postpone(router, alloc, config.start, &router_key(config.router))
 }
 
 /// A router without neighbors that has originated its router-LSA (RFC 2328, section 12.4.1).

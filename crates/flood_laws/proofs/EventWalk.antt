@@ -41,7 +41,7 @@ use Rattle.event_rules.specs.Originations.{forget_originations, has_max_sequence
 use Rattle.event_rules.specs.Originations.{install_and_flood, may_originate, should_originate}
 use Rattle.event_rules.specs.Originations.{new_instance, originate, originate_anyway}
 use Rattle.event_rules.specs.Originations.{originate_body, originate_due, originate_or_flush}
-use Rattle.event_rules.specs.Originations.{originate_or_put_off, put_off, receive_self_originated}
+use Rattle.event_rules.specs.Originations.{originate_or_postpone, postpone, receive_self_originated}
 use Rattle.event_rules.specs.Originations.{router_key, wanted_body}
 use Rattle.event_rules.specs.Packets.{after_lsa, after_lsas, after_packet, receive_acknowledgment}
 use Rattle.event_rules.specs.Packets.{receive_hello, after_self_originated, after_unread, case_in}
@@ -185,7 +185,7 @@ module _ (i : Invariant) (kept : IsKeptByParts i) (X Y : Lately) (old : Router) 
       (λ a x. copy_flushed_too key (finite.get p.router.area.database key) (outcome p)
       p.router.originated refl a x) h
 
-  waits_kept : (key : Key) (p : EventState) → InProgress p → InProgress (on_router (put_off key) p)
+  waits_kept : (key : Key) (p : EventState) → InProgress p → InProgress (on_router (postpone key) p)
   waits_kept key p h = record {
     so = record { area = h.so.area; announced = h.so.announced };
     lately = h.lately;
@@ -199,10 +199,10 @@ module _ (i : Invariant) (kept : IsKeptByParts i) (X Y : Lately) (old : Router) 
       chosen InProgress (has_max_sequence (finite.get p.router.area.database key))
       (flush moment key p)
       (cond (may_now && may_originate moment key p.router) (originate moment key says p)
-      (on_router (put_off key) p))
+      (on_router (postpone key) p))
       (λ is. flush_kept key p h)
       (λ is. chosen InProgress (may_now && may_originate moment key p.router)
-      (originate moment key says p) (on_router (put_off key) p)
+      (originate moment key says p) (on_router (postpone key) p)
       (λ may.
       let both = and_parts may_now (may_originate moment key p.router) may in
       record {
@@ -215,7 +215,7 @@ module _ (i : Invariant) (kept : IsKeptByParts i) (X Y : Lately) (old : Router) 
       (λ may. waits_kept key p h))
 
   originate_or_wait_kept : (key : Key) (p : EventState) → i.of_key key → InProgress p
-      → InProgress (originate_or_put_off moment key p)
+      → InProgress (originate_or_postpone moment key p)
   originate_or_wait_kept key p own h =
       body_kept (has_room key p.router) key (wanted_body p.router key) p own refl
       (λ is. MayGrow.HasRoom is) h
@@ -223,7 +223,7 @@ module _ (i : Invariant) (kept : IsKeptByParts i) (X Y : Lately) (old : Router) 
   due_kept : (keys : List Key) (p : EventState) → AllByRecursion i.of_key keys → InProgress p
       → InProgress (originate_due moment keys p)
   due_kept [] p own h = h
-  due_kept (key ∷ keys) p own h = due_kept keys (originate_or_put_off moment key p) own.1
+  due_kept (key ∷ keys) p own h = due_kept keys (originate_or_postpone moment key p) own.1
       (originate_or_wait_kept key p own.0 h)
 
   wanted_settled : (b : Bool) (key : Key) (p : EventState) → i.of_key key → InProgress p
@@ -513,7 +513,7 @@ module _ (i : Invariant) (kept : IsKeptByParts i) (X Y : Lately) (old : Router) 
       → InProgress (originate_router_lsa before moment p)
   described before p h =
       chosen InProgress (links_differ before p.router.area.links && not
-      (is_current moment p.router)) (originate_or_put_off moment (router_key p.router.id) p) p
+      (is_current moment p.router)) (originate_or_postpone moment (router_key p.router.id) p) p
       (λ is. originate_or_wait_kept (router_key p.router.id) p
       (kept.own_router p.router h.so.announced) h) (λ is. h)
 
@@ -521,7 +521,7 @@ module _ (i : Invariant) (kept : IsKeptByParts i) (X Y : Lately) (old : Router) 
       → InProgress (put_off_router_lsa before p)
   described_later before p h =
       chosen InProgress (links_differ before p.router.area.links)
-      (on_router (put_off (router_key p.router.id)) p) p
+      (on_router (postpone (router_key p.router.id)) p) p
       (λ is. waits_kept (router_key p.router.id) p h) (λ is. h)
 
   pub event_kept_too : (after : EventState) → Brings i old event → OwnPart moment event start after

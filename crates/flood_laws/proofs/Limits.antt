@@ -41,7 +41,7 @@ use Rattle.event_rules.specs.Events.{Happens, Run, Step as RunStep, initial}
 use Rattle.event_rules.specs.EventState.{EventState, flood_from_nobody}
 use Rattle.event_rules.specs.Hellos.{accepts, names}
 use Rattle.event_rules.specs.Originations.{announced_body, due_keys, external_key, has_room}
-use Rattle.event_rules.specs.Originations.{is_own_external, new_instance, originate_or_put_off}
+use Rattle.event_rules.specs.Originations.{is_own_external, new_instance, originate_or_postpone}
 use Rattle.event_rules.specs.Originations.{own_externals, router_body, router_key, wanted_body}
 use Rattle.event_rules.specs.Packets.{accept_hello, receive_hello_on, requested_lsas, with_neighbor}
 use Rattle.event_rules.specs.Refusals.{exceeds}
@@ -405,7 +405,8 @@ empty_within id = record {
 start : (c : Config) → exceeds (initial c) ≡ false
 start c =
     let begun : EventState = record { router = unannounced_router c; sends = [] } in
-    let end : OfEvent (within c.router) (originate_or_put_off c.start (router_key c.router) begun) =
+    let end : OfEvent (within c.router) (originate_or_postpone c.start (router_key c.router)
+        begun) =
     originate_or_wait_kept (within c.router) (parts_within c.router) c.start (router_key c.router)
     begun tt
     (record { area = empty_within c.router; announced = (refl, none_announced) }) in

@@ -28,7 +28,7 @@ use Rattle.event_rules.specs.Endings.{link_loading_done, links_differ, loading_d
 use Rattle.event_rules.specs.Endings.{loading_done_on}
 use Rattle.event_rules.specs.Endings.{request_all, stays}
 use Rattle.event_rules.specs.EventState.{EventState, on_router}
-use Rattle.event_rules.specs.Originations.{put_off, router_key}
+use Rattle.event_rules.specs.Originations.{postpone, router_key}
 use Rattle.event_rules.specs.Routers.{Router}
 use Rattle.flood_laws.specs.NeighborLaws.{IsRequesting, WhatIsLeftIsRequested}
 
@@ -141,7 +141,7 @@ end_requests old moment p =
     let before : HoldsOfEach IsLoaded o.area.links =
     chosen (λ (q : EventState). HoldsOfEach IsLoaded q.router.area.links)
     (links_differ described.router.area.links loaded.router.area.links)
-    (on_router (put_off (router_key loaded.router.id)) loaded) loaded
+    (on_router (postpone (router_key loaded.router.id)) loaded) loaded
     (λ is. all_loaded described.router.area.links)
     (λ is. all_loaded described.router.area.links) in
     let requested : HoldsOfEach IsRequesting (request_all moment o).area.links =

@@ -42,7 +42,7 @@ use Rattle.event_rules.specs.Events.{OwnPart}
 use Rattle.event_rules.specs.Hellos.{accepts, hello_is_due, hello_on, names}
 use Rattle.event_rules.specs.Originations.{due_keys, external_key, has_max_sequence}
 use Rattle.event_rules.specs.Originations.{install_and_flood}
-use Rattle.event_rules.specs.Originations.{is_due, new_instance, originate_or_put_off, router_key}
+use Rattle.event_rules.specs.Originations.{is_due, new_instance, originate_or_postpone, router_key}
 use Rattle.event_rules.specs.Originations.{wanted_body, wanted_keys}
 use Rattle.event_rules.specs.Packets.{accept_hello, receive_hello_on, requested_lsas, with_neighbor}
 use Rattle.event_rules.specs.EventState.{EventState, flood_from_nobody}
@@ -305,7 +305,7 @@ module _ (t : Telling) (id : ℕ) (news : (key : Key) (copy : Option DatabaseCop
       })
 
   pub first_told : (moment : ℕ) (p : EventState) → OfEvent (told t id) p
-      → OfEvent (told t id) (originate_or_put_off moment (router_key p.router.id) p)
+      → OfEvent (told t id) (originate_or_postpone moment (router_key p.router.id) p)
   first_told moment p h =
       originate_or_wait_kept (told t id) parts_told moment (router_key p.router.id) p
       (parts_told.own_router p.router h.announced) h

@@ -6,7 +6,7 @@ use Rattle.flooding.specs.lsdb.Copies.{DatabaseCopy}
 use Rattle.flooding.specs.lsdb.Headers.{Lsa}
 use Rattle.event_rules.specs.EventState.{EventState, on_router}
 use Rattle.event_rules.specs.Originations.{flush, has_max_sequence, may_originate, new_instance}
-use Rattle.event_rules.specs.Originations.{put_off}
+use Rattle.event_rules.specs.Originations.{postpone}
 use Rattle.originations.specs.Decisions.{after_origination}
 use Rattle.originations.specs.Laws.{OriginationsAreTheRules}
 use Rattle.originations.specs.declared.origination.Origination.TheVariants.{Flushes, Waits}
@@ -15,7 +15,7 @@ use Rattle.originations.specs.declared.origination.Origination.TheVariants.{Orig
 done_by : (flushed now : Bool) (moment : ℕ) (key : Key) (lsa : Lsa) (p : EventState)
     → after_origination moment key (cond flushed Flushes (cond now (Originates lsa) Waits)) p
     ≡ cond flushed (flush moment key p)
-    (cond now (after_origination moment key (Originates lsa) p) (on_router (put_off key) p))
+    (cond now (after_origination moment key (Originates lsa) p) (on_router (postpone key) p))
 done_by true now moment key lsa p = refl
 done_by false true moment key lsa p = refl
 done_by false false moment key lsa p = refl

@@ -8,7 +8,7 @@ use Rattle.flooding.specs.lsdb.Headers.{Lsa}
 use Rattle.event_rules.specs.EventState.{EventState, on_area, on_router}
 use Rattle.event_rules.specs.Originations.{as_originated, flush, has_max_sequence}
 use Rattle.event_rules.specs.Originations.{install_and_flood}
-use Rattle.event_rules.specs.Originations.{interval_is_over, new_instance, put_off}
+use Rattle.event_rules.specs.Originations.{interval_is_over, new_instance, postpone}
 use Rattle.originations.specs.declared.origination.Origination.{Origination}
 use Rattle.originations.specs.declared.origination.Origination.TheVariants.{Flushes, Waits}
 use Rattle.originations.specs.declared.origination.Origination.TheVariants.{Originates}
@@ -32,6 +32,6 @@ origination may_now moment key says copy last =
 -- the state after the decision is carried out
 abbrev pub after_origination : Moment → Key → Origination → EventState → EventState
 after_origination moment key Flushes p = flush moment key p
-after_origination moment key Waits p = on_router (put_off key) p
+after_origination moment key Waits p = on_router (postpone key) p
 after_origination moment key (Originates lsa) p =
     on_router (as_originated moment key) (on_area (install_and_flood moment lsa) p)

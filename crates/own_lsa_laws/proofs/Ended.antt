@@ -45,7 +45,7 @@ use Rattle.event_rules.specs.Originations.{announced_body, due_keys, external_bo
 use Rattle.event_rules.specs.Originations.{flush, flush_copy, forget_originations, has_max_sequence}
 use Rattle.event_rules.specs.Originations.{has_room, is_due, may_originate, originate}
 use Rattle.event_rules.specs.Originations.{originate_anyway, originate_body, originate_due}
-use Rattle.event_rules.specs.Originations.{originate_or_put_off, router_body, put_off, router_key}
+use Rattle.event_rules.specs.Originations.{originate_or_postpone, router_body, postpone, router_key}
 use Rattle.event_rules.specs.Originations.{wanted_body, wanted_keys}
 use Rattle.event_rules.specs.Packets.{accept_hello, after_packet, from_neighbor, is_heard}
 use Rattle.event_rules.specs.Packets.{receive_hello_on, any_exchange_or_later, is_there}
@@ -292,7 +292,7 @@ narrowed moment t u key keys r before now may here q c fits = (
 
 one_due : (moment : ℕ) (t : Terms) (key : Key) (keys : List Key) (p : EventState) → Tells t p
     → InProgress moment (full (among (key ∷ keys) t)) p
-    → InProgress moment (full (among keys t)) (originate_or_put_off moment key p)
+    → InProgress moment (full (among keys t)) (originate_or_postpone moment key p)
 one_due moment t key keys p tells h =
     let r : Router = p.router in
     or_wait_kept moment (among keys t) key p
@@ -322,7 +322,7 @@ one_due moment t key keys p tells h =
     unwanted k some none = let e : Some some.0 ≡ None = sym some.1 ∙ none in absurd cc
 
 or_wait_faces : (moment : ℕ) (key : Key) (p : EventState)
-    → StaysFaced p (originate_or_put_off moment key p)
+    → StaysFaced p (originate_or_postpone moment key p)
 or_wait_faces moment key p = body_faces (has_room key p.router) moment key
     (wanted_body p.router key) p
 
@@ -331,14 +331,14 @@ due_kept : (moment : ℕ) (t : Terms) (keys : List Key) (p : EventState) → Tel
     → InProgress moment (full (among [] t)) (originate_due moment keys p)
 due_kept moment t [] p tells h = h
 due_kept moment t (key ∷ keys) p tells h =
-    let q : EventState = originate_or_put_off moment key p in
+    let q : EventState = originate_or_postpone moment key p in
     due_kept moment t keys q (still_tells t p q (or_wait_faces moment key p) tells)
     (one_due moment t key keys p tells h)
 
 due_faces : (moment : ℕ) (keys : List Key) (p : EventState)
     → StaysFaced p (originate_due moment keys p)
 due_faces moment [] p = refl
-due_faces moment (key ∷ keys) p = due_faces moment keys (originate_or_put_off moment key p)
+due_faces moment (key ∷ keys) p = due_faces moment keys (originate_or_postpone moment key p)
     ∙ or_wait_faces moment key p
 
 -- the state of a Tick before anything is originated
@@ -493,7 +493,7 @@ module _ (moment : ℕ) (t : Terms) (before : List Link) (p : EventState)
   says = router_body p.router.area.links
 
   abbrev at_once_kept : EventState
-  at_once_kept = originate_or_put_off moment own_key p
+  at_once_kept = originate_or_postpone moment own_key p
 
   abbrev Told : EventState → Type 0
   Told = InProgress moment (told text t.may_wait)
@@ -613,16 +613,16 @@ module _ (moment : ℕ) (p : EventState)
   some_settled may_now says =
       let may : Bool = may_originate moment own p.router in
       chosen Q (has_max_sequence (finite.get p.router.area.database own)) (flush moment own p)
-      (cond (may_now && may) (originate moment own says p) (on_router (put_off own) p))
+      (cond (may_now && may) (originate moment own says p) (on_router (postpone own) p))
       (λ last. flushed_settled (finite.get p.router.area.database own) refl last)
-      (λ more. chosen Q (may_now && may) (originate moment own says p) (on_router (put_off own) p)
+      (λ more. chosen Q (may_now && may) (originate moment own says p) (on_router (postpone own) p)
       (λ goes. inr (λ c there. inr (originated_now moment p.router.originated own)))
       (λ waits. inl filled))
 
   pub described_settled : (before : List Link) → Q (originate_router_lsa before moment p)
   described_settled before =
       chosen Q (links_differ before p.router.area.links && not (is_current moment p.router))
-      (originate_or_put_off moment own p) p
+      (originate_or_postpone moment own p) p
       (λ is. subst (λ (w : Option LsaBody). Q
       (originate_body (has_room own p.router) moment own w p))
       (sym (wants_router_lsa p.router))
@@ -644,7 +644,7 @@ later_kept moment t said before now settled h =
       copies = h.copies;
     } in
     chosen (InProgress moment u) (links_differ said.router.area.links q.router.area.links)
-    (on_router (put_off key) q) q
+    (on_router (postpone key) q) q
     (λ differ. wait_kept moment u key q
     (λ c there. stands c (by_case differ settled c there)) (retold_all moment t text q there_so))
     (λ same.
@@ -671,7 +671,7 @@ later_kept moment t said before now settled h =
 
 later_faces : (before : List Link) (p : EventState) → StaysFaced p (put_off_router_lsa before p)
 later_faces before p = chosen (StaysFaced p) (links_differ before p.router.area.links)
-    (on_router (put_off (router_key p.router.id)) p) p (λ is. refl) (λ is. refl)
+    (on_router (postpone (router_key p.router.id)) p) p (λ is. refl) (λ is. refl)
 
 -- ---- the complete end
 

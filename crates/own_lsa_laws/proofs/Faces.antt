@@ -38,7 +38,7 @@ use Rattle.event_rules.specs.EventState.{EventState, flood_from_nobody, on_area,
 use Rattle.event_rules.specs.Originations.{flush, flush_copy, has_max_sequence, links_of}
 use Rattle.event_rules.specs.Originations.{may_originate}
 use Rattle.event_rules.specs.Originations.{new_instance, originate, originate_body, point_to_point}
-use Rattle.event_rules.specs.Originations.{put_off, router_body, stub}
+use Rattle.event_rules.specs.Originations.{postpone, router_body, stub}
 use Rattle.event_rules.specs.Ticks.{again}
 
 -- ---- what it depends on
@@ -274,10 +274,10 @@ body_faces may_now moment key (Some says) p =
     chosen (StaysFaced p) (has_max_sequence (finite.get p.router.area.database key))
     (flush moment key p)
     (cond (may_now && may_originate moment key p.router) (originate moment key says p)
-    (on_router (put_off key) p))
+    (on_router (postpone key) p))
     (λ is. flush_faces moment key p)
     (λ is. chosen (StaysFaced p) (may_now && may_originate moment key p.router)
-    (originate moment key says p) (on_router (put_off key) p)
+    (originate moment key says p) (on_router (postpone key) p)
     (λ may. originate_faces moment key says p) (λ may. refl))
 
 -- ---- what a Tick sends, and Link State Requests

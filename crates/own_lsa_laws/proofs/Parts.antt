@@ -34,8 +34,8 @@ use Rattle.event_rules.specs.Originations.{flush, flush_copy, has_max_sequence, 
 use Rattle.event_rules.specs.Originations.{interval_is_over, may_originate, should_originate}
 use Rattle.event_rules.specs.Originations.{new_instance}
 use Rattle.event_rules.specs.Originations.{originate, originate_body, originate_or_flush}
-use Rattle.event_rules.specs.Originations.{originate_or_put_off, receive_self_originated}
-use Rattle.event_rules.specs.Originations.{router_body, put_off, router_key, wanted_body}
+use Rattle.event_rules.specs.Originations.{originate_or_postpone, receive_self_originated}
+use Rattle.event_rules.specs.Originations.{router_body, postpone, router_key, wanted_body}
 use Rattle.event_rules.specs.Packets.{after_lsa, after_lsas, after_self_originated, after_unread}
 use Rattle.event_rules.specs.Packets.{case_in}
 use Rattle.event_rules.specs.Routers.{Router}
@@ -227,7 +227,7 @@ pub wait_kept : (moment : ℕ) (t : Terms) (key : Key) (p : EventState)
     → ((c : DatabaseCopy) → finite.get p.router.area.database key ≡ Some c
     → StandsAt moment (full t) p.router (set.insert p.router.waiting key) key c)
     → InProgress moment (excusing key t) p
-    → InProgress moment (full t) (on_router (put_off key) p)
+    → InProgress moment (full t) (on_router (postpone key) p)
 wait_kept moment t key p stands h =
     let r : Router = p.router in
     let now : KeySet = set.insert r.waiting key in
@@ -366,10 +366,10 @@ some_kept moment t may_now key says p is tells room h =
     let may : Bool = may_originate moment key p.router in
     chosen (InProgress moment (full t)) (has_max_sequence (finite.get p.router.area.database key))
     (flush moment key p)
-    (cond (may_now && may) (originate moment key says p) (on_router (put_off key) p))
+    (cond (may_now && may) (originate moment key says p) (on_router (postpone key) p))
     (λ last. flush_kept moment t key p h)
     (λ more. chosen (InProgress moment (full t)) (may_now && may) (originate moment key says p)
-    (on_router (put_off key) p)
+    (on_router (postpone key) p)
     (λ goes. originate_kept moment t key says p is tells h)
     (λ waits. wait_kept moment t key p
     (λ c there.
@@ -398,7 +398,7 @@ pub or_wait_kept : (moment : ℕ) (t : Terms) (key : Key) (p : EventState)
     → (wanted_body p.router key ≡ None → InProgress moment (full t) p)
     → (same_key key (router_key p.router.id) ≡ true → Tells t p)
     → InProgress moment (excusing key t) p
-    → InProgress moment (full t) (originate_or_put_off moment key p)
+    → InProgress moment (full t) (originate_or_postpone moment key p)
 or_wait_kept moment t key p none tells h =
     body_kept moment t (has_room key p.router) key (wanted_body p.router key) p refl none tells
     (λ c there. roomy key p.router c there) h

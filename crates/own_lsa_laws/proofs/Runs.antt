@@ -23,7 +23,7 @@ use Rattle.event_rules.specs.EventState.{EventState, on_router}
 use Rattle.event_rules.specs.Originations.{due_keys, external_body, flush, has_max_sequence}
 use Rattle.event_rules.specs.Originations.{has_room}
 use Rattle.event_rules.specs.Originations.{is_recent, may_originate, originate, originate_body}
-use Rattle.event_rules.specs.Originations.{originate_or_put_off, put_off, router_body, router_key}
+use Rattle.event_rules.specs.Originations.{originate_or_postpone, postpone, router_body, router_key}
 use Rattle.event_rules.specs.Originations.{wanted_body}
 use Rattle.event_rules.specs.Routers.{Occurrence, Router, unannounced_router}
 use Rattle.event_rules.specs.Ticks.{after_tick}
@@ -260,9 +260,9 @@ moment_kept may_now moment key (Some says) p =
     let may : Bool = may_originate moment key p.router in
     let Same = λ (q : EventState). q.router.moment ≡ p.router.moment in
     chosen Same (has_max_sequence (finite.get p.router.area.database key)) (flush moment key p)
-    (cond (may_now && may) (originate moment key says p) (on_router (put_off key) p))
+    (cond (may_now && may) (originate moment key says p) (on_router (postpone key) p))
     (λ is. refl) (λ is. chosen Same (may_now && may) (originate moment key says p)
-    (on_router (put_off key) p) (λ goes. refl) (λ waits. refl))
+    (on_router (postpone key) p) (λ goes. refl) (λ waits. refl))
 
 no_external : (key : Key) (e : External)
     → finite.get (finite.empty {X = External} {R = key_cmp}) key ≡ Some e → key.ls_type ≡ 5
@@ -282,7 +282,7 @@ module _ (c : Config) where
   key = router_key c.router
 
   abbrev begins : EventState
-  begins = originate_or_put_off c.start key bare
+  begins = originate_or_postpone c.start key bare
 
   bare_so : InProgress c.start (told (text_of bare) anything) bare
   bare_so = record {

@@ -11,5 +11,5 @@ abbrev pub loading_done_then_originate : List Link → Moment → EventState →
 loading_done_then_originate before moment p = originate_router_lsa before moment (loading_done p)
 
 -- from Loading to Full once more, and what that changes waits for a Tick
-abbrev pub loading_done_then_put_off : EventState → EventState
-loading_done_then_put_off p = put_off_router_lsa p.router.area.links (loading_done p)
+abbrev pub loading_done_then_postpone : EventState → EventState
+loading_done_then_postpone p = put_off_router_lsa p.router.area.links (loading_done p)

@@ -3,7 +3,7 @@ ghost use Rattle.std.specs.Prelude.{◌≡◌, ◌++◌, [], ◌∷◌, IfOk, On
 ghost use Rattle.event_rules.specs.Originations.{due_keys, is_due, originate_due};
 ghost use Rattle.router_state.specs.Making.{RouterDoes};
 
-use router_state::{Router, originate_or_put_off};
+use router_state::{Router, originate_or_postpone};
 use std::alloc::{AllocError, Global};
 use words::{Key, Second, router_key};
 
@@ -35,7 +35,7 @@ pub fn due_keys(router: &Router, alloc: Global, moment: Second) -> Result<Vec<Ke
     Ok(due)
 }
 
-/// Originates the LSAs of these keys in turn, as in `originate_or_put_off`.
+/// Originates the LSAs of these keys in turn, as in `originate_or_postpone`.
 ///
 /// # Errors
 /// `AllocError` if an allocation is refused.
@@ -48,7 +48,7 @@ pub fn originate_due(
     ensures { RouterDoes (originate_due moment keys.now) router.old router.new result }
 {
     for key in keys {
-        originate_or_put_off(router, alloc, moment, key)?;
+        originate_or_postpone(router, alloc, moment, key)?;
     }
     Ok(())
 }

@@ -3,11 +3,12 @@ ghost use Rattle.std.specs.Prelude.{◌≡◌, List, length};
 ghost use Rattle.event_rules.specs.received.Links.{Link};
 ghost use Rattle.event_rules.specs.Endings.{end_event, originate_router_lsa, put_off_router_lsa};
 ghost use Rattle.procedures.specs.Full.{full_routers};
-ghost use Rattle.procedures.specs.EndingParts.{loading_done_then_originate, loading_done_then_put_off};
+ghost use Rattle.procedures.specs.EndingParts.{loading_done_then_originate};
+ghost use Rattle.procedures.specs.EndingParts.{loading_done_then_postpone};
 ghost use Rattle.procedures.specs.Making.{RouterDoes, interfaces_of};
 
 use crate::telling::{full_routers, has_changed, is_outdated};
-use router_state::{Router, originate_or_put_off};
+use router_state::{Router, originate_or_postpone};
 use std::alloc::{AllocError, Global};
 use words::{RouterId, Second, router_key};
 
@@ -29,7 +30,7 @@ fn originate_router_lsa(
         return Ok(());
     }
     let key = router_key(router.id());
-    originate_or_put_off(router, alloc, moment, &key)
+    originate_or_postpone(router, alloc, moment, &key)
 }
 
 // If the body of the router-LSA has changed, it waits for a Tick.
@@ -49,7 +50,7 @@ fn put_off_router_lsa(
         return Ok(());
     }
     let key = router_key(router.id());
-    router.put_off(&key)
+    router.postpone(&key)
 }
 
 // LoadingDone for each neighbor whose request list is empty, and the router-LSA is originated if
@@ -72,8 +73,8 @@ fn loading_done_then_originate(
 
 // LoadingDone once more, since flooding the router-LSA may have satisfied requests; what that
 // changes waits for a Tick.
-fn loading_done_then_put_off(router: &mut Router, alloc: Global) -> Result<(), AllocError>
-    ensures { RouterDoes loading_done_then_put_off router.old router.new result }
+fn loading_done_then_postpone(router: &mut Router, alloc: Global) -> Result<(), AllocError>
+    ensures { RouterDoes loading_done_then_postpone router.old router.new result }
 {
     let before = full_routers(router, alloc)?;
     router.end_loading();
@@ -100,6 +101,6 @@ pub fn end_event(
     ensures { RouterDoes (end_event router.old.committed moment) router.old router.new result }
 {
     loading_done_then_originate(router, alloc, moment, before)?;
-    loading_done_then_put_off(router, alloc)?;
+    loading_done_then_postpone(router, alloc)?;
     router.request_and_remove_aged(alloc, moment)
 }

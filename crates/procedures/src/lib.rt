@@ -18,4 +18,4 @@ pub use ending::end_event;
 pub use telling::full_routers;
 pub use ticks::tick;
 // Names from the crate below that the crate above uses.
-pub use router_state::{Router, originate_or_put_off, receive_packet};
+pub use router_state::{Router, originate_or_postpone, receive_packet};

@@ -37,8 +37,8 @@ use Rattle.event_rules.specs.Originations.{forget_originations, has_max_sequence
 use Rattle.event_rules.specs.Originations.{should_originate}
 use Rattle.event_rules.specs.Originations.{may_originate, originate, originate_anyway}
 use Rattle.event_rules.specs.Originations.{originate_body}
-use Rattle.event_rules.specs.Originations.{originate_due, originate_or_flush, originate_or_put_off}
-use Rattle.event_rules.specs.Originations.{put_off, receive_self_originated, router_body}
+use Rattle.event_rules.specs.Originations.{originate_due, originate_or_flush, originate_or_postpone}
+use Rattle.event_rules.specs.Originations.{postpone, receive_self_originated, router_body}
 use Rattle.event_rules.specs.Originations.{router_key}
 use Rattle.event_rules.specs.Originations.{wanted_body}
 use Rattle.event_rules.specs.Packets.{after_lsas, after_packet, after_self_originated}
@@ -74,16 +74,16 @@ by_body may_now moment key None p = refl
 by_body may_now moment key (Some s) p =
     either (told p) (has_max_sequence (finite.get p.router.area.database key)) (flush moment key p)
     (cond (may_now && may_originate moment key p.router) (originate moment key s p)
-    (on_router (put_off key) p)) refl
+    (on_router (postpone key) p)) refl
     (either (told p) (may_now && may_originate moment key p.router) (originate moment key s p)
-    (on_router (put_off key) p) refl refl)
+    (on_router (postpone key) p) refl refl)
 
-originates : (moment : Moment) (key : Key) → Leaves (originate_or_put_off moment key)
+originates : (moment : Moment) (key : Key) → Leaves (originate_or_postpone moment key)
 originates moment key p = by_body (has_room key p.router) moment key (wanted_body p.router key) p
 
 each_due : (moment : Moment) (keys : List Key) → Leaves (originate_due moment keys)
 each_due moment [] p = refl
-each_due moment (key ∷ keys) p = each_due moment keys (originate_or_put_off moment key p)
+each_due moment (key ∷ keys) p = each_due moment keys (originate_or_postpone moment key p)
     ∙ originates moment key p
 
 pub ticked : (moment : Moment) → Leaves (after_tick moment)
@@ -164,8 +164,8 @@ ended old moment p =
     let q : EventState = originate_router_lsa old.area.links moment loaded in
     let again : EventState = loading_done q in
     either (told q) (links_differ q.router.area.links again.router.area.links)
-    (on_router (put_off (router_key again.router.id)) again) again refl refl
-    ∙ either (told p) differ (originate_or_put_off moment key loaded) loaded
+    (on_router (postpone (router_key again.router.id)) again) again refl refl
+    ∙ either (told p) differ (originate_or_postpone moment key loaded) loaded
     (originates moment key loaded) refl
 
 -- ---- what an event adds

@@ -43,9 +43,9 @@ use Rattle.event_rules.specs.EventState.{EventState, flood_from_nobody, on_area,
 use Rattle.event_rules.specs.Originations.{announced_body, as_originated, flush_copy}
 use Rattle.event_rules.specs.Originations.{has_max_sequence}
 use Rattle.event_rules.specs.Originations.{has_room, interval_is_over, originate_body}
-use Rattle.event_rules.specs.Originations.{originate_or_put_off}
+use Rattle.event_rules.specs.Originations.{originate_or_postpone}
 use Rattle.event_rules.specs.Originations.{wanted_body, install_and_flood, links_of, new_instance}
-use Rattle.event_rules.specs.Originations.{put_off, router_body, router_key}
+use Rattle.event_rules.specs.Originations.{postpone, router_body, router_key}
 use Rattle.event_rules.specs.Routers.{Router}
 use Rattle.program_laws.specs.Destinations.{link_without, neighbor_on_without, router_without}
 use Rattle.program_laws.specs.Destinations.{sends_without, updates}
@@ -298,7 +298,7 @@ module _ (key : Key) where
         sends = sends i;
       }
 
-  waits : (k : Key) → Overlooks (on_router (put_off k))
+  waits : (k : Key) → Overlooks (on_router (postpone k))
   waits k p =
       let r : Router = p.router in
       let links = links_twice r.area.links in
@@ -332,7 +332,7 @@ module _ (key : Key) where
   own_lsa wraps may moment k x says p =
       cond wraps (on_area (flush_copy moment k x) p)
       (cond may (on_router (as_originated moment k)
-      (on_area (install_and_flood moment (new_instance k x says)) p)) (on_router (put_off k) p))
+      (on_area (install_and_flood moment (new_instance k x says)) p)) (on_router (postpone k) p))
 
   own_lsas : (wraps may : Bool) (moment : Moment) (k : Key) (x : Option DatabaseCopy)
       (says : LsaBody) → Overlooks (own_lsa wraps may moment k x says)
@@ -383,7 +383,7 @@ module _ (key : Key) where
         (finite.get p.router.area.database k) (router_body p.router.area.links) p
 
     is_told : (moment : Moment) (p : EventState) → HasRouterLsa p
-        → originate_or_put_off moment (router_key p.router.id) p ≡ told moment p
+        → originate_or_postpone moment (router_key p.router.id) p ≡ told moment p
     is_told moment p there =
         let r : Router = p.router in
         let k : Key = router_key r.id in
@@ -431,11 +431,11 @@ module _ (key : Key) where
         ≡ cut (originate_router_lsa before moment (cut p))
     described before moment p there =
         let k : Key = router_key p.router.id in
-        chosen (differs before moment p) (originate_or_put_off moment k p) p
-        (originate_or_put_off moment k (cut p)) (cut p)
+        chosen (differs before moment p) (originate_or_postpone moment k p) p
+        (originate_or_postpone moment k (cut p)) (cut p)
         (ap cut (is_told moment p there) ∙ tells moment p
         ∙ sym (ap cut (is_told moment (cut p) (still_there p there)))) (stays p)
-        ∙ ap (λ b. cut (cond b (originate_or_put_off moment k (cut p)) (cut p)))
+        ∙ ap (λ b. cut (cond b (originate_or_postpone moment k (cut p)) (cut p)))
         (differs_alike before moment p)
 
     -- ---- Loading to Full
@@ -487,11 +487,12 @@ module _ (key : Key) where
         let after_loading : router_body loaded ≡ router_body again = bodies loaded
         ∙ ap router_body (loading_links links) ∙ sym (bodies again) in
         let k : Key = router_key q.router.id in
-        chosen (links_differ links loaded) (on_router (put_off k) (loading_done q)) (loading_done q)
-        (on_router (put_off k) (loading_done (cut q))) (loading_done (cut q))
-        (one_after_another loading_done (on_router (put_off k)) loads (waits k) q) (loads q)
+        chosen (links_differ links loaded) (on_router (postpone k) (loading_done q))
+            (loading_done q)
+        (on_router (postpone k) (loading_done (cut q))) (loading_done (cut q))
+        (one_after_another loading_done (on_router (postpone k)) loads (waits k) q) (loads q)
         ∙ (λ i. cut (cond (not (same_body (before i) (after_loading i)))
-        (on_router (put_off k) (loading_done (cut q))) (loading_done (cut q))))
+        (on_router (postpone k) (loading_done (cut q))) (loading_done (cut q))))
 
     requests_by : (b : Bool) (moment : Moment) (n : Neighbor)
         → apart.AreAlike key

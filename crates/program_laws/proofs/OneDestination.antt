@@ -37,7 +37,7 @@ use Rattle.event_rules.specs.EventState.{EventState, flood_from_nobody, on_area,
 use Rattle.event_rules.specs.Originations.{announced_body, as_originated, external_body}
 use Rattle.event_rules.specs.Originations.{external_key, flush, flush_copy, has_max_sequence}
 use Rattle.event_rules.specs.Originations.{install_and_flood, may_originate, new_instance}
-use Rattle.event_rules.specs.Originations.{originate, originate_anyway, originate_body, put_off}
+use Rattle.event_rules.specs.Originations.{originate, originate_anyway, originate_body, postpone}
 use Rattle.event_rules.specs.Originations.{router_key}
 use Rattle.event_rules.specs.Routers.{Occurrence, Router}
 use Rattle.event_rules.specs.declared.model.Out.{Out}
@@ -282,7 +282,7 @@ module _ (key : Key) (is_external : key.ls_type ≡ 5) where
       (finite.insert p.router.originated key moment) (unchanged p.router.announced)
       (removed_set p.router.waiting) (apart.inserted_agrees key p.router.originated moment)
 
-  waiting_ : (p : EventState) → cut (on_router (put_off key) p) ≡ cut p
+  waiting_ : (p : EventState) → cut (on_router (postpone key) p) ≡ cut p
   waiting_ p = noted p p.router.announced (set.insert p.router.waiting key) p.router.originated
       (unchanged p.router.announced) (inserted_set p.router.waiting) (unchanged p.router.originated)
 
@@ -311,9 +311,9 @@ module _ (key : Key) (is_external : key.ls_type ≡ 5) where
       let installed : EventState = on_area (install_and_flood moment lsa) p in
       one_of (has_max_sequence copy) (flush moment key p)
       (cond (true && may_originate moment key p.router) (originate moment key says p)
-      (on_router (put_off key) p)) p (flush_kept moment p none under)
+      (on_router (postpone key) p)) p (flush_kept moment p none under)
       (one_of (true && may_originate moment key p.router) (originate moment key says p)
-      (on_router (put_off key) p) p
+      (on_router (postpone key) p) p
       (originated_ moment installed ∙ lifted (install_and_flood moment lsa) p
       (own_installed moment lsa (new_key key is_external copy e) (record {
         area = p.router.area;

@@ -14,7 +14,7 @@ use Rattle.event_rules.specs.EventState.{EventState, on_router}
 use Rattle.event_rules.specs.Events.{Happens, Run, Step, initial}
 use Rattle.event_rules.specs.Originations.{flush, has_max_sequence, has_room, may_originate}
 use Rattle.event_rules.specs.Originations.{originate}
-use Rattle.event_rules.specs.Originations.{originate_body, put_off, router_key, wanted_body}
+use Rattle.event_rules.specs.Originations.{originate_body, postpone, router_key, wanted_body}
 use Rattle.event_rules.specs.Refusals.{first_refusal, is_clock_back, of_event}
 use Rattle.event_rules.specs.Routers.{Occurrence, Router, unannounced_router}
 use Rattle.router_runs.specs.Clocks.{ClockRunsOn, RoutersRefuseClocksThatGoBack, RunOfTaken}
@@ -34,7 +34,7 @@ originated_moment may_now moment key None p = refl
 originated_moment may_now moment key (Some says) p =
     either_moment (has_max_sequence (finite.get p.router.area.database key))
     (may_now && may_originate moment key p.router) (flush moment key p)
-    (originate moment key says p) (on_router (put_off key) p) p.router.moment refl refl refl
+    (originate moment key says p) (on_router (postpone key) p) p.router.moment refl refl refl
 
 start_moment : (c : Config) → (initial c).moment ≡ c.start
 start_moment c =

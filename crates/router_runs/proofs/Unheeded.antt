@@ -32,7 +32,7 @@ use Rattle.event_rules.specs.Originations.{due_keys, flush, forget_originations,
 use Rattle.event_rules.specs.Originations.{has_max_sequence, may_originate, should_originate}
 use Rattle.event_rules.specs.Originations.{originate}
 use Rattle.event_rules.specs.Originations.{originate_anyway, originate_body, originate_due}
-use Rattle.event_rules.specs.Originations.{originate_or_flush, originate_or_put_off, put_off}
+use Rattle.event_rules.specs.Originations.{originate_or_flush, originate_or_postpone, postpone}
 use Rattle.event_rules.specs.Originations.{receive_self_originated, wanted_body}
 use Rattle.event_rules.specs.Packets.{after_lsa, after_lsas, after_packet, after_self_originated}
 use Rattle.event_rules.specs.Packets.{after_unread, any_exchange_or_later, case_in, from_neighbor}
@@ -73,14 +73,14 @@ module _ (answers : List (Route × ℕ)) where
   by_body may_now moment key (Some says) p =
       one_of_three (has_max_sequence (finite.get p.router.area.database key))
       (may_now && may_originate moment key p.router)
-      (flush moment key p) (originate moment key says p) (on_router (put_off key) p)
+      (flush moment key p) (originate moment key says p) (on_router (postpone key) p)
 
   described : (before : List Link) (moment : Moment)
       → Overlooks (originate_router_lsa before moment)
   described before moment p =
       let b : Bool = links_differ before p.router.area.links && not (is_current moment p.router) in
       let key : Key = router_key p.router.id in
-      one_of b (originate_or_put_off moment key p) p
+      one_of b (originate_or_postpone moment key p) p
       ∙ ap (λ (q : EventState). cond b q (answering p))
       (by_body (has_room key p.router) moment key (wanted_body p.router key) p)
 
@@ -98,7 +98,7 @@ module _ (answers : List (Route × ℕ)) where
       let last : EventState → EventState = λ q. on_router (λ (r : Router). record r {
         moment = moment;
       }) (on_area (λ o. remove_aged moment (request_all moment o)) q) in
-      ap last (one_of b (on_router (put_off (router_key loaded.router.id)) loaded) loaded)
+      ap last (one_of b (on_router (postpone (router_key loaded.router.id)) loaded) loaded)
 
   pub ended : (old : Router) (moment : Moment) → Overlooks (end_event old moment)
   ended old moment p =
@@ -107,7 +107,7 @@ module _ (answers : List (Route × ℕ)) where
 
   -- ---- each part of an event
 
-  or_waits : (moment : Moment) (key : Key) → Overlooks (originate_or_put_off moment key)
+  or_waits : (moment : Moment) (key : Key) → Overlooks (originate_or_postpone moment key)
   or_waits moment key p = by_body (has_room key p.router) moment key (wanted_body p.router key) p
 
   anyway : (moment : Moment) (key : Key) → Overlooks (originate_anyway moment key)
@@ -193,7 +193,7 @@ module _ (answers : List (Route × ℕ)) where
   all_due : (moment : Moment) (keys : List Key) → Overlooks (originate_due moment keys)
   all_due moment [] p = refl
   all_due moment (key ∷ keys) p =
-      all_due moment keys (originate_or_put_off moment key p)
+      all_due moment keys (originate_or_postpone moment key p)
       ∙ ap (originate_due moment keys) (or_waits moment key p)
 
   a_tick : (moment : Moment) → Overlooks (after_tick moment)

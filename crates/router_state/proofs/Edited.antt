@@ -9,7 +9,7 @@ use Rattle.keyed_map.proofs.Helds.{on_ok}
 use Rattle.flooding.specs.lsdb.Keys.{ByKey, KeySet}
 use Rattle.event_rules.specs.Commands.{after_install, announce, unannounce}
 use Rattle.event_rules.specs.EventState.{on_router}
-use Rattle.event_rules.specs.Originations.{as_originated, forget_originations, is_recent, put_off}
+use Rattle.event_rules.specs.Originations.{as_originated, forget_originations, is_recent, postpone}
 use Rattle.event_rules.specs.Routers.{Router}
 use Rattle.router_state.specs.Kept.{KeptRouter}
 use Rattle.router_state.specs.Making.{Makes, RouterDoes, interfaces_of}
@@ -72,13 +72,13 @@ module _ {X E : Type 0} (shown old : KeptRouter) (r : Result X E) (view : shown 
   -- the keys that wait, and as they were when last committed
   module _ (w v : KeySet) (rests : v ≡ shown.committed.waiting) (key : Key) where
     pub waits : OnOk r (w ≡ set.insert shown.present.waiting key)
-        → RouterDoes (on_router (put_off key)) old (record {
+        → RouterDoes (on_router (postpone key)) old (record {
           present = record shown.present { waiting = w };
           committed = record shown.committed { waiting = v };
           drafted = shown.drafted;
         }) r
     waits is =
-        edit_does (put_off key) (λ x. refl) shown old (record {
+        edit_does (postpone key) (λ x. refl) shown old (record {
           present = record shown.present { waiting = w };
           committed = record shown.committed { waiting = v };
           drafted = shown.drafted;

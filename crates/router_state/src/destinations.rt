@@ -5,7 +5,7 @@ ghost use Rattle.std.specs.List.{fold};
 ghost use Rattle.std.specs.FinMap as finite;
 ghost use Rattle.event_rules.specs.Commands.{announce, unannounce};
 ghost use Rattle.event_rules.specs.EventState.{on_router};
-ghost use Rattle.event_rules.specs.Originations.{external_key, forget_originations, put_off};
+ghost use Rattle.event_rules.specs.Originations.{external_key, forget_originations, postpone};
 ghost use Rattle.router_state.specs.Making.{RouterDoes};
 
 use crate::router::Router;
@@ -74,8 +74,8 @@ impl Router {
     ///
     /// # Errors
     /// `AllocError` if an allocation is refused.
-    pub fn put_off(&mut self, key: &Key) -> Result<(), AllocError>
-        ensures { RouterDoes (on_router (put_off key.now)) self.old self.new result }
+    pub fn postpone(&mut self, key: &Key) -> Result<(), AllocError>
+        ensures { RouterDoes (on_router (postpone key.now)) self.old self.new result }
     {
         self.waiting.insert(*key, ())
     }

@@ -23,6 +23,6 @@ mod times;
 mod updates;
 mod wanted;
 
-pub use origination::{originate_if_wanted, originate_or_put_off};
+pub use origination::{originate_if_wanted, originate_or_postpone};
 pub use packets::receive_packet;
 pub use router::Router;

@@ -1,6 +1,6 @@
 //! New instances of self-originated LSAs.
 ghost use Rattle.std.specs.Prelude.{◌≡◌};
-ghost use Rattle.event_rules.specs.Originations.{originate_or_put_off, receive_self_originated};
+ghost use Rattle.event_rules.specs.Originations.{originate_or_postpone, receive_self_originated};
 ghost use Rattle.flooding.specs.adjacency.lsdb.Headers.{Lsa};
 ghost use Rattle.originations.specs.Decisions.{after_origination};
 ghost use Rattle.router_state.specs.Making.{RouterDoes};
@@ -25,7 +25,7 @@ fn carry_out(
 {
     match found {
         Origination::Flushes => router.flush(alloc, moment, key),
-        Origination::Waits => router.put_off(key),
+        Origination::Waits => router.postpone(key),
         Origination::Originates(lsa) => router.originate(alloc, moment, key, lsa),
     }
 }
@@ -57,13 +57,13 @@ pub fn originate_if_wanted(
 ///
 /// # Errors
 /// `AllocError` if an allocation is refused.
-pub fn originate_or_put_off(
+pub fn originate_or_postpone(
     router: &mut Router,
     alloc: Global,
     moment: Second,
     key: &Key,
 ) -> Result<(), AllocError>
-    ensures { RouterDoes (originate_or_put_off moment key.now) router.old router.new result }
+    ensures { RouterDoes (originate_or_postpone moment key.now) router.old router.new result }
 {
     let has_room = router.area().database().has_room(key);
     originate_if_wanted(router, alloc, has_room, moment, key)
@@ -89,7 +89,7 @@ pub fn receive_self_originated(
     }
     let key = header.key();
     if should_originate(router, &key) {
-        return originate_or_put_off(router, alloc, moment, &key);
+        return originate_or_postpone(router, alloc, moment, &key);
     }
     router.flush(alloc, moment, &key)
 }

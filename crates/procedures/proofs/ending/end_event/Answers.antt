@@ -1,7 +1,7 @@
 use Rattle.std.proofs.Common.{sym, ◌∙◌}
 use Rattle.router_state.specs.Parts.{request_and_remove_aged}
 use Rattle.procedures.proofs.Making.{makes_then, refused, then_does}
-use Rattle.procedures.specs.EndingParts.{loading_done_then_originate, loading_done_then_put_off}
+use Rattle.procedures.specs.EndingParts.{loading_done_then_originate, loading_done_then_postpone}
 use Rattle.procedures.proofs.ending.end_event.Goals as goal
 
 pub returns-in_err-loading_done_then_originate : goal.returns-in_err-loading_done_then_originate
@@ -11,11 +11,11 @@ returns-in_err-loading_done_then_originate c =
     (sym c.requires.interfaces)
     (sym c.requires.before)).committed
 
-pub returns-in_err-loading_done_then_put_off : goal.returns-in_err-loading_done_then_put_off
-returns-in_err-loading_done_then_put_off c =
-    refused c.from_residual-in_err-loading_done_then_put_off.result
-    c.from_residual-in_err-loading_done_then_put_off.ensures.0
-    (c.in_err-loading_done_then_put_off.ensures.committed
+pub returns-in_err-loading_done_then_postpone : goal.returns-in_err-loading_done_then_postpone
+returns-in_err-loading_done_then_postpone c =
+    refused c.from_residual-in_err-loading_done_then_postpone.result
+    c.from_residual-in_err-loading_done_then_postpone.ensures.0
+    (c.in_err-loading_done_then_postpone.ensures.committed
     ∙ (c.in_ok-loading_done_then_originate.ensures c.args.router.now.committed.area.links
     (sym c.requires.interfaces)
     (sym c.requires.before)).committed)
@@ -26,8 +26,8 @@ returns c =
     let before = c.args.router.now.committed.area.links in
     let filled = (c.in_ok-loading_done_then_originate.ensures before (sym c.requires.interfaces)
     (sym c.requires.before)).makes in
-    then_does {f = λ p. loading_done_then_put_off (loading_done_then_originate before m p)}
+    then_does {f = λ p. loading_done_then_postpone (loading_done_then_originate before m p)}
     {g = request_and_remove_aged m} c.request_and_remove_aged.result
-    (makes_then {f = loading_done_then_originate before m} {g = loading_done_then_put_off} filled
-    c.in_ok-loading_done_then_put_off.ensures.makes)
+    (makes_then {f = loading_done_then_originate before m} {g = loading_done_then_postpone} filled
+    c.in_ok-loading_done_then_postpone.ensures.makes)
     c.request_and_remove_aged.ensures

@@ -7,7 +7,7 @@ use Rattle.router_state.proofs.origination.carry_out.Goals as goal
 pub returns-in-Waits : goal.returns-in-Waits
 returns-in-Waits c =
     subst (λ (x : Origination). RouterDoes (after_origination c.args.moment c.args.key.now x)
-    c.args.router.now c.put_off.new.self c.put_off.result) (sym c.in-Waits.is) c.put_off.ensures
+    c.args.router.now c.postpone.new.self c.postpone.result) (sym c.in-Waits.is) c.postpone.ensures
 
 pub returns-in-Originates : goal.returns-in-Originates
 returns-in-Originates c =

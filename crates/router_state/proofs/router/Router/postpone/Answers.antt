@@ -3,7 +3,7 @@ use Rattle.keyed_map.proofs.Helds.{on_ok}
 use Rattle.flooding.specs.adjacency.Views.{keys_of}
 use Rattle.flooding.proofs.adjacency.Sets.{keys_insert}
 use Rattle.router_state.proofs.Edited.{waits}
-use Rattle.router_state.proofs.router.Router.put_off.Goals as goal
+use Rattle.router_state.proofs.router.Router.postpone.Goals as goal
 
 pub returns : goal.returns
 returns c =

@@ -5,8 +5,8 @@ use Rattle.event_rules.specs.Endings.{loading_done, put_off_router_lsa}
 use Rattle.event_rules.specs.Routers.{Router}
 use Rattle.originations.specs.Described.{full_router_on}
 use Rattle.procedures.proofs.Making.{as_many_links, does_same, then_does}
-use Rattle.procedures.specs.EndingParts.{loading_done_then_put_off}
-use Rattle.procedures.proofs.ending.loading_done_then_put_off.Goals as goal
+use Rattle.procedures.specs.EndingParts.{loading_done_then_postpone}
+use Rattle.procedures.proofs.ending.loading_done_then_postpone.Goals as goal
 
 pub put_off_router_lsa-requires : goal.put_off_router_lsa-requires
 put_off_router_lsa-requires c = record {
@@ -18,7 +18,7 @@ put_off_router_lsa-requires c = record {
 pub returns : goal.returns
 returns c =
     let links = c.args.router.now.present.area.links in
-    does_same {f = λ p. put_off_router_lsa links (loading_done p)} {g = loading_done_then_put_off}
+    does_same {f = λ p. put_off_router_lsa links (loading_done p)} {g = loading_done_then_postpone}
     c.put_off_router_lsa.result
     (λ p is. ap (λ (r : Router). put_off_router_lsa r.area.links (loading_done p)) (sym is))
     (then_does {f = loading_done} {g = put_off_router_lsa links} c.put_off_router_lsa.result
