@@ -6,5 +6,5 @@ pub mod laws;
 mod reading;
 mod requests;
 
-pub use reading::{parse, unread};
+pub use reading::{parse, unreadable_words};
 pub use requests::CommandRequest;

@@ -68,7 +68,7 @@ pub fn end_without_words<O: Write, E: Write>(
     ensures memory { error_kind error.now ≡ ErrorKind.OutOfMemory → (result ≡ 3) ⊎ (result ≡ 4) }
     ensures told { (result ≡ 2) ⊎ (result ≡ 3) ⊎ (result ≡ 4) }
 {
-    let fault = CommandError::from(command_line::unread(alloc, error));
+    let fault = CommandError::from(command_line::unreadable_words(alloc, error));
     tell(&fault, output, errors)
 }
 

@@ -7,7 +7,7 @@ use Rattle.received.specs.Cases.{Case}
 use Rattle.received.specs.Updates.{flood_and_install, goes_on, send_copy}
 use Rattle.event_rules.specs.EventState.{EventState, on_area}
 use Rattle.event_rules.specs.Originations.{originate_or_flush, should_originate, wanted_body}
-use Rattle.event_rules.specs.Packets.{after_lsa, after_lsas, after_unread, case_in}
+use Rattle.event_rules.specs.Packets.{after_lsa, after_lsas, after_parsed, case_in}
 use Rattle.conversations.specs.CarriedOut.{EachCaseIsCarriedOut, IsInCase, having_sent}
 use Rattle.conversations.specs.WorkedFlush.{full}
 use Rattle.conversations.specs.WorkedOwn.{loading}
@@ -16,8 +16,8 @@ use Rattle.conversations.specs.WorkedOwn.{loading}
 abbrev first_read : ℕ → ℕ → List (List ℕ) → EventState → Option Lsa → EventState
 first_read moment number rest p o =
     cond (goes_on (case_in moment number o p))
-    (after_lsas moment number rest (after_unread moment number o p))
-    (after_unread moment number o p)
+    (after_lsas moment number rest (after_parsed moment number o p))
+    (after_parsed moment number o p)
 
 -- by the case of the first LSA
 abbrev first_done : ℕ → ℕ → List (List ℕ) → EventState → Lsa → Case → EventState

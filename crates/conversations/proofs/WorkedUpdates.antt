@@ -36,7 +36,7 @@ use Rattle.event_rules.specs.Endings.{start_event, end_event, stays_as}
 use Rattle.event_rules.specs.Events.{Happens, OwnPart}
 use Rattle.event_rules.specs.Hellos.{is_foreign}
 use Rattle.event_rules.specs.Originations.{originate_or_flush, should_originate, wanted_body}
-use Rattle.event_rules.specs.Packets.{after_lsa, after_lsas, after_packet, after_unread, case_in}
+use Rattle.event_rules.specs.Packets.{after_lsa, after_lsas, after_packet, after_parsed, case_in}
 use Rattle.event_rules.specs.Packets.{any_exchange_or_later, from_neighbor, is_heard}
 use Rattle.event_rules.specs.Packing.{outs_of}
 use Rattle.event_rules.specs.EventState.{EventState, on_area}
@@ -93,12 +93,14 @@ alike lsa c moment same now young =
 
 -- ---- one Link State Update with one LSA
 
-pub after_one : (moment number : ℕ) (unread : List ℕ) (lsa : Lsa) (p : EventState) → lsa_in unread
-    ≡ Some lsa → after_lsas moment number (unread ∷ []) p
+pub after_one : (moment number : ℕ) (bytes_of_lsa : List ℕ) (lsa : Lsa) (p : EventState) → lsa_in
+    bytes_of_lsa
+    ≡ Some lsa → after_lsas moment number (bytes_of_lsa ∷ []) p
     ≡ after_lsa (case_at moment number lsa p.router.area) moment number lsa p
-after_one moment number unread lsa p e =
-    chosen (goes_on (case_in moment number (lsa_in unread) p))
-    (after_unread moment number (lsa_in unread) p) ∙ ap (λ o. after_unread moment number o p) e
+after_one moment number bytes_of_lsa lsa p e =
+    chosen (goes_on (case_in moment number (lsa_in bytes_of_lsa) p))
+    (after_parsed moment number (lsa_in bytes_of_lsa) p) ∙ ap (λ o. after_parsed moment number o p)
+        e
 
 pub itself : (n : ℕ) → (n == n) ≡ true
 itself n = grind arith
@@ -129,13 +131,14 @@ pub own_part : (r : Router) (moment number : ℕ) (bytes : List ℕ) (lsa : Lsa)
     → after ≡ after_lsa (case_at moment number lsa r.area) moment number lsa
     (start r)
 own_part r moment number bytes lsa n after nothing there other part text own =
-    let packet : Packet = record { router = n.router; body = body.Update (text.unread ∷ []) } in
+    let packet : Packet = record { router = n.router; body = body.Update (text.bytes_of_lsa ∷ []) }
+        in
     own.2
     ∙ ap (λ q. after_packet moment number q (start_event moment r))
     (one_packet bytes own.0 packet own.1 text.is_text)
     ∙ ap (after_packet moment number packet) (begins moment r nothing)
-    ∙ update_heard moment number (start r) n (text.unread ∷ []) there other part
-    ∙ after_one moment number text.unread lsa (start r) text.is_read
+    ∙ update_heard moment number (start r) n (text.bytes_of_lsa ∷ []) there other part
+    ∙ after_one moment number text.bytes_of_lsa lsa (start r) text.is_read
 
 -- ---- the first
 

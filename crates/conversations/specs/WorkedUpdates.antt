@@ -39,9 +39,9 @@ pub record HasFullNeighbor (r : Router) (interface : ℕ) (link : Link) (n : Nei
 
 -- the bytes encode that router's Link State Update with this one LSA
 pub record IsUpdateWith (bytes : List ℕ) (from : ℕ) (lsa : Lsa) : Type 0 where
-  pub unread : List ℕ
-  pub is_text : PacketText bytes (record { router = from; body = body.Update (unread ∷ []) })
-  pub is_read : lsa_in unread ≡ Some lsa
+  pub bytes_of_lsa : List ℕ
+  pub is_text : PacketText bytes (record { router = from; body = body.Update (bytes_of_lsa ∷ []) })
+  pub is_read : lsa_in bytes_of_lsa ≡ Some lsa
 
 -- the interface with this number has a delayed acknowledgment of the LSA as it was received
 abbrev pub WaitsAt : Router → ℕ → Lsa → Type 0

@@ -50,7 +50,7 @@ use Rattle.event_rules.specs.Originations.{receive_self_originated}
 use Rattle.event_rules.specs.Originations.{originate_or_flush, postpone, wanted_body}
 use Rattle.event_rules.specs.Packets.{after_lsa, after_lsas, after_packet, receive_acknowledgment}
 use Rattle.event_rules.specs.Packets.{receive_hello}
-use Rattle.event_rules.specs.Packets.{after_unread, case_in, from_neighbor, is_heard}
+use Rattle.event_rules.specs.Packets.{after_parsed, case_in, from_neighbor, is_heard}
 use Rattle.event_rules.specs.Packets.{receive_description}
 use Rattle.event_rules.specs.Packets.{any_exchange_or_later, is_there, receive_request}
 use Rattle.event_rules.specs.Packets.{requested_lsas}
@@ -272,7 +272,7 @@ module _ (i : Invariant) (kept : IsKeptByParts i) where
       (λ a. kept.case case moment number lsa so (outcome p) a) h)
 
   unread_kept : (moment number : ℕ) (o : Option Lsa) (p : EventState) → IfRead i.of_lsa o
-      → InProgress p → InProgress (after_unread moment number o p)
+      → InProgress p → InProgress (after_parsed moment number o p)
   unread_kept moment number None p so h = h
   unread_kept moment number (Some lsa) p so h =
       lsa_kept (case_at moment number lsa p.router.area) moment number lsa p so h
@@ -282,7 +282,7 @@ module _ (i : Invariant) (kept : IsKeptByParts i) where
       → InProgress (after_lsas moment number lsas p)
   lsas_kept moment number [] p so h = h
   lsas_kept moment number (bytes ∷ rest) p so h =
-      let q : EventState = after_unread moment number (lsa_in bytes) p in
+      let q : EventState = after_parsed moment number (lsa_in bytes) p in
       let then_so : InProgress q = unread_kept moment number (lsa_in bytes) p so.0 h in
       chosen InProgress (goes_on (case_in moment number (lsa_in bytes) p))
       (after_lsas moment number rest q) q (λ is. lsas_kept moment number rest q so.1 then_so)

@@ -7,7 +7,7 @@ use Rattle.event_rules.specs.declared.model.Out.{Out}
 use Rattle.event_rules.specs.Commands.{after_install}
 use Rattle.event_rules.specs.Events.{Happens}
 use Rattle.event_rules.specs.EventState.{EventState}
-use Rattle.event_rules.specs.Packets.{after_unread, case_in}
+use Rattle.event_rules.specs.Packets.{after_parsed, case_in}
 use Rattle.event_rules.specs.Routers.{Occurrence, Router}
 
 -- an event has only one outcome
@@ -30,4 +30,4 @@ AnswersLeaveTheArea = (answers : List (Route × ℕ)) (before : EventState)
 abbrev pub WhatIsNoLsaIsSkipped : Type 0
 WhatIsNoLsaIsSkipped = (moment interface : ℕ) (before : EventState)
     → (case_in moment interface None before ≡ Case.Unreadable)
-    × (after_unread moment interface None before ≡ before) × (goes_on Case.Unreadable ≡ true)
+    × (after_parsed moment interface None before ≡ before) × (goes_on Case.Unreadable ≡ true)

@@ -83,16 +83,16 @@ abbrev pub case_in : Moment → InterfaceNumber → Option Lsa → EventState �
 case_in moment interface None p = Case.Unreadable
 case_in moment interface (Some lsa) p = case_at moment interface lsa p.router.area
 
-abbrev pub after_unread : Moment → InterfaceNumber → Option Lsa → EventState → EventState
-after_unread moment interface None p = p
-after_unread moment interface (Some lsa) p =
+abbrev pub after_parsed : Moment → InterfaceNumber → Option Lsa → EventState → EventState
+after_parsed moment interface None p = p
+after_parsed moment interface (Some lsa) p =
     after_lsa (case_at moment interface lsa p.router.area) moment interface lsa p
 
 -- the LSAs of a Link State Update in order, up to a bad request
 abbrev pub after_lsas : Moment → InterfaceNumber → List (List ℕ) → EventState → EventState
 after_lsas moment interface [] p = p
 after_lsas moment interface (bytes ∷ rest) p =
-    let q : EventState = after_unread moment interface (lsa_in bytes) p in
+    let q : EventState = after_parsed moment interface (lsa_in bytes) p in
     if goes_on (case_in moment interface (lsa_in bytes) p) then
     after_lsas moment interface rest q else q
 

@@ -40,7 +40,7 @@ use Rattle.event_rules.specs.Originations.{postpone, receive_self_originated, ro
 use Rattle.event_rules.specs.Originations.{wanted_body}
 use Rattle.event_rules.specs.Packets.{after_lsas, after_packet, after_self_originated}
 use Rattle.event_rules.specs.Packets.{receive_acknowledgment}
-use Rattle.event_rules.specs.Packets.{after_unread, any_exchange_or_later, case_in, from_neighbor}
+use Rattle.event_rules.specs.Packets.{after_parsed, any_exchange_or_later, case_in, from_neighbor}
 use Rattle.event_rules.specs.Packets.{is_heard}
 use Rattle.event_rules.specs.Packets.{receive_request}
 use Rattle.event_rules.specs.Refusals.{first_refusal, of_event}
@@ -106,7 +106,7 @@ after_one Case.SentJustNow moment lsa p = refl
 after_one Case.Older moment lsa p = refl
 
 unread : (moment number : ℕ) (o : Option Lsa) (p : EventState)
-    → of (after_unread moment number o p) ≡ of p
+    → of (after_parsed moment number o p) ≡ of p
 unread moment number None p = refl
 unread moment number (Some lsa) p = after_one (case_at moment number lsa p.router.area) moment lsa _
 
@@ -114,7 +114,7 @@ all_lsas : (moment number : ℕ) (lsas : List (List ℕ)) (p : EventState)
     → of (after_lsas moment number lsas p) ≡ of p
 all_lsas moment number [] p = refl
 all_lsas moment number (bytes ∷ rest) p =
-    let q : EventState = after_unread moment number (lsa_in bytes) p in
+    let q : EventState = after_parsed moment number (lsa_in bytes) p in
     let stays : of q ≡ of p = unread moment number (lsa_in bytes) p in
     either (goes_on (case_in moment number (lsa_in bytes) p)) (after_lsas moment number rest q) q p
     (all_lsas moment number rest q ∙ stays) stays

@@ -44,7 +44,7 @@ use Rattle.event_rules.specs.Originations.{originate_body, originate_due, origin
 use Rattle.event_rules.specs.Originations.{originate_or_postpone, postpone, receive_self_originated}
 use Rattle.event_rules.specs.Originations.{router_key, wanted_body}
 use Rattle.event_rules.specs.Packets.{after_lsa, after_lsas, after_packet, receive_acknowledgment}
-use Rattle.event_rules.specs.Packets.{receive_hello, after_self_originated, after_unread, case_in}
+use Rattle.event_rules.specs.Packets.{receive_hello, after_self_originated, after_parsed, case_in}
 use Rattle.event_rules.specs.Packets.{receive_description, any_exchange_or_later, from_neighbor}
 use Rattle.event_rules.specs.Packets.{is_from, is_heard, is_hello, is_there, receive_request}
 use Rattle.event_rules.specs.Packets.{requested_lsas}
@@ -270,7 +270,7 @@ module _ (i : Invariant) (kept : IsKeptByParts i) (X Y : Lately) (old : Router) 
 
     unread_kept : (o : Option Lsa) (p : EventState) → IfRead (Contains (lsas_brought packet.body)) o
         → is_hello packet.body ≡ false → IfRead i.of_lsa o → InProgress p
-        → InProgress (after_unread moment number o p)
+        → InProgress (after_parsed moment number o p)
     unread_kept None p among other so h = h
     unread_kept (Some lsa) p among other so h = lsa_kept lsa p among other so h
 
@@ -280,7 +280,7 @@ module _ (i : Invariant) (kept : IsKeptByParts i) (X Y : Lately) (old : Router) 
         → InProgress (after_lsas moment number lsas p)
     lsas_kept [] p among other so h = h
     lsas_kept (bytes ∷ rest) p among other so h =
-        let q : EventState = after_unread moment number (lsa_in bytes) p in
+        let q : EventState = after_parsed moment number (lsa_in bytes) p in
         let then_so : InProgress q = unread_kept (lsa_in bytes) p among.0 other so.0 h in
         chosen InProgress (goes_on (case_in moment number (lsa_in bytes) p))
         (after_lsas moment number rest q) q (λ is. lsas_kept rest q among.1 other so.1 then_so)

@@ -26,7 +26,7 @@ use Rattle.lsdb.specs.Copies.{DatabaseCopy}
 use Rattle.lsdb.specs.Headers.{Header, Lsa}
 use Rattle.packet.specs.declared.model.PacketBody.{PacketBody}
 use Rattle.packet.specs.declared.model.PacketBody.TheVariants as body
-use Rattle.packet.specs.Text.{IsBody, IsUnread}
+use Rattle.packet.specs.Text.{IsBody, IsUnparsedLsa}
 use Rattle.adjacency.specs.Contents.{Content}
 use Rattle.adjacency.proofs.Maps.{IfThere, none_in}
 use Rattle.adjacency.proofs.Told.{OfCopy, Telling}
@@ -186,7 +186,7 @@ header_names h is = record {
   checksum = is.checksum;
 }
 
-update_in_range : (lsas : List (List ℕ)) → AllByRecursion IsUnread lsas
+update_in_range : (lsas : List (List ℕ)) → AllByRecursion IsUnparsedLsa lsas
     → AllByRecursion IsInstance (instances_in_update lsas)
 update_in_range [] h = tt
 update_in_range (bytes ∷ rest) h = with_first (fault_of bytes) (update_in_range rest h.1)

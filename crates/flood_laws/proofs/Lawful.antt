@@ -22,7 +22,7 @@ use Rattle.lsdb.specs.Headers.{Lsa}
 use Rattle.packet.specs.declared.model.PacketBody.{PacketBody}
 use Rattle.packet.specs.declared.model.PacketBody.TheVariants as packets
 use Rattle.packet.specs.declared.model.Packet.{Packet}
-use Rattle.packet.specs.Text.{IsBody, IsUnread, PacketText, canonical, closed_fields}
+use Rattle.packet.specs.Text.{IsBody, IsUnparsedLsa, PacketText, canonical, closed_fields}
 use Rattle.packet.specs.Text.{text as packet_text}
 use Rattle.packet.proofs.Patch.{canonical_is_text}
 use Rattle.adjacency.specs.Rooms.{Fits}
@@ -100,7 +100,7 @@ body_small (bodies.External e) =
 length_said : (l : Lsa) → IsHeader l.header → field (text l) 18 2 ≡ l.header.length
 length_said l is = λ i. (header-reads_back l.header [] (body_text l.body) is i).length
 
-unread : (l : Lsa) → IsHeader l.header → Fits l → IsUnread (text l)
+unread : (l : Lsa) → IsHeader l.header → Fits l → IsUnparsedLsa (text l)
 unread l is fits = record {
   room = omega (arith, length-append (header_text l.header) (body_text l.body));
   said = length_said l is ∙ sym fits.0;
@@ -109,7 +109,7 @@ unread l is fits = record {
 }
 
 all_unread : (lsas : List Lsa) → AllByRecursion (λ l. IsHeader l.header × Fits l) lsas
-    → AllByRecursion IsUnread (map (λ l. text l) lsas)
+    → AllByRecursion IsUnparsedLsa (map (λ l. text l) lsas)
 all_unread [] h = tt
 all_unread (l ∷ ls) h = (unread l h.0.0 h.0.1, all_unread ls h.1)
 

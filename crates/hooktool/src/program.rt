@@ -102,7 +102,7 @@ pub fn end_without_words<O: Stream, E: Stream>(
     ensures told { Fails (O.state output.new) result ⊎ Fails (E.state errors.new) result
         ⊎ (result ≡ 2) ⊎ (result ≡ 4) }
 {
-    let error = hooktool_line::unread(alloc, error);
+    let error = hooktool_line::unreadable_words(alloc, error);
     tell_words(&error, output, errors)
 }
 

@@ -18,7 +18,7 @@ mod wrong_words;
 
 pub use arrivals::packet_question;
 pub use asked::{Asked, context_of};
-pub use reading::{parse, unread};
+pub use reading::{parse, unreadable_words};
 pub use requests::{FuelAsked, HooktoolRequest, PacketSource, PlainRequest, Question};
 pub use settings::Setting;
 pub use steps::{

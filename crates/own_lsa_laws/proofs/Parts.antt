@@ -36,7 +36,7 @@ use Rattle.event_rules.specs.Originations.{new_instance}
 use Rattle.event_rules.specs.Originations.{originate, originate_body, originate_or_flush}
 use Rattle.event_rules.specs.Originations.{originate_or_postpone, receive_self_originated}
 use Rattle.event_rules.specs.Originations.{router_body, postpone, router_key, wanted_body}
-use Rattle.event_rules.specs.Packets.{after_lsa, after_lsas, after_self_originated, after_unread}
+use Rattle.event_rules.specs.Packets.{after_lsa, after_lsas, after_self_originated, after_parsed}
 use Rattle.event_rules.specs.Packets.{case_in}
 use Rattle.event_rules.specs.Routers.{Router}
 use Rattle.flood_laws.proofs.Limits.{AreExternal, new_key, wanted_type}
@@ -596,13 +596,13 @@ lsa_faces case moment number lsa p on =
     ∙ case_faces case moment number lsa (record { area = p.router.area; sends = p.sends }) on
 
 unread_kept : (moment number : ℕ) (t : Terms) (o : Option Lsa) (p : EventState) → Tells t p
-    → InProgress moment (full t) p → InProgress moment (full t) (after_unread moment number o p)
+    → InProgress moment (full t) p → InProgress moment (full t) (after_parsed moment number o p)
 unread_kept moment number t None p tells h = h
 unread_kept moment number t (Some lsa) p tells h =
     lsa_kept (case_at moment number lsa p.router.area) moment number t lsa p tells h
 
 unread_faces : (moment number : ℕ) (o : Option Lsa) (p : EventState)
-    → goes_on (case_in moment number o p) ≡ true → StaysFaced p (after_unread moment number o p)
+    → goes_on (case_in moment number o p) ≡ true → StaysFaced p (after_parsed moment number o p)
 unread_faces moment number None p on = refl
 unread_faces moment number (Some lsa) p on =
     lsa_faces (case_at moment number lsa p.router.area) moment number lsa p on
@@ -611,7 +611,7 @@ pub lsas_kept : (moment number : ℕ) (t : Terms) (lsas : List (List ℕ)) (p : 
     → InProgress moment (full t) p → InProgress moment (full t) (after_lsas moment number lsas p)
 lsas_kept moment number t [] p tells h = h
 lsas_kept moment number t (bytes ∷ rest) p tells h =
-    let q : EventState = after_unread moment number (lsa_in bytes) p in
+    let q : EventState = after_parsed moment number (lsa_in bytes) p in
     let so : InProgress moment (full t) q = unread_kept moment number t (lsa_in bytes) p tells h in
     chosen (InProgress moment (full t)) (goes_on (case_in moment number (lsa_in bytes) p))
     (after_lsas moment number rest q) q

@@ -22,7 +22,8 @@ use Rattle.packet.specs.declared.model.PacketBody.{PacketBody}
 use Rattle.packet.specs.declared.model.PacketBody.TheVariants as body
 use Rattle.packet.specs.Reading.{are_lsas, body_of, is_filled, key_at, least_length, lsas_of}
 use Rattle.packet.specs.Reading.{router_id_at}
-use Rattle.packet.specs.Text.{IsBody, IsDescription, IsHello, IsKey, IsRouterId, IsUnread, Open}
+use Rattle.packet.specs.Text.{IsBody, IsDescription, IsHello, IsKey, IsRouterId, IsUnparsedLsa}
+use Rattle.packet.specs.Text.{Open}
 use Rattle.packet.specs.Text.{bit}
 use Rattle.packet.specs.Text.{body_text, description, flags, hello, key_text, router_id_text}
 use Rattle.packet.specs.Text.{type_of}
@@ -95,7 +96,7 @@ master_back false false false = refl
 -- ---- LSAs
 
 -- consecutive LSAs are divided again
-lsas_again : (lsas : List (List ℕ)) → AllByRecursion IsUnread lsas
+lsas_again : (lsas : List (List ℕ)) → AllByRecursion IsUnparsedLsa lsas
     → (are_lsas (length lsas) (flat_map (λ (lsa : List ℕ). lsa) lsas) ≡ true)
     × (lsas_of (length lsas) (flat_map (λ (lsa : List ℕ). lsa) lsas) ≡ lsas)
 lsas_again [] all = (refl, refl)
@@ -131,7 +132,7 @@ lsas_again (lsa ∷ lsas) all =
     )
 
 -- each LSA has room for its header
-pub lsas_room : (lsas : List (List ℕ)) → AllByRecursion IsUnread lsas
+pub lsas_room : (lsas : List (List ℕ)) → AllByRecursion IsUnparsedLsa lsas
     → 20 * length lsas ≤ length (flat_map (λ (lsa : List ℕ). lsa) lsas)
 lsas_room [] all = omega arith
 lsas_room (lsa ∷ lsas) all = omega (
@@ -238,7 +239,7 @@ request_again keys bytes is e =
           ∙ records-read_back key_at key_text IsKey 12 key-wide key-reads_back keys [] [] is);
     }
 
-update_again : (lsas : List (List ℕ)) (bytes : List ℕ) → AllByRecursion IsUnread lsas
+update_again : (lsas : List (List ℕ)) (bytes : List ℕ) → AllByRecursion IsUnparsedLsa lsas
     → length bytes ≤ 8192 → bytes ≡ big_bytes 4 (length lsas)
     ++ flat_map (λ (lsa : List ℕ). lsa) lsas → IsAgain (body.Update lsas) bytes
 update_again lsas bytes is short e =

@@ -19,7 +19,8 @@ use Rattle.packet.specs.declared.model.PacketType.{PacketType}
 use Rattle.packet.specs.declared.model.PacketType.TheVariants as types
 use Rattle.packet.specs.Reading.{are_lsas, body_of, hello_of, is_filled, key_at, least_length}
 use Rattle.packet.specs.Reading.{lsas_of, router_id_at}
-use Rattle.packet.specs.Text.{IsBody, IsKey, IsRouterId, IsUnread, Open, body_text, flags, hello}
+use Rattle.packet.specs.Text.{IsBody, IsKey, IsRouterId, IsUnparsedLsa, Open, body_text, flags}
+use Rattle.packet.specs.Text.{hello}
 use Rattle.packet.specs.Text.{key_text, router_id_text}
 use Rattle.packet.proofs.Records.{key-fits, key-spells, router_id-fits, router_id-spells}
 use Rattle.packet.proofs.Cuts.{lsas_first}
@@ -106,7 +107,7 @@ take-size n bytes le =
     ∙ big_from-take 0 2 (n - 18) (drop 18 bytes) (omega arith)
 
 lsas_fit : (n : ℕ) (bytes : List ℕ) → IsBytes bytes → are_lsas n bytes ≡ true
-    → AllByRecursion IsUnread (lsas_of n bytes)
+    → AllByRecursion IsUnparsedLsa (lsas_of n bytes)
 lsas_fit zero bytes fits e = tt
 lsas_fit (suc n) bytes fits e =
     let next = lsas_first n bytes e in

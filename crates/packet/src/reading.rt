@@ -56,7 +56,8 @@ fn keys(alloc: Global, bytes: &[u8]) -> Result<Sequence<Key>, AllocError>
     Ok(Sequence::from_vec(keys))
 }
 
-fn unread(alloc: Global, bytes: &[u8]) -> Result<Sequence<u8>, AllocError>
+// The bytes of an LSA, which are parsed when it is received.
+fn copied(alloc: Global, bytes: &[u8]) -> Result<Sequence<u8>, AllocError>
     ensures { IfOk result (λ lsa. lsa ≡ bytes.now) }
 {
     Ok(Sequence::from_vec(Vec::from_slice(alloc, bytes)?))
@@ -71,7 +72,7 @@ fn lsas(alloc: Global, count: u32, bytes: &[u8]) -> Result<Sequence<Sequence<u8>
     let mut rest = bytes;
     for i in 0..count {
         let size = usize::from(u16_at(rest, 18));
-        lsas.push(unread(alloc, front(rest, size))?)?;
+        lsas.push(copied(alloc, front(rest, size))?)?;
         rest = behind(rest, size);
     }
     Ok(Sequence::from_vec(lsas))

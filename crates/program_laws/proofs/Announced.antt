@@ -43,7 +43,7 @@ use Rattle.event_rules.specs.Originations.{router_key}
 use Rattle.event_rules.specs.Originations.{wanted_body}
 use Rattle.event_rules.specs.Packets.{after_lsas, after_packet, after_self_originated}
 use Rattle.event_rules.specs.Packets.{receive_acknowledgment}
-use Rattle.event_rules.specs.Packets.{after_unread, any_exchange_or_later, case_in, from_neighbor}
+use Rattle.event_rules.specs.Packets.{after_parsed, any_exchange_or_later, case_in, from_neighbor}
 use Rattle.event_rules.specs.Packets.{is_heard}
 use Rattle.event_rules.specs.Packets.{receive_request}
 use Rattle.event_rules.specs.Routers.{Occurrence, Router, unannounced_router}
@@ -119,7 +119,7 @@ self_originated Case.SentJustNow moment lsa p = refl
 self_originated Case.Older moment lsa p = refl
 
 unread : (moment : Moment) (number : InterfaceNumber) (lsa : Option Lsa)
-    → Leaves (after_unread moment number lsa)
+    → Leaves (after_parsed moment number lsa)
 unread moment number None p = refl
 unread moment number (Some lsa) p =
     let case : Case = case_at moment number lsa p.router.area in
@@ -129,7 +129,7 @@ updated : (moment : Moment) (number : InterfaceNumber) (lsas : List (List ℕ))
     → Leaves (after_lsas moment number lsas)
 updated moment number [] p = refl
 updated moment number (bytes ∷ rest) p =
-    let q : EventState = after_unread moment number (lsa_in bytes) p in
+    let q : EventState = after_parsed moment number (lsa_in bytes) p in
     let one : told q ≡ told p = unread moment number (lsa_in bytes) p in
     either (told p) (goes_on (case_in moment number (lsa_in bytes) p))
     (after_lsas moment number rest q) q (updated moment number rest q ∙ one) one

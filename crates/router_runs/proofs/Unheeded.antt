@@ -35,7 +35,7 @@ use Rattle.event_rules.specs.Originations.{originate_anyway, originate_body, ori
 use Rattle.event_rules.specs.Originations.{originate_or_flush, originate_or_postpone, postpone}
 use Rattle.event_rules.specs.Originations.{receive_self_originated, wanted_body}
 use Rattle.event_rules.specs.Packets.{after_lsa, after_lsas, after_packet, after_self_originated}
-use Rattle.event_rules.specs.Packets.{after_unread, any_exchange_or_later, case_in, from_neighbor}
+use Rattle.event_rules.specs.Packets.{after_parsed, any_exchange_or_later, case_in, from_neighbor}
 use Rattle.event_rules.specs.Packets.{is_heard}
 use Rattle.event_rules.specs.Packing.{outs_of}
 use Rattle.event_rules.specs.Routers.{Occurrence, Router}
@@ -144,7 +144,7 @@ module _ (answers : List (Route × ℕ)) where
       (on_area (after_case case moment number lsa) p)
 
   unread : (moment : Moment) (number : InterfaceNumber) (lsa : Option Lsa) → Overlooks
-      (after_unread moment number lsa)
+      (after_parsed moment number lsa)
   unread moment number None p = refl
   unread moment number (Some lsa) p = one_lsa
       (case_at moment number lsa p.router.area) moment number lsa p
@@ -158,16 +158,16 @@ module _ (answers : List (Route × ℕ)) where
       (after_lsas moment number texts)
   all_lsas moment number [] p = refl
   all_lsas moment number (bytes ∷ rest) p =
-      let q : EventState = after_unread moment number (lsa_in bytes) p in
+      let q : EventState = after_parsed moment number (lsa_in bytes) p in
       let on : Bool = goes_on (case_in moment number (lsa_in bytes) p) in
-      let same : answering q ≡ after_unread moment number (lsa_in bytes) (answering p) =
+      let same : answering q ≡ after_parsed moment number (lsa_in bytes) (answering p) =
       unread moment number (lsa_in bytes) p in
       one_of on (after_lsas moment number rest q) q
       ∙ ap (λ (r : EventState). cond on r (answering q)) (all_lsas moment number rest q)
       ∙ ap (λ (r : EventState). cond on (after_lsas moment number rest r) r) same
       ∙ ap (λ (c : Case). cond (goes_on c)
-      (after_lsas moment number rest (after_unread moment number (lsa_in bytes) (answering p)))
-      (after_unread moment number (lsa_in bytes) (answering p)))
+      (after_lsas moment number rest (after_parsed moment number (lsa_in bytes) (answering p)))
+      (after_parsed moment number (lsa_in bytes) (answering p)))
       (same_case moment number (lsa_in bytes) p)
 
   from_its_neighbor : (moment : Moment) (number : InterfaceNumber) (from : ℕ) (in_exchange : Bool)

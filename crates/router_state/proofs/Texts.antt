@@ -12,7 +12,7 @@ use Rattle.event_rules.specs.received.Cases.{Case}
 use Rattle.event_rules.specs.received.Updates.{after_case, case_at, goes_on}
 use Rattle.event_rules.specs.EventState.{EventState, on_area}
 use Rattle.event_rules.specs.Originations.{receive_self_originated}
-use Rattle.event_rules.specs.Packets.{after_lsa, after_lsas, after_unread, case_in}
+use Rattle.event_rules.specs.Packets.{after_lsa, after_lsas, after_parsed, case_in}
 use Rattle.event_rules.specs.Routers.{Router}
 use Rattle.flooding.specs.Cases.{is_newer}
 use Rattle.flooding.proofs.Updates.{drop_end}
@@ -89,20 +89,20 @@ module _ (moment number : ℕ) (lsa : Lsa) (c : Case) where
 
   pub text_read : {old new : KeptRouter} → c ≡ case_at moment number lsa old.present.area
       → Makes (after_lsa c moment number lsa) old new
-      → Makes (after_unread moment number (Some lsa)) old new
+      → Makes (after_parsed moment number (Some lsa)) old new
   text_read is a =
       makes_same (λ p here. ap (λ (k : Case). after_lsa k moment number lsa p)
       (is ∙ ap (λ (r : Router). case_at moment number lsa r.area) (sym here))) a
 
 -- bytes that are parsed as this LSA
 pub as_read : {old new : KeptRouter} (moment number : ℕ) (lsa : Lsa) (o : Option Lsa)
-    → Some lsa ≡ o → Makes (after_unread moment number (Some lsa)) old new
-    → Makes (after_unread moment number o) old new
+    → Some lsa ≡ o → Makes (after_parsed moment number (Some lsa)) old new
+    → Makes (after_parsed moment number o) old new
 as_read {old} {new} moment number lsa o is a =
-    subst (λ (x : Option Lsa). Makes (after_unread moment number x) old new) is a
+    subst (λ (x : Option Lsa). Makes (after_parsed moment number x) old new) is a
 
 pub text_skipped : (moment number : ℕ) (r : KeptRouter)
-    → Makes (after_unread moment number None) r r
+    → Makes (after_parsed moment number None) r r
 text_skipped moment number r = makes_same (λ p _. refl) (makes_nothing r)
 
 -- ---- one after another
@@ -115,12 +115,12 @@ module _ (moment number : ℕ) where
 
   after_by : (bytes : List ℕ) (rest : List (List ℕ)) (r : Router) (b : Bool)
       → goes_on_at moment number (lsa_in bytes) r ≡ b → (p : EventState) → p.router ≡ r
-      → cond b (after_lsas moment number rest (after_unread moment number (lsa_in bytes) p))
-      (after_unread moment number (lsa_in bytes) p)
+      → cond b (after_lsas moment number rest (after_parsed moment number (lsa_in bytes) p))
+      (after_parsed moment number (lsa_in bytes) p)
       ≡ after_lsas moment number (bytes ∷ rest) p
   after_by bytes rest r b is p here =
-      ap (λ c. cond c (after_lsas moment number rest (after_unread moment number (lsa_in bytes) p))
-      (after_unread moment number (lsa_in bytes) p))
+      ap (λ c. cond c (after_lsas moment number rest (after_parsed moment number (lsa_in bytes) p))
+      (after_parsed moment number (lsa_in bytes) p))
       (sym (goes_here (lsa_in bytes) p r here ∙ is))
 
   module _ (lsas : List (List ℕ)) (start : KeptRouter) where
@@ -133,7 +133,7 @@ module _ (moment number : ℕ) where
     pub goes_further : (i : ℕ) (bytes : List ℕ) (r middle : KeptRouter)
         → drop i lsas ≡ bytes ∷ drop (i + 1) lsas
         → goes_on_at moment number (lsa_in bytes) r.present ≡ true
-        → Makes (after_unread moment number (lsa_in bytes)) r middle → Going i r
+        → Makes (after_parsed moment number (lsa_in bytes)) r middle → Going i r
         → Going (i + 1) middle
     goes_further i bytes r middle split is a going new b =
         going new
@@ -143,7 +143,7 @@ module _ (moment number : ℕ) where
     pub goes_no_further : (i : ℕ) (bytes : List ℕ) (r new : KeptRouter)
         → drop i lsas ≡ bytes ∷ drop (i + 1) lsas
         → goes_on_at moment number (lsa_in bytes) r.present ≡ false
-        → Makes (after_unread moment number (lsa_in bytes)) r new → Going i r
+        → Makes (after_parsed moment number (lsa_in bytes)) r new → Going i r
         → Makes (after_lsas moment number lsas) start new
     goes_no_further i bytes r new split is a going =
         going new (subst (λ xs. Makes (after_lsas moment number xs) r new) (sym split)

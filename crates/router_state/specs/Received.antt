@@ -40,5 +40,5 @@ is_processed own packet n =
 
 -- the Link State Update is processed further after this LSA, or after bytes that encode none
 abbrev pub goes_on_at : Moment → InterfaceNumber → Option Lsa → Router → Bool
-goes_on_at moment interface unread r =
-    goes_on (case_in moment interface unread (record { router = r; sends = [] }))
+goes_on_at moment interface parsed r =
+    goes_on (case_in moment interface parsed (record { router = r; sends = [] }))

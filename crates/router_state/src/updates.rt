@@ -2,7 +2,7 @@
 ghost use Rattle.std.specs.Prelude.{◌≡◌, ◌≤◌, IfOk, length};
 ghost use Rattle.lsa.specs.Reading.{lsa_in};
 ghost use Rattle.event_rules.specs.received.Updates.{goes_on};
-ghost use Rattle.event_rules.specs.Packets.{after_lsas, after_unread};
+ghost use Rattle.event_rules.specs.Packets.{after_lsas, after_parsed};
 ghost use Rattle.flooding.specs.Cases.{case_of, is_newer};
 ghost use Rattle.router_state.specs.Making.{RouterDoes};
 ghost use Rattle.router_state.specs.Received.{goes_on_at};
@@ -74,11 +74,11 @@ impl Router {
         requires last { interface ≤ length self.old.present.area.links }
         ensures goes_on { IfOk result (λ goes. goes
             ≡ goes_on_at moment interface (lsa_in bytes.now) self.old.present) }
-        ensures does { RouterDoes (after_unread moment interface (lsa_in bytes.now))
+        ensures does { RouterDoes (after_parsed moment interface (lsa_in bytes.now))
             self.old self.new result }
     {
-        let unread = read_lsa(alloc, bytes)?;
-        let Some(lsa) = unread else {
+        let parsed = read_lsa(alloc, bytes)?;
+        let Some(lsa) = parsed else {
             return Ok(true);
         };
         let header = lsa.header();

@@ -395,7 +395,7 @@ pub fn told(alloc: Global, wrong: Wrong) -> Error {
 }
 
 /// The text for words that can't be read: memory was refused, or a word isn't UTF-8.
-pub fn unread(alloc: Global, error: &io::Error) -> Error
+pub fn unreadable_words(alloc: Global, error: &io::Error) -> Error
     ensures memory { error_kind error.now ≡ IoKind.OutOfMemory
         → kind_of result ≡ ErrorKind.OutOfMemory }
     ensures value { (kind_of result ≡ ErrorKind.OutOfMemory)

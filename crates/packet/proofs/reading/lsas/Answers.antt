@@ -18,13 +18,13 @@ loop-i-preserved c =
     c.from-size.ensures ∙ c.u16_at.ensures in
     let rest : c.behind-rest.result.now ≡ drop (field c.loop-i.rest.now 18 2) c.loop-i.rest.now =
     c.behind-rest.ensures ∙ ap (λ n. drop n c.loop-i.rest.now) same in
-    let lsa : c.in_ok-unread.field-0 ≡ take (field c.loop-i.rest.now 18 2) c.loop-i.rest.now =
-    c.in_ok-unread.ensures ∙ c.front.ensures ∙ ap (λ n. take n c.loop-i.rest.now) same in
+    let lsa : c.in_ok-copied.field-0 ≡ take (field c.loop-i.rest.now 18 2) c.loop-i.rest.now =
+    c.in_ok-copied.ensures ∙ c.front.ensures ∙ ap (λ n. take n c.loop-i.rest.now) same in
     record {
       whole = ap (are_lsas (c.args.count - (c.loop-i.i + 1))) rest ∙ next.after;
       all =
           ap (λ r. c.push.new.self.items ++ lsas_of (c.args.count - (c.loop-i.i + 1)) r) rest
           ∙ cut_step c.args.count c.loop-i.i old c.loop-i.lsas.items c.push.new.self.items
-          (lsas_of c.args.count c.args.bytes.now) c.in_ok-unread.field-0 c.loop-i-test.true lsa
+          (lsas_of c.args.count c.args.bytes.now) c.in_ok-copied.field-0 c.loop-i-test.true lsa
           c.in_ok-push.ensures.items c.loop-i.invariant.all;
     }

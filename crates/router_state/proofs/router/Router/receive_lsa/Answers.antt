@@ -2,7 +2,7 @@ use Rattle.std.proofs.Common.{refl, sym, ap, subst, ◌∙◌}
 use Rattle.std.specs.Prelude.{Option}
 use Rattle.flooding.specs.adjacency.lsdb.Headers.{Lsa}
 use Rattle.event_rules.specs.received.Updates.{after_case, case_at, goes_on}
-use Rattle.event_rules.specs.Packets.{after_unread}
+use Rattle.event_rules.specs.Packets.{after_parsed}
 use Rattle.flooding.specs.Cases.{case_of}
 use Rattle.flooding.specs.Links.{start}
 use Rattle.router_state.specs.Kept.{KeptRouter}
@@ -18,13 +18,13 @@ use Rattle.router_state.proofs.router.Router.receive_lsa.Goals as goal
 pub returns-in_default-clause-goes_on : goal.returns-in_default-clause-goes_on
 returns-in_default-clause-goes_on c =
     ap (λ (o : Option Lsa). goes_on_at c.args.moment c.args.interface o c.args.self.now.present)
-    (sym c.in_default.is ∙ c.in_ok-unread.ensures)
+    (sym c.in_default.is ∙ c.in_ok-parsed.ensures)
 
 pub returns-in_default-clause-does : goal.returns-in_default-clause-does
 returns-in_default-clause-does c =
     let r = c.args.self.now in
-    done _ (subst (λ (o : Option Lsa). Makes (after_unread c.args.moment c.args.interface o) r r)
-    (sym c.in_default.is ∙ c.in_ok-unread.ensures) (text_skipped c.args.moment c.args.interface r))
+    done _ (subst (λ (o : Option Lsa). Makes (after_parsed c.args.moment c.args.interface o) r r)
+    (sym c.in_default.is ∙ c.in_ok-parsed.ensures) (text_skipped c.args.moment c.args.interface r))
 
 pub returns-in_err-flood_and_install-clause-does : goal.returns-in_err-flood_and_install-clause-does
 returns-in_err-flood_and_install-clause-does c =
@@ -44,7 +44,7 @@ returns-then-newer-clause-goes_on c =
     ∙ ap goes_on (c.case_at-case.ensures
     ∙ ap (λ (r : KeptRouter). case_at m n lsa r.present.area) c.self.view_is)
     ∙ ap (λ (o : Option Lsa). goes_on_at m n o c.args.self.now.present)
-    (sym c.in-Some.is ∙ c.in_ok-unread.ensures)
+    (sym c.in-Some.is ∙ c.in_ok-parsed.ensures)
 
 pub returns-in_err-receive_self_originated-clause-does
     : goal.returns-in_err-receive_self_originated-clause-does
@@ -65,7 +65,7 @@ returns-then-newer-clause-does c =
     let case = case_of c.case_at-case.result in
     let newer = sym c.is_newer-newer.ensures ∙ c.if-newer.true in
     done _
-    (as_read m n lsa _ (sym c.in-Some.is ∙ c.in_ok-unread.ensures)
+    (as_read m n lsa _ (sym c.in-Some.is ∙ c.in_ok-parsed.ensures)
     (text_read m n lsa case
     (c.case_at-case.ensures
     ∙ ap (λ (r : KeptRouter). case_at m n lsa r.present.area) c.self.view_is)
@@ -92,7 +92,7 @@ returns-clause-goes_on c =
     ∙ ap goes_on (c.case_at-case.ensures
     ∙ ap (λ (r : KeptRouter). case_at m n lsa r.present.area) c.self.view_is)
     ∙ ap (λ (o : Option Lsa). goes_on_at m n o c.args.self.now.present)
-    (sym c.in-Some.is ∙ c.in_ok-unread.ensures)
+    (sym c.in-Some.is ∙ c.in_ok-parsed.ensures)
 
 pub returns-clause-does : goal.returns-clause-does
 returns-clause-does c =
@@ -101,7 +101,7 @@ returns-clause-does c =
     let lsa = c.in-Some.lsa in
     let case = case_of c.case_at-case.result in
     done _
-    (as_read m n lsa _ (sym c.in-Some.is ∙ c.in_ok-unread.ensures)
+    (as_read m n lsa _ (sym c.in-Some.is ∙ c.in_ok-parsed.ensures)
     (text_read m n lsa case
     (c.case_at-case.ensures
     ∙ ap (λ (r : KeptRouter). case_at m n lsa r.present.area) c.self.view_is)
