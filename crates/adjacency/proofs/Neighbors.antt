@@ -21,7 +21,7 @@ use Rattle.lsdb.proofs.Keys.{keys_exact, keys_total}
 use Rattle.adjacency.specs.Neighbors.{Neighbor, fresh, is_exchange_or_loading, is_exchange_or_later}
 use Rattle.adjacency.specs.Requests.{without_request}
 use Rattle.adjacency.specs.Retransmissions.{add_retransmission, remove_retransmission}
-use Rattle.adjacency.specs.Floods.{meets, request_of, without_met_request}
+use Rattle.adjacency.specs.Floods.{satisfies_request, request_of, without_satisfied_request}
 use Rattle.packet.specs.declared.model.Description.{Description}
 use Rattle.adjacency.specs.declared.standing.Standing.{Standing}
 use Rattle.adjacency.specs.Views.{restarted, restarts, fresh_standing, keys_of, neighbor_of}
@@ -117,8 +117,8 @@ module _ {X : Type 0} (s : Standing) (des : Option Description) (sum req : ByKey
 
 -- the definition by the test
 pub met : (moment : ℕ) (lsa : Lsa) (n : Neighbor) (b : Bool)
-    → b ≡ meets moment lsa (request_of n lsa)
-    → cond b (without_request (lsa_key lsa) n) n ≡ without_met_request moment lsa n
+    → b ≡ satisfies_request moment lsa (request_of n lsa)
+    → cond b (without_request (lsa_key lsa) n) n ≡ without_satisfied_request moment lsa n
 met moment lsa n b is = ap (λ c. cond c (without_request (lsa_key lsa) n) n) is
 
 -- ---- starting over

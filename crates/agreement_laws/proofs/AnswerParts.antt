@@ -16,7 +16,7 @@ use Rattle.packet.specs.declared.model.Hello.{Hello}
 use Rattle.adjacency.specs.Adjacencies as adjacencies
 use Rattle.adjacency.specs.Contents.{Content, Step, Updates, no_sends}
 use Rattle.adjacency.specs.Descriptions.{after_description}
-use Rattle.adjacency.specs.Floods.{flooding, without_met_request}
+use Rattle.adjacency.specs.Floods.{flooding, without_satisfied_request}
 use Rattle.adjacency.specs.Neighbors.{Neighbor, is_exchange_or_later}
 use Rattle.adjacency.specs.Requests.{request_next}
 use Rattle.adjacency.specs.Retransmissions.{after_acknowledgment, remove_retransmission}
@@ -310,7 +310,8 @@ module _ (own : ℕ) (Acc : Description → Type 0) (Began : Conversation → Ty
 
   new_flooded : (lsa : Lsa) (m : Neighbor) → IsNew m → IsNew (flooding moment false lsa m).neighbor
   new_flooded lsa m h =
-      let met : IsNew (without_met_request moment lsa m) = neighbor_steps.met IsNew moment lsa m h h
+      let met : IsNew (without_satisfied_request moment lsa m) = neighbor_steps.met IsNew moment lsa
+          m h h
       in neighbor_steps.flooded IsNew moment false lsa m met met h
 
   aged_one : (lsa : Lsa) (o : Outcome) → Aged o → Aged (flood_from_nobody moment lsa o)

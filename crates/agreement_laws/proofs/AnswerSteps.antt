@@ -26,7 +26,7 @@ use Rattle.adjacency.specs.Descriptions.{is_empty, is_initial_description, is_ke
 use Rattle.adjacency.specs.Descriptions.{knows_types, master_goes_on, negotiated_neighbor, process}
 use Rattle.adjacency.specs.Descriptions.{next_description, repeat, same_flag, slave_replies}
 use Rattle.adjacency.specs.Descriptions.{verdict, with_requests, without_old_description}
-use Rattle.adjacency.specs.Floods.{flooding, without_met_request}
+use Rattle.adjacency.specs.Floods.{flooding, without_satisfied_request}
 use Rattle.adjacency.specs.Neighbors.{Neighbor, is_exchange_or_later}
 use Rattle.adjacency.specs.Requests.{next_request, request_next, still_outstanding}
 use Rattle.adjacency.specs.Retransmissions.{after_acknowledgment}
@@ -225,7 +225,7 @@ module _ (own : ℕ) (Acc : Description → Type 0) (Began : Conversation → Ty
   pub flooded : (moment : ℕ) (from : Bool) (lsa : Lsa) (S : Description → Type 0) (m : Neighbor)
       → Sound S m → OfStep S (flooding moment from lsa m)
   flooded moment from lsa S m h =
-      let w : Neighbor = without_met_request moment lsa m in
+      let w : Neighbor = without_satisfied_request moment lsa m in
       let so : Sound S w = neighbor_steps.met (Sound S) moment lsa m h h in
       flooding_so (OfStep S) moment m from lsa
       (quiet S (Updates lsa ∷ []) (one_other (Updates lsa) tt) w so) (nothing S w so)

@@ -13,7 +13,8 @@ use Rattle.lsdb.specs.declared.order.Instance.{Instance}
 use Rattle.adjacency.specs.declared.state.NeighborState.TheVariants.{Loading, Full}
 use Rattle.adjacency.specs.Adjacencies.{after_hello, enter_exstart, loading_done, mismatch_step}
 use Rattle.adjacency.specs.Descriptions.{repeat, without_old_description}
-use Rattle.adjacency.specs.Floods.{flooding, meets, request_of, without_met_request}
+use Rattle.adjacency.specs.Floods.{flooding, satisfies_request, request_of}
+use Rattle.adjacency.specs.Floods.{without_satisfied_request}
 use Rattle.adjacency.specs.Neighbors.{Neighbor, fresh, is_exchange_or_later, is_exchange_or_loading}
 use Rattle.adjacency.specs.Requests.{request_next, requested_entry, without_request}
 use Rattle.adjacency.specs.Retransmissions.{after_acknowledgment, send_again}
@@ -47,7 +48,8 @@ module _ (ranks : RanksFollowTheComparison) (key : Key) (moment : ℕ) (first : 
       × (is_at_least (instance_of lsa.header) first ≡ true)
 
   met_entry : (b : Bool) (lsa : Lsa) (o : Option ListEntry) → o ≡ Some entry
-      → meets moment lsa (cond b o None) ≡ true → is_at_least (instance_of lsa.header) first ≡ true
+      → satisfies_request moment lsa (cond b o None) ≡ true → is_at_least (instance_of lsa.header)
+          first ≡ true
   met_entry false lsa o is e = absurd cc
   met_entry true lsa None is e = absurd cc
   met_entry true lsa (Some r) is e =
@@ -59,13 +61,16 @@ module _ (ranks : RanksFollowTheComparison) (key : Key) (moment : ℕ) (first : 
       same : r ≡ entry
       same = cc
 
-  met_where : (lsa : Lsa) (m : Neighbor) → Asking m → Asking (without_met_request moment lsa m)
+  met_where : (lsa : Lsa) (m : Neighbor) → Asking m → Asking
+      (without_satisfied_request moment lsa m)
       ⊎ IsMet lsa
   met_where lsa m h =
-      chosen (λ (n : Neighbor). Asking n ⊎ IsMet lsa) (meets moment lsa (request_of m lsa))
+      chosen (λ (n : Neighbor). Asking n ⊎ IsMet lsa)
+          (satisfies_request moment lsa (request_of m lsa))
       (without_request (lsa_key lsa) m) m (λ e. by_case e h) (λ e. inl h)
     where
-      by_key : (b : Bool) → same_key key (lsa_key lsa) ≡ b → meets moment lsa (request_of m lsa)
+      by_key : (b : Bool) → same_key key (lsa_key lsa) ≡ b → satisfies_request moment lsa
+          (request_of m lsa)
           ≡ true → IsAsked m → Asking (without_request (lsa_key lsa) m) ⊎ IsMet lsa
       by_key true same e at =
           inr (
@@ -78,7 +83,7 @@ module _ (ranks : RanksFollowTheComparison) (key : Key) (moment : ℕ) (first : 
       by_key false other e at = inl (inr
           (at.0, removed_other m.requests (lsa_key lsa) key other ∙ at.1))
 
-      by_case : meets moment lsa (request_of m lsa) ≡ true → Asking m
+      by_case : satisfies_request moment lsa (request_of m lsa) ≡ true → Asking m
           → Asking (without_request (lsa_key lsa) m) ⊎ IsMet lsa
       by_case e (inl over) = inl (inl over)
       by_case e (inr at) = by_key (same_key key (lsa_key lsa)) refl e at
@@ -86,7 +91,7 @@ module _ (ranks : RanksFollowTheComparison) (key : Key) (moment : ℕ) (first : 
   pub flooded : (from : Bool) (lsa : Lsa) (m : Neighbor) → Asking m
       → Asking (flooding moment from lsa m).neighbor ⊎ IsMet lsa
   flooded from lsa m h =
-      let met : Asking (without_met_request moment lsa m) ⊎ IsMet lsa = met_where lsa m h in
+      let met : Asking (without_satisfied_request moment lsa m) ⊎ IsMet lsa = met_where lsa m h in
       steps.flooded (λ (x : Neighbor). Asking x ⊎ IsMet lsa) moment from lsa m met met (inl h)
 
   -- ---- attempts and Hellos

@@ -31,7 +31,7 @@ use Rattle.adjacency.specs.Descriptions.{in_state, is_duplicate, is_initial_desc
 use Rattle.adjacency.specs.Descriptions.{is_over_for, knows_types, master_goes_on, process}
 use Rattle.adjacency.specs.Descriptions.{negotiated_neighbor, same_flag, slave_replies}
 use Rattle.adjacency.specs.Descriptions.{with_requests, without_old_description}
-use Rattle.adjacency.specs.Floods.{flooding, without_met_request}
+use Rattle.adjacency.specs.Floods.{flooding, without_satisfied_request}
 use Rattle.adjacency.specs.Neighbors.{Neighbor, is_exchange_or_later}
 use Rattle.adjacency.specs.Requests.{request_next}
 use Rattle.adjacency.specs.Retransmissions.{after_acknowledgment, remove_retransmission}
@@ -99,7 +99,7 @@ OfStep s = IsDone s.neighbor
 flooded : (moment : ℕ) (from : Bool) (lsa : Lsa) (m : Neighbor) → IsDone m
     → IsDone (flooding moment from lsa m).neighbor
 flooded moment from lsa m h =
-    let met : IsDone (without_met_request moment lsa m) = steps.met IsDone moment lsa m h h in
+    let met : IsDone (without_satisfied_request moment lsa m) = steps.met IsDone moment lsa m h h in
     steps.flooded IsDone moment from lsa m met met h
 
 mismatched : (moment : ℕ) (m : Neighbor) → IsDone m → IsDone (mismatch_step moment m).neighbor

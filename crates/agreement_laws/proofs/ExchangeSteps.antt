@@ -5,7 +5,7 @@ use Rattle.lsdb.specs.Headers.{Header, Lsa}
 use Rattle.adjacency.specs.declared.state.NeighborState.TheVariants.{Loading, Full}
 use Rattle.adjacency.specs.Adjacencies.{after_hello, enter_exstart, loading_done, mismatch_step}
 use Rattle.adjacency.specs.Descriptions.{without_old_description}
-use Rattle.adjacency.specs.Floods.{flooding, without_met_request}
+use Rattle.adjacency.specs.Floods.{flooding, without_satisfied_request}
 use Rattle.adjacency.specs.Neighbors.{Neighbor, fresh, is_exchange_or_later}
 use Rattle.adjacency.specs.Retransmissions.{after_acknowledgment}
 use Rattle.received.specs.Holds.{Holds}
@@ -34,7 +34,7 @@ module _ (n : Neighbor) where
   pub flooded : (moment : ℕ) (from : Bool) (lsa : Lsa) (m : Neighbor) → Standing m
       → Standing (flooding moment from lsa m).neighbor
   flooded moment from lsa m h =
-      let met : Standing (without_met_request moment lsa m) =
+      let met : Standing (without_satisfied_request moment lsa m) =
       steps.met Standing moment lsa m h h in steps.flooded Standing moment from lsa m met met h
 
   pub mismatched : (moment : ℕ) (m : Neighbor) → Standing m
@@ -66,7 +66,7 @@ module _ (n : Neighbor) where
   pub same_flooded : (moment : ℕ) (from : Bool) (lsa : Lsa) (m : Neighbor) → IsSame m
       → IsSame (flooding moment from lsa m).neighbor
   same_flooded moment from lsa m h =
-      let met : IsSame (without_met_request moment lsa m) =
+      let met : IsSame (without_satisfied_request moment lsa m) =
       steps.met IsSame moment lsa m h h in steps.flooded IsSame moment from lsa m met met h
 
   pub same_filled : (m : Neighbor) → IsSame m → IsSame (loading_done m)

@@ -27,7 +27,8 @@ use Rattle.adjacency.specs.Descriptions.{as_received, exchange_done, in_state, s
 use Rattle.adjacency.specs.Descriptions.{is_over_for, knows_types, master_goes_on, process}
 use Rattle.adjacency.specs.Descriptions.{negotiated_neighbor, repeat, slave_replies, verdict}
 use Rattle.adjacency.specs.Descriptions.{with_requests}
-use Rattle.adjacency.specs.Floods.{flooding, meets, request_of, without_met_request}
+use Rattle.adjacency.specs.Floods.{flooding, satisfies_request, request_of}
+use Rattle.adjacency.specs.Floods.{without_satisfied_request}
 use Rattle.adjacency.specs.Neighbors.{Neighbor, is_exchange_or_later}
 use Rattle.adjacency.specs.Requests.{request_next, without_request}
 use Rattle.adjacency.specs.Retransmissions.{acknowledged_neighbor, after_acknowledgment}
@@ -382,12 +383,12 @@ module _ (old : Router) where
     flooded_so moment from lsa n so h =
         flooding_so OfStep moment n from lsa
         (record { neighbor = record { summary = met.summary; last = met.last }; sends = (so, tt) })
-        (quiet_step (remove_retransmission (lsa_key lsa) (without_met_request moment lsa n))
+        (quiet_step (remove_retransmission (lsa_key lsa) (without_satisfied_request moment lsa n))
         (record { summary = met.summary; last = met.last })) (quiet_step n h)
       where
-        met : OfNeighbor T number (without_met_request moment lsa n)
+        met : OfNeighbor T number (without_satisfied_request moment lsa n)
         met =
-            chosen (OfNeighbor T number) (meets moment lsa (request_of n lsa))
+            chosen (OfNeighbor T number) (satisfies_request moment lsa (request_of n lsa))
             (without_request (lsa_key lsa) n) n (λ e. record {
               summary = h.summary;
               last = h.last;

@@ -15,8 +15,9 @@ use Rattle.adjacency.specs.declared.state.NeighborState.TheVariants.{Loading, Fu
 use Rattle.adjacency.specs.Adjacencies.{after_hello, loading_done, mismatch_step}
 use Rattle.adjacency.specs.Contents.{Step, Updates, no_sends}
 use Rattle.adjacency.specs.Descriptions.{without_old_description}
-use Rattle.adjacency.specs.Floods.{flooded_in_exchange, flooding, meets, passes, request_of}
-use Rattle.adjacency.specs.Floods.{without_met_request}
+use Rattle.adjacency.specs.Floods.{flooded_in_exchange, flooding, satisfies_request}
+use Rattle.adjacency.specs.Floods.{exceeds_request, request_of}
+use Rattle.adjacency.specs.Floods.{without_satisfied_request}
 use Rattle.adjacency.specs.Neighbors.{Neighbor, is_exchange_or_later, is_exchange_or_loading}
 use Rattle.adjacency.specs.Requests.{request_next, requested_entry, without_request}
 use Rattle.adjacency.specs.Retransmissions.{acknowledged_neighbor, add_retransmission}
@@ -87,9 +88,10 @@ module _ (key : Key) (now : ℕ) (Of : ℕ → Type 0) (Said : Saying) where
   met_said k r w said l at = said l (left_there r k key l at)
 
   met_where : (x : Option Instance) (moment : ℕ) (lsa : Lsa) (m : Neighbor) → Settled x m
-      → Settled x (without_met_request moment lsa m)
+      → Settled x (without_satisfied_request moment lsa m)
   met_where x moment lsa m h =
-      chosen (Settled x) (meets moment lsa (request_of m lsa)) (without_request (lsa_key lsa) m) m
+      chosen (Settled x) (satisfies_request moment lsa (request_of m lsa))
+          (without_request (lsa_key lsa) m) m
       (λ e. (h.0, met_said (lsa_key lsa) m.requests (conversation_with m) h.1, h.2)) (λ e. h)
 
   added_other : (moment : ℕ) (h : Header) (t s : ByKey ListEntry) (w : Conversation) (i : Instance)
@@ -118,7 +120,7 @@ module _ (key : Key) (now : ℕ) (Of : ℕ → Type 0) (Said : Saying) where
       (flooded_in_exchange moment from lsa m) (no_sends m)
       (λ part. let no : true ≡ false = sym part ∙ before in absurd cc) (λ e. inl before)
   flooded_other x moment from lsa m other (inr h) =
-      let w : Neighbor = without_met_request moment lsa m in
+      let w : Neighbor = without_satisfied_request moment lsa m in
       let added : Neighbor = add_retransmission moment lsa.header w in
       let removed : Neighbor = remove_retransmission (lsa_key lsa) w in
       let so : Settled x w = met_where x moment lsa m h in
@@ -142,13 +144,14 @@ module _ (key : Key) (now : ℕ) (Of : ℕ → Type 0) (Said : Saying) where
 
   -- if an LSA isn't newer than the request, one at least as new is requested, and so was said
   requested : (lsa : Lsa) (m : Neighbor) → key ≡ lsa_key lsa
-      → AreSaid m.requests (conversation_with m) → passes now lsa (request_of m lsa) ≡ false
+      → AreSaid m.requests (conversation_with m) → exceeds_request now lsa (request_of m lsa)
+          ≡ false
       → Known (conversation_with m) (instance_of lsa.header)
   requested lsa m same said e = by_choice (is_exchange_or_loading m.state)
       (requested_entry m (lsa_key lsa)) refl e
     where
       by_choice : (b : Bool) (o : Option ListEntry) → requested_entry m (lsa_key lsa) ≡ o
-          → passes now lsa (cond b o None) ≡ false
+          → exceeds_request now lsa (cond b o None) ≡ false
           → Known (conversation_with m) (instance_of lsa.header)
       by_choice true None at p = absurd cc
       by_choice true (Some l) at p = (
@@ -168,7 +171,7 @@ module _ (key : Key) (now : ℕ) (Of : ℕ → Type 0) (Said : Saying) where
       (is_exchange_or_later m.state) (flooded_in_exchange now false lsa m) (no_sends m)
       (λ part. let no : true ≡ false = sym part ∙ before in absurd cc) (λ e. inl before)
   flooded_same x lsa m same (inr h) =
-      let w : Neighbor = without_met_request now lsa m in
+      let w : Neighbor = without_satisfied_request now lsa m in
       let entry : ListEntry = record { header = lsa.header; at = now } in
       let got : Step = record {
         neighbor = add_retransmission now lsa.header w;
@@ -179,7 +182,7 @@ module _ (key : Key) (now : ℕ) (Of : ℕ → Type 0) (Said : Saying) where
       chosen (λ (s : Step). Settling (Some (instance_of lsa.header)) s.neighbor)
       (is_exchange_or_later m.state) (flooded_in_exchange now false lsa m) (no_sends m)
       (λ part. chosen (λ (s : Step). Settling (Some (instance_of lsa.header)) s.neighbor)
-      (not false && passes now lsa (request_of m lsa)) got not_got
+      (not false && exceeds_request now lsa (request_of m lsa)) got not_got
       (λ e. inr (
         so.0,
         so.1,
@@ -196,10 +199,11 @@ module _ (key : Key) (now : ℕ) (Of : ℕ → Type 0) (Said : Saying) where
       (λ before. inl before)
     where
       same_conversation : Known (conversation_with m) (instance_of lsa.header)
-          → Known (conversation_with (without_met_request now lsa m)) (instance_of lsa.header)
+          → Known (conversation_with (without_satisfied_request now lsa m)) (instance_of lsa.header)
       same_conversation k =
           chosen (λ (n : Neighbor). Known (conversation_with n) (instance_of lsa.header))
-          (meets now lsa (request_of m lsa)) (without_request (lsa_key lsa) m) m (λ e. k)
+          (satisfies_request now lsa (request_of m lsa)) (without_request (lsa_key lsa) m) m
+              (λ e. k)
           (λ e. k)
 
   -- an LSA from this neighbor, which thus has said it
@@ -211,7 +215,7 @@ module _ (key : Key) (now : ℕ) (Of : ℕ → Type 0) (Said : Saying) where
       (flooded_in_exchange now true lsa m) (no_sends m)
       (λ part. let no : true ≡ false = sym part ∙ before in absurd cc) (λ e. inl before)
   flooded_back x i lsa m says (inr h) =
-      let so : Settled x (without_met_request now lsa m) = met_where x now lsa m h in
+      let so : Settled x (without_satisfied_request now lsa m) = met_where x now lsa m h in
       chosen (λ (s : Step). Settling (Some i) s.neighbor) (is_exchange_or_later m.state)
       (flooded_in_exchange now true lsa m) (no_sends m)
       (λ part. inr (
@@ -219,7 +223,7 @@ module _ (key : Key) (now : ℕ) (Of : ℕ → Type 0) (Said : Saying) where
         so.1,
         inr (inr
             (chosen (λ (n : Neighbor). Known (conversation_with n) i)
-            (meets now lsa (request_of m lsa)) (without_request (lsa_key lsa) m) m
+            (satisfies_request now lsa (request_of m lsa)) (without_request (lsa_key lsa) m) m
             (λ e. says h.0) (λ e. says h.0))),
       ))
       (λ before. inl before)

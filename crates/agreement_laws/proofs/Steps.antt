@@ -17,8 +17,8 @@ use Rattle.adjacency.specs.Adjacencies.{loading_done_in, mismatch_step, requests
 use Rattle.adjacency.specs.Adjacencies.{two_way_received_in, with_hello_heard}
 use Rattle.adjacency.specs.Contents.{Requests, Step, Updates, no_sends}
 use Rattle.adjacency.specs.Descriptions.{is_over_for, repeat, without_old_description}
-use Rattle.adjacency.specs.Floods.{flooding, meets, request_of}
-use Rattle.adjacency.specs.Floods.{without_met_request}
+use Rattle.adjacency.specs.Floods.{flooding, satisfies_request, request_of}
+use Rattle.adjacency.specs.Floods.{without_satisfied_request}
 use Rattle.adjacency.specs.Neighbors.{Neighbor, fresh, is_exchange_or_later}
 use Rattle.adjacency.specs.Requests.{is_to_request, next_request, request_next, still_outstanding}
 use Rattle.adjacency.specs.Requests.{without_request}
@@ -91,15 +91,16 @@ module _ (P : Neighbor → Type 0) where
   -- ---- flooding
 
   pub met : (moment : ℕ) (lsa : Lsa) (m : Neighbor) → Of (without_request (lsa_key lsa) m) → Of m
-      → Of (without_met_request moment lsa m)
+      → Of (without_satisfied_request moment lsa m)
   met moment lsa m without h =
-      chosen Of (meets moment lsa (request_of m lsa)) (without_request (lsa_key lsa) m) m
+      chosen Of (satisfies_request moment lsa (request_of m lsa)) (without_request (lsa_key lsa) m)
+          m
       (λ e. without) (λ e. h)
 
   -- when it is added to the retransmission list, or that of its key is removed
   pub flooded : (moment : ℕ) (from : Bool) (lsa : Lsa) (m : Neighbor)
-      → Of (add_retransmission moment lsa.header (without_met_request moment lsa m))
-      → Of (remove_retransmission (lsa_key lsa) (without_met_request moment lsa m)) → Of m
+      → Of (add_retransmission moment lsa.header (without_satisfied_request moment lsa m))
+      → Of (remove_retransmission (lsa_key lsa) (without_satisfied_request moment lsa m)) → Of m
       → Of (flooding moment from lsa m).neighbor
   flooded moment from lsa m added removed h =
       flooding_so OfStep moment m from lsa added removed h

@@ -14,7 +14,8 @@ use Rattle.adjacency.specs.Contents.{Content, Step, no_sends}
 use Rattle.adjacency.specs.Neighbors.{Neighbor, is_exchange_or_loading, is_exchange_or_later}
 use Rattle.adjacency.specs.Retransmissions.{add_retransmission, remove_retransmission}
 use Rattle.received.specs.Cases.{Case, case_of_readable}
-use Rattle.received.specs.Flooding.{flood_to, gets, passes, request_of, without_met_request}
+use Rattle.received.specs.Flooding.{flood_to, is_to_be_sent, exceeds_request, request_of}
+use Rattle.received.specs.Flooding.{without_satisfied_request}
 use Rattle.received.specs.Links.{Area, Link, any_has_retransmission, delay_acknowledgment}
 use Rattle.received.specs.Links.{any_exchange_or_loading, change_link, link_at, neighbor_at}
 use Rattle.received.specs.Links.{neighbor_on, neighbor_is_exchange_or_loading}
@@ -105,17 +106,17 @@ module _ (moment number other : ℕ) (lsa : Lsa) (another : Link) (m : Neighbor)
   asked_not : request_of m lsa ≡ None
   asked_not = λ i. cond (is_exchange_or_loading (there.is_loading i)) (there.not_asked i) None
 
-  gets_it : gets moment (Some number) other lsa m ≡ true
-  gets_it = λ i. not (apart i) && passes moment lsa (asked_not i)
+  gets_it : is_to_be_sent moment (Some number) other lsa m ≡ true
+  gets_it = λ i. not (apart i) && exceeds_request moment lsa (asked_not i)
 
   sends_it : (flood_to moment (Some number) lsa other another m).sends ≡ Content.Updates lsa ∷ []
   sends_it =
       let got_it : Step = record {
-        neighbor = add_retransmission moment lsa.header (without_met_request moment lsa m);
+        neighbor = add_retransmission moment lsa.header (without_satisfied_request moment lsa m);
         sends = Content.Updates lsa ∷ [];
       } in
       let not_got : Step = no_sends (remove_retransmission (lsa_key lsa)
-      (without_met_request moment lsa m)) in
+      (without_satisfied_request moment lsa m)) in
       λ i. (cond (is_exchange_or_later (there.is_loading i)) (cond (gets_it i) got_it not_got)
       (no_sends m)).sends
 

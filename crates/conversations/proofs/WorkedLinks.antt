@@ -18,7 +18,8 @@ use Rattle.adjacency.specs.Requests.{without_request}
 use Rattle.adjacency.specs.Retransmissions.{add_retransmission, remove_retransmission}
 use Rattle.adjacency.specs.declared.interface.Interface.{Interface}
 use Rattle.adjacency.specs.declared.state.NeighborState.{NeighborState}
-use Rattle.received.specs.Flooding.{flood_to, gets, meets, request_of, without_met_request}
+use Rattle.received.specs.Flooding.{flood_to, is_to_be_sent, satisfies_request, request_of}
+use Rattle.received.specs.Flooding.{without_satisfied_request}
 use Rattle.received.specs.Links.{Link, any_exchange_or_loading, change_link, delay_acknowledgment}
 use Rattle.received.specs.Links.{link_at, neighbor_is_exchange_or_loading}
 use Rattle.received.specs.Outcomes.{Outcome, Stepping, each_neighbor, marked_database, sends_at}
@@ -108,17 +109,18 @@ chosen_who false m n w p q = q
 pub flooding_keeps : (moment : ℕ) (sender : Option ℕ) (lsa : Lsa)
     → Keeps (flood_to moment sender lsa)
 flooding_keeps moment sender lsa number link n =
-    let m : Neighbor = without_met_request moment lsa n in
-    let same : who m ≡ who n = chosen_who (meets moment lsa (request_of n lsa))
+    let m : Neighbor = without_satisfied_request moment lsa n in
+    let same : who m ≡ who n = chosen_who (satisfies_request moment lsa (request_of n lsa))
     (without_request (lsa_key lsa) n) n (who n) refl refl in
     let got : Step = record {
       neighbor = add_retransmission moment lsa.header m;
       sends = Updates lsa ∷ [];
     } in
     let not_got : Step = no_sends (remove_retransmission (lsa_key lsa) m) in
-    chosen_step (is_exchange_or_later n.state) (cond (gets moment sender number lsa n) got not_got)
+    chosen_step (is_exchange_or_later n.state)
+        (cond (is_to_be_sent moment sender number lsa n) got not_got)
     (no_sends n) (who n)
-    (chosen_step (gets moment sender number lsa n) got not_got (who n) same same) refl
+    (chosen_step (is_to_be_sent moment sender number lsa n) got not_got (who n) same same) refl
 
 shown_kept : (f : Neighbor → Step) (o : Option Neighbor)
     → ((n : Neighbor) → who (f n).neighbor ≡ who n)

@@ -19,7 +19,7 @@ use Rattle.adjacency.specs.Neighbors.{Neighbor}
 use Rattle.adjacency.specs.Requests.{requested_entry, without_request}
 use Rattle.adjacency.specs.Retransmissions.{remove_retransmission}
 use Rattle.adjacency.specs.declared.state.NeighborState.TheVariants.{Full}
-use Rattle.received.specs.Flooding.{meets}
+use Rattle.received.specs.Flooding.{satisfies_request}
 use Rattle.received.specs.Links.{Link, delay_acknowledgment}
 use Rattle.received.specs.Updates.{flood_and_install}
 use Rattle.event_rules.specs.declared.model.Out.{Out}
@@ -45,7 +45,8 @@ use Rattle.conversations.proofs.WorkedUpdates.{inserted, new_case, own_part, sta
 
 -- ---- the request
 
-asked : (moment : ℕ) (lsa : Lsa) (o : Option ListEntry) → meets moment lsa o ≡ true → is_some o
+asked : (moment : ℕ) (lsa : Lsa) (o : Option ListEntry) → satisfies_request moment lsa o ≡ true
+    → is_some o
     ≡ true
 asked moment lsa None e = absurd (true≢false (sym e))
 asked moment lsa (Some r) e = refl
@@ -76,7 +77,8 @@ put r link moment lsa n = record {
 }
 
 becomes_full : (r : Router) (link : Link) (n : Neighbor) (moment : ℕ) (lsa : Lsa)
-    → finite.len n.requests ≡ 1 → meets moment lsa (requested_entry n (lsa_key lsa)) ≡ true
+    → finite.len n.requests ≡ 1 → satisfies_request moment lsa (requested_entry n (lsa_key lsa))
+        ≡ true
     → loading_done (on_area (flood_and_install moment 1 lsa) (start (beside r link (loading n))))
     ≡ put r link moment lsa (full lsa n)
 becomes_full r link n moment lsa one is_met =

@@ -25,7 +25,8 @@ use Rattle.adjacency.specs.Neighbors.{Neighbor, is_exchange_or_loading, is_excha
 use Rattle.adjacency.specs.Requests.{requested_entry, without_request}
 use Rattle.adjacency.specs.Retransmissions.{is_entry, add_retransmission, remove_retransmission}
 use Rattle.received.specs.Cases.{Case, case_of_readable, first_case, is_wrapping}
-use Rattle.received.specs.Flooding.{flood_to, meets, passes, request_of, without_met_request}
+use Rattle.received.specs.Flooding.{flood_to, satisfies_request, exceeds_request, request_of}
+use Rattle.received.specs.Flooding.{without_satisfied_request}
 use Rattle.received.specs.Links.{Area, Link, any_has_retransmission, delay_acknowledgment}
 use Rattle.received.specs.Links.{any_exchange_or_loading, link_at, neighbor_at, neighbor_on}
 use Rattle.received.specs.Outcomes.{Outcome, step_on, stepped_links, stepping_sends}
@@ -156,13 +157,14 @@ pub sender_step : (moment number : ℕ) (lsa : Lsa) (link : Link) (n : Neighbor)
     ≡ no_sends (remove_retransmission (lsa_key lsa) n)
 sender_step moment number lsa link n part rest =
     let got_it : Step = record {
-      neighbor = add_retransmission moment lsa.header (without_met_request moment lsa n);
+      neighbor = add_retransmission moment lsa.header (without_satisfied_request moment lsa n);
       sends = Content.Updates lsa ∷ [];
     } in
-    let same : without_met_request moment lsa n ≡ n =
-    ap (λ b. cond (meets moment lsa (cond b (requested_entry n (lsa_key lsa)) None))
+    let same : without_satisfied_request moment lsa n ≡ n =
+    ap (λ b. cond (satisfies_request moment lsa (cond b (requested_entry n (lsa_key lsa)) None))
     (without_request (lsa_key lsa) n) n) rest in
-    λ i. cond (part i) (cond (not (itself number i) && passes moment lsa (request_of n lsa)) got_it
+    λ i. cond (part i) (cond (not (itself number i) && exceeds_request moment lsa
+        (request_of n lsa)) got_it
     (no_sends (remove_retransmission (lsa_key lsa) (same i)))) (no_sends n)
 
 abbrev first : Router → ℕ → ℕ → Lsa → Outcome

@@ -10,7 +10,7 @@ use Rattle.adjacency.specs.Contents.{Content}
 use Rattle.adjacency.specs.declared.state.NeighborState.TheVariants.{Full, Loading}
 use Rattle.adjacency.specs.Neighbors.{Neighbor}
 use Rattle.adjacency.specs.Requests.{requested_entry}
-use Rattle.received.specs.Flooding.{meets}
+use Rattle.received.specs.Flooding.{satisfies_request}
 use Rattle.received.specs.Links.{Link}
 use Rattle.received.specs.Outcomes.{Send}
 use Rattle.event_rules.specs.declared.model.Out.{Out}
@@ -38,7 +38,7 @@ pub record MeetsTheLastRequest (r : Router) (n : Neighbor) (moment : ℕ) (lsa :
   pub nothing_ages : NothingAges r moment
   pub is_other : is_foreign r.id n.router ≡ true
   pub is_last : finite.len n.requests ≡ 1
-  pub is_met : meets moment lsa (requested_entry n (lsa_key lsa)) ≡ true
+  pub is_met : satisfies_request moment lsa (requested_entry n (lsa_key lsa)) ≡ true
   pub is_absent : finite.get r.area.database (lsa_key lsa) ≡ None
   pub is_young : lsa.header.age < 3600
   pub is_foreign_lsa : (lsa.header.advertising_router == r.id) ≡ false

@@ -30,8 +30,9 @@ use Rattle.packet.specs.declared.model.Packet.{Packet}
 use Rattle.adjacency.specs.Adjacencies as adjacencies
 use Rattle.adjacency.specs.Contents.{Content, Step, Updates, no_sends}
 use Rattle.adjacency.specs.Descriptions.{after_description}
-use Rattle.adjacency.specs.Floods.{flooded_in_exchange, flooding, meets, passes, request_of}
-use Rattle.adjacency.specs.Floods.{without_met_request}
+use Rattle.adjacency.specs.Floods.{flooded_in_exchange, flooding, satisfies_request}
+use Rattle.adjacency.specs.Floods.{exceeds_request, request_of}
+use Rattle.adjacency.specs.Floods.{without_satisfied_request}
 use Rattle.adjacency.specs.Neighbors.{Neighbor, is_exchange_or_later}
 use Rattle.adjacency.specs.Requests.{request_next, without_request}
 use Rattle.adjacency.specs.Retransmissions.{add_retransmission, after_acknowledgment}
@@ -1055,8 +1056,8 @@ module _ (old : Router) (moment : ℕ) (event : Occurrence) (number : ℕ) (befo
   flooding_stands : (from : Bool) (lsa : Lsa) (m : Neighbor) → Stands m
       → Stands (flooding moment from lsa m).neighbor
   flooding_stands from lsa m h =
-      let w : Neighbor = without_met_request moment lsa m in
-      let met : Stands w = chosen Stands (meets moment lsa (request_of m lsa))
+      let w : Neighbor = without_satisfied_request moment lsa m in
+      let met : Stands w = chosen Stands (satisfies_request moment lsa (request_of m lsa))
       (without_request (lsa_key lsa) m) m (λ e. h) (λ e. h) in
       let got : Step = record {
         neighbor = add_retransmission moment lsa.header w;
@@ -1065,7 +1066,7 @@ module _ (old : Router) (moment : ℕ) (event : Occurrence) (number : ℕ) (befo
       chosen (λ (s : Step). Stands s.neighbor) (is_exchange_or_later m.state)
       (flooded_in_exchange moment from lsa m) (no_sends m)
       (λ part. chosen (λ (s : Step). Stands s.neighbor)
-      (not from && passes moment lsa (request_of m lsa)) got
+      (not from && exceeds_request moment lsa (request_of m lsa)) got
       (no_sends (remove_retransmission (lsa_key lsa) w)) (λ e. met) (λ e. met)) (λ e. h)
 
   flood_stands : (lsa : Lsa) (o : Outcome) → StandsThere (neighbor_at number o.area.links)

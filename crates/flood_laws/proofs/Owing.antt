@@ -28,8 +28,9 @@ use Rattle.adjacency.specs.Descriptions.{exchange_over, expected_sequence, in_st
 use Rattle.adjacency.specs.Descriptions.{is_kept, is_more_recent, is_over_for, knows_types}
 use Rattle.adjacency.specs.Descriptions.{master_goes_on, repeat, same_flag, slave_replies}
 use Rattle.adjacency.specs.Descriptions.{with_request, with_requests, without_old_description}
-use Rattle.adjacency.specs.Floods.{flooded_in_exchange, flooding, meets, passes, request_of}
-use Rattle.adjacency.specs.Floods.{without_met_request}
+use Rattle.adjacency.specs.Floods.{flooded_in_exchange, flooding, satisfies_request}
+use Rattle.adjacency.specs.Floods.{exceeds_request, request_of}
+use Rattle.adjacency.specs.Floods.{without_satisfied_request}
 use Rattle.adjacency.specs.Neighbors.{Neighbor, is_exchange_or_loading, is_exchange_or_later}
 use Rattle.adjacency.specs.Requests.{is_to_request, next_request, request_next, requested_entry}
 use Rattle.adjacency.specs.Requests.{still_outstanding, without_request}
@@ -90,8 +91,8 @@ module _ (key : Key) (name : InstanceIdentity) (Asked : Type 0) where
   met k m (inr h) = inr (h.0, λ e. h.1 (left_there m.requests k key e))
 
   met_where : (moment : ℕ) (lsa : Lsa) (m : Neighbor) → Owing m
-      → Owing (without_met_request moment lsa m)
-  met_where moment lsa m h = chosen Owing (meets moment lsa (request_of m lsa))
+      → Owing (without_satisfied_request moment lsa m)
+  met_where moment lsa m h = chosen Owing (satisfies_request moment lsa (request_of m lsa))
       (without_request (lsa_key lsa) m) m (λ e. met (lsa_key lsa) m h) (λ e. h)
 
   -- ---- flooding
@@ -118,18 +119,18 @@ module _ (key : Key) (name : InstanceIdentity) (Asked : Type 0) where
   pub flooded_other : (moment : ℕ) (from : Bool) (lsa : Lsa) (m : Neighbor)
       → same_key key (lsa_key lsa) ≡ false → Owing m → Owing (flooding moment from lsa m).neighbor
   flooded_other moment from lsa m other h =
-      let w : Neighbor = without_met_request moment lsa m in
+      let w : Neighbor = without_satisfied_request moment lsa m in
       flooding_so OfStep moment m from lsa
       (added_other moment lsa.header w other (met_where moment lsa m h))
       (released_other (lsa_key lsa) w other (met_where moment lsa m h)) h
 
   is_requested : (moment : ℕ) (lsa : Lsa) (m : Neighbor)
-      → passes moment lsa (request_of m lsa) ≡ false
+      → exceeds_request moment lsa (request_of m lsa) ≡ false
       → finite.contains_key m.requests (lsa_key lsa) ≡ true
   is_requested moment lsa m e = of_choice (is_exchange_or_loading m.state)
       (requested_entry m (lsa_key lsa)) (of_passes (request_of m lsa) e)
     where
-      of_passes : (o : Option ListEntry) → passes moment lsa o ≡ false → is_some o ≡ true
+      of_passes : (o : Option ListEntry) → exceeds_request moment lsa o ≡ false → is_some o ≡ true
       of_passes None p = absurd cc
       of_passes (Some x) p = refl
 
@@ -151,7 +152,7 @@ module _ (key : Key) (name : InstanceIdentity) (Asked : Type 0) where
       (flooded_in_exchange moment false lsa m) (no_sends m)
       (λ part. let no : true ≡ false = sym part ∙ before in absurd cc) (λ e. inl (inl before))
   flooded_same moment lsa m same is (inr h) =
-      let w : Neighbor = without_met_request moment lsa m in
+      let w : Neighbor = without_satisfied_request moment lsa m in
       let entry : ListEntry = record { header = lsa.header; at = moment } in
       let got : Step = record {
         neighbor = add_retransmission moment lsa.header w;
@@ -160,12 +161,12 @@ module _ (key : Key) (name : InstanceIdentity) (Asked : Type 0) where
       let not_got : Step = no_sends (remove_retransmission (lsa_key lsa) w) in
       let asks : finite.contains_key w.requests key ≡ true → Asked =
       chosen (λ (n : Neighbor). finite.contains_key n.requests key ≡ true → Asked)
-      (meets moment lsa (request_of m lsa)) (without_request (lsa_key lsa) m) m
+      (satisfies_request moment lsa (request_of m lsa)) (without_request (lsa_key lsa) m) m
       (λ e c. h.1 (left_there m.requests (lsa_key lsa) key c)) (λ e c. h.1 c) in
       chosen (λ (s : Step). Owing s.neighbor ⊎ Asked) (is_exchange_or_later m.state)
       (flooded_in_exchange moment false lsa m) (no_sends m)
       (λ part. chosen (λ (s : Step). Owing s.neighbor ⊎ Asked)
-      (not false && passes moment lsa (request_of m lsa)) got not_got
+      (not false && exceeds_request moment lsa (request_of m lsa)) got not_got
       (λ e. inl (inr (
         ap (listed_instance key) (put_same (finite.remove w.retransmissions (lsa_key lsa))
             (lsa_key lsa) key entry same) ∙ ap (λ (x : InstanceIdentity). Some x) is,
@@ -173,7 +174,8 @@ module _ (key : Key) (name : InstanceIdentity) (Asked : Type 0) where
       )))
       (λ e. inr (h.1 (subst (λ (k : Key). finite.contains_key m.requests k ≡ true)
       (sym (tied_key key (lsa_key lsa) same))
-      (is_requested moment lsa m (first_false (passes moment lsa (request_of m lsa)) e))))))
+      (is_requested moment lsa m (first_false (exceeds_request moment lsa (request_of m lsa))
+          e))))))
       (λ before. inl (inl before))
 
   -- ---- attempts and Hellos

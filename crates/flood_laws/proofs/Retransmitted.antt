@@ -34,7 +34,8 @@ use Rattle.adjacency.proofs.Kept.{request_kept}
 use Rattle.adjacency.proofs.Maps.{AllIn, IfThere, OfEntry, inserted_in, made_in}
 use Rattle.adjacency.proofs.Maps.{none_in, removed_in, retained_in}
 use Rattle.received.specs.Cases.{Case}
-use Rattle.received.specs.Flooding.{flood, flood_to, gets, meets, request_of, without_met_request}
+use Rattle.received.specs.Flooding.{flood, flood_to, is_to_be_sent, satisfies_request, request_of}
+use Rattle.received.specs.Flooding.{without_satisfied_request}
 use Rattle.received.specs.Holds.{Holds, HoldsOfEach}
 use Rattle.received.specs.Links.{Area, Link, any_has_retransmission, change_link}
 use Rattle.received.specs.Links.{delay_acknowledgment}
@@ -241,16 +242,17 @@ module _ (moment : ℕ) (sender : Option ℕ) (lsa : Lsa) (old new : Database)
   no_lists n is = subst (AllIn (IsOfCopy new)) (sym is) (none_in (IsOfCopy new))
 
   abbrev met : Neighbor → Bool
-  met n = meets moment lsa (request_of n lsa)
+  met n = satisfies_request moment lsa (request_of n lsa)
 
   abbrev got : Neighbor → Step
   got n = record {
-    neighbor = add_retransmission moment lsa.header (without_met_request moment lsa n);
+    neighbor = add_retransmission moment lsa.header (without_satisfied_request moment lsa n);
     sends = Updates lsa ∷ [];
   }
 
   abbrev not_got : Neighbor → Step
-  not_got n = no_sends (remove_retransmission (lsa_key lsa) (without_met_request moment lsa n))
+  not_got n = no_sends (remove_retransmission (lsa_key lsa)
+      (without_satisfied_request moment lsa n))
 
   flooded_to : (number : ℕ) (link : Link) (n : Neighbor) → Of (OfIt old) n
       → Of (OfIt new) (flood_to moment sender lsa number link n).neighbor
@@ -267,9 +269,9 @@ module _ (moment : ℕ) (sender : Option ℕ) (lsa : Lsa) (old new : Database)
         flood_to_kept Sound sound_kept moment sender lsa number link n h.0,
         chosen (λ (s : Step). AllIn (IsOfCopy new) s.neighbor.retransmissions)
             (is_exchange_or_later n.state)
-            (cond (gets moment sender number lsa n) (got n) (not_got n)) (no_sends n)
+            (cond (is_to_be_sent moment sender number lsa n) (got n) (not_got n)) (no_sends n)
             (λ part. chosen (λ (s : Step). AllIn (IsOfCopy new) s.neighbor.retransmissions)
-            (gets moment sender number lsa n) (got n) (not_got n)
+            (is_to_be_sent moment sender number lsa n) (got n) (not_got n)
             (λ is. chosen (λ (m : Neighbor). AllIn (IsOfCopy new)
             (add_retransmission moment lsa.header m).retransmissions) (met n)
             (without_request (lsa_key lsa) n) n

@@ -11,7 +11,8 @@ use Rattle.adjacency.specs.Drafts.{Drafted, drafting}
 use Rattle.adjacency.specs.Floods.{flood_step, is_any}
 use Rattle.adjacency.specs.Neighbors.{Neighbor, is_exchange_or_later}
 use Rattle.adjacency.specs.Retransmissions.{add_retransmission, remove_retransmission}
-use Rattle.received.specs.Flooding.{flood_to, is_sender, passes, request_of, without_met_request}
+use Rattle.received.specs.Flooding.{flood_to, is_sender, exceeds_request, request_of}
+use Rattle.received.specs.Flooding.{without_satisfied_request}
 use Rattle.received.specs.Links.{Link}
 use Rattle.received.specs.Outcomes.{Send, Stepping, marked_database, sent_on, step_on}
 use Rattle.received.specs.Outcomes.{stepped_links, stepping_sends}
@@ -80,9 +81,9 @@ module _ (moment : ℕ) (sender : Option ℕ) (lsa : Lsa) where
       (Updates lsa ∷ []) []
   one_on number link None = refl
   one_on number link (Some n) =
-      let m = without_met_request moment lsa n in
+      let m = without_satisfied_request moment lsa n in
       one_by lsa n (add_retransmission moment lsa.header m) (remove_retransmission (lsa_key lsa) m)
-      (is_exchange_or_later n.state) (not (is_sender sender number) && passes moment lsa
+      (is_exchange_or_later n.state) (not (is_sender sender number) && exceeds_request moment lsa
       (request_of n lsa))
 
   -- a Link State Update to each neighbor, or nothing

@@ -6,8 +6,9 @@ ghost use Rattle.adjacency.specs.lsdb.Copies.{lsa_now};
 ghost use Rattle.adjacency.specs.Adjacencies.{next_dd_sequence_start, initial_description};
 ghost use Rattle.adjacency.specs.Adjacencies.{enter_exstart};
 ghost use Rattle.adjacency.specs.Exchanges.{standing_of};
-ghost use Rattle.adjacency.specs.Floods.{flood_step, flooded_in_exchange, is_any, meets, passes};
-ghost use Rattle.adjacency.specs.Floods.{request_of, without_met_request};
+ghost use Rattle.adjacency.specs.Floods.{exceeds_request, flood_step, flooded_in_exchange};
+ghost use Rattle.adjacency.specs.Floods.{is_any, request_of, satisfies_request};
+ghost use Rattle.adjacency.specs.Floods.{without_satisfied_request};
 ghost use Rattle.adjacency.specs.Neighbors.{fresh, is_exchange_or_loading};
 ghost use Rattle.adjacency.specs.Requests.{without_request};
 ghost use Rattle.adjacency.specs.Retransmissions.{acknowledged_neighbor, after_acknowledgment};
@@ -83,8 +84,8 @@ pub fn is_exchange_or_loading(state: NeighborState) -> bool
     }
 }
 
-fn passes(moment: Second, copy: &DatabaseCopy<'_>, request: &Option<ListEntry>) -> bool
-    ensures { result ≡ passes moment (lsa_now moment copy.now) request.now }
+fn exceeds_request(moment: Second, copy: &DatabaseCopy<'_>, request: &Option<ListEntry>) -> bool
+    ensures { result ≡ exceeds_request moment (lsa_now moment copy.now) request.now }
 {
     match request {
         None => true,
@@ -95,8 +96,8 @@ fn passes(moment: Second, copy: &DatabaseCopy<'_>, request: &Option<ListEntry>) 
     }
 }
 
-fn meets(moment: Second, copy: &DatabaseCopy<'_>, request: &Option<ListEntry>) -> bool
-    ensures { result ≡ meets moment (lsa_now moment copy.now) request.now }
+fn satisfies_request(moment: Second, copy: &DatabaseCopy<'_>, request: &Option<ListEntry>) -> bool
+    ensures { result ≡ satisfies_request moment (lsa_now moment copy.now) request.now }
 {
     match request {
         None => false,
@@ -118,14 +119,14 @@ pub fn is_entry(moment: Second, header: &Header, listed: Option<&ListEntry>) -> 
 }
 
 // Not inlined: the prover would visit all parts of the neighbor in each branch (see `connectives`).
-fn gets(came_in: bool, passes: bool) -> bool
-    ensures { result ≡ (not came_in && passes) }
+fn is_to_be_sent(came_in: bool, exceeds: bool) -> bool
+    ensures { result ≡ (not came_in && exceeds) }
 {
-    !came_in && passes
+    !came_in && exceeds
 }
 
 // Not inlined: the prover would visit all parts of the neighbor in each branch (see `connectives`).
-fn later(first: bool, moment: Second, before: Second) -> Second
+fn timer_start(first: bool, moment: Second, before: Second) -> Second
     ensures { result ≡ (if first then moment else before) }
 {
     if first { moment } else { before }
@@ -290,7 +291,7 @@ impl Neighbor {
     {
         self.retransmissions.remove(&header.key())?;
         let first = self.retransmissions.is_empty();
-        self.standing.retransmitted_at = later(first, moment, self.standing.retransmitted_at);
+        self.standing.retransmitted_at = timer_start(first, moment, self.standing.retransmitted_at);
         let entry = ListEntry {
             header: *header,
             at: moment,
@@ -300,19 +301,23 @@ impl Neighbor {
 
     // Removes the request that the copy satisfies. Returns whether the copy may be sent: nothing
     // newer or equal is requested.
-    fn meet(&mut self, moment: Second, copy: &DatabaseCopy<'_>) -> Result<bool, AllocError>
-        ensures does { NeighborDoes (without_met_request moment (lsa_now moment copy.now)) self.old
-            self.new result }
-        ensures passes { IfOk result (λ p. p ≡ passes moment (lsa_now moment copy.now)
-            (request_of self.old.present (lsa_now moment copy.now))) }
+    fn satisfy_request(
+        &mut self,
+        moment: Second,
+        copy: &DatabaseCopy<'_>,
+    ) -> Result<bool, AllocError>
+        ensures does { NeighborDoes (without_satisfied_request moment (lsa_now moment copy.now))
+            self.old self.new result }
+        ensures exceeds { IfOk result (λ exceeds. exceeds ≡ exceeds_request moment
+            (lsa_now moment copy.now) (request_of self.old.present (lsa_now moment copy.now))) }
     {
         let listed = self.requested(moment, copy);
-        let passes = passes(moment, copy, &listed);
-        if meets(moment, copy, &listed) {
+        let exceeds = exceeds_request(moment, copy, &listed);
+        if satisfies_request(moment, copy, &listed) {
             let header = copy.header(moment);
             self.remove_request(&header)?;
         }
-        Ok(passes)
+        Ok(exceeds)
     }
 
     // Floods the copy to a neighbor in Exchange or later.
@@ -332,9 +337,9 @@ impl Neighbor {
             self.old.present).sends) }
     {
         let header = copy.header(moment);
-        let passes = self.meet(moment, copy)?;
-        let gets = gets(came_in, passes);
-        if gets {
+        let exceeds = self.satisfy_request(moment, copy)?;
+        let is_sent = is_to_be_sent(came_in, exceeds);
+        if is_sent {
             self.add_retransmission(moment, &header)?;
             draft.add_update(alloc, delay, moment, copy)?;
             return Ok(true);

@@ -19,8 +19,9 @@ use Rattle.adjacency.specs.declared.interface.Interface.{Interface}
 use Rattle.adjacency.specs.Adjacencies.{has_passed}
 use Rattle.adjacency.specs.Contents.{Requests, Step, Updates, no_sends}
 use Rattle.adjacency.specs.Descriptions.{repeat}
-use Rattle.adjacency.specs.Floods.{flooded_in_exchange, meets, passes, request_of}
-use Rattle.adjacency.specs.Floods.{without_met_request}
+use Rattle.adjacency.specs.Floods.{flooded_in_exchange, satisfies_request, exceeds_request}
+use Rattle.adjacency.specs.Floods.{request_of}
+use Rattle.adjacency.specs.Floods.{without_satisfied_request}
 use Rattle.adjacency.specs.Neighbors.{Neighbor, is_exchange_or_later, is_full}
 use Rattle.adjacency.specs.Requests.{is_to_request, next_request, request_next, still_outstanding}
 use Rattle.adjacency.specs.Requests.{without_request}
@@ -164,11 +165,11 @@ each_faces moment f so o = stepped_faces f so 1 o.area.links
 flooded_so : (moment : ℕ) (from : Bool) (lsa : Lsa) (n : Neighbor)
     → IsAsBefore n (flooded_in_exchange moment from lsa n).neighbor
 flooded_so moment from lsa n =
-    let is_met : Bool = meets moment lsa (request_of n lsa) in
+    let is_met : Bool = satisfies_request moment lsa (request_of n lsa) in
     let left : Neighbor = without_request (lsa_key lsa) n in
-    let m : Neighbor = without_met_request moment lsa n in
+    let m : Neighbor = without_satisfied_request moment lsa n in
     chosen (λ (s : Step). IsAsBefore n s.neighbor)
-    (not from && passes moment lsa (request_of n lsa))
+    (not from && exceeds_request moment lsa (request_of n lsa))
     (record {
       neighbor = add_retransmission moment lsa.header m;
       sends = Updates lsa ∷ [];

@@ -13,7 +13,7 @@ use Rattle.lsdb.proofs.Keys.{keys_exact, keys_total}
 pub use Rattle.lsdb.proofs.Keys.{tied as tied_key}
 use Rattle.adjacency.specs.Contents.{Content, Step, no_sends}
 use Rattle.adjacency.specs.Contents.Content.{Updates}
-use Rattle.adjacency.specs.Floods.{flooding, meets, passes, request_of}
+use Rattle.adjacency.specs.Floods.{flooding, satisfies_request, exceeds_request, request_of}
 use Rattle.adjacency.specs.Neighbors.{Neighbor, is_exchange_or_later, is_exchange_or_loading}
 use Rattle.adjacency.specs.Requests.{without_request}
 use Rattle.adjacency.specs.Retransmissions.{add_retransmission, remove_retransmission}
@@ -88,16 +88,16 @@ module _ (key : Key) where
 
   -- the flooding step, by its tests
   abbrev pub step_by : Bool → Bool → Bool → Moment → Lsa → Neighbor → Step
-  step_by later gets meets moment lsa n =
+  step_by later gets satisfies_request moment lsa n =
       cond later
       (cond gets
       (record {
         neighbor = add_retransmission moment lsa.header
-            (cond meets (without_request (lsa_key lsa) n) n);
+            (cond satisfies_request (without_request (lsa_key lsa) n) n);
         sends = Updates lsa ∷ [];
       })
       (no_sends (remove_retransmission (lsa_key lsa)
-      (cond meets (without_request (lsa_key lsa) n) n))))
+      (cond satisfies_request (without_request (lsa_key lsa) n) n))))
       (no_sends n)
 
   taken : (k : Key) (r : ByKey ListEntry) → finite.remove (finite.remove r k) key
@@ -112,10 +112,10 @@ module _ (key : Key) where
       (agree_removed r (finite.remove r key) (turned (finite.remove r key) r (removed_agrees r)) k)
       k x)
 
-  alike_by : (later gets meets : Bool) (moment : Moment) (lsa : Lsa) (n : Neighbor)
-      → AreAlike (step_by later gets meets moment lsa n)
-      (step_by later gets meets moment lsa (without n))
-  alike_by false gets meets moment lsa n = (kept n, refl)
+  alike_by : (later gets satisfies_request : Bool) (moment : Moment) (lsa : Lsa) (n : Neighbor)
+      → AreAlike (step_by later gets satisfies_request moment lsa n)
+      (step_by later gets satisfies_request moment lsa (without n))
+  alike_by false gets satisfies_request moment lsa n = (kept n, refl)
   alike_by true true true moment lsa n = (
     ap (λ (r : ByKey ListEntry). record (without_request (lsa_key lsa) n)
         { retransmissions = r; retransmitted_at = 0 }) (added (lsa_key lsa) (record {
@@ -150,7 +150,8 @@ module _ (key : Key) where
   pub flooding_alike : (moment : Moment) (lsa : Lsa) (n : Neighbor)
       → AreAlike (flooding moment false lsa n) (flooding moment false lsa (without n))
   flooding_alike moment lsa n = alike_by (is_exchange_or_later n.state)
-      (passes moment lsa (request_of n lsa)) (meets moment lsa (request_of n lsa)) moment lsa n
+      (exceeds_request moment lsa (request_of n lsa))
+          (satisfies_request moment lsa (request_of n lsa)) moment lsa n
 
   -- ---- the LSA of the key itself, if no neighbor requests it
 
@@ -188,7 +189,8 @@ module _ (key : Key) where
       let nothing : request_of n lsa ≡ None =
       none_of (is_exchange_or_loading n.state) (finite.get n.requests (lsa_key lsa)) none in
       ap (λ (o : Option ListEntry). without
-      (step_by (is_exchange_or_later n.state) (passes moment lsa o) (meets moment lsa o) moment
+      (step_by (is_exchange_or_later n.state) (exceeds_request moment lsa o)
+          (satisfies_request moment lsa o) moment
       lsa n).neighbor) nothing
       ∙ own_by (is_exchange_or_later n.state) true moment lsa is n
 

@@ -22,7 +22,7 @@ use Rattle.lsdb.proofs.Keys.{keys_total}
 use Rattle.adjacency.specs.Asked.{was_requested}
 use Rattle.adjacency.specs.Contents.{Content}
 use Rattle.adjacency.specs.Contents.Content.{Updates}
-use Rattle.adjacency.specs.Floods.{meets, passes, request_of}
+use Rattle.adjacency.specs.Floods.{satisfies_request, exceeds_request, request_of}
 use Rattle.adjacency.specs.Neighbors.{Neighbor, is_exchange_or_later}
 use Rattle.received.specs.Flooding.{flood_to}
 use Rattle.received.specs.Links.{Link}
@@ -96,11 +96,13 @@ module _ (key : Key) (is_external : key.ls_type ≡ 5) where
   both_own lsa [] ys one other = other
   both_own lsa (x ∷ xs) ys (is, one) other = (is, both_own lsa xs ys one other)
 
-  step_own : (later gets meets : Bool) (moment : Moment) (lsa : Lsa) (number : ℕ) (n : Neighbor)
-      → AllOwn lsa (sends_at number (apart.step_by key later gets meets moment lsa n).sends)
-  step_own false gets meets moment lsa number n = tt
-  step_own true true meets moment lsa number n = (refl, tt)
-  step_own true false meets moment lsa number n = tt
+  step_own : (later gets satisfies_request : Bool) (moment : Moment) (lsa : Lsa) (number : ℕ)
+      (n : Neighbor)
+      → AllOwn lsa (sends_at number (apart.step_by key later gets satisfies_request moment lsa
+          n).sends)
+  step_own false gets satisfies_request moment lsa number n = tt
+  step_own true true satisfies_request moment lsa number n = (refl, tt)
+  step_own true false satisfies_request moment lsa number n = tt
 
   sends_own : (moment : Moment) (lsa : Lsa) (number : ℕ) (links : List Link)
       → AllOwn lsa (flat_map (λ (e : ℕ × Link). sends_at e.0
@@ -113,8 +115,9 @@ module _ (key : Key) (is_external : key.ls_type ≡ 5) where
       on : (o : Option Neighbor) → AllOwn lsa
           (sends_at number (sent_on (flood_to moment None lsa number link) o))
       on None = tt
-      on (Some n) = step_own (is_exchange_or_later n.state) (passes moment lsa (request_of n lsa))
-          (meets moment lsa (request_of n lsa)) moment lsa number n
+      on (Some n) = step_own (is_exchange_or_later n.state)
+          (exceeds_request moment lsa (request_of n lsa))
+          (satisfies_request moment lsa (request_of n lsa)) moment lsa number n
 
   own_marked : (moment : Moment) (lsa : Lsa) → lsa_key lsa ≡ key
       → (d : Database) (sends : List Send) → AllOwn lsa sends
@@ -331,11 +334,12 @@ module _ (key : Key) (is_external : key.ls_type ≡ 5) where
   left_none true = refl
   left_none false = refl
 
-  still_none : (later gets meets : Bool) (moment : Moment) (lsa : Lsa) (n : Neighbor)
+  still_none : (later gets satisfies_request : Bool) (moment : Moment) (lsa : Lsa) (n : Neighbor)
       → finite.get n.requests key ≡ None
-      → is_some (finite.get (apart.step_by key later gets meets moment lsa n).neighbor.requests
+      → is_some (finite.get (apart.step_by key later gets satisfies_request moment lsa
+          n).neighbor.requests
       key) ≡ false
-  still_none false gets meets moment lsa n none = ap is_some none
+  still_none false gets satisfies_request moment lsa n none = ap is_some none
   still_none true true true moment lsa n none =
       ap is_some (finite.get-remove keys_total n.requests (lsa_key lsa) key
       ∙ ap (cond (same_key key (lsa_key lsa)) None) none
@@ -363,7 +367,8 @@ module _ (key : Key) (is_external : key.ls_type ≡ 5) where
           → was_requested key (step_on (flood_to moment None lsa number link) o) ≡ false
       on None e = refl
       on (Some n) e = still_none (is_exchange_or_later n.state)
-          (passes moment lsa (request_of n lsa)) (meets moment lsa (request_of n lsa)) moment lsa n
+          (exceeds_request moment lsa (request_of n lsa))
+              (satisfies_request moment lsa (request_of n lsa)) moment lsa n
           (no_value (finite.get n.requests key) e)
 
   abbrev as_sent : Moment → DatabaseCopy → DatabaseCopy

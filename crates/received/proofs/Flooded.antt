@@ -12,7 +12,7 @@ use Rattle.adjacency.proofs.lsdb.Keys.{keys_total}
 use Rattle.adjacency.specs.Contents.{Step, Updates, no_sends}
 use Rattle.adjacency.specs.Neighbors.{Neighbor}
 use Rattle.adjacency.specs.Retransmissions.{add_retransmission, remove_retransmission}
-use Rattle.received.specs.Flooding.{gets, without_met_request}
+use Rattle.received.specs.Flooding.{is_to_be_sent, without_satisfied_request}
 use Rattle.received.specs.Laws.{FloodingReplacesOlderInstances}
 
 inserted : (m : ByKey ListEntry) (k : Key) (x : ListEntry)
@@ -36,11 +36,11 @@ by_gets moment lsa m sends false = removed m.retransmissions (lsa_key lsa)
 
 pub replaces_older : FloodingReplacesOlderInstances
 replaces_older moment sender lsa number link n part =
-    let m = without_met_request moment lsa n in
+    let m = without_satisfied_request moment lsa n in
     let sent : Step = record { neighbor = m; sends = Updates lsa ∷ [] } in
-    ap (λ (b : Bool). finite.get (cond b (cond (gets moment sender number lsa n) (record {
+    ap (λ (b : Bool). finite.get (cond b (cond (is_to_be_sent moment sender number lsa n) (record {
       neighbor = add_retransmission moment lsa.header m;
       sends = sent.sends;
     }) (no_sends (remove_retransmission (lsa_key lsa) m))) (no_sends n)).neighbor.retransmissions
     (lsa_key lsa)) part
-    ∙ by_gets moment lsa m sent (gets moment sender number lsa n)
+    ∙ by_gets moment lsa m sent (is_to_be_sent moment sender number lsa n)

@@ -14,7 +14,8 @@ use Rattle.adjacency.specs.Retransmissions.{add_retransmission, remove_retransmi
 use Rattle.adjacency.proofs.Kept.{Fact, IsKept, Of, chosen, met_kept, mismatched_kept, owed_kept}
 use Rattle.adjacency.proofs.Kept.{released_kept}
 use Rattle.received.specs.Cases.{Case}
-use Rattle.received.specs.Flooding.{flood, flood_to, gets, meets, request_of, without_met_request}
+use Rattle.received.specs.Flooding.{flood, flood_to, is_to_be_sent, satisfies_request, request_of}
+use Rattle.received.specs.Flooding.{without_satisfied_request}
 use Rattle.received.specs.Holds.{Holds, HoldsOfEach}
 use Rattle.received.specs.Links.{Link, change_link, delay_acknowledgment, link_at, neighbor_on}
 use Rattle.received.specs.Outcomes.{Outcome, Stepping, each_neighbor, on_database, one_neighbor}
@@ -88,20 +89,20 @@ module _ (Q : Fact) (kept : IsKept Q) where
   pub flood_to_kept : (moment : ℕ) (sender : Option ℕ) (lsa : Lsa) (number : ℕ) (link : Link)
       (n : Neighbor) → Of Q n → Of Q (flood_to moment sender lsa number link n).neighbor
   flood_to_kept moment sender lsa number link n h =
-      let m : Neighbor = without_met_request moment lsa n in
+      let m : Neighbor = without_satisfied_request moment lsa n in
       let got : Step = record {
         neighbor = add_retransmission moment lsa.header m;
         sends = Updates lsa ∷ [];
       } in
       let not_got : Step = no_sends (remove_retransmission (lsa_key lsa) m) in
       chosen (λ (s : Step). Of Q s.neighbor) (is_exchange_or_later n.state)
-      (cond (gets moment sender number lsa n) got not_got) (no_sends n)
+      (cond (is_to_be_sent moment sender number lsa n) got not_got) (no_sends n)
       (λ part.
       let both : Of Q m × (is_exchange_or_later m.state ≡ true) =
       chosen (λ (l : Neighbor). Of Q l × (is_exchange_or_later l.state ≡ true))
-      (meets moment lsa (request_of n lsa)) (without_request (lsa_key lsa) n) n
+      (satisfies_request moment lsa (request_of n lsa)) (without_request (lsa_key lsa) n) n
       (λ e. (met_kept Q kept (lsa_key lsa) n h, part)) (λ e. (h, part)) in
-      chosen (λ (s : Step). Of Q s.neighbor) (gets moment sender number lsa n) got not_got
+      chosen (λ (s : Step). Of Q s.neighbor) (is_to_be_sent moment sender number lsa n) got not_got
       (λ e. owed_kept Q kept moment lsa.header m tt both.1 both.0)
       (λ e. released_kept Q kept (lsa_key lsa) m both.0))
       (λ e. h)

@@ -22,7 +22,8 @@ use Rattle.adjacency.proofs.Kept.{chosen}
 use Rattle.adjacency.proofs.Roomy.{met_roomy, mismatched_roomy, now_fits, owed_roomy, quiet_roomy}
 use Rattle.adjacency.proofs.Roomy.{released_roomy}
 use Rattle.received.specs.Cases.{Case}
-use Rattle.received.specs.Flooding.{flood, flood_to, gets, meets, request_of, without_met_request}
+use Rattle.received.specs.Flooding.{flood, flood_to, is_to_be_sent, satisfies_request, request_of}
+use Rattle.received.specs.Flooding.{without_satisfied_request}
 use Rattle.received.specs.Holds.{Holds, HoldsOfEach}
 use Rattle.received.specs.Links.{Area, Link, change_link, delay_acknowledgment}
 use Rattle.received.specs.Outcomes.{Outcome, Send, Stepping, each_neighbor, marked_database}
@@ -201,18 +202,19 @@ flood_to_roomy : (moment : ℕ) (sender : Option ℕ) (lsa : Lsa) → Fits lsa
     → (number : ℕ) (link : Link) (n : Neighbor) → HasRoomyLists n
     → IsRoomyStep (flood_to moment sender lsa number link n)
 flood_to_roomy moment sender lsa fits number link n h =
-    let m : Neighbor = without_met_request moment lsa n in
+    let m : Neighbor = without_satisfied_request moment lsa n in
     let got : Step = record {
       neighbor = add_retransmission moment lsa.header m;
       sends = Updates lsa ∷ [];
     } in
     let not_got : Step = no_sends (remove_retransmission (lsa_key lsa) m) in
-    let met : HasRoomyLists m = chosen HasRoomyLists (meets moment lsa (request_of n lsa))
+    let met : HasRoomyLists m = chosen HasRoomyLists
+        (satisfies_request moment lsa (request_of n lsa))
     (without_request (lsa_key lsa) n) n (λ is. met_roomy (lsa_key lsa) n h) (λ is. h) in
     chosen IsRoomyStep (is_exchange_or_later n.state)
-    (cond (gets moment sender number lsa n) got not_got) (no_sends n)
+    (cond (is_to_be_sent moment sender number lsa n) got not_got) (no_sends n)
     (λ part.
-    chosen IsRoomyStep (gets moment sender number lsa n) got not_got
+    chosen IsRoomyStep (is_to_be_sent moment sender number lsa n) got not_got
     (λ is. record {
       neighbor = owed_roomy moment lsa.header m met;
       sends = (fits, tt);

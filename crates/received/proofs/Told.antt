@@ -20,7 +20,8 @@ use Rattle.adjacency.proofs.Told.{OfContent, OfCopies, OfCopy, OfOwed, OfOwedIfA
 use Rattle.adjacency.proofs.Told.{lsa_now_told, mismatched_told, owed_told, quiet_told}
 use Rattle.adjacency.proofs.Told.{released_told}
 use Rattle.received.specs.Cases.{Case}
-use Rattle.received.specs.Flooding.{flood, flood_to, gets, meets, request_of, without_met_request}
+use Rattle.received.specs.Flooding.{flood, flood_to, is_to_be_sent, satisfies_request, request_of}
+use Rattle.received.specs.Flooding.{without_satisfied_request}
 use Rattle.received.specs.Links.{Area, Link, change_link, delay_acknowledgment, link_at}
 use Rattle.received.specs.Links.{neighbor_on}
 use Rattle.received.specs.Outcomes.{Outcome, Send, Stepping, each_neighbor, marked_database}
@@ -214,18 +215,18 @@ module _ (t : Telling) where
       → (number : ℕ) (link : Link) (n : Neighbor) → OfOwed t n
       → OfStep t (flood_to moment sender lsa number link n)
   flood_to_told moment sender lsa so number link n h =
-      let m : Neighbor = without_met_request moment lsa n in
+      let m : Neighbor = without_satisfied_request moment lsa n in
       let got : Step = record {
         neighbor = add_retransmission moment lsa.header m;
         sends = Updates lsa ∷ [];
       } in
       let not_got : Step = no_sends (remove_retransmission (lsa_key lsa) m) in
-      let met : OfOwed t m = chosen (OfOwed t) (meets moment lsa (request_of n lsa))
+      let met : OfOwed t m = chosen (OfOwed t) (satisfies_request moment lsa (request_of n lsa))
       (without_request (lsa_key lsa) n) n (λ is. h) (λ is. h) in
       chosen (OfStep t) (is_exchange_or_later n.state)
-      (cond (gets moment sender number lsa n) got not_got) (no_sends n)
+      (cond (is_to_be_sent moment sender number lsa n) got not_got) (no_sends n)
       (λ part.
-      chosen (OfStep t) (gets moment sender number lsa n) got not_got
+      chosen (OfStep t) (is_to_be_sent moment sender number lsa n) got not_got
       (λ is. record {
         neighbor = owed_told t moment lsa.header m (t.header lsa so) met;
         sends = (so, tt);

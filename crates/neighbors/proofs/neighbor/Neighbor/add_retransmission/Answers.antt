@@ -16,7 +16,7 @@ returns c =
     let out = c.self.inside.outstanding.present in
     let retr = c.self.inside.retransmissions.present in
     let rest = c.in_ok-remove.ensures.ok ∙ ap (finite.remove retr) c.key.ensures in
-    let start = c.later-self-inside.ensures
+    let start = c.timer_start-self-inside.ensures
     ∙ ap (λ b. cond b c.args.moment s.retransmitted_at)
     (c.is_empty-first.ensures ∙ ap (λ m. finite.len m == 0) rest) in
     record {
