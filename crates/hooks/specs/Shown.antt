@@ -3,7 +3,7 @@ use Rattle.std.specs.Prelude.{◌≡◌, List, fold, None}
 use Rattle.isa.specs.declared.hook.Hook.TheVariants.{Count, Tag, Price, Veto}
 use Rattle.logbook.specs.Pages.{Book}
 use Rattle.hooks.specs.declared.operation.LoaderOperation.{LoaderOperation}
-use Rattle.hooks.specs.declared.history.Front.{Front}
+use Rattle.hooks.specs.declared.history.HistoryPrefix.{HistoryPrefix}
 use Rattle.hooks.specs.declared.value.Programs.{Programs}
 use Rattle.hooks.specs.declared.value.HistoryEntry.{HistoryEntry}
 use Rattle.hooks.specs.Operations.{after, leaves}
@@ -17,7 +17,7 @@ abbrev pub history : Programs → Book
 history p = p.front.seen.book
 
 -- no program is attached at any hook
-abbrev pub vacant : Front → Programs
+abbrev pub vacant : HistoryPrefix → Programs
 vacant front = record { count = None; tag = None; price = None; veto = None; front = front }
 
 -- each slot shows what the operations leave at its hook

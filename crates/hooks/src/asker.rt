@@ -9,7 +9,7 @@ ghost use Rattle.hooks.specs.Answered.{IsAnswered};
 ghost use Rattle.hooks.specs.Operations.{HasHookNumber};
 ghost use Rattle.hooks.specs.Rule.{HasSeen};
 
-use crate::history::Front;
+use crate::history::HistoryPrefix;
 use crate::loader::Notice;
 use crate::rule::{ProgramReader, Sees};
 use machine::Input;
@@ -19,7 +19,7 @@ use maps::{Seat, Shared};
 #[derive(Drop)]
 pub struct Asker {
     pub(crate) reader: Option<ProgramReader>,
-    pub(crate) front: Front,
+    pub(crate) front: HistoryPrefix,
     ghost idle: { IsSome reader },
     ghost same: { ForSome reader (λ r. HasSeen front.seen.book (view r.place)) },
 }
@@ -40,7 +40,7 @@ impl HookAnswer {
 
 fn ask_by(
     reader: ProgramReader,
-    front: &mut Front,
+    front: &mut HistoryPrefix,
     input: &Input,
     shared: &Shared,
     seat: &mut Seat,
@@ -64,14 +64,14 @@ fn ask_by(
         return (reading.leave(), None);
     }
     let word = programs.answer(input, shared, seat);
-    *front = programs.front.again();
+    *front = programs.front.copy();
     (reading.leave(), Some(HookAnswer { word }))
 }
 
 impl Asker {
     ghost use Rattle.hooks.specs.Known.{known_to, asks_of, told_by, tells_of};
 
-    pub(crate) fn new(reader: ProgramReader, front: Front) -> Asker
+    pub(crate) fn new(reader: ProgramReader, front: HistoryPrefix) -> Asker
         requires { HasSeen front.seen.book (view reader.place) }
         ensures { result.front ≡ front }
     {

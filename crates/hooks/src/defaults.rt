@@ -12,7 +12,7 @@ ghost use Rattle.hooks.specs.Vacant.{AreVacancies, IsAnsweredByNone, IsVacant, l
 
 use crate::answer::{PriceAnswer, TagAnswer};
 use crate::asker::Asker;
-use crate::history::Front;
+use crate::history::HistoryPrefix;
 use crate::rule::{ProgramReader, Sees};
 use crate::value::Vacancies;
 use crate::veto_answers::VetoAnswers;
@@ -21,7 +21,7 @@ use words::{External, Route, Second};
 
 // The hooks without a program, by one reading; `None` if the published programs can't be read, or
 // are older than those that the asker knows.
-fn look(reader: ProgramReader, front: &mut Front) -> (ProgramReader, Option<Vacancies>)
+fn look(reader: ProgramReader, front: &mut HistoryPrefix) -> (ProgramReader, Option<Vacancies>)
     requires { HasSeen front.old.seen.book (view reader.place) }
     ensures same { (front.new.seen.book ≡ front.old.seen.book)
         × HasSeen front.new.seen.book (view result.0.place) }
@@ -37,7 +37,7 @@ fn look(reader: ProgramReader, front: &mut Front) -> (ProgramReader, Option<Vaca
         return (reading.leave(), None);
     }
     let vacancies = programs.vacancies();
-    *front = programs.front.again();
+    *front = programs.front.copy();
     (reading.leave(), Some(vacancies))
 }
 

@@ -9,7 +9,7 @@ ghost use Rattle.isa.specs.declared.hook.Hook.TheVariants.{Count as HookCount};
 
 use crate::asker::Asker;
 use crate::error::HookError;
-use crate::history::{Front, Head};
+use crate::history::{Head, HistoryPrefix};
 use crate::numbered::Numbered;
 use crate::operation::LoaderOperation;
 use crate::rule::{ProgramWriter, Sees, Takes, Tells};
@@ -34,7 +34,7 @@ pub struct Loader<R: Wait + Drop> {
 /// What the loader tells an asker: its operations.
 #[derive(Drop)]
 pub struct Notice {
-    pub(crate) front: Front,
+    pub(crate) front: HistoryPrefix,
 }
 
 /// Publishes each pending entry.
@@ -50,12 +50,12 @@ fn show<R: Wait>(writer: ProgramWriter, rt: &R) -> (ProgramWriter, ())
 }
 
 /// An entry that has no effect: it detaches from a hook without a program.
-fn pad(front: &Front) -> HistoryEntry
+fn pad(front: &HistoryPrefix) -> HistoryEntry
     ensures { (result.operation ≡ Detach HookCount) × (result.front ≡ front.now) }
 {
     HistoryEntry {
         operation: LoaderOperation::Detach(Hook::Count),
-        front: front.again(),
+        front: front.copy(),
     }
 }
 
@@ -63,7 +63,7 @@ fn pad(front: &Front) -> HistoryEntry
 fn make_room<R: Wait>(
     mut writer: ProgramWriter,
     rt: &R,
-    front: &Front,
+    front: &HistoryPrefix,
 ) -> Result<ProgramWriter, AllocError>
     requires new { front.now.seen.log ≡ [] }
     requires shown { writer.desk.shown.value ≡ vacant front.now }
@@ -89,9 +89,9 @@ impl<R: Wait + Drop> Loader<R> {
         requires { (0 < askers) × (askers ≤ 64) }
         ensures { IfOk result (λ l. operations_of l ≡ []) }
     {
-        let (head, front) = Front::open();
-        let first = Programs::empty(alloc, front.again())?;
-        let second = Programs::empty(alloc, front.again())?;
+        let (head, front) = HistoryPrefix::open();
+        let first = Programs::empty(alloc, front.copy())?;
+        let second = Programs::empty(alloc, front.copy())?;
         let writer = ProgramWriter::new(alloc, first, second, askers)?;
         let writer = make_room(writer, &rt, &front)?;
         Ok(Loader { writer, head, rt })
@@ -113,7 +113,7 @@ impl<R: Wait + Drop> Loader<R> {
                 return Err(HookError::Places);
             };
             reader.learn::<Takes>(self.writer.tell::<Tells>());
-            list.push_reserved(Asker::new(reader, self.writer.published().front.again()));
+            list.push_reserved(Asker::new(reader, self.writer.published().front.copy()));
         }
         Ok(list)
     }
@@ -167,7 +167,7 @@ impl<R: Wait + Drop> Loader<R> {
             × (tells_of result ≡ history_of self.now) }
     {
         Notice {
-            front: self.writer.published().front.again(),
+            front: self.writer.published().front.copy(),
         }
     }
 }

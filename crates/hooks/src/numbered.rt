@@ -2,7 +2,7 @@
 ghost use Rattle.std.specs.Prelude.{◌≡◌, [], ◌∷◌, ◌++◌, drop, IfSome};
 ghost use Rattle.hooks.specs.History.{head_of};
 
-use crate::history::{Front, Head};
+use crate::history::{Head, HistoryPrefix};
 use crate::operation::LoaderOperation;
 use crate::rule::ProgramWriter;
 use crate::value::HistoryEntry;
@@ -18,13 +18,13 @@ pub struct Numbered {
 impl Numbered {
     /// Takes the next number for the operation. `None` if the history is longer than the front, or
     /// if no number is left.
-    pub fn next(front: &Front, head: &Head, operation: LoaderOperation) -> Option<Numbered>
+    pub fn next(front: &HistoryPrefix, head: &Head, operation: LoaderOperation) -> Option<Numbered>
         requires { head.now ≡ head_of front.now.seen.book }
         ensures operation { IfSome result (λ n. n.entry.operation ≡ operation) }
         ensures front { IfSome result (λ n. (n.entry.front.seen.book ≡ front.now.seen.book)
             × (n.entry.front.seen.log ≡ front.now.seen.log ++ operation ∷ [])) }
     {
-        let front = front.and(head, &operation)?;
+        let front = front.append(head, &operation)?;
         Some(Numbered {
             entry: HistoryEntry { operation, front },
         })

@@ -11,7 +11,7 @@ ghost use Rattle.hooks.specs.declared.operation.LoaderOperation.{LoaderOperation
 
 use crate::answer::VetoAnswer;
 use crate::asker::Asker;
-use crate::history::Front;
+use crate::history::HistoryPrefix;
 use crate::rule::{ProgramReader, Sees};
 use machine::TableRow;
 use maps::{Seat, Shared};
@@ -22,7 +22,7 @@ use words::{Route, Second};
 // and aren't older than those that the asker knows; if not, none is asked about.
 fn ask_some_by(
     reader: ProgramReader,
-    front: &mut Front,
+    front: &mut HistoryPrefix,
     routes: &[Route],
     moment: Second,
     rows: &[TableRow],
@@ -57,7 +57,7 @@ fn ask_some_by(
         return (reading.leave(), false);
     }
     programs.vetoes(routes, moment, rows, shared, seat, answers);
-    *front = programs.front.again();
+    *front = programs.front.copy();
     (reading.leave(), true)
 }
 

@@ -15,7 +15,7 @@ ghost use Rattle.hooks.specs.Vacant.{AreVacancies};
 
 use super::{HistoryEntry, Programs, Vacancies};
 use crate::answer::VetoAnswer;
-use crate::history::Front;
+use crate::history::HistoryPrefix;
 use crate::input::{default_word, hook_of};
 use crate::slot::ProgramSlot;
 use contexts::veto_context;
@@ -36,7 +36,7 @@ impl Programs {
     ///
     /// # Errors
     /// `AllocError` if an allocation is refused.
-    pub fn empty(alloc: Global, front: Front) -> Result<Programs, AllocError>
+    pub fn empty(alloc: Global, front: HistoryPrefix) -> Result<Programs, AllocError>
         ensures { IfOk result (λ p. p ≡ vacant front) }
     {
         Ok(Programs {
@@ -197,7 +197,7 @@ impl Absorb<HistoryEntry> for Programs {
             Hook::Price => self.price.change(&entry.operation),
             Hook::Veto => self.veto.change(&entry.operation),
         }
-        self.front = entry.front.again();
+        self.front = entry.front.copy();
         Ok(())
     }
 }

@@ -1,7 +1,7 @@
 use Rattle.std.proofs.Common.{List, ap, arith, rules, subst, sym, take, vec_len}
 use Rattle.std.proofs.lemmas.Grind.{common_steps}
 use mathlib.Core.List.{IsPrefix}
-use Rattle.hooks.specs.declared.history.Front.{Front}
+use Rattle.hooks.specs.declared.history.HistoryPrefix.{HistoryPrefix}
 use Rattle.hooks.specs.declared.operation.LoaderOperation.{LoaderOperation}
 use Rattle.hooks.specs.Answered.{AreAnswered}
 use Rattle.hooks.specs.Shown.{published_operations}
@@ -15,9 +15,9 @@ enter_as-requires c x = sees_same _ _ x
 pub returns-clause-answered : goal.returns-clause-answered
 returns-clause-answered c known first so_far =
     let before = c.args.front.now.seen.log in
-    let after = c.again.result.seen.log in
+    let after = c.copy.result.seen.log in
     let now = published_operations c.get-programs.result.now in
-    let same = ap (λ (f : Front). f.seen.log) c.again.ensures in
+    let same = ap (λ (f : HistoryPrefix). f.seen.log) c.copy.ensures in
     let begins : IsPrefix before after =
     first_of (search rules, grind (arith, common_steps)) in
     let old = take (vec_len c.args.answers.now) c.args.routes.now in
