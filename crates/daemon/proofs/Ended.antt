@@ -20,9 +20,9 @@ use Rattle.daemon.specs.Lines.{Fails}
 use Rattle.daemon.specs.Texts.{HasFailed}
 use Rattle.daemon.specs.Refusals.{IsLaterWhy, IsUdpPortOf, IsWhy, of_sockets, of_text}
 use Rattle.daemon.specs.Statuses.{EndsSo, HasRanFor, status_of, status_of_ended}
-use Rattle.daemon.specs.declared.error.RouteError.{RouteError}
-use Rattle.daemon.specs.declared.error.RouteError.TheVariants.{Configuration, Bind, Socket, Hooks}
-use Rattle.daemon.specs.declared.error.RouteError.TheVariants.{Output, Memory}
+use Rattle.daemon.specs.declared.error.StartError.{StartError}
+use Rattle.daemon.specs.declared.error.StartError.TheVariants.{Configuration, Bind, Socket, Hooks}
+use Rattle.daemon.specs.declared.error.StartError.TheVariants.{Output, Memory}
 use Rattle.daemon.specs.declared.ended_router.EndedRouter.{EndedRouter}
 
 -- what is so of a worker that ended as it was told to is so of one whose transport didn't fail
@@ -40,7 +40,7 @@ pub until_fault : {A : Type 0} (ended : Ended) (old new : ℕ) (end : TransportE
 until_fault ended old new end lived fault is failed none =
     lived (fault.1 (omega (arith, none, ltb-true 0 new (sym is ∙ failed))))
 
-pub ends_so : (unwritten : Type 0) (text : List ℕ) (outcome : Result EndedRouter RouteError)
+pub ends_so : (unwritten : Type 0) (text : List ℕ) (outcome : Result EndedRouter StartError)
     (status : ℕ) → IfOk outcome (HasRanFor text) → IfErr outcome (IsWhy unwritten text)
     → IfOk outcome (λ ended. status ≡ status_of_ended ended)
     → IfErr outcome (λ error. (status ≡ status_of error) ⊎ ((status ≡ 3) × unwritten))
@@ -55,7 +55,7 @@ pub failed_once : {Output : Type 0} (fails : Fails Output) (before after : Outpu
 failed_once fails before after failed = (before, after, failed)
 
 -- before anything is printed
-pub unprinted_why : (unwritten : Type 0) (error : RouteError) → IsLaterWhy ⊥ error
+pub unprinted_why : (unwritten : Type 0) (error : StartError) → IsLaterWhy ⊥ error
     → IsLaterWhy unwritten error
 unprinted_why unwritten (Configuration line) is = is
 unprinted_why unwritten (Bind udp_port) is = absurd is
@@ -65,7 +65,7 @@ unprinted_why unwritten Output is = absurd is
 unprinted_why unwritten Memory is = tt
 
 pub unwaited_why : {Socket : Type 0} (unwritten : Type 0) (fails : Socket → Type 0)
-    (wires : List (Wire Socket)) (why : SocketError) (error : RouteError)
+    (wires : List (Wire Socket)) (why : SocketError) (error : StartError)
     → IsWhyNoneWaits fails wires why → error ≡ of_sockets why → IsLaterWhy unwritten error
 unwaited_why unwritten fails wires (socket_error.Bind udp_port) error is same = absurd is
 unwaited_why unwritten fails wires socket_error.Wait error is same =
@@ -73,7 +73,7 @@ unwaited_why unwritten fails wires socket_error.Wait error is same =
 unwaited_why unwritten fails wires socket_error.Memory error is same =
     subst (IsLaterWhy unwritten) (sym same) tt
 
-pub later_why : (unwritten : Type 0) (text : List ℕ) (configured : Configured) (error : RouteError)
+pub later_why : (unwritten : Type 0) (text : List ℕ) (configured : Configured) (error : StartError)
     → Says text configured → IsLaterWhy unwritten error → IsWhy unwritten text error
 later_why unwritten text configured (Configuration line) says is = inr (is, (configured, says))
 later_why unwritten text configured (Bind udp_port) says is = absurd is
@@ -83,7 +83,7 @@ later_why unwritten text configured Output says is = (is, (configured, says))
 later_why unwritten text configured Memory says is = tt
 
 pub text_why : {X : Type 0} (unwritten : Type 0) (text : List ℕ)
-    (read : Result X ConfigurationError) (why : ConfigurationError) (error : RouteError)
+    (read : Result X ConfigurationError) (why : ConfigurationError) (error : StartError)
     → read ≡ Err why
     → ((number : ℕ) → read ≡ Err (configuration.Line number) → Refuses text number)
     → error ≡ of_text why → IsWhy unwritten text error
@@ -93,7 +93,7 @@ text_why unwritten text read configuration.Memory error is refuses same =
     subst (IsWhy unwritten text) (sym same) tt
 
 pub socket_why : (unwritten : Type 0) (text : List ℕ) (configured : Configured)
-    (interfaces : List ConfiguredInterface) (why : SocketError) (error : RouteError)
+    (interfaces : List ConfiguredInterface) (why : SocketError) (error : StartError)
     → Says text configured → interfaces ≡ configured.interfaces
     → IsRefusalOf (λ _. ⊤) interfaces why → error ≡ of_sockets why → IsWhy unwritten text error
 socket_why unwritten text configured interfaces (socket_error.Bind udp_port) error says are is

@@ -10,20 +10,20 @@ use Rattle.hooks.specs.declared.error.HookError.{HookError}
 use Rattle.hooks.specs.declared.error.HookError.TheVariants as hook_error
 use Rattle.worker.specs.declared.sockets.error.SocketError.{SocketError}
 use Rattle.worker.specs.declared.sockets.error.SocketError.TheVariants as socket_error
-use Rattle.daemon.specs.declared.error.RouteError.{RouteError}
-use Rattle.daemon.specs.declared.error.RouteError.TheVariants.{Configuration, Bind, Socket, Hooks}
-use Rattle.daemon.specs.declared.error.RouteError.TheVariants.{Output, Memory}
+use Rattle.daemon.specs.declared.error.StartError.{StartError}
+use Rattle.daemon.specs.declared.error.StartError.TheVariants.{Configuration, Bind, Socket, Hooks}
+use Rattle.daemon.specs.declared.error.StartError.TheVariants.{Output, Memory}
 
-abbrev pub of_text : ConfigurationError → RouteError
+abbrev pub of_text : ConfigurationError → StartError
 of_text (configuration.Line line) = Configuration line
 of_text configuration.Memory = Memory
 
-abbrev pub of_sockets : SocketError → RouteError
+abbrev pub of_sockets : SocketError → StartError
 of_sockets (socket_error.Bind udp_port) = Bind udp_port
 of_sockets socket_error.Wait = Socket
 of_sockets socket_error.Memory = Memory
 
-abbrev pub of_hooks : HookError → RouteError
+abbrev pub of_hooks : HookError → StartError
 of_hooks hook_error.Count = Hooks (refusal_number hook_error.Count)
 of_hooks hook_error.Places = Hooks (refusal_number hook_error.Places)
 of_hooks hook_error.Memory = Memory
@@ -32,7 +32,7 @@ of_hooks hook_error.Memory = Memory
 
 -- Its configuration is said, but it doesn't run over sockets that were had. Here and below
 -- `unwritten` says that the output couldn't be written.
-abbrev pub IsLaterWhy : (unwritten : Type 0) → RouteError → Type 0
+abbrev pub IsLaterWhy : (unwritten : Type 0) → StartError → Type 0
 IsLaterWhy unwritten (Configuration line) = line ≡ 1
 IsLaterWhy unwritten (Bind udp_port) = ⊥
 IsLaterWhy unwritten (Hooks number) = (number ≡ 1) ⊎ (number ≡ 3)
@@ -48,7 +48,7 @@ IsUdpPortOf interfaces udp_port = SomeIndex interfaces (λ k.
 -- Why no router that this text says runs: the first line that is wrong or missing, or that of the
 -- router, if it isn't within the profile; a UDP port of one of its interfaces; no places for those
 -- who ask the programs; output that couldn't be written.
-abbrev pub IsWhy : (unwritten : Type 0) → (text : List ℕ) → RouteError → Type 0
+abbrev pub IsWhy : (unwritten : Type 0) → (text : List ℕ) → StartError → Type 0
 IsWhy unwritten text (Configuration line) =
     Refuses text line ⊎ ((line ≡ 1) × ((configured : Configured) × Says text configured))
 IsWhy unwritten text (Bind udp_port) =

@@ -7,16 +7,16 @@ use Rattle.worker.specs.event_rules.declared.model.Config.{Config}
 use Rattle.console.specs.Configurations.{Says}
 use Rattle.console.specs.declared.configuration.Configured.{Configured}
 use Rattle.worker.specs.Ends.{has_failed}
-use Rattle.daemon.specs.declared.error.RouteError.{RouteError}
-use Rattle.daemon.specs.declared.error.RouteError.TheVariants.{Configuration, Bind, Socket, Hooks}
-use Rattle.daemon.specs.declared.error.RouteError.TheVariants.{Output, Memory}
+use Rattle.daemon.specs.declared.error.StartError.{StartError}
+use Rattle.daemon.specs.declared.error.StartError.TheVariants.{Configuration, Bind, Socket, Hooks}
+use Rattle.daemon.specs.declared.error.StartError.TheVariants.{Output, Memory}
 use Rattle.daemon.specs.declared.labor.EndedWorker.{EndedWorker}
 use Rattle.daemon.specs.declared.ended_router.EndedRouter.{EndedRouter}
 use Rattle.daemon.specs.Refusals.{IsWhy}
 use Rattle.daemon.specs.Talks.{has_input_failed}
 
 -- 1 refused, 3 a socket or the output, 4 memory
-abbrev pub status_of : RouteError → ℕ
+abbrev pub status_of : StartError → ℕ
 status_of (Configuration line) = 1
 status_of (Hooks number) = 1
 status_of (Bind udp_port) = 3
@@ -66,5 +66,5 @@ HasRanFor text ended =
 abbrev pub EndsSo : (unwritten : Type 0) → (text : List ℕ) → (status : ℕ) → Type 0
 EndsSo unwritten text status =
     ((ended : EndedRouter) × HasRanFor text ended × (status ≡ status_of_ended ended))
-    ⊎ ((error : RouteError) × IsWhy unwritten text error
+    ⊎ ((error : StartError) × IsWhy unwritten text error
     × ((status ≡ status_of error) ⊎ ((status ≡ 3) × unwritten)))

@@ -2,7 +2,7 @@
 ghost use Rattle.std.specs.Prelude.{◌≡◌};
 ghost use Rattle.daemon.specs.Refusals.{of_hooks, of_sockets, of_text};
 ghost use Rattle.daemon.specs.Statuses.{status_of};
-ghost use Rattle.daemon.specs.declared.error.RouteError.TheVariants.{Memory};
+ghost use Rattle.daemon.specs.declared.error.StartError.TheVariants.{Memory};
 
 use console::ConfigurationError;
 use hooks::HookError;
@@ -12,7 +12,7 @@ use worker::SocketError;
 
 /// Why a router doesn't run. Its `Display` is the line that is printed.
 #[derive(Debug, Drop, Error)]
-pub enum RouteError {
+pub enum StartError {
     /// The first line of the configuration that is wrong or missing.
     #[error("config refusal line {0}")]
     Configuration(u64),
@@ -33,65 +33,65 @@ pub enum RouteError {
     Memory,
 }
 
-impl RouteError {
+impl StartError {
     /// The status that the program ends with: 1 refused, 3 a socket or the output, 4 memory.
     pub fn status(&self) -> u8
         ensures { result ≡ status_of self.now }
     {
         match self {
-            RouteError::Configuration(_) | RouteError::Hooks(_) => 1,
-            RouteError::Bind(_) | RouteError::Socket | RouteError::Output => 3,
-            RouteError::Memory => 4,
+            StartError::Configuration(_) | StartError::Hooks(_) => 1,
+            StartError::Bind(_) | StartError::Socket | StartError::Output => 3,
+            StartError::Memory => 4,
         }
     }
 }
 
-impl From<AllocError> for RouteError {
+impl From<AllocError> for StartError {
     ghost from_gives = { λ _ error. error ≡ Memory };
 
-    fn from(_error: AllocError) -> RouteError {
-        RouteError::Memory
+    fn from(_error: AllocError) -> StartError {
+        StartError::Memory
     }
 }
 
-impl<T: Drop> From<AllocFailed<T>> for RouteError {
+impl<T: Drop> From<AllocFailed<T>> for StartError {
     ghost from_gives = { λ _ error. error ≡ Memory };
 
-    fn from(_error: AllocFailed<T>) -> RouteError {
-        RouteError::Memory
+    fn from(_error: AllocFailed<T>) -> StartError {
+        StartError::Memory
     }
 }
 
-impl From<ConfigurationError> for RouteError {
+impl From<ConfigurationError> for StartError {
     ghost from_gives = { λ why error. error ≡ of_text why };
 
-    fn from(error: ConfigurationError) -> RouteError {
+    fn from(error: ConfigurationError) -> StartError {
         match error {
-            ConfigurationError::Line(line) => RouteError::Configuration(line),
-            ConfigurationError::Memory => RouteError::Memory,
+            ConfigurationError::Line(line) => StartError::Configuration(line),
+            ConfigurationError::Memory => StartError::Memory,
         }
     }
 }
 
-impl From<SocketError> for RouteError {
+impl From<SocketError> for StartError {
     ghost from_gives = { λ why error. error ≡ of_sockets why };
 
-    fn from(error: SocketError) -> RouteError {
+    fn from(error: SocketError) -> StartError {
         match error {
-            SocketError::Bind(udp_port) => RouteError::Bind(udp_port),
-            SocketError::Wait => RouteError::Socket,
-            SocketError::Memory => RouteError::Memory,
+            SocketError::Bind(udp_port) => StartError::Bind(udp_port),
+            SocketError::Wait => StartError::Socket,
+            SocketError::Memory => StartError::Memory,
         }
     }
 }
 
-impl From<HookError> for RouteError {
+impl From<HookError> for StartError {
     ghost from_gives = { λ why error. error ≡ of_hooks why };
 
-    fn from(error: HookError) -> RouteError {
+    fn from(error: HookError) -> StartError {
         match error {
-            HookError::Memory => RouteError::Memory,
-            other => RouteError::Hooks(other.number()),
+            HookError::Memory => StartError::Memory,
+            other => StartError::Hooks(other.number()),
         }
     }
 }

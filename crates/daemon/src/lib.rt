@@ -18,6 +18,6 @@ mod texts;
 mod totals;
 
 pub use ended_router::EndedRouter;
-pub use error::RouteError;
-pub use running::{operate, route, run_router};
+pub use error::StartError;
+pub use running::{operate, run_and_report, run_router};
 pub use texts::{Unwritable, WritesTexts};

@@ -15,7 +15,7 @@ ghost use Rattle.daemon.specs.Texts.{HasFailed};
 
 use crate::crew::side_by_side;
 use crate::ended_router::EndedRouter;
-use crate::error::RouteError;
+use crate::error::StartError;
 use crate::labor::{EndedWorker, Workers};
 use crate::lines::ReadsBytes;
 use crate::talk::{Console, EndedConsole};
@@ -60,7 +60,7 @@ fn config_of<C: Seconds>(
     alloc: Global,
     clock: &mut C,
     configured: &Configured,
-) -> Result<Config, RouteError>
+) -> Result<Config, StartError>
     ensures start { IfOk result (λ config. C.shows clock.old config.start clock.new) }
     ensures said { IfOk result (IsConfigOf configured.now) }
     ensures refused { IfErr result (IsLaterWhy ⊥) }
@@ -74,15 +74,15 @@ fn config_of<C: Seconds>(
 }
 
 // The router at its start.
-fn core_of(alloc: Global, config: &Config) -> Result<Core, RouteError>
+fn core_of(alloc: Global, config: &Config) -> Result<Core, StartError>
     ensures core { IfOk result (λ core. core ≡ initial config.now) }
     ensures refused { IfErr result (IsLaterWhy ⊥) }
 {
     match Core::new(alloc, config) {
         Ok(core) => Ok(core),
-        Err(ConfigError::Memory) => Err(RouteError::Memory),
+        Err(ConfigError::Memory) => Err(StartError::Memory),
         // What was read is within the profile.
-        Err(ConfigError::Interface) => Err(RouteError::Configuration(1)),
+        Err(ConfigError::Interface) => Err(StartError::Configuration(1)),
     }
 }
 
@@ -102,7 +102,7 @@ fn run_crew<
     transports: Vec<Sockets<'_>>,
     desk: &mut Desk<L, Q, Sockets<'_>, SystemSeconds<'_, R>>,
     console: &mut Console<'_, R, I, O>,
-) -> Result<(Vec<EndedWorker>, EndedConsole, Printed), RouteError>
+) -> Result<(Vec<EndedWorker>, EndedConsole, Printed), StartError>
     requires setup { IsSetUpFor L.name L.parts L.words L.history setup }
     requires origin { core ≡ L.origin }
     requires transports { vec_len setup.seats ≡ vec_len transports + 1 }
@@ -123,7 +123,7 @@ fn run_crew<
         seats,
     } = closed;
     if ended_console.has_output_failed() {
-        return Err(RouteError::Output);
+        return Err(StartError::Output);
     }
     let printed = print_totals(alloc, shared, seats, console.output)?;
     Ok((ends, ended_console, printed))
@@ -183,7 +183,7 @@ fn run_all<
     own: Sockets<'x>,
     input: &'x mut I,
     output: &'x mut O,
-) -> Result<EndedRouter, RouteError>
+) -> Result<EndedRouter, StartError>
     requires setup { IsSetUpFor L.name L.parts L.words L.history setup }
     requires history { history_of loader ≡ L.history }
     requires origin { core ≡ L.origin }
@@ -249,7 +249,7 @@ pub fn operate<
     own: Sockets<'x>,
     input: &'x mut I,
     output: &'x mut O,
-) -> Result<EndedRouter, RouteError>
+) -> Result<EndedRouter, StartError>
     requires { CountDownTo 1 (map (λ l. l.own) transports.items) }
     ensures ran { IfOk result (HasRan (initial config.now) (vec_len transports.entry)) }
     ensures refused { IfErr result (IsLaterWhy (HasFailed O.fails)) }
@@ -277,7 +277,7 @@ fn operate_at_same<
     own: Sockets<'x>,
     input: &'x mut I,
     output: &'x mut O,
-) -> Result<EndedRouter, RouteError>
+) -> Result<EndedRouter, StartError>
     requires interfaces { CountDownTo 1 (map (λ l. l.own) transports.items) }
     requires each { vec_len transports ≡ length own.wires.now }
     requires transports { All (λ l. (l.wires.now ≡ own.wires.now) × (l.faults ≡ 0))
@@ -301,7 +301,7 @@ fn run_over<
     wires: &[Wire],
     input: &mut I,
     output: &mut O,
-) -> Result<EndedRouter, RouteError>
+) -> Result<EndedRouter, StartError>
     requires { AreBound (λ _ _. ⊤) configured.now.interfaces wires.now }
     ensures ran { IfOk result (HasRanOver (length wires.now) configured.now) }
     ensures refused { IfErr result (IsLaterWhy (HasFailed O.fails)) }
@@ -328,7 +328,7 @@ pub fn run_router<
     R: Net + Threads + Wait + Clock + Log + Files + AllocGlobal + Sync + Drop,
     I: BufRead,
     O: WritesTexts,
->(rt: &R, text: &str, input: &mut I, output: &mut O) -> Result<EndedRouter, RouteError>
+>(rt: &R, text: &str, input: &mut I, output: &mut O) -> Result<EndedRouter, StartError>
     ensures ran { IfOk result (HasRanFor text.now) }
     ensures refused { IfErr result (IsWhy (HasFailed O.fails) text.now) }
 {
@@ -341,7 +341,7 @@ pub fn run_router<
 
 // The status after a router ran. If none did, a line on `output` says why.
 #[tactic(auto, using(crate::proofs::Ended::failed_once))]
-fn report<O: WritesTexts>(outcome: Result<EndedRouter, RouteError>, output: &mut O) -> u8
+fn report<O: WritesTexts>(outcome: Result<EndedRouter, StartError>, output: &mut O) -> u8
     ensures ran { IfOk outcome (λ ended. result ≡ status_of_ended ended) }
     ensures refused { IfErr outcome (λ error.
         (result ≡ status_of error) ⊎ ((result ≡ 3) × HasFailed O.fails)) }
@@ -351,7 +351,7 @@ fn report<O: WritesTexts>(outcome: Result<EndedRouter, RouteError>, output: &mut
         Ok(ended) => ended.status(),
         Err(error) => match output.write_text(format_args!("{error}\n")) {
             Ok(()) => error.status(),
-            Err(_) => RouteError::Output.status(),
+            Err(_) => StartError::Output.status(),
         },
     }
 }
@@ -359,7 +359,7 @@ fn report<O: WritesTexts>(outcome: Result<EndedRouter, RouteError>, output: &mut
 /// Runs a router as [`run_router`] does. If it doesn't run, a line on `output` says why. The answer
 /// is the status: 0 ended by the operator, 1 refused, 3 a socket, a worker or the output failed, 4
 /// memory was refused or a thread couldn't be started.
-pub fn route<
+pub fn run_and_report<
     R: Net + Threads + Wait + Clock + Log + Files + AllocGlobal + Sync + Drop,
     I: BufRead,
     O: WritesTexts,

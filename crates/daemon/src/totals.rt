@@ -6,7 +6,7 @@ ghost use Rattle.daemon.specs.Refusals.{IsLaterWhy};
 ghost use Rattle.daemon.specs.Sums.{AreTotals};
 ghost use Rattle.daemon.specs.Texts.{HasFailed};
 
-use crate::error::RouteError;
+use crate::error::StartError;
 use crate::texts::WritesTexts;
 use console::totals_text;
 use maps::{Seat, Shared, Totals};
@@ -35,7 +35,7 @@ fn print_sums<O: WritesTexts>(
     alloc: Global,
     totals: &Totals,
     output: &mut O,
-) -> Result<(), RouteError>
+) -> Result<(), StartError>
     ensures printed { OnOk result
         (O.takes output.old (counter_lines 0 totals.now.sums) output.new) }
     ensures refused { IfErr result (IsLaterWhy (HasFailed O.fails)) }
@@ -43,7 +43,7 @@ fn print_sums<O: WritesTexts>(
     let text = totals_text(alloc, &totals.sums)?;
     match output.write_text(text.as_str()) {
         Ok(()) => Ok(()),
-        Err(_) => Err(RouteError::Output),
+        Err(_) => Err(StartError::Output),
     }
 }
 
@@ -57,7 +57,7 @@ pub fn print_totals<O: WritesTexts>(
     shared: Shared,
     seats: Vec<Seat>,
     output: &mut O,
-) -> Result<Printed, RouteError>
+) -> Result<Printed, StartError>
     requires all { length seats.items ≡ shared.seats }
     requires table { All (IsOf shared) seats.items }
     ensures printed { OnOk result ((sums : List ℕ) × AreTotals seats.items sums

@@ -5,7 +5,7 @@
 ghost use Rattle.std.specs.Prelude.{◌≤◌};
 
 use commands::{Routing, program};
-use daemon::RouteError;
+use daemon::StartError;
 use log::Log;
 use std::alloc::{AllocError, Global};
 use std::cell::OnceCell;
@@ -34,17 +34,17 @@ impl Routing for Asked {
         if kept.push_str(text).is_ok() && self.configuration.set(kept).is_ok() {
             return 0;
         }
-        tell(&RouteError::Memory, output)
+        tell(&StartError::Memory, output)
     }
 }
 
 // Prints why there is no router, and returns the exit status.
-fn tell<O: Write>(error: &RouteError, output: &mut O) -> u8
+fn tell<O: Write>(error: &StartError, output: &mut O) -> u8
     ensures { result ≤ 4 }
 {
     match writeln!(output, "{error}") {
         Ok(()) => error.status(),
-        Err(_) => RouteError::Output.status(),
+        Err(_) => StartError::Output.status(),
     }
 }
 
@@ -69,8 +69,8 @@ fn run<R: Input + Net + Threads + Wait + Clock + Log + Files + AllocGlobal + Syn
     output: &mut O,
 ) -> u8 {
     match BufReader::new(rt.alloc(), rt.reader()) {
-        Ok(mut input) => daemon::route(rt, configuration, &mut input, output),
-        Err(_) => tell(&RouteError::Memory, output),
+        Ok(mut input) => daemon::run_and_report(rt, configuration, &mut input, output),
+        Err(_) => tell(&StartError::Memory, output),
     }
 }
 

@@ -1,7 +1,7 @@
 //! A router one of whose sockets fails. Nothing can be sent to UDP port 0, which no configuration
 //! says.
 use console::ConfiguredInterface;
-use daemon::{RouteError, operate};
+use daemon::{StartError, operate};
 use event_rules::{Config, Interface};
 use log::Log;
 use std::alloc::{AllocError, Global};
@@ -144,7 +144,7 @@ fn run<R: Net + Threads + Wait + Clock + Log + Files + AllocGlobal + Sync + Drop
     row: &Row,
     wires: &[Wire],
     own: &[Wire],
-) -> Result<u8, RouteError> {
+) -> Result<u8, StartError> {
     let config = config(rt.alloc(), row.has_interface)?;
     let transports = listening(rt, rt.alloc(), wires)?;
     let mut input = Cursor::new(b"neighbors\nquit\n".as_slice());
@@ -156,7 +156,7 @@ fn run<R: Net + Threads + Wait + Clock + Log + Files + AllocGlobal + Sync + Drop
     let own = Sockets::of_console(own);
     match operate(rt, &config, transports, own, &mut input, &mut output) {
         Ok(end) => Ok(if output.written == 4 { end.status() } else { 9 }),
-        Err(RouteError::Configuration(1)) => Ok(if output.written == 0 { 1 } else { 9 }),
+        Err(StartError::Configuration(1)) => Ok(if output.written == 0 { 1 } else { 9 }),
         Err(fault) => Err(fault),
     }
 }

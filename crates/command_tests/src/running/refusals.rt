@@ -1,16 +1,16 @@
 //! Why a router doesn't run, in words.
-use daemon::RouteError;
+use daemon::StartError;
 use std::alloc::Global;
 use std::process::Abort;
 
 // A fault, its text and its status.
-type Row = (RouteError, &'static str, u8);
+type Row = (StartError, &'static str, u8);
 
 const ROWS: &[Row] = &[
-    (RouteError::Configuration(3), "config refusal line 3", 1),
-    (RouteError::Bind(7001), "cannot bind 7001", 3),
-    (RouteError::Hooks(3), "hook refusal 3", 1),
-    (RouteError::Memory, "out of memory", 4),
+    (StartError::Configuration(3), "config refusal line 3", 1),
+    (StartError::Bind(7001), "cannot bind 7001", 3),
+    (StartError::Hooks(3), "hook refusal 3", 1),
+    (StartError::Memory, "out of memory", 4),
 ];
 
 fn tells(alloc: Global, row: &Row) -> bool {

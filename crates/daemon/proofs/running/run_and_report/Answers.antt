@@ -1,5 +1,5 @@
 use Rattle.daemon.proofs.Ended.{ends_so}
-use Rattle.daemon.proofs.running.route.Goals as goal
+use Rattle.daemon.proofs.running.run_and_report.Goals as goal
 
 pub returns-clause-ends : goal.returns-clause-ends
 returns-clause-ends g c =
