@@ -1,5 +1,5 @@
 //! How long it takes to ask a program at each hook.
-ghost use Rattle.maps.specs.Words.{IsOf};
+ghost use Rattle.maps.specs.Words.{IsSeatOf};
 
 use crate::figures::{NoFigure, PrintResult, Round, Unit, report};
 use crate::programs::attach;
@@ -40,7 +40,7 @@ struct Asking {
     external: External,
     route: Route,
     word: u64,
-    ghost table: { IsOf shared seat },
+    ghost table: { IsSeatOf shared seat },
 }
 
 fn destination(prefix: Prefix) -> External {

@@ -1,7 +1,7 @@
 //! How many additions to the shared counters one, two and four seats make.
 ghost use Rattle.std.specs.Prelude.{◌≡◌, ◌<◌};
 ghost use Rattle.std.specs.List.{All};
-ghost use Rattle.maps.specs.Words.{IsOf};
+ghost use Rattle.maps.specs.Words.{IsSeatOf};
 
 use crate::figures::{MEASUREMENTS, MeasuredTimes, NoFigure, PrintResult, nanoseconds, start};
 use maps::{Seat, Shared};
@@ -34,7 +34,7 @@ struct Adder<'a> {
     made: u64,
     // what is changed in two adders never lies in one line of a cache
     _apart: [u64; 16],
-    ghost table: { IsOf shared.now seat },
+    ghost table: { IsSeatOf shared.now seat },
     ghost counter: { index < 256 },
 }
 
@@ -57,7 +57,7 @@ fn adders_of<'a>(
     seats: Vec<Seat>,
     is_apart: bool,
 ) -> Option<Vec<Adder<'a>>>
-    requires { All (λ s. IsOf shared.now s) seats.items }
+    requires { All (λ s. IsSeatOf shared.now s) seats.items }
 {
     let mut adders = Vec::new(alloc);
     let mut seats = seats;

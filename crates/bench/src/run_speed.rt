@@ -2,7 +2,7 @@
 ghost use Rattle.std.specs.Prelude.{◌≡◌, slice_range};
 ghost use Rattle.isa.specs.Hooks.{hook_number};
 ghost use Rattle.machine.specs.Memory.{number_of};
-ghost use Rattle.maps.specs.Words.{IsOf};
+ghost use Rattle.maps.specs.Words.{IsSeatOf};
 
 use crate::figures::{NoFigure, PrintResult, Round, Unit, report};
 use crate::programs::accepted;
@@ -70,7 +70,7 @@ struct Running {
     is_checked: bool,
     shared: Shared,
     seat: Seat,
-    ghost table: { IsOf shared seat },
+    ghost table: { IsSeatOf shared seat },
 }
 
 // Runs the code, on no packet and no table rows.

@@ -1,7 +1,7 @@
 //! New tables of the shared maps, and their seats.
 ghost use Rattle.std.specs.Prelude.{◌≡◌, length, map, IfOk, IfSome};
 ghost use Rattle.std.specs.List.{range_with_len};
-ghost use Rattle.maps.specs.Words.{IsOf, fresh};
+ghost use Rattle.maps.specs.Words.{IsSeatOf, fresh};
 
 use maps::{MapsError, Seat, Shared};
 use std::alloc::Global;
@@ -22,7 +22,7 @@ pub fn table(alloc: Global, count: usize) -> Result<(Shared, Vec<Seat>), MapsErr
 
 /// A new table with one seat.
 pub fn one_seat(alloc: Global) -> Option<(Shared, Seat)>
-    ensures { IfSome result (λ r. IsOf r.0 r.1) }
+    ensures { IfSome result (λ r. IsSeatOf r.0 r.1) }
 {
     let Ok((shared, mut seats)) = table(alloc, 1) else {
         return None;
@@ -33,8 +33,8 @@ pub fn one_seat(alloc: Global) -> Option<(Shared, Seat)>
 
 /// A new table with two seats: the first of them, and the second.
 pub fn two_seats(alloc: Global) -> Option<(Shared, Seat, Seat)>
-    ensures first { IfSome result (λ r. IsOf r.0 r.1) }
-    ensures second { IfSome result (λ r. IsOf r.0 r.2) }
+    ensures first { IfSome result (λ r. IsSeatOf r.0 r.1) }
+    ensures second { IfSome result (λ r. IsSeatOf r.0 r.2) }
 {
     let Ok((shared, mut seats)) = table(alloc, 2) else {
         return None;

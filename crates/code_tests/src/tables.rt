@@ -1,6 +1,6 @@
 //! The shared maps.
 ghost use Rattle.std.specs.Prelude.{◌≡◌, length};
-ghost use Rattle.maps.specs.Words.{IsOf};
+ghost use Rattle.maps.specs.Words.{IsSeatOf};
 
 use crate::seats::{table, two_seats};
 use maps::{MapsError, Seat, Shared};
@@ -10,8 +10,8 @@ use std::thread::{Threads, join};
 
 // Adds 3 to counter 5 a thousand times, and reads it.
 fn thousand(words: &Shared, mut seat: Seat) -> (Seat, u64)
-    requires { IsOf words.now seat }
-    ensures { IsOf words.now result.0 }
+    requires { IsSeatOf words.now seat }
+    ensures { IsSeatOf words.now result.0 }
 {
     for _turn in 0..1000u64 {
         words.add(&mut seat, 5, 3);
@@ -34,19 +34,19 @@ fn add_side_by_side<R: Threads>(
     first: Seat,
     second: Seat,
 ) -> ((Seat, u64), (Seat, u64))
-    requires first { IsOf words.now first }
-    requires second { IsOf words.now second }
-    ensures first { IsOf words.now result.0.0 }
-    ensures second { IsOf words.now result.1.0 }
+    requires first { IsSeatOf words.now first }
+    requires second { IsSeatOf words.now second }
+    ensures first { IsSeatOf words.now result.0.0 }
+    ensures second { IsSeatOf words.now result.1.0 }
 {
     join(
         rt,
         || -> (Seat, u64)
-            requires { IsOf words.now first }
+            requires { IsSeatOf words.now first }
             ensures { result.0.table ≡ words.entry.now.table }
         { thousand(words, first) },
         || -> (Seat, u64)
-            requires { IsOf words.now second }
+            requires { IsSeatOf words.now second }
             ensures { result.0.table ≡ words.entry.now.table }
         { thousand(words, second) },
     )
@@ -61,8 +61,8 @@ fn closed(
 ) -> Result<[u64; 256], AllocError>
     requires seats { words.seats ≡ 2 }
     requires away { length seats.items ≡ 0 }
-    requires first { IsOf words first }
-    requires second { IsOf words second }
+    requires first { IsSeatOf words first }
+    requires second { IsSeatOf words second }
 {
     let mut seats = seats;
     seats.push(first)?;
@@ -80,8 +80,8 @@ fn seen_and_summed<R: Threads>(
 ) -> Result<([u64; 2], [u64; 256]), AllocError>
     requires seats { words.seats ≡ 2 }
     requires away { length seats.items ≡ 0 }
-    requires first { IsOf words first }
-    requires second { IsOf words second }
+    requires first { IsSeatOf words first }
+    requires second { IsSeatOf words second }
 {
     let ((first, one), (second, two)) = add_side_by_side(rt, &words, first, second);
     let sums = closed(words, seats, first, second)?;
@@ -108,8 +108,8 @@ fn two_threads_add_a_thousand_times(rt: HostRuntime) {
 
 // The answers to the seats' adds, and what the other seat then reads.
 fn seen_by_each_other(words: &Shared, first: &mut Seat, second: &mut Seat) -> [u64; 5]
-    requires first { IsOf words.now first.old }
-    requires second { IsOf words.now second.old }
+    requires first { IsSeatOf words.now first.old }
+    requires second { IsSeatOf words.now second.old }
 {
     [
         words.add(first, 5, 3),

@@ -1,7 +1,7 @@
 //! The workers on threads of their own, the console beside them, and back.
 ghost use Rattle.std.specs.Prelude.{◌≡◌, ◌+◌, true, All, length, map, vec_len, IfOk};
 ghost use Rattle.transports.specs.Descending.{CountDownTo};
-ghost use Rattle.maps.specs.Words.{IsOf};
+ghost use Rattle.maps.specs.Words.{IsSeatOf};
 ghost use Rattle.worker.specs.Opening.{IsSetUpFor};
 ghost use Rattle.daemon.specs.Talks.{has_output_failed};
 ghost use Rattle.daemon.specs.Texts.{HasFailed};
@@ -58,7 +58,7 @@ pub fn side_by_side<
     ensures taken { IfOk result (λ r.
         (r.0.taken ≡ r.0.share.amount) × (r.0.share.parts ≡ L.parts)) }
     ensures seats { IfOk result (λ r.
-        (length r.0.seats.items ≡ r.0.shared.seats) × All (IsOf r.0.shared) r.0.seats.items) }
+        (length r.0.seats.items ≡ r.0.shared.seats) × All (IsSeatOf r.0.shared) r.0.seats.items) }
     ensures ends { IfOk result (λ r. vec_len r.1 + 1 ≡ vec_len setup.seats) }
     ensures output { IfOk result (λ r. has_output_failed r.2 ≡ true → HasFailed O.fails) }
 {

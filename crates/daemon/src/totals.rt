@@ -1,7 +1,7 @@
 //! The exact counters, once all workers are back.
 ghost use Rattle.std.specs.Prelude.{◌≡◌, ℕ, List, All, length, IfErr, OnOk};
 ghost use Rattle.console.specs.Answers.{counter_lines};
-ghost use Rattle.maps.specs.Words.{IsOf};
+ghost use Rattle.maps.specs.Words.{IsSeatOf};
 ghost use Rattle.daemon.specs.Refusals.{IsLaterWhy};
 ghost use Rattle.daemon.specs.Sums.{AreTotals};
 ghost use Rattle.daemon.specs.Texts.{HasFailed};
@@ -23,7 +23,7 @@ pub struct Printed {
 // all that was added to it.
 fn sums_of(shared: Shared, seats: Vec<Seat>) -> Totals
     requires all { length seats.items ≡ shared.seats }
-    requires table { All (IsOf shared) seats.items }
+    requires table { All (IsSeatOf shared) seats.items }
     ensures { AreTotals seats.items result.sums }
 {
     shared.close(seats)
@@ -59,7 +59,7 @@ pub fn print_totals<O: WritesTexts>(
     output: &mut O,
 ) -> Result<Printed, StartError>
     requires all { length seats.items ≡ shared.seats }
-    requires table { All (IsOf shared) seats.items }
+    requires table { All (IsSeatOf shared) seats.items }
     ensures printed { OnOk result ((sums : List ℕ) × AreTotals seats.items sums
         × O.takes output.old (counter_lines 0 sums) output.new) }
     ensures refused { IfErr result (IsLaterWhy (HasFailed O.fails)) }

@@ -6,7 +6,7 @@ ghost use Rattle.machine.specs.Given.{Given, given_by};
 ghost use Rattle.machine.specs.declared.state.Content.TheVariants.{Number};
 ghost use Rattle.machine.specs.Helpers.{helper_of, Answers, Answered};
 ghost use Rattle.machine.specs.Label.{Label, Silent};
-ghost use Rattle.maps.specs.Words.{IsOf};
+ghost use Rattle.maps.specs.Words.{IsSeatOf};
 ghost use Rattle.helpers.specs.Calls.{fault_of_call, fault_of_arguments};
 ghost use Rattle.helpers.specs.Seats.{SeatMakes};
 
@@ -49,7 +49,7 @@ fn call_counter_add(
     shared: &Shared,
     seat: &mut Seat,
 ) -> Result<u64, Fault>
-    requires table { IsOf shared.now seat.old }
+    requires table { IsSeatOf shared.now seat.old }
     ensures ok { IfOk result (λ answer. (label : Label) × SeatMakes seat.old (label ∷ []) seat.new
         × ((input : Given) → Answers CounterAdd input (first ∷ second ∷ []) label answer)) }
     ensures err { IfErr result (λ fault. fault_of_call (Some CounterAdd) first second
@@ -69,7 +69,7 @@ fn call_counter_read(
     shared: &Shared,
     seat: &mut Seat,
 ) -> Result<u64, Fault>
-    requires table { IsOf shared.now seat.old }
+    requires table { IsSeatOf shared.now seat.old }
     ensures ok { IfOk result (λ answer. (label : Label) × SeatMakes seat.old (label ∷ []) seat.new
         × ((input : Given) → Answers CounterRead input (first ∷ []) label answer)) }
     ensures err { IfErr result (λ fault. fault_of_call (Some CounterRead) first second
@@ -117,7 +117,7 @@ pub fn call(
     shared: &Shared,
     seat: &mut Seat,
 ) -> Result<u64, Fault>
-    requires table { IsOf shared.now seat.old }
+    requires table { IsSeatOf shared.now seat.old }
     ensures ok { IfOk result (λ answer. (label : Label) × SeatMakes seat.old (label ∷ []) seat.new
         × Answered hook number first second (given_by input.now) label answer) }
     ensures err { IfErr result (λ fault. fault_of_call (helper_of hook number) first second

@@ -5,7 +5,7 @@ ghost use Rattle.machine.specs.Given.{Given};
 ghost use Rattle.machine.specs.declared.state.Content.TheVariants.{Number};
 ghost use Rattle.machine.specs.Helpers.{Answers};
 ghost use Rattle.machine.specs.Label.{Label, Read, Cell, SetCell};
-ghost use Rattle.maps.specs.Words.{IsOf};
+ghost use Rattle.maps.specs.Words.{IsSeatOf};
 ghost use Rattle.helpers.specs.Seats.{SeatMakes};
 
 use maps::{Seat, Shared};
@@ -13,7 +13,7 @@ use maps::{Seat, Shared};
 /// Adds an amount below 2^24 to one of the 256 counters and returns 0; once the seat has made its
 /// 2^31 additions, adds nothing and returns 1.
 pub fn counter_add(shared: &Shared, seat: &mut Seat, counter: u64, amount: u64) -> u64
-    requires table { IsOf shared.now seat.old }
+    requires table { IsSeatOf shared.now seat.old }
     requires counter { counter < 256 }
     requires amount { amount < 2 ^ 24 }
     ensures { (label : Label) × SeatMakes seat.old (label ∷ []) seat.new
@@ -25,7 +25,7 @@ pub fn counter_add(shared: &Shared, seat: &mut Seat, counter: u64, amount: u64) 
 
 /// The value of one of the 256 counters: at least what the seat's own accesses imply.
 pub fn counter_read(shared: &Shared, seat: &mut Seat, counter: u64) -> u64
-    requires table { IsOf shared.now seat.old }
+    requires table { IsSeatOf shared.now seat.old }
     requires counter { counter < 256 }
     ensures made { SeatMakes seat.old (Read counter result ∷ []) seat.new }
     ensures answers { (input : Given) → Answers CounterRead input (Number counter ∷ [])
@@ -36,7 +36,7 @@ pub fn counter_read(shared: &Shared, seat: &mut Seat, counter: u64) -> u64
 
 /// The value of one of the seat's own 64 cells: what the seat last stored there, or 0.
 pub fn cell_read(shared: &Shared, seat: &mut Seat, cell: u64) -> u64
-    requires table { IsOf shared.now seat.old }
+    requires table { IsSeatOf shared.now seat.old }
     requires cell { cell < 64 }
     ensures { SeatMakes seat.old (Cell cell result ∷ []) seat.new }
 {
@@ -45,7 +45,7 @@ pub fn cell_read(shared: &Shared, seat: &mut Seat, cell: u64) -> u64
 
 /// Stores a number in one of the seat's own 64 cells.
 pub fn cell_write(shared: &Shared, seat: &mut Seat, cell: u64, word: u64)
-    requires table { IsOf shared.now seat.old }
+    requires table { IsSeatOf shared.now seat.old }
     requires cell { cell < 64 }
     ensures { SeatMakes seat.old (SetCell cell word ∷ []) seat.new }
 {

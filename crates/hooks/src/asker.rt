@@ -4,7 +4,7 @@ ghost use Rattle.std.specs.Option.{ForSome};
 ghost use mathlib.Core.List.{IsPrefix};
 ghost use Rattle.left_right.specs.Sides.{view};
 ghost use Rattle.machine.specs.Given.{given_by};
-ghost use Rattle.maps.specs.Words.{IsOf};
+ghost use Rattle.maps.specs.Words.{IsSeatOf};
 ghost use Rattle.hooks.specs.Answered.{IsAnswered};
 ghost use Rattle.hooks.specs.Operations.{HasHookNumber};
 ghost use Rattle.hooks.specs.Rule.{HasSeen};
@@ -46,14 +46,14 @@ fn ask_by(
     seat: &mut Seat,
 ) -> (ProgramReader, Option<HookAnswer>)
     requires asked { HasHookNumber (given_by input.now) }
-    requires table { IsOf shared.now seat.old }
+    requires table { IsSeatOf shared.now seat.old }
     requires same { HasSeen front.old.seen.book (view reader.place) }
     ensures same { (front.new.seen.book ≡ front.old.seen.book)
         × HasSeen front.new.seen.book (view result.0.place) }
     ensures unread { IfNone result.1 ((front.new ≡ front.old) × (seat.new ≡ seat.old)) }
     ensures answered { IfSome result.1 (λ a. IsAnswered front.old.seen.log front.new.seen.log
         seat.old seat.new (given_by input.now) a.word) }
-    ensures table { IsOf shared.now seat.new }
+    ensures table { IsSeatOf shared.now seat.new }
 {
     let reading = match reader.enter_as::<Sees>() {
         Err(reader) => return (reader, None),
@@ -85,13 +85,13 @@ impl Asker {
     /// the published programs can't be read, or are older than those that the asker knows.
     pub fn ask(&mut self, input: &Input, shared: &Shared, seat: &mut Seat) -> Option<HookAnswer>
         requires asked { HasHookNumber (given_by input.now) }
-        requires table { IsOf shared.now seat.old }
+        requires table { IsSeatOf shared.now seat.old }
         ensures history { asks_of self.new ≡ asks_of self.old }
         ensures unread { IfNone result ((known_to self.new ≡ known_to self.old)
             × (seat.new ≡ seat.old)) }
         ensures answered { IfSome result (λ a. IsAnswered (known_to self.old) (known_to self.new)
             seat.old seat.new (given_by input.now) a.word) }
-        ensures table { IsOf shared.now seat.new }
+        ensures table { IsSeatOf shared.now seat.new }
     {
         let Some(reader) = self.reader.take() else {
             unreachable!()

@@ -1,6 +1,6 @@
 //! The questions of the four hooks.
 ghost use Rattle.std.specs.Prelude.{◌≡◌, IfSome, IfNone};
-ghost use Rattle.maps.specs.Words.{IsOf};
+ghost use Rattle.maps.specs.Words.{IsSeatOf};
 ghost use Rattle.hooks.specs.Answered.{IsAnswered};
 ghost use Rattle.hooks.specs.Known.{known_to, asks_of};
 ghost use Rattle.hooks.specs.Questions.{count_input, tag_input, price_input, veto_input};
@@ -26,13 +26,13 @@ impl Asker {
         shared: &Shared,
         seat: &mut Seat,
     ) -> Option<HookAnswer>
-        requires table { IsOf shared.now seat.old }
+        requires table { IsSeatOf shared.now seat.old }
         ensures history { asks_of self.new ≡ asks_of self.old }
         ensures unread { IfNone result ((known_to self.new ≡ known_to self.old)
             × (seat.new ≡ seat.old)) }
         ensures answered { IfSome result (λ a. IsAnswered (known_to self.old) (known_to self.new)
             seat.old seat.new (count_input interface moment packet.now) a.word) }
-        ensures table { IsOf shared.now seat.new }
+        ensures table { IsSeatOf shared.now seat.new }
     {
         let input = Input {
             context: count_context(interface, moment, packet),
@@ -52,14 +52,14 @@ impl Asker {
         shared: &Shared,
         seat: &mut Seat,
     ) -> Option<TagAnswer>
-        requires table { IsOf shared.now seat.old }
+        requires table { IsSeatOf shared.now seat.old }
         ensures history { asks_of self.new ≡ asks_of self.old }
         ensures unread { IfNone result ((known_to self.new ≡ known_to self.old)
             × (seat.new ≡ seat.old)) }
         ensures question { IfSome result (λ a. (a.external ≡ external.now) × (a.moment ≡ moment)) }
         ensures answered { IfSome result (λ a. IsAnswered (known_to self.old) (known_to self.new)
             seat.old seat.new (tag_input external.now moment rows.now) a.word) }
-        ensures table { IsOf shared.now seat.new }
+        ensures table { IsSeatOf shared.now seat.new }
     {
         let input = Input {
             context: tag_context(*external, moment),
@@ -80,14 +80,14 @@ impl Asker {
         shared: &Shared,
         seat: &mut Seat,
     ) -> Option<PriceAnswer>
-        requires table { IsOf shared.now seat.old }
+        requires table { IsSeatOf shared.now seat.old }
         ensures history { asks_of self.new ≡ asks_of self.old }
         ensures unread { IfNone result ((known_to self.new ≡ known_to self.old)
             × (seat.new ≡ seat.old)) }
         ensures question { IfSome result (λ a. (a.external ≡ external.now) × (a.moment ≡ moment)) }
         ensures answered { IfSome result (λ a. IsAnswered (known_to self.old) (known_to self.new)
             seat.old seat.new (price_input external.now moment rows.now) a.word) }
-        ensures table { IsOf shared.now seat.new }
+        ensures table { IsSeatOf shared.now seat.new }
     {
         let input = Input {
             context: price_context(*external, moment),
@@ -108,14 +108,14 @@ impl Asker {
         shared: &Shared,
         seat: &mut Seat,
     ) -> Option<VetoAnswer>
-        requires table { IsOf shared.now seat.old }
+        requires table { IsSeatOf shared.now seat.old }
         ensures history { asks_of self.new ≡ asks_of self.old }
         ensures unread { IfNone result ((known_to self.new ≡ known_to self.old)
             × (seat.new ≡ seat.old)) }
         ensures question { IfSome result (λ a. (a.route ≡ route.now) × (a.moment ≡ moment)) }
         ensures answered { IfSome result (λ a. IsAnswered (known_to self.old) (known_to self.new)
             seat.old seat.new (veto_input route.now moment rows.now) a.word) }
-        ensures table { IsOf shared.now seat.new }
+        ensures table { IsSeatOf shared.now seat.new }
     {
         let input = Input {
             context: veto_context(*route, moment),

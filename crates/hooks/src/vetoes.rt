@@ -3,7 +3,7 @@ ghost use Rattle.std.specs.Prelude.{◌≡◌, ◌<◌, ◌≤◌, IfNone, IfOk,
 ghost use Rattle.std.specs.Prelude.{false, length, take, vec_capacity, vec_len};
 ghost use mathlib.Core.List.{IsPrefix};
 ghost use Rattle.left_right.specs.Sides.{view};
-ghost use Rattle.maps.specs.Words.{IsOf, SeatView};
+ghost use Rattle.maps.specs.Words.{IsSeatOf, SeatView};
 ghost use Rattle.hooks.specs.Answered.{AreAnswered, AreAnsweredInPart};
 ghost use Rattle.hooks.specs.Known.{known_to, asks_of};
 ghost use Rattle.hooks.specs.Rule.{HasSeen};
@@ -30,7 +30,7 @@ fn ask_some_by(
     seat: &mut Seat,
     answers: &mut Vec<VetoAnswer>,
 ) -> (ProgramReader, bool)
-    requires table { IsOf shared.now seat.old }
+    requires table { IsSeatOf shared.now seat.old }
     requires same { HasSeen front.old.seen.book (view reader.place) }
     requires left { vec_len answers.old < length routes.now }
     requires room { length routes.now ≤ vec_capacity answers.old }
@@ -46,7 +46,7 @@ fn ask_some_by(
     ensures unread { result.1 ≡ false → vec_len answers.new ≡ vec_len answers.old }
     ensures most { vec_len answers.new ≤ length routes.now }
     ensures room { vec_capacity answers.new ≡ vec_capacity answers.old }
-    ensures table { IsOf shared.now seat.new }
+    ensures table { IsSeatOf shared.now seat.new }
 {
     let reading = match reader.enter_as::<Sees>() {
         Err(reader) => return (reader, false),
@@ -72,7 +72,7 @@ impl Asker {
         seat: &mut Seat,
         answers: &mut Vec<VetoAnswer>,
     ) -> bool
-        requires table { IsOf shared.now seat.old }
+        requires table { IsSeatOf shared.now seat.old }
         requires left { vec_len answers.old < length routes.now }
         requires room { length routes.now ≤ vec_capacity answers.old }
         ensures history { asks_of self.new ≡ asks_of self.old }
@@ -86,7 +86,7 @@ impl Asker {
         ensures unread { result ≡ false → vec_len answers.new ≡ vec_len answers.old }
         ensures most { vec_len answers.new ≤ length routes.now }
         ensures room { vec_capacity answers.new ≡ vec_capacity answers.old }
-        ensures table { IsOf shared.now seat.new }
+        ensures table { IsSeatOf shared.now seat.new }
     {
         let Some(reader) = self.reader.take() else {
             unreachable!()
@@ -118,7 +118,7 @@ impl Asker {
         shared: &Shared,
         seat: &mut Seat,
     ) -> Result<Option<Vec<VetoAnswer>>, AllocError>
-        requires table { IsOf shared.now seat.old }
+        requires table { IsSeatOf shared.now seat.old }
         ensures history { asks_of self.new ≡ asks_of self.old }
         ensures known { IsPrefix (known_to self.old) (known_to self.new) }
         ensures unread { IfOk result (λ o. IfNone o (AreAnsweredInPart (known_to self.old)
@@ -128,7 +128,7 @@ impl Asker {
             rows.now routes.now answers.items)) }
         ensures short { OnErr result ((known_to self.new ≡ known_to self.old)
             × (seat.new ≡ seat.old)) }
-        ensures table { IsOf shared.now seat.new }
+        ensures table { IsSeatOf shared.now seat.new }
     {
         let mut answers = Vec::with_capacity(alloc, routes.len())?;
         let mut asked = 0;

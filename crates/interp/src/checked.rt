@@ -1,7 +1,7 @@
 //! Checked runs.
 ghost use Rattle.machine.specs.Given.{given_by};
 ghost use Rattle.machine.specs.State.{setting_of};
-ghost use Rattle.maps.specs.Words.{IsOf};
+ghost use Rattle.maps.specs.Words.{IsSeatOf};
 ghost use Rattle.interp.specs.Halts.{HaltsAt};
 ghost use Rattle.interp.specs.Outcome.{Outcome};
 
@@ -29,10 +29,10 @@ pub fn run_checked(
     shared: &Shared,
     seat: &mut Seat,
 ) -> Result<Run, Trap>
-    requires { IsOf shared.now seat.old }
+    requires { IsSeatOf shared.now seat.old }
     ensures outcome { Outcome (setting_of code.now hook (given_by input.now)) limit seat.old result
         seat.new }
-    ensures table { IsOf shared.now seat.new }
+    ensures table { IsSeatOf shared.now seat.new }
 {
     let mut state = steps::start();
     steps::run_steps(code.slots(), hook, limit, input, shared, seat, &mut state)
@@ -57,12 +57,12 @@ pub fn run_to_halt(
     shared: &Shared,
     seat: &mut Seat,
 ) -> Halt
-    requires { IsOf shared.now seat.old }
+    requires { IsSeatOf shared.now seat.old }
     ensures outcome { Outcome (setting_of code.now hook (given_by input.now)) limit seat.old
         result.outcome seat.new }
     ensures halts { HaltsAt (setting_of code.now hook (given_by input.now)) limit seat.old
         result.outcome result.state seat.new }
-    ensures table { IsOf shared.now seat.new }
+    ensures table { IsSeatOf shared.now seat.new }
 {
     let mut state = steps::start();
     let outcome = steps::run_steps(code.slots(), hook, limit, input, shared, seat, &mut state);

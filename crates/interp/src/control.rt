@@ -8,7 +8,7 @@ ghost use Rattle.machine.specs.Steps.{Branches, test_result};
 ghost use Rattle.machine.specs.Helpers.{helper_of};
 ghost use Rattle.helpers.specs.Calls.{fault_of_call};
 ghost use Rattle.helpers.specs.Seats.{SeatMakes};
-ghost use Rattle.maps.specs.Words.{IsOf};
+ghost use Rattle.maps.specs.Words.{IsSeatOf};
 ghost use Rattle.interp.specs.Classes.{fault_of_test, fault_of_exit, CallsInto};
 
 use crate::{contents, registers};
@@ -70,7 +70,7 @@ pub(crate) fn call(
     seat: &mut Seat,
 ) -> Result<(), Fault>
     requires slot { state.old.slot < 4096 }
-    requires table { IsOf shared.now seat.old }
+    requires table { IsSeatOf shared.now seat.old }
     ensures ok { OnOk result ((label : Label) × CallsInto hook number (given_by input.now) state.old
         label state.new × SeatMakes seat.old (label ∷ []) seat.new) }
     ensures err { IfErr result (λ fault. fault_of_call (helper_of hook number) (held state.old 1)

@@ -8,7 +8,7 @@ ghost use Rattle.machine.specs.Given.{Given, given_by};
 ghost use Rattle.machine.specs.State.{held, with_register};
 ghost use Rattle.machine.specs.Label.{Label, Silent};
 ghost use Rattle.machine.specs.Memory.{Loads, StackGives, load_length, number_of, loaded_number};
-ghost use Rattle.maps.specs.Words.{IsOf};
+ghost use Rattle.maps.specs.Words.{IsSeatOf};
 ghost use Rattle.helpers.specs.Seats.{SeatMakes};
 ghost use Rattle.interp.specs.Classes.{fault_of_load, fault_of_base_load, LoadsInto, LoadsFrom};
 
@@ -98,7 +98,7 @@ fn load_map(
     seat: &mut Seat,
 ) -> Result<(), Fault>
     requires slot { state.old.slot < 4096 }
-    requires table { IsOf shared.now seat.old }
+    requires table { IsSeatOf shared.now seat.old }
     ensures ok { OnOk result ((label : Label) × ((input : Given)
         → LoadsInto size (pointers.Map map at) input target state.old label state.new)
         × SeatMakes seat.old (label ∷ []) seat.new) }
@@ -136,7 +136,7 @@ fn load_at(
     seat: &mut Seat,
 ) -> Result<(), Fault>
     requires slot { state.old.slot < 4096 }
-    requires table { IsOf shared.now seat.old }
+    requires table { IsSeatOf shared.now seat.old }
     ensures ok { OnOk result ((label : Label) × LoadsInto size pointer (given_by input.now) target
         state.old label state.new × SeatMakes seat.old (label ∷ []) seat.new) }
     ensures err { IfErr result (λ fault. fault_of_load state.old size pointer target ≡ Some fault) }
@@ -162,7 +162,7 @@ pub(crate) fn load(
     seat: &mut Seat,
 ) -> Result<(), Fault>
     requires slot { state.old.slot < 4096 }
-    requires table { IsOf shared.now seat.old }
+    requires table { IsSeatOf shared.now seat.old }
     ensures ok { OnOk result ((label : Label) × LoadsFrom size base offset (given_by input.now)
         target state.old label state.new × SeatMakes seat.old (label ∷ []) seat.new) }
     ensures err { IfErr result (λ fault. fault_of_base_load state.old size (held state.old base)

@@ -1,7 +1,7 @@
 //! Runs of object files: from the bytes of a file and an input to what the machine answers.
 ghost use Rattle.std.specs.Prelude.{◌≡◌, IfOk, IfErr, OnErr};
 ghost use Rattle.machine.specs.Given.{given_by};
-ghost use Rattle.maps.specs.Words.{IsOf};
+ghost use Rattle.maps.specs.Words.{IsSeatOf};
 ghost use Rattle.interp.specs.ObjectRuns.{HaltsObject, RunsObject, Refuses};
 
 use crate::checked::{Halt, run_to_halt};
@@ -29,10 +29,10 @@ pub fn run_object(
     shared: &Shared,
     seat: &mut Seat,
 ) -> Result<Result<Run, Trap>, RunError>
-    requires { IsOf shared.now seat.old }
+    requires { IsSeatOf shared.now seat.old }
     ensures runs { IfOk result (λ outcome. RunsObject bytes.now limit (given_by input.now) seat.old
         outcome seat.new) }
-    ensures table { IsOf shared.now seat.new }
+    ensures table { IsSeatOf shared.now seat.new }
     ensures refuses { IfErr result (Refuses bytes.now) }
     ensures same { OnErr result (seat.new ≡ seat.old) }
 {
@@ -56,12 +56,12 @@ pub fn run_object_to_halt(
     shared: &Shared,
     seat: &mut Seat,
 ) -> Result<Halt, RunError>
-    requires { IsOf shared.now seat.old }
+    requires { IsSeatOf shared.now seat.old }
     ensures runs { IfOk result (λ halt. RunsObject bytes.now limit (given_by input.now) seat.old
         halt.outcome seat.new) }
     ensures halts { IfOk result (λ halt. HaltsObject bytes.now limit (given_by input.now) seat.old
         halt.outcome halt.state seat.new) }
-    ensures table { IsOf shared.now seat.new }
+    ensures table { IsSeatOf shared.now seat.new }
     ensures refuses { IfErr result (Refuses bytes.now) }
     ensures same { OnErr result (seat.new ≡ seat.old) }
 {

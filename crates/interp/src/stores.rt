@@ -5,7 +5,7 @@ ghost use Rattle.machine.specs.declared.state.Pointer.TheVariants as pointers;
 ghost use Rattle.isa.specs.declared.map.Map.TheVariants.{Cells};
 ghost use Rattle.machine.specs.State.{held, operand};
 ghost use Rattle.machine.specs.Label.{Label, Silent};
-ghost use Rattle.maps.specs.Words.{IsOf};
+ghost use Rattle.maps.specs.Words.{IsSeatOf};
 ghost use Rattle.helpers.specs.Seats.{SeatMakes};
 ghost use Rattle.interp.specs.Classes.{fault_of_store, fault_of_base_store, StoresAt, StoresFrom};
 
@@ -63,7 +63,7 @@ fn store_cell(
     seat: &mut Seat,
 ) -> Result<(), Fault>
     requires slot { state.old.slot < 4096 }
-    requires table { IsOf shared.now seat.old }
+    requires table { IsSeatOf shared.now seat.old }
     ensures ok { OnOk result ((label : Label) × StoresAt size (pointers.Map Cells at)
         (Number number) state.old label state.new × SeatMakes seat.old (label ∷ []) seat.new) }
     ensures err { IfErr result (λ fault. fault_of_store size (pointers.Map Cells at) (Number number)
@@ -93,7 +93,7 @@ fn store_at(
     seat: &mut Seat,
 ) -> Result<(), Fault>
     requires slot { state.old.slot < 4096 }
-    requires table { IsOf shared.now seat.old }
+    requires table { IsSeatOf shared.now seat.old }
     ensures ok { OnOk result ((label : Label) × StoresAt size pointer content state.old label
         state.new × SeatMakes seat.old (label ∷ []) seat.new) }
     ensures err { IfErr result (λ fault. fault_of_store size pointer content ≡ Some fault) }
@@ -126,7 +126,7 @@ pub(crate) fn store(
     seat: &mut Seat,
 ) -> Result<(), Fault>
     requires slot { state.old.slot < 4096 }
-    requires table { IsOf shared.now seat.old }
+    requires table { IsSeatOf shared.now seat.old }
     ensures ok { OnOk result ((label : Label) × StoresFrom size base offset source state.old label
         state.new × SeatMakes seat.old (label ∷ []) seat.new) }
     ensures err { IfErr result (λ fault. fault_of_base_store size (held state.old base) offset

@@ -7,7 +7,7 @@ ghost use mathlib.Core.Option.{some};
 ghost use lib.ListN.{get_elem?};
 ghost use Rattle.maps.specs.declared.access.Access.TheVariants.{Add, Read, Cell, SetCell};
 ghost use Rattle.maps.specs.Access.{adds_to, adds_made, floor, last_stored};
-ghost use Rattle.maps.specs.Words.{IsOf, seat_after, fresh};
+ghost use Rattle.maps.specs.Words.{IsSeatOf, seat_after, fresh};
 ghost use Rattle.maps.specs.Words.{history_of, blank_lists, IsSized, IsLawful};
 
 use crate::access::View;
@@ -50,7 +50,7 @@ impl Shared {
     pub fn new(alloc: Global, count: usize) -> Result<(Shared, Vec<Seat>), MapsError>
         ensures seats { (result ≡ Err MapsError.Seats) ↔ ((count ≡ 0) ⊎ (64 < count)) }
         ensures table { IfOk result (λ r. r.0.seats ≡ count) }
-        ensures own { IfOk result (λ r. All (IsOf r.0) r.1.items) }
+        ensures own { IfOk result (λ r. All (IsSeatOf r.0) r.1.items) }
         ensures fresh { IfOk result (λ r. r.1.items ≡ map (fresh r.0.table)
             (range_with_len 0 count)) }
     {
@@ -67,7 +67,7 @@ impl Shared {
     /// their adds, which is below 2^61.
     pub fn close(self, seats: Vec<Seat>) -> Totals
         requires all { length seats.items ≡ self.seats }
-        requires table { All (IsOf self) seats.items }
+        requires table { All (IsSeatOf self) seats.items }
         ensures sums { (k : ℕ) → k < 256 → slice_index result.sums k
             ≡ sum_by (λ s. adds_to k s.accesses) seats.items }
         ensures small { (k : ℕ) → k < 256 → slice_index result.sums k < 2 ^ 61 }
@@ -86,7 +86,7 @@ impl Shared {
     /// Adds an amount below 2^24 to one of the 256 counters and returns 0; once the seat has made
     /// its 2^31 adds, does nothing and returns 1.
     pub fn add(&self, seat: &mut Seat, index: usize, amount: u64) -> u64
-        requires table { IsOf self.now seat.old }
+        requires table { IsSeatOf self.now seat.old }
         requires index { index < 256 }
         requires amount { amount < 2 ^ 24 }
         ensures added { adds_made seat.old.accesses < 2 ^ 31 → (result ≡ 0)
@@ -106,7 +106,7 @@ impl Shared {
     /// The value of one of the 256 counters. It is at least what the seat's own accesses imply:
     /// what the seat last read there plus what it added since.
     pub fn read(&self, seat: &mut Seat, index: usize) -> u64
-        requires table { IsOf self.now seat.old }
+        requires table { IsSeatOf self.now seat.old }
         requires index { index < 256 }
         ensures noted { seat.new ≡ seat_after seat.old (Read index result) }
         ensures floor { floor index seat.old.accesses ≤ result }
@@ -117,7 +117,7 @@ impl Shared {
 
     /// The value of one of the seat's own 64 cells: what the seat last stored there, or 0.
     pub fn cell(&self, seat: &mut Seat, index: usize) -> u64
-        requires table { IsOf self.now seat.old }
+        requires table { IsSeatOf self.now seat.old }
         requires index { index < 64 }
         ensures noted { seat.new ≡ seat_after seat.old (Cell index result) }
         ensures value { result ≡ last_stored index seat.old.accesses }
@@ -128,7 +128,7 @@ impl Shared {
 
     /// Stores a number in one of the seat's own 64 cells.
     pub fn set_cell(&self, seat: &mut Seat, index: usize, value: u64)
-        requires table { IsOf self.now seat.old }
+        requires table { IsSeatOf self.now seat.old }
         requires index { index < 64 }
         ensures { seat.new ≡ seat_after seat.old (SetCell index value) }
     {

@@ -1,6 +1,6 @@
 //! A question to a program.
 ghost use Rattle.std.specs.Prelude.{IfOk, IfErr};
-ghost use Rattle.maps.specs.Words.{IsOf};
+ghost use Rattle.maps.specs.Words.{IsSeatOf};
 ghost use Rattle.object_trials.specs.Runs.{IsAsked, IsRefusal};
 
 use crate::error::TrialError;
@@ -30,10 +30,10 @@ pub(crate) fn ask(
     shared: &Shared,
     seat: &mut Seat,
 ) -> Result<Vec<RunEnding>, TrialError>
-    requires { IsOf shared.now seat.old }
+    requires { IsSeatOf shared.now seat.old }
     ensures asked { IfOk result (λ endings. IsAsked bytes.now packet.now question.now seat.old
         endings.items seat.new) }
-    ensures table { IsOf shared.now seat.new }
+    ensures table { IsSeatOf shared.now seat.new }
     ensures refuses { IfErr result (IsRefusal bytes.now) }
 {
     let object = object::read(alloc, bytes)?;

@@ -1,7 +1,7 @@
 //! The lines of a test, played in a row.
 ghost use Rattle.std.specs.Prelude.{◌≡◌, ◌%◌, ◌++◌, ◌⊎◌, IfErr, IfOk, OnOk};
 ghost use Rattle.maps.specs.Access.{last_stored};
-ghost use Rattle.maps.specs.Words.{IsOf, seat_after};
+ghost use Rattle.maps.specs.Words.{IsSeatOf, seat_after};
 ghost use Rattle.maps.specs.declared.access.Access.TheVariants.{Cell};
 ghost use Rattle.object_trials.specs.Plays.{compared, judged, points_of};
 ghost use Rattle.object_trials.specs.Stops.{IsNoCapture, IsNoProgram, IsPacketUnread, IsStopped};
@@ -55,8 +55,8 @@ fn ask_once(
     shared: &Shared,
     seat: &mut Seat,
 ) -> Result<PointResult, PlayError>
-    requires { IsOf shared.now seat.old }
-    ensures table { IsOf shared.now seat.new }
+    requires { IsSeatOf shared.now seat.old }
+    ensures table { IsSeatOf shared.now seat.new }
     ensures fault { IfErr result IsUnasked }
 {
     if stage.bytes.is_empty() {
@@ -80,8 +80,8 @@ fn ask_question<R: WholeFiles + AllocGlobal>(
     shared: &Shared,
     seat: &mut Seat,
 ) -> Result<PointResult, PlayError>
-    requires { IsOf shared.now seat.old }
-    ensures table { IsOf shared.now seat.new }
+    requires { IsSeatOf shared.now seat.old }
+    ensures table { IsSeatOf shared.now seat.new }
     ensures fault { IfErr result (λ error. IsUnasked error
         ⊎ IsPacketUnread R.known question.now.packet error) }
 {
@@ -105,8 +105,8 @@ fn ask_frame(
     shared: &Shared,
     seat: &mut Seat,
 ) -> Result<Option<PointResult>, PlayError>
-    requires { IsOf shared.now seat.old }
-    ensures table { IsOf shared.now seat.new }
+    requires { IsSeatOf shared.now seat.old }
+    ensures table { IsSeatOf shared.now seat.new }
     ensures fault { IfErr result IsUnaskedOfOne }
 {
     match content_of(link, record.frame) {
@@ -130,8 +130,8 @@ fn ask_packets(
     shared: &Shared,
     seat: &mut Seat,
 ) -> Result<PointResult, PlayError>
-    requires { IsOf shared.now seat.old }
-    ensures table { IsOf shared.now seat.new }
+    requires { IsSeatOf shared.now seat.old }
+    ensures table { IsSeatOf shared.now seat.new }
     ensures fault { IfErr result IsUnaskedOfOne }
 {
     let mut asked: u64 = 0;
@@ -159,8 +159,8 @@ fn ask_bytes(
     shared: &Shared,
     seat: &mut Seat,
 ) -> Result<PointResult, PlayError>
-    requires { IsOf shared.now seat.old }
-    ensures table { IsOf shared.now seat.new }
+    requires { IsSeatOf shared.now seat.old }
+    ensures table { IsSeatOf shared.now seat.new }
     ensures fault { IfErr result (IsUnaskedOf bytes.now) }
 {
     match captures::read(alloc, bytes) {
@@ -179,8 +179,8 @@ fn ask_capture<R: WholeFiles + AllocGlobal>(
     shared: &Shared,
     seat: &mut Seat,
 ) -> Result<PointResult, PlayError>
-    requires { IsOf shared.now seat.old }
-    ensures table { IsOf shared.now seat.new }
+    requires { IsSeatOf shared.now seat.old }
+    ensures table { IsSeatOf shared.now seat.new }
     ensures fault { IfErr result (λ error. IsUnread R.known path.now error
         ⊎ IsNoCapture R.known path.now error) }
 {
@@ -216,8 +216,8 @@ fn compare(found: u64, expected: u64) -> PointResult
 
 /// The number in a cell of the seat.
 fn cell_at(shared: &Shared, seat: &mut Seat, index: u8) -> u64
-    requires { IsOf shared.now seat.old }
-    ensures table { IsOf shared.now seat.new }
+    requires { IsSeatOf shared.now seat.old }
+    ensures table { IsSeatOf shared.now seat.new }
     ensures noted { seat.new ≡ seat_after seat.old (Cell (index % 64) result) }
     ensures value { result ≡ last_stored (index % 64) seat.old.accesses }
 {
@@ -242,8 +242,8 @@ fn play_step<R: WholeFiles + AllocGlobal>(
     shared: &Shared,
     seat: &mut Seat,
 ) -> Result<Option<PointResult>, PlayError>
-    requires { IsOf shared.now seat.old }
-    ensures table { IsOf shared.now seat.new }
+    requires { IsSeatOf shared.now seat.old }
+    ensures table { IsSeatOf shared.now seat.new }
     ensures fault { IfErr result (Stops R.known step.now) }
 {
     match step {
@@ -300,8 +300,8 @@ fn play_line<'a, R: WholeFiles + AllocGlobal>(
     seat: &mut Seat,
     points: &mut Vec<Point<'a>>,
 ) -> Result<(), PlayError>
-    requires { IsOf shared.now seat.old }
-    ensures table { IsOf shared.now seat.new }
+    requires { IsSeatOf shared.now seat.old }
+    ensures table { IsSeatOf shared.now seat.new }
     ensures fault { IfErr result (λ error. (error ≡ PlayError.Memory)
         ⊎ Stops R.known line.now.step error) }
 {
@@ -322,7 +322,7 @@ fn play_lines<'a, R: WholeFiles + AllocGlobal>(
     shared: &Shared,
     seat: &mut Seat,
 ) -> Result<Vec<Point<'a>>, Stopped>
-    requires { IsOf shared.now seat.old }
+    requires { IsSeatOf shared.now seat.old }
     ensures { IfErr result (IsStopped R.known lines.now) }
 {
     let mut points = Vec::new(rt.alloc());

@@ -1,7 +1,7 @@
 //! Runs in a row.
 ghost use Rattle.std.specs.Prelude.{◌≡◌, IfOk, IfErr, length};
 ghost use Rattle.machine.specs.Given.{given_by};
-ghost use Rattle.maps.specs.Words.{IsOf};
+ghost use Rattle.maps.specs.Words.{IsSeatOf};
 ghost use Rattle.object_trials.specs.Runs.{IsRefusal, RunsInARow, RunsOnce};
 
 use crate::error::TrialError;
@@ -29,10 +29,10 @@ fn run_once(
     shared: &Shared,
     seat: &mut Seat,
 ) -> Result<RunEnding, TrialError>
-    requires { IsOf shared.now seat.old }
+    requires { IsSeatOf shared.now seat.old }
     ensures ran { IfOk result (λ ending. RunsOnce bytes.now (given_by input.now) seat.old ending
         seat.new) }
-    ensures table { IsOf shared.now seat.new }
+    ensures table { IsSeatOf shared.now seat.new }
     ensures refuses { IfErr result (IsRefusal bytes.now) }
 {
     let halt = run_object_to_halt(alloc, bytes, Limit::Own, input, shared, seat)?;
@@ -53,11 +53,11 @@ pub(crate) fn run_in_a_row(
     shared: &Shared,
     seat: &mut Seat,
 ) -> Result<Vec<RunEnding>, TrialError>
-    requires { IsOf shared.now seat.old }
+    requires { IsSeatOf shared.now seat.old }
     ensures ran { IfOk result (λ endings. RunsInARow bytes.now (given_by input.now) seat.old
         endings.items seat.new) }
     ensures times { IfOk result (λ endings. length endings.items ≡ times) }
-    ensures table { IsOf shared.now seat.new }
+    ensures table { IsSeatOf shared.now seat.new }
     ensures refuses { IfErr result (IsRefusal bytes.now) }
 {
     let mut endings = Vec::new(alloc);

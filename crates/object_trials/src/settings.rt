@@ -1,6 +1,6 @@
 //! What is done to counters and cells before a program runs.
 ghost use Rattle.std.specs.Prelude.{◌≡◌};
-ghost use Rattle.maps.specs.Words.{IsOf};
+ghost use Rattle.maps.specs.Words.{IsSeatOf};
 ghost use Rattle.object_trials.specs.Settings.{Adds, AddsOne, IsSetUp, Stores, StoresOne};
 
 use hooktool_line::Setting;
@@ -8,8 +8,8 @@ use maps::{Seat, Shared};
 
 /// Adds a number to a counter, if it is below 2^24 and the seat may still add.
 fn add_one(shared: &Shared, seat: &mut Seat, setting: Setting)
-    requires { IsOf shared.now seat.old }
-    ensures table { IsOf shared.now seat.new }
+    requires { IsSeatOf shared.now seat.old }
+    ensures table { IsSeatOf shared.now seat.new }
     ensures added { AddsOne setting seat.old seat.new }
 {
     if setting.number < 0x100_0000 {
@@ -19,8 +19,8 @@ fn add_one(shared: &Shared, seat: &mut Seat, setting: Setting)
 
 /// Adds each of the numbers to its counter.
 fn add_all(shared: &Shared, seat: &mut Seat, settings: &[Setting])
-    requires { IsOf shared.now seat.old }
-    ensures table { IsOf shared.now seat.new }
+    requires { IsSeatOf shared.now seat.old }
+    ensures table { IsSeatOf shared.now seat.new }
     ensures added { Adds settings.now seat.old seat.new }
 {
     for setting in settings {
@@ -30,8 +30,8 @@ fn add_all(shared: &Shared, seat: &mut Seat, settings: &[Setting])
 
 /// Stores a number in a cell, if there is such a cell.
 fn store_one(shared: &Shared, seat: &mut Seat, setting: Setting)
-    requires { IsOf shared.now seat.old }
-    ensures table { IsOf shared.now seat.new }
+    requires { IsSeatOf shared.now seat.old }
+    ensures table { IsSeatOf shared.now seat.new }
     ensures stored { StoresOne setting seat.old seat.new }
 {
     if setting.index < 64 {
@@ -41,8 +41,8 @@ fn store_one(shared: &Shared, seat: &mut Seat, setting: Setting)
 
 /// Stores each of the numbers in its cell.
 fn store_all(shared: &Shared, seat: &mut Seat, settings: &[Setting])
-    requires { IsOf shared.now seat.old }
-    ensures table { IsOf shared.now seat.new }
+    requires { IsSeatOf shared.now seat.old }
+    ensures table { IsSeatOf shared.now seat.new }
     ensures stored { Stores settings.now seat.old seat.new }
 {
     for setting in settings {
@@ -52,8 +52,8 @@ fn store_all(shared: &Shared, seat: &mut Seat, settings: &[Setting])
 
 /// Adds to counters, and then stores in cells.
 pub(crate) fn set_up(shared: &Shared, seat: &mut Seat, counters: &[Setting], cells: &[Setting])
-    requires { IsOf shared.now seat.old }
-    ensures table { IsOf shared.now seat.new }
+    requires { IsSeatOf shared.now seat.old }
+    ensures table { IsSeatOf shared.now seat.new }
     ensures set_up { IsSetUp counters.now cells.now seat.old seat.new }
 {
     add_all(shared, seat, counters);

@@ -4,7 +4,7 @@ ghost use Rattle.std.specs.Prelude.{◌≡◌, length, IfSome};
 ghost use Rattle.std.specs.List.{slice_range};
 ghost use Rattle.isa.specs.Hooks.{hook_number};
 ghost use Rattle.machine.specs.Memory.{number_of};
-ghost use Rattle.maps.specs.Words.{IsOf};
+ghost use Rattle.maps.specs.Words.{IsSeatOf};
 
 use asm::assemble;
 use interp::{Run, run, run_checked};
@@ -41,7 +41,7 @@ fn code_in(alloc: Global, bytes: &[u8]) -> Option<Code> {
 
 /// A table with one seat, and its seat.
 pub fn one_seat(alloc: Global) -> Option<(Shared, Seat)>
-    ensures { IfSome result (λ r. IsOf r.0 r.1) }
+    ensures { IfSome result (λ r. IsSeatOf r.0 r.1) }
 {
     let Ok((words, mut seats)) = Shared::new(alloc, 1) else {
         return None;
@@ -95,8 +95,8 @@ fn agreed_at(
     one: &mut Seat,
     other: &mut Seat,
 ) -> Option<Run>
-    requires one { IsOf words.0.now one.old }
-    requires other { IsOf words.1.now other.old }
+    requires one { IsSeatOf words.0.now one.old }
+    requires other { IsSeatOf words.1.now other.old }
     requires hook { number_of (slice_range input.now.context 0 4) ≡ hook_number accepted.now.hook }
 {
     let bound = accepted.bound();

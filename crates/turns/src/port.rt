@@ -1,7 +1,7 @@
 //! A worker's port.
 ghost use Rattle.std.specs.Prelude.{◌≡◌};
 ghost use mathlib.Core.List.{IsPrefix};
-ghost use Rattle.maps.specs.Words.{IsOf};
+ghost use Rattle.maps.specs.Words.{IsSeatOf};
 ghost use Rattle.hooks.specs.Known.{asks_of, known_to, tells_of, told_by};
 
 use crate::site::{Site, WorkerSeat};
@@ -19,7 +19,7 @@ pub struct Port<L: Site> {
     pub(crate) seat: Seat,
     pub(crate) asker: Asker,
     pub ghost one_part: { share.parts ≡ 1 },
-    pub ghost seated: { IsOf L.words seat },
+    pub ghost seated: { IsSeatOf L.words seat },
     pub ghost asks: { asks_of asker ≡ L.history },
 }
 
@@ -60,7 +60,7 @@ impl<L: Site> Port<L> {
     /// The share and the seat that a worker brings back.
     pub fn into_parts(self) -> (Share<L>, Seat)
         ensures share { (result.0 ≡ self.share) × (result.0.parts ≡ 1) }
-        ensures seat { (result.1 ≡ self.seat) × IsOf L.words result.1 }
+        ensures seat { (result.1 ≡ self.seat) × IsSeatOf L.words result.1 }
     {
         let Port {
             number: _,

@@ -1,7 +1,7 @@
 //! What a turn asks the programs, and the event that it makes of the answers.
 ghost use Rattle.std.specs.Prelude.{◌≡◌, IfErr, IfOk};
 ghost use mathlib.Core.List.{IsPrefix};
-ghost use Rattle.maps.specs.Words.{IsOf};
+ghost use Rattle.maps.specs.Words.{IsSeatOf};
 ghost use Rattle.hooks.specs.Known.{asks_of, known_to};
 ghost use Rattle.turns.specs.Turns.{
   AreVetoes,
@@ -38,14 +38,14 @@ pub fn make_event<L: Site, B: Taker<L>, R: Wait>(
     moment: Second,
     work: &Work,
 ) -> Result<Event, TurnError>
-    requires { IsOf L.words seat.old }
+    requires { IsSeatOf L.words seat.old }
     ensures event { IfOk result (λ event.
         IsEventOfWork B.offers (known_to asker.old) (known_to asker.new) work.now moment event) }
     ensures counted { CountsFor B.refuses (known_to asker.old) (known_to asker.new)
         seat.old seat.new work.now moment }
     ensures asked { AsksFor B.took moment work.now }
     ensures err { IfErr result (RefusesQuestions B.refuses work.now moment) }
-    ensures seat { IsOf L.words seat.new }
+    ensures seat { IsSeatOf L.words seat.new }
     ensures history { asks_of asker.new ≡ asks_of asker.old }
     ensures known { IsPrefix (known_to asker.old) (known_to asker.new) }
 {
@@ -80,12 +80,12 @@ fn make_redistribute<L: Site, B: Taker<L>, R: Wait>(
     moment: Second,
     external: &External,
 ) -> Result<Event, TurnError>
-    requires { IsOf L.words seat.old }
+    requires { IsSeatOf L.words seat.old }
     ensures event { IfOk result (λ event.
         IsEventOfWork B.offers (known_to asker.old) (known_to asker.new)
         (Work.Add external.now) moment event) }
     ensures err { IfErr result (RefusesQuestions B.refuses (Work.Add external.now) moment) }
-    ensures seat { IsOf L.words seat.new }
+    ensures seat { IsSeatOf L.words seat.new }
     ensures history { asks_of asker.new ≡ asks_of asker.old }
     ensures known { IsPrefix (known_to asker.old) (known_to asker.new) }
 {
@@ -105,12 +105,12 @@ fn ask_about_external<L: Site, B: Taker<L>, R: Wait>(
     moment: Second,
     external: &External,
 ) -> Result<Event, TurnError>
-    requires { IsOf L.words seat.old }
+    requires { IsSeatOf L.words seat.old }
     ensures event { IfOk result (λ event.
         IsEventOfWork B.offers (known_to asker.old) (known_to asker.new)
         (Work.Add external.now) moment event) }
     ensures err { IfErr result (RefusesQuestions B.refuses (Work.Add external.now) moment) }
-    ensures seat { IsOf L.words seat.new }
+    ensures seat { IsSeatOf L.words seat.new }
     ensures history { asks_of asker.new ≡ asks_of asker.old }
     ensures known { IsPrefix (known_to asker.old) (known_to asker.new) }
 {
@@ -135,7 +135,7 @@ fn ask_tag_and_price<L: Site, B: Taker<L>>(
     external: &External,
     offered: &Offered,
 ) -> Result<(TagAnswer, PriceAnswer), TurnError>
-    requires { IsOf shared.now seat.old }
+    requires { IsSeatOf shared.now seat.old }
     ensures tag { IfOk result (λ r.
         IsTagOn (known_to asker.old) (known_to asker.new) external.now moment
         offered.now.rows.items r.0) }
@@ -143,7 +143,7 @@ fn ask_tag_and_price<L: Site, B: Taker<L>>(
         IsPriceOn (known_to asker.old) (known_to asker.new) external.now moment
         offered.now.rows.items r.1) }
     ensures err { IfErr result (RefusesQuestions B.refuses (Work.Add external.now) moment) }
-    ensures seat { IsOf shared.now seat.new }
+    ensures seat { IsSeatOf shared.now seat.new }
     ensures history { asks_of asker.new ≡ asks_of asker.old }
     ensures known { IsPrefix (known_to asker.old) (known_to asker.new) }
 {
@@ -163,11 +163,11 @@ fn tag<L: Site, B: Taker<L>>(
     shared: &Shared,
     seat: &mut Seat,
 ) -> Result<TagAnswer, TurnError>
-    requires { IsOf shared.now seat.old }
+    requires { IsSeatOf shared.now seat.old }
     ensures answer { IfOk result (λ a.
         IsTagOn (known_to asker.old) (known_to asker.new) external.now moment rows.now a) }
     ensures err { IfErr result (RefusesQuestions B.refuses (Work.Add external.now) moment) }
-    ensures seat { IsOf shared.now seat.new }
+    ensures seat { IsSeatOf shared.now seat.new }
     ensures history { asks_of asker.new ≡ asks_of asker.old }
     ensures known { IsPrefix (known_to asker.old) (known_to asker.new) }
 {
@@ -185,11 +185,11 @@ fn price<L: Site, B: Taker<L>>(
     shared: &Shared,
     seat: &mut Seat,
 ) -> Result<PriceAnswer, TurnError>
-    requires { IsOf shared.now seat.old }
+    requires { IsSeatOf shared.now seat.old }
     ensures answer { IfOk result (λ a.
         IsPriceOn (known_to asker.old) (known_to asker.new) external.now moment rows.now a) }
     ensures err { IfErr result (RefusesQuestions B.refuses (Work.Add external.now) moment) }
-    ensures seat { IsOf shared.now seat.new }
+    ensures seat { IsSeatOf shared.now seat.new }
     ensures history { asks_of asker.new ≡ asks_of asker.old }
     ensures known { IsPrefix (known_to asker.old) (known_to asker.new) }
 {
@@ -212,11 +212,11 @@ pub fn make_install<L: Site, B: Taker<L>, R: Wait>(
     seat: &mut Seat,
     moment: Second,
 ) -> Result<Event, TurnError>
-    requires { IsOf L.words seat.old }
+    requires { IsSeatOf L.words seat.old }
     ensures event { IfOk result (λ event.
         IsInstall B.offers (known_to asker.old) (known_to asker.new) moment event) }
     ensures err { IfErr result (RefusesQuestions B.refuses Work.Refresh moment) }
-    ensures seat { IsOf L.words seat.new }
+    ensures seat { IsSeatOf L.words seat.new }
     ensures history { asks_of asker.new ≡ asks_of asker.old }
     ensures known { IsPrefix (known_to asker.old) (known_to asker.new) }
 {
@@ -235,11 +235,11 @@ fn let_in<L: Site, B: Taker<L>, R: Wait>(
     seat: &mut Seat,
     moment: Second,
 ) -> Result<Event, TurnError>
-    requires { IsOf L.words seat.old }
+    requires { IsSeatOf L.words seat.old }
     ensures event { IfOk result (λ event.
         IsInstall B.offers (known_to asker.old) (known_to asker.new) moment event) }
     ensures err { IfErr result (RefusesQuestions B.refuses Work.Refresh moment) }
-    ensures seat { IsOf L.words seat.new }
+    ensures seat { IsSeatOf L.words seat.new }
     ensures history { asks_of asker.new ≡ asks_of asker.old }
     ensures known { IsPrefix (known_to asker.old) (known_to asker.new) }
 {
@@ -259,11 +259,11 @@ fn ask_about_candidates<L: Site, B: Taker<L>, R: Wait>(
     seat: &mut Seat,
     moment: Second,
 ) -> Result<Event, TurnError>
-    requires { IsOf L.words seat.old }
+    requires { IsSeatOf L.words seat.old }
     ensures event { IfOk result (λ event.
         IsInstall B.offers (known_to asker.old) (known_to asker.new) moment event) }
     ensures err { IfErr result (RefusesQuestions B.refuses Work.Refresh moment) }
-    ensures seat { IsOf L.words seat.new }
+    ensures seat { IsSeatOf L.words seat.new }
     ensures history { asks_of asker.new ≡ asks_of asker.old }
     ensures known { IsPrefix (known_to asker.old) (known_to asker.new) }
 {
@@ -280,11 +280,11 @@ fn ask_vetoes<L: Site, B: Taker<L>>(
     moment: Second,
     offered: &Offered,
 ) -> Result<Vec<VetoAnswer>, TurnError>
-    requires { IsOf shared.now seat.old }
+    requires { IsSeatOf shared.now seat.old }
     ensures answers { IfOk result (λ answers. AreVetoes (known_to asker.old) (known_to asker.new)
         moment offered.now.rows.items offered.now.candidates.items answers.items) }
     ensures err { IfErr result (RefusesQuestions B.refuses Work.Refresh moment) }
-    ensures seat { IsOf shared.now seat.new }
+    ensures seat { IsSeatOf shared.now seat.new }
     ensures history { asks_of asker.new ≡ asks_of asker.old }
     ensures known { IsPrefix (known_to asker.old) (known_to asker.new) }
 {

@@ -1,7 +1,7 @@
 //! What all workers of one router have in common, by which their types know one another.
 ghost use Rattle.std.specs.Prelude.{◌≡◌, []};
 ghost use Rattle.logbook.specs.Pages.{Book as History};
-ghost use Rattle.maps.specs.Words.{IsOf, SharedWords};
+ghost use Rattle.maps.specs.Words.{IsSeatOf, SharedWords};
 ghost use Rattle.hooks.specs.Known.{asks_of};
 
 use flood::Origin;
@@ -43,7 +43,7 @@ pub struct WorkerSeat<L: Site> {
     pub(crate) seat: Seat,
     pub(crate) asker: Asker,
     pub(crate) of: PhantomData<L>,
-    pub ghost seated: { IsOf L.words seat },
+    pub ghost seated: { IsSeatOf L.words seat },
     pub ghost asks: { asks_of asker ≡ L.history },
 }
 
@@ -51,7 +51,7 @@ impl<L: Site> WorkerSeat<L> {
     /// Pairs a seat with an asker, for one port. Both have to be the site's: the seat of its table,
     /// the asker of its programs.
     pub fn new(seat: Seat, asker: Asker) -> WorkerSeat<L>
-        requires seated { IsOf L.words seat }
+        requires seated { IsSeatOf L.words seat }
         requires asks { asks_of asker ≡ L.history }
     {
         WorkerSeat {

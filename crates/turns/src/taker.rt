@@ -9,7 +9,7 @@ ghost use Rattle.words.specs.Numbers.{InterfaceNumber, Moment, RouterNumber};
 ghost use Rattle.words.specs.Prefixes.{Network};
 ghost use Rattle.words.specs.declared.route.Route.{Route as RouteValue};
 ghost use Rattle.words.specs.declared.route.TableRow.{TableRow};
-ghost use Rattle.maps.specs.Words.{IsOf};
+ghost use Rattle.maps.specs.Words.{IsSeatOf};
 ghost use Rattle.hooks.specs.Answered.{AreAnswered, IsAnswered};
 ghost use Rattle.hooks.specs.Known.{asks_of, known_to, told_by};
 ghost use Rattle.hooks.specs.Questions.{count_input, price_input, tag_input, veto_input};
@@ -148,7 +148,7 @@ pub trait Taker<L: Origin> {
         shared: &Shared,
         seat: &mut Seat,
     ) -> Option<HookAnswer>
-        requires { IsOf shared.now seat.old }
+        requires { IsSeatOf shared.now seat.old }
         ensures history { asks_of asker.new ≡ asks_of asker.old }
         ensures asked { IsAsked took (count_input interface moment packet.now) }
         ensures unread { IfNone result ((known_to asker.new ≡ known_to asker.old)
@@ -157,7 +157,7 @@ pub trait Taker<L: Origin> {
             (IsLacking refuses (Lack.Reading (count_input interface moment packet.now))) }
         ensures answered { IfSome result (λ a. IsAnswered (known_to asker.old) (known_to asker.new)
             seat.old seat.new (count_input interface moment packet.now) a.word) }
-        ensures table { IsOf shared.now seat.new };
+        ensures table { IsSeatOf shared.now seat.new };
 
     /// Asks the program at `tag` for a destination's tag, by [`Asker::tag`]. `None` if the
     /// published programs can't be read.
@@ -169,7 +169,7 @@ pub trait Taker<L: Origin> {
         shared: &Shared,
         seat: &mut Seat,
     ) -> Option<TagAnswer>
-        requires { IsOf shared.now seat.old }
+        requires { IsSeatOf shared.now seat.old }
         ensures history { asks_of asker.new ≡ asks_of asker.old }
         ensures unread { IfNone result ((known_to asker.new ≡ known_to asker.old)
             × (seat.new ≡ seat.old)) }
@@ -179,7 +179,7 @@ pub trait Taker<L: Origin> {
             (a.external ≡ external.now) × (a.moment ≡ moment)) }
         ensures answered { IfSome result (λ a. IsAnswered (known_to asker.old) (known_to asker.new)
             seat.old seat.new (tag_input external.now moment rows.now) a.word) }
-        ensures table { IsOf shared.now seat.new };
+        ensures table { IsSeatOf shared.now seat.new };
 
     /// Asks the program at `price` for a destination's metric, by [`Asker::price`]. `None` if the
     /// published programs can't be read.
@@ -191,7 +191,7 @@ pub trait Taker<L: Origin> {
         shared: &Shared,
         seat: &mut Seat,
     ) -> Option<PriceAnswer>
-        requires { IsOf shared.now seat.old }
+        requires { IsSeatOf shared.now seat.old }
         ensures history { asks_of asker.new ≡ asks_of asker.old }
         ensures unread { IfNone result ((known_to asker.new ≡ known_to asker.old)
             × (seat.new ≡ seat.old)) }
@@ -201,7 +201,7 @@ pub trait Taker<L: Origin> {
             (a.external ≡ external.now) × (a.moment ≡ moment)) }
         ensures answered { IfSome result (λ a. IsAnswered (known_to asker.old) (known_to asker.new)
             seat.old seat.new (price_input external.now moment rows.now) a.word) }
-        ensures table { IsOf shared.now seat.new };
+        ensures table { IsSeatOf shared.now seat.new };
 
     /// Asks the program at `veto` whether to keep each route out of the table, by
     /// [`Asker::vetoes`]. `None` if the published programs can't be read.
@@ -214,7 +214,7 @@ pub trait Taker<L: Origin> {
         shared: &Shared,
         seat: &mut Seat,
     ) -> Result<Option<Vec<VetoAnswer>>, AllocError>
-        requires { IsOf shared.now seat.old }
+        requires { IsSeatOf shared.now seat.old }
         ensures history { asks_of asker.new ≡ asks_of asker.old }
         ensures known { IsPrefix (known_to asker.old) (known_to asker.new) }
         ensures lacking { IfOk result (λ o. IfNone o ((route : RouteValue)
@@ -224,7 +224,7 @@ pub trait Taker<L: Origin> {
             AreAnswered (known_to asker.old) (known_to asker.new) seat.old seat.new moment
             rows.now routes.now answers.items)) }
         ensures short { OnErr result (IsLacking refuses Lack.Memory) }
-        ensures table { IsOf shared.now seat.new };
+        ensures table { IsSeatOf shared.now seat.new };
 
     /// The answers on these routes if `veto` has no program: each is let in, by
     /// [`Asker::all_let_in`]. `None` if it has one, or the published programs can't be read.

@@ -1,6 +1,6 @@
 //! What the workers bring back: the count of all events, and the seats.
 ghost use Rattle.std.specs.Prelude.{◌≡◌, ◌+◌, All, vec_len, IfOk};
-ghost use Rattle.maps.specs.Words.{IsOf};
+ghost use Rattle.maps.specs.Words.{IsSeatOf};
 
 use maps::{Seat, Shared};
 use std::alloc::{AllocError, Global};
@@ -30,7 +30,7 @@ pub fn settle<L: Site>(
     ensures taken { IfOk result (λ r. book.old.taken ≡ r.share.amount) }
     ensures parts { IfOk result (λ r. r.share.parts ≡ L.parts) }
     ensures seats { IfOk result (λ r.
-        (vec_len r.seats ≡ vec_len ports) × All (IsOf L.words) r.seats.items) }
+        (vec_len r.seats ≡ vec_len ports) × All (IsSeatOf L.words) r.seats.items) }
     ensures book { book.new ≡ book.old }
 {
     let mut all = rest;
@@ -74,7 +74,7 @@ pub fn close_hub<L: Site>(
     ensures taken { IfOk result (λ r. r.taken ≡ r.share.amount) }
     ensures parts { IfOk result (λ r. r.share.parts ≡ L.parts) }
     ensures every { IfOk result (λ r. vec_len r.seats ≡ r.shared.seats) }
-    ensures seated { IfOk result (λ r. All (IsOf r.shared) r.seats.items) }
+    ensures seated { IfOk result (λ r. All (IsSeatOf r.shared) r.seats.items) }
 {
     let (mut book, shared) = hub.into_parts();
     let settled = settle_back(alloc, &mut book, rest, back);
@@ -100,7 +100,7 @@ fn settle_back<L: Site>(
     ensures taken { IfOk result (λ r. book.old.taken ≡ r.share.amount) }
     ensures parts { IfOk result (λ r. r.share.parts ≡ L.parts) }
     ensures seats { IfOk result (λ r.
-        (vec_len r.seats ≡ L.words.seats) × All (IsOf L.words) r.seats.items) }
+        (vec_len r.seats ≡ L.words.seats) × All (IsSeatOf L.words) r.seats.items) }
     ensures book { book.new ≡ book.old }
 {
     let ports = back?;

@@ -1,6 +1,6 @@
 //! What workers start with.
 ghost use Rattle.std.specs.Prelude.{◌≡◌, ◌⊎◌, ◌↔◌, ◌+◌, ◌<◌, ◌≤◌, [], All, Err, IfOk, vec_len};
-ghost use Rattle.maps.specs.Words.{IsOf};
+ghost use Rattle.maps.specs.Words.{IsSeatOf};
 ghost use Rattle.hooks.specs.declared.error.HookError.TheVariants.{Count};
 ghost use Rattle.hooks.specs.Known.{IsNew, asks_of, history_of, operations_of};
 
@@ -24,7 +24,7 @@ pub struct Setup {
     pub ghost parts: { blank.parts ≡ vec_len seats },
     pub ghost every: { shared.seats ≡ vec_len seats },
     pub ghost enough: { vec_len askers ≡ vec_len seats },
-    pub ghost seated: { All (IsOf shared) seats.items },
+    pub ghost seated: { All (IsSeatOf shared) seats.items },
 }
 
 impl Setup {
@@ -64,7 +64,7 @@ fn table(alloc: Global, count: usize) -> Result<(Shared, Vec<Seat>), AllocError>
     requires { (0 < count) × (count ≤ 64) }
     ensures every { IfOk result (λ r. r.0.seats ≡ count) }
     ensures count { IfOk result (λ r. vec_len r.1 ≡ count) }
-    ensures seated { IfOk result (λ r. All (IsOf r.0) r.1.items) }
+    ensures seated { IfOk result (λ r. All (IsSeatOf r.0) r.1.items) }
 {
     match Shared::new(alloc, count) {
         Ok(made) => Ok(made),

@@ -5,7 +5,7 @@ ghost use Rattle.isa.specs.declared.hook.Hook.TheVariants.{Veto as VetoHook};
 ghost use Rattle.machine.specs.Given.{given_by};
 ghost use Rattle.machine.specs.Input.{IsOfHook};
 ghost use Rattle.machine.specs.Label.{Label};
-ghost use Rattle.maps.specs.Words.{IsOf, SeatView};
+ghost use Rattle.maps.specs.Words.{IsSeatOf, SeatView};
 ghost use Rattle.helpers.specs.Seats.{SeatMakes};
 ghost use Rattle.hooks.specs.Answered.{AreAnswered, IsVetoAnswered};
 ghost use Rattle.hooks.specs.declared.operation.LoaderOperation.{LoaderOperation};
@@ -76,10 +76,10 @@ impl Programs {
     pub fn answer(&self, input: &Input, shared: &Shared, seat: &mut Seat) -> u64
         requires asked { HasHookNumber (given_by input.now) }
         requires stands { Stands self.now }
-        requires table { IsOf shared.now seat.old }
+        requires table { IsSeatOf shared.now seat.old }
         ensures answered { (labels : List Label) × SeatMakes seat.old labels seat.new
             × Answers (published_operations self.now) (given_by input.now) labels result }
-        ensures table { IsOf shared.now seat.new }
+        ensures table { IsSeatOf shared.now seat.new }
     {
         let hook = hook_of(input);
         match self.slot(hook).program() {
@@ -104,10 +104,10 @@ impl Programs {
     ) -> u64
         requires asked { IsOfHook VetoHook (given_by input.now) }
         requires stands { Stands self.now }
-        requires table { IsOf shared.now seat.old }
+        requires table { IsSeatOf shared.now seat.old }
         ensures answered { (labels : List Label) × SeatMakes seat.old labels seat.new
             × Answers (published_operations self.now) (given_by input.now) labels result }
-        ensures table { IsOf shared.now seat.new }
+        ensures table { IsSeatOf shared.now seat.new }
     {
         match self.veto.program() {
             Some(program) => {
@@ -132,10 +132,10 @@ impl Programs {
         seat: &mut Seat,
     ) -> VetoAnswer
         requires stands { Stands self.now }
-        requires table { IsOf shared.now seat.old }
+        requires table { IsSeatOf shared.now seat.old }
         ensures answered { IsVetoAnswered (published_operations self.now)
             (published_operations self.now) seat.old seat.new moment rows.now route.now result }
-        ensures table { IsOf shared.now seat.new }
+        ensures table { IsSeatOf shared.now seat.new }
     {
         let input = Input {
             context: veto_context(*route, moment),
@@ -158,7 +158,7 @@ impl Programs {
         answers: &mut Vec<VetoAnswer>,
     )
         requires stands { Stands self.now }
-        requires table { IsOf shared.now seat.old }
+        requires table { IsSeatOf shared.now seat.old }
         requires left { vec_len answers.old < length routes.now }
         requires room { length routes.now ≤ vec_capacity answers.old }
         ensures answered { (known : List LoaderOperation) (first : SeatView)
@@ -169,7 +169,7 @@ impl Programs {
         ensures more { (vec_len answers.old < vec_len answers.new)
             × (vec_len answers.new ≤ length routes.now) }
         ensures room { vec_capacity answers.new ≡ vec_capacity answers.old }
-        ensures table { IsOf shared.now seat.new }
+        ensures table { IsSeatOf shared.now seat.new }
     {
         let mut memory = WordMemory::new();
         let from = answers.len();

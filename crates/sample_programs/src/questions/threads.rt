@@ -1,6 +1,6 @@
 //! An asker, with its loader on another thread.
 ghost use Rattle.std.specs.Prelude.{◌≡◌};
-ghost use Rattle.maps.specs.Words.{IsOf};
+ghost use Rattle.maps.specs.Words.{IsSeatOf};
 ghost use Rattle.hooks.specs.Known.{asks_of, history_of};
 
 use crate::questions::trial::{HookTrial, MOMENT, SEVEN, accepted, samples};
@@ -22,9 +22,9 @@ struct Worker {
 
 impl Worker {
     fn price(&mut self, external: &External, shared: &Shared) -> Option<u64>
-        requires { IsOf shared.now self.old.seat }
+        requires { IsSeatOf shared.now self.old.seat }
         ensures history { asks_of self.new.asker ≡ asks_of self.old.asker }
-        ensures table { IsOf shared.now self.new.seat }
+        ensures table { IsSeatOf shared.now self.new.seat }
     {
         let answer = self
             .asker
@@ -35,9 +35,9 @@ impl Worker {
     // Asks many times, while the loader attaches and detaches, and counts the words that are
     // neither the program's nor the metric.
     fn ask_for_others(&mut self, external: &External, shared: &Shared) -> u32
-        requires { IsOf shared.now self.old.seat }
+        requires { IsSeatOf shared.now self.old.seat }
         ensures history { asks_of self.new.asker ≡ asks_of self.old.asker }
-        ensures table { IsOf shared.now self.new.seat }
+        ensures table { IsSeatOf shared.now self.new.seat }
     {
         let mut others = 0u32;
         for _turn in 0..100_000u32 {
@@ -87,9 +87,9 @@ fn race<R: Threads + Wait + Sync>(
         rt,
         move || load(alloc, loader),
         move || -> (Worker, u32)
-            requires { IsOf words.now worker.seat }
+            requires { IsSeatOf words.now worker.seat }
             ensures history { asks_of result.0.asker ≡ asks_of worker.asker }
-            ensures table { IsOf words.entry.now result.0.seat }
+            ensures table { IsSeatOf words.entry.now result.0.seat }
         {
             let mut worker = worker;
             let others = worker.ask_for_others(external, words);

@@ -1,6 +1,6 @@
 //! A loader, one of its askers, and a seat of a table.
 ghost use Rattle.std.specs.Prelude.{◌≡◌, All, IfOk, IfSome};
-ghost use Rattle.maps.specs.Words.{IsOf};
+ghost use Rattle.maps.specs.Words.{IsSeatOf};
 ghost use Rattle.hooks.specs.Known.{IsNew, asks_of, history_of};
 
 use crate::trials::{accepted_in, file_of, one_seat, row};
@@ -77,7 +77,7 @@ pub struct HookTrial<R: Wait + Drop> {
     pub shared: Shared,
     pub seat: Seat,
     ghost same: { asks_of asker ≡ history_of loader },
-    ghost table: { IsOf shared seat },
+    ghost table: { IsSeatOf shared seat },
 }
 
 // A loader with as many askers as there may be. It says less than `programs`, so that search goes

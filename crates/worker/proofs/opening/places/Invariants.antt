@@ -1,6 +1,6 @@
 use Rattle.std.specs.Prelude.{◌≡◌, ◌+◌, vec_len}
 use Rattle.std.specs.List.{All}
-use Rattle.maps.specs.Words.{IsOf}
+use Rattle.maps.specs.Words.{IsSeatOf}
 use Rattle.hooks.specs.Known.{asks_of}
 use Rattle.worker.proofs.opening.places.Given as goal
 
@@ -8,7 +8,7 @@ abbrev pub invariant-loop-place : goal.invariant-loop-place
 invariant-loop-place g l = record {
   pairs : vec_len l.askers ≡ vec_len l.seats;
   count : vec_len l.seats + vec_len l.places ≡ vec_len l.initial.seats;
-  seated : All (IsOf g.L.Site.words) l.seats.items;
+  seated : All (IsSeatOf g.L.Site.words) l.seats.items;
   asks : All (λ a. asks_of a ≡ g.L.Site.history) l.askers.items;
 }
 

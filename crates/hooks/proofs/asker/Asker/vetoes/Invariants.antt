@@ -1,13 +1,13 @@
 use Rattle.std.specs.Prelude.{◌≡◌, ◌≤◌, ◌-◌, length, take, vec_capacity, vec_len}
 use mathlib.Core.List.{IsPrefix}
-use Rattle.maps.specs.Words.{IsOf}
+use Rattle.maps.specs.Words.{IsSeatOf}
 use Rattle.hooks.specs.Answered.{AreAnswered}
 use Rattle.hooks.specs.Known.{asks_of, known_to}
 use Rattle.hooks.proofs.asker.Asker.vetoes.Given as goal
 
 abbrev pub invariant-loop-asked : goal.invariant-loop-asked
 invariant-loop-asked l = record {
-  table : IsOf l.shared l.seat;
+  table : IsSeatOf l.shared l.seat;
   history : asks_of l.self ≡ asks_of l.fn.self;
   known : IsPrefix (known_to l.fn.self) (known_to l.self);
   room : length l.routes ≤ vec_capacity l.answers;

@@ -1,5 +1,5 @@
 use Rattle.std.specs.Prelude.{◌≡◌, List, take, vec_capacity, vec_len}
-use Rattle.maps.specs.Words.{IsOf, SeatView}
+use Rattle.maps.specs.Words.{IsSeatOf, SeatView}
 use Rattle.hooks.specs.declared.operation.LoaderOperation.{LoaderOperation}
 use Rattle.hooks.specs.Answered.{AreAnswered}
 use Rattle.hooks.specs.Shown.{published_operations}
@@ -7,7 +7,7 @@ use Rattle.hooks.proofs.value.Programs.vetoes.Given as goal
 
 abbrev pub invariant-loop-at : goal.invariant-loop-at
 invariant-loop-at l = record {
-  table : IsOf l.shared l.seat;
+  table : IsSeatOf l.shared l.seat;
   room : vec_capacity l.answers ≡ vec_capacity l.fn.answers;
   many : vec_len l.answers ≡ l.at;
   answered : (known : List LoaderOperation) (first : SeatView)
