@@ -115,7 +115,7 @@ fn answer_next<
     console: &mut Console<'_, S, I, O>,
 ) -> Result<Reply, ConsoleEnd>
     ensures replied { IsReplied I.gives I.fails
-        (sources B.offers B.took B.refuses B.wanted (IsListed B.own B.neighbor_at)
+        (sources B.offers B.took B.refuses B.wanted (IsListed B.began B.neighbor_at)
         IsAnyFile IsAnyPath) desk.old.interfaces
         (place console.old.input.now (operations_of desk.old.loader) (known_to port.old.asker)
         desk.old.unrefreshed port.old.share.amount port.old.seat) result
@@ -150,7 +150,7 @@ fn obey_next<
     console: &mut Console<'_, S, I, O>,
 ) -> Result<(), ConsoleEnd>
     ensures answered { OnOk result ((answer : Answer) × IsReplied I.gives I.fails
-        (sources B.offers B.took B.refuses B.wanted (IsListed B.own B.neighbor_at)
+        (sources B.offers B.took B.refuses B.wanted (IsListed B.began B.neighbor_at)
         IsAnyFile IsAnyPath) desk.old.interfaces
         (place console.old.input.now (operations_of desk.old.loader) (known_to port.old.asker)
         desk.old.unrefreshed port.old.share.amount port.old.seat) (Ok answer)
@@ -158,7 +158,7 @@ fn obey_next<
         desk.new.unrefreshed port.new.share.amount port.new.seat)
         × O.takes console.old.output.now (reply_text answer) console.new.output.now) }
     ensures over { IfErr result (λ console_end. IsOver I.gives I.fails O.fails
-        (sources B.offers B.took B.refuses B.wanted (IsListed B.own B.neighbor_at)
+        (sources B.offers B.took B.refuses B.wanted (IsListed B.began B.neighbor_at)
         IsAnyFile IsAnyPath) desk.old.interfaces
         (place console.old.input.now (operations_of desk.old.loader) (known_to port.old.asker)
         desk.old.unrefreshed port.old.share.amount port.old.seat)
@@ -195,7 +195,7 @@ fn answer_all<
     console: &mut Console<'_, S, I, O>,
 ) -> ConsoleEnd
     ensures { HasTalked I.gives I.fails O.takes O.fails
-        (sources B.offers B.took B.refuses B.wanted (IsListed B.own B.neighbor_at)
+        (sources B.offers B.took B.refuses B.wanted (IsListed B.began B.neighbor_at)
         IsAnyFile IsAnyPath) desk.old.interfaces
         (place console.old.input.now (operations_of desk.old.loader) (known_to port.old.asker)
         desk.old.unrefreshed port.old.share.amount port.old.seat)
@@ -231,7 +231,7 @@ pub fn talk<
     console: &mut Console<'_, S, I, O>,
 ) -> (Port<L>, EndedConsole)
     ensures conversed { Converses I.gives I.fails O.takes O.fails
-        (sources B.offers B.took B.refuses B.wanted (IsListed B.own B.neighbor_at)
+        (sources B.offers B.took B.refuses B.wanted (IsListed B.began B.neighbor_at)
         IsAnyFile IsAnyPath) desk.old.interfaces
         (place console.old.input.now (operations_of desk.old.loader) (known_to port.asker)
         desk.old.unrefreshed port.share.amount port.seat)

@@ -209,7 +209,7 @@ impl<L: Site, Q: Wait + Drop, K: Transport + Drop, C: Seconds + Drop> Desk<L, Q,
         path: &str,
     ) -> Reply
         ensures told { IsAnswerToAttach
-            (sources B.offers B.took B.refuses B.wanted (IsListed B.own B.neighbor_at)
+            (sources B.offers B.took B.refuses B.wanted (IsListed B.began B.neighbor_at)
             F.holds F.unreadable)
             (change (operations_of self.old.loader) (operations_of self.new.loader)
             (known_to port.old.asker) (known_to port.new.asker)
@@ -270,7 +270,7 @@ impl<L: Site, Q: Wait + Drop, K: Transport + Drop, C: Seconds + Drop> Desk<L, Q,
         command: &Command<'_>,
     ) -> Option<Reply>
         ensures told { IsCarriedOut
-            (sources B.offers B.took B.refuses B.wanted (IsListed B.own B.neighbor_at)
+            (sources B.offers B.took B.refuses B.wanted (IsListed B.began B.neighbor_at)
             F.holds F.unreadable)
             self.old.interfaces
             (change (operations_of self.old.loader) (operations_of self.new.loader)
@@ -331,7 +331,7 @@ impl<L: Site, Q: Wait + Drop, K: Transport + Drop, C: Seconds + Drop> Desk<L, Q,
         line: &str,
     ) -> Option<Reply>
         ensures told { IsObeyed
-            (sources B.offers B.took B.refuses B.wanted (IsListed B.own B.neighbor_at)
+            (sources B.offers B.took B.refuses B.wanted (IsListed B.began B.neighbor_at)
             F.holds F.unreadable)
             self.old.interfaces
             (change (operations_of self.old.loader) (operations_of self.new.loader)
@@ -373,7 +373,7 @@ impl<L: Site, Q: Wait + Drop, K: Transport + Drop, C: Seconds + Drop> Desk<L, Q,
             × IsMadeUp B.offers B.took B.refuses self.old.unrefreshed still
             (known_to port.old.asker) knew port.old.share.amount counted port.old.seat seat
             × IsObeyed
-            (sources B.offers B.took B.refuses B.wanted (IsListed B.own B.neighbor_at)
+            (sources B.offers B.took B.refuses B.wanted (IsListed B.began B.neighbor_at)
             F.holds F.unreadable)
             self.old.interfaces
             (change (operations_of self.old.loader) (operations_of self.new.loader)
@@ -407,7 +407,7 @@ impl<L: Site, Q: Wait + Drop, K: Transport + Drop, C: Seconds + Drop> Desk<L, Q,
             × IsMadeUp B.offers B.took B.refuses self.old.unrefreshed still
             (known_to port.old.asker) knew port.old.share.amount counted port.old.seat seat
             × IsObeyed
-            (sources B.offers B.took B.refuses B.wanted (IsListed B.own B.neighbor_at)
+            (sources B.offers B.took B.refuses B.wanted (IsListed B.began B.neighbor_at)
             IsAnyFile IsAnyPath)
             self.old.interfaces
             (change (operations_of self.old.loader) (operations_of self.new.loader)

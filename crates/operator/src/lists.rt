@@ -77,7 +77,7 @@ pub fn neighbors<L: Site, B: Taker<L>, R: Wait>(
     interfaces: u16,
 ) -> Result<String, AllocError>
     ensures { IfOk result (λ text.
-        ShowsNeighbors (IsListed B.own B.neighbor_at interfaces) (string_bytes text)) }
+        ShowsNeighbors (IsListed B.began B.neighbor_at interfaces) (string_bytes text)) }
 {
     let neighbors = hub.neighbors(rt, alloc, interfaces)?;
     let text = neighbors_text(alloc, &neighbors)?;

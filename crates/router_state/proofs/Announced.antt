@@ -10,7 +10,7 @@ use Rattle.words.specs.declared.key.Key.{Key}
 use Rattle.words.specs.declared.route.External.{External}
 use Rattle.flooding.specs.lsdb.Keys.{ByKey, key_cmp}
 use Rattle.flooding.proofs.lsdb.Keys.{equal, keys_exact, keys_total}
-use Rattle.router_state.specs.Owned.{AreOwn, IsOwn}
+use Rattle.router_state.specs.Owned.{AreOwn, IsWithItsKey}
 
 value_or : External → Option External → External
 value_or e None = e
@@ -25,22 +25,25 @@ module _ (id : RouterNumber) where
   none_own k e is = absurd (false≢true (ap is_some (sym (finite.get-empty key_cmp k) ∙ is)))
 
   by_key : (m : ByKey External) (key k : Key) (e x : External) (b : Bool) → AreOwn id m
-      → IsOwn id key e → eq_by_cmp key_cmp k key ≡ b → cond b (Some e) (finite.get m k) ≡ Some x
-      → IsOwn id k x
+      → IsWithItsKey id key e → eq_by_cmp key_cmp k key ≡ b → cond b (Some e) (finite.get m k)
+          ≡ Some x
+      → IsWithItsKey id k x
   by_key m key k e x true own here tied is =
-      subst (λ (y : External). IsOwn id k y) (value_is e x is)
-      (subst (λ (q : Key). IsOwn id q e) (sym (keys_exact k key (equal (key_cmp k key) tied)))
+      subst (λ (y : External). IsWithItsKey id k y) (value_is e x is)
+      (subst (λ (q : Key). IsWithItsKey id q e)
+          (sym (keys_exact k key (equal (key_cmp k key) tied)))
       here)
   by_key m key k e x false own here tied is = own k x is
 
-  pub insert_own : (m : ByKey External) (key : Key) (e : External) → AreOwn id m → IsOwn id key e
+  pub insert_own : (m : ByKey External) (key : Key) (e : External) → AreOwn id m → IsWithItsKey id
+      key e
       → AreOwn id (finite.insert m key e)
   insert_own m key e own here k x is =
       by_key m key k e x (eq_by_cmp key_cmp k key) own here refl
       (sym (finite.get-insert keys_total m key e k) ∙ is)
 
   kept : (m : ByKey External) (k : Key) (x : External) (b : Bool) → AreOwn id m
-      → cond b None (finite.get m k) ≡ Some x → IsOwn id k x
+      → cond b None (finite.get m k) ≡ Some x → IsWithItsKey id k x
   kept m k x true own is = absurd (false≢true (ap is_some is))
   kept m k x false own is = own k x is
 

@@ -81,8 +81,8 @@ IsRefused refuses = refuses.refused
 abbrev pub IsLacking : Refuses → Lack → Type 0
 IsLacking refuses = refuses.lacks
 
-abbrev pub is_counted : Refuses → (events : ℕ) → (changes : ℕ) → Type 0
-is_counted refuses = refuses.counted
+abbrev pub IsNumberOfChanges : Refuses → (events : ℕ) → (changes : ℕ) → Type 0
+IsNumberOfChanges refuses = refuses.counted
 
 -- what is said of candidates, and of the rows of the table beside them
 abbrev pub Offers : Type 1
@@ -99,12 +99,12 @@ taken_at (event.Install answers) moment last = max moment last
 taken_at (event.LinkDown interface) moment last = moment
 
 -- The clock has come to its end: the later of this moment and that of the last event of a book, of
--- which `own` is so, is past all moments. An `Install`, which is taken at the later of the two,
+-- which `began` is so, is past all moments. An `Install`, which is taken at the later of the two,
 -- is refused for its moment only then.
-abbrev pub IsAtTheEndOfTheClock : {B : Type 0} → (own : B → Type 0) → (moment_of : B → Moment)
+abbrev pub IsAtTheEndOfTheClock : {B : Type 0} → (began : B → Type 0) → (moment_of : B → Moment)
     → Moment → Type 0
-IsAtTheEndOfTheClock {B = B} own moment_of moment =
-    (book : B) × own book × (clock_end ≤ max moment (moment_of book))
+IsAtTheEndOfTheClock {B = B} began moment_of moment =
+    (book : B) × began book × (clock_end ≤ max moment (moment_of book))
 
 -- A book that began with this router says to a port with this number of events until then: the
 -- event that is given at this moment sends these, from a router to which events lead from there, at
@@ -165,8 +165,8 @@ IsWantedBySome origin events prefix wanted =
     × (wanted ≡ announces r prefix)
 
 -- a book is one that began with this router
-abbrev pub IsOwn : (origin : Router) → BookView → Type 0
-IsOwn origin b = IsAfterEvents origin b.taken b.current
+abbrev pub BeganWith : (origin : Router) → BookView → Type 0
+BeganWith origin b = IsAfterEvents origin b.taken b.current
 
 -- the neighbors at the interfaces from 1 to this number, each as it is found at its own
 pub record AreNeighbors (at : InterfaceNumber → Option (RouterNumber × NeighborState))
@@ -174,12 +174,12 @@ pub record AreNeighbors (at : InterfaceNumber → Option (RouterNumber × Neighb
   pub all : length neighbors ≡ interfaces
   pub each : (k : ℕ) → k < interfaces → slice_get neighbors k ≡ Some (at (k + 1))
 
--- they are the neighbors of one book, of which `own` is so if there is an interface
-abbrev pub IsListed : {B : Type 0} → (own : B → Type 0)
+-- they are the neighbors of one book, of which `began` is so if there is an interface
+abbrev pub IsListed : {B : Type 0} → (began : B → Type 0)
     → (at : B → InterfaceNumber → Option (RouterNumber × NeighborState)) → (interfaces : ℕ)
     → List (Option (RouterNumber × NeighborState)) → Type 0
-IsListed {B = B} own at interfaces neighbors =
-    (book : B) × (0 < interfaces → own book) × AreNeighbors (at book) interfaces neighbors
+IsListed {B = B} began at interfaces neighbors =
+    (book : B) × (0 < interfaces → began book) × AreNeighbors (at book) interfaces neighbors
 
 -- ---- answers to questions
 
@@ -217,9 +217,9 @@ AreVetoes known now moment rows routes answers =
 
 -- The datagram was counted as one of the interface: an asker's list and its seat are those after a
 -- word that the programs answer of it; or they are as before, if it got no reading.
-abbrev pub IsCounted : Refuses → (before now : List LoaderOperation) → (old new : SeatView)
+abbrev pub IsDatagramCounted : Refuses → (before now : List LoaderOperation) → (old new : SeatView)
     → InterfaceNumber → Moment → (packet : List ℕ) → Type 0
-IsCounted refuses before now old new interface moment packet =
+IsDatagramCounted refuses before now old new interface moment packet =
     ((now ≡ before) × (new ≡ old)
     × refuses.lacks (Lack.Reading (count_input interface moment packet)))
     ⊎ ((word : ℕ) × IsAnswered before now old new (count_input interface moment packet) word)
@@ -228,7 +228,7 @@ IsCounted refuses before now old new interface moment packet =
 abbrev pub CountsFor : Refuses → (before now : List LoaderOperation) → (old new : SeatView) → Work
     → Moment → Type 0
 CountsFor refuses before now old new (work.Datagram interface bytes) moment =
-    IsCounted refuses before now old new interface moment bytes
+    IsDatagramCounted refuses before now old new interface moment bytes
 CountsFor refuses before now old new work.Tick moment = Unit {0}
 CountsFor refuses before now old new (work.Add external) moment = Unit {0}
 CountsFor refuses before now old new (work.Withdraw prefix) moment = Unit {0}

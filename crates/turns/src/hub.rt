@@ -18,7 +18,7 @@ ghost use Rattle.turns.specs.Turns.{
   IsTaken,
   IsTold,
   Lack,
-  is_counted,
+  IsNumberOfChanges,
 };
 
 use crate::port::Port;
@@ -55,7 +55,7 @@ fn neighbors_of<L: Site, B: Taker<L>>(
 ) -> Result<Vec<Option<(RouterId, NeighborState)>>, AllocError>
     ensures neighbors { IfOk result (λ all.
         AreNeighbors (B.neighbor_at book.now) interfaces all.items) }
-    ensures own { 0 < interfaces → IfOk result (λ _. B.own book.now) }
+    ensures own { 0 < interfaces → IfOk result (λ _. B.began book.now) }
 {
     let mut neighbors = Vec::new(alloc);
     for interface in 0..interfaces {
@@ -130,7 +130,7 @@ impl<L: Site, B: Taker<L>> Hub<L, B> {
         ensures err { OnErr result (mine.new.amount ≡ mine.old.amount) }
         ensures clock { IsInstalling event
             → result ≡ Err (BookError.Core CoreError.ClockBack)
-            → IsAtTheEndOfTheClock B.own B.moment_of moment }
+            → IsAtTheEndOfTheClock B.began B.moment_of moment }
     {
         let mut guard = self.book.lock(rt);
         let book: &mut B = &mut *guard;
@@ -153,7 +153,7 @@ impl<L: Site, B: Taker<L>> Hub<L, B> {
             IsChangedSince B.refuses mine.old.amount changes
             ⊎ ((why : BookError) × IsRefused B.refuses mine.old.amount moment event why
             × (error ≡ TurnError.Book why))) }
-        ensures unchanged { OnOk result (is_counted B.refuses mine.old.amount changes) }
+        ensures unchanged { OnOk result (IsNumberOfChanges B.refuses mine.old.amount changes) }
         ensures share { OnOk result (mine.new.amount ≡ mine.old.amount + 1) }
         ensures parts { mine.new.parts ≡ mine.old.parts }
         ensures err { OnErr result (mine.new.amount ≡ mine.old.amount) }
@@ -200,7 +200,7 @@ impl<L: Site, B: Taker<L>> Hub<L, B> {
     /// The neighbor at the interface of this number, from 1 on, and its state; `None` if it is Down
     /// or there is no such interface.
     pub fn neighbor<R: Wait>(&self, rt: &R, interface: u16) -> Option<(RouterId, NeighborState)>
-        ensures { (book : B) × B.own book × (result ≡ B.neighbor_at book interface) }
+        ensures { (book : B) × B.began book × (result ≡ B.neighbor_at book interface) }
     {
         let guard = self.book.lock(rt);
         let book: &B = &*guard;
@@ -220,7 +220,7 @@ impl<L: Site, B: Taker<L>> Hub<L, B> {
         interfaces: u16,
     ) -> Result<Vec<Option<(RouterId, NeighborState)>>, AllocError>
         ensures { IfOk result (λ all.
-            IsListed B.own B.neighbor_at interfaces all.items) }
+            IsListed B.began B.neighbor_at interfaces all.items) }
     {
         let guard = self.book.lock(rt);
         let book: &B = &*guard;

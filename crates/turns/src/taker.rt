@@ -25,7 +25,7 @@ ghost use Rattle.turns.specs.Turns.{
   IsInstalling,
   IsLacking,
   IsOfferedBySome,
-  IsOwn,
+  BeganWith,
   IsRefused,
   IsRefusedBySome,
   IsTaken,
@@ -37,7 +37,7 @@ ghost use Rattle.turns.specs.Turns.{
   Sends,
   Took,
   announces,
-  is_counted,
+  IsNumberOfChanges,
   refuses_from,
   taken_at,
   took_from,
@@ -78,7 +78,7 @@ pub trait Taker<L: Origin> {
 
     ghost wanted: { ℕ → Network → Bool → Type 0 };
 
-    ghost own: { Self → Type 0 };
+    ghost began: { Self → Type 0 };
 
     ghost neighbor_at: { Self → InterfaceNumber → Option (RouterNumber × NeighborState) };
 
@@ -107,7 +107,7 @@ pub trait Taker<L: Origin> {
         ensures err { OnErr result (mine.new.amount ≡ mine.old.amount) }
         ensures clock { IsInstalling event
             → result ≡ Err (BookError.Core CoreError.ClockBack)
-            → own self.old × (clock_end ≤ max moment (moment_of self.old)) };
+            → began self.old × (clock_end ≤ max moment (moment_of self.old)) };
 
     /// The candidates for the routing table now, and the table's rows now.
     ///
@@ -136,7 +136,7 @@ pub trait Taker<L: Origin> {
     /// there is no such interface.
     fn neighbor(&self, interface: u16) -> Option<(RouterId, NeighborState)>
         ensures at { result ≡ neighbor_at self.now interface }
-        ensures own { own self.now };
+        ensures own { began self.now };
 
     /// Runs the program at `count` on a packet, by [`Asker::count`]. `None` if the published
     /// programs can't be read.
@@ -251,7 +251,7 @@ pub trait Taker<L: Origin> {
 
     /// How many changes were counted, as it is read by the port that has this share.
     fn changes(changes: &AtomicU64, mine: &Share<L>) -> u64
-        ensures { is_counted refuses mine.now.amount result };
+        ensures { IsNumberOfChanges refuses mine.now.amount result };
 }
 
 // When an event that is given at a moment is taken, after one that came last: an `Install` isn't
@@ -292,7 +292,7 @@ impl<L: Origin> Taker<L> for Book<L> {
 
     ghost wanted = { λ events prefix wanted. IsWantedBySome L.origin events prefix wanted };
 
-    ghost own = { λ book. IsOwn L.origin book };
+    ghost began = { λ book. BeganWith L.origin book };
 
     ghost neighbor_at = { λ book interface. shown_at book.current interface };
 
@@ -320,7 +320,7 @@ impl<L: Origin> Taker<L> for Book<L> {
         ensures err { OnErr result (mine.new.amount ≡ mine.old.amount) }
         ensures clock { IsInstalling event
             → result ≡ Err (BookError.Core CoreError.ClockBack)
-            → IsOwn L.origin self.old × (clock_end ≤ max moment self.old.current.moment) }
+            → BeganWith L.origin self.old × (clock_end ≤ max moment self.old.current.moment) }
     {
         // For the prover alone, by what the call ensures.
         self.audit(mine);

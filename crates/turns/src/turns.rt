@@ -13,7 +13,7 @@ ghost use Rattle.turns.specs.Turns.{
   RefusesQuestions,
   RefusesFor,
   TakesFor,
-  is_counted,
+  IsNumberOfChanges,
 };
 
 use crate::gate::Gate;
@@ -77,7 +77,7 @@ pub fn turn<L: Site, B: Taker<L>, G: Gate, R: Wait>(
     ensures err { OnErr result (port.new.share.amount ≡ port.old.share.amount) }
     ensures clock { work.now ≡ Work.Refresh
         → result ≡ Err (TurnError.Book (BookError.Core CoreError.ClockBack))
-        → IsAtTheEndOfTheClock B.own B.moment_of moment }
+        → IsAtTheEndOfTheClock B.began B.moment_of moment }
     ensures number { port.new.number ≡ port.old.number }
     ensures known { IsPrefix (known_to port.old.asker) (known_to port.new.asker) }
 {
@@ -123,7 +123,7 @@ fn follow<L: Site, B: Taker<L>, R: Wait>(
         port.old.share.amount moment Work.Refresh outs.items left)
         × (port.new.share.amount ≡ port.old.share.amount + 1)) }
     ensures unchanged { IfSome result (λ _.
-        is_counted B.refuses port.old.share.amount changes) }
+        IsNumberOfChanges B.refuses port.old.share.amount changes) }
     ensures number { port.new.number ≡ port.old.number }
     ensures known { IsPrefix (known_to port.old.asker) (known_to port.new.asker) }
 {
@@ -151,7 +151,7 @@ fn refresh<L: Site, B: Taker<L>, R: Wait>(
         IsChangedSince B.refuses port.old.share.amount changes
         ⊎ RefusesFor B.offers B.refuses (known_to port.old.asker) (known_to port.new.asker)
         port.old.share.amount moment Work.Refresh error) }
-    ensures unchanged { OnOk result (is_counted B.refuses port.old.share.amount changes) }
+    ensures unchanged { OnOk result (IsNumberOfChanges B.refuses port.old.share.amount changes) }
     ensures share { OnOk result (port.new.share.amount ≡ port.old.share.amount + 1) }
     ensures err { OnErr result (port.new.share.amount ≡ port.old.share.amount) }
     ensures number { port.new.number ≡ port.old.number }

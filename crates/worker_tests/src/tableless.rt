@@ -40,7 +40,7 @@ impl<L: Site> Taker<L> for Tableless<L> {
 
     ghost wanted = { λ events prefix wanted. ⊤ };
 
-    ghost own = { λ it. ⊤ };
+    ghost began = { λ it. ⊤ };
 
     ghost neighbor_at = { λ it interface. None };
 

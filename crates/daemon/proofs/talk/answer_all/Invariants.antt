@@ -11,7 +11,7 @@ invariant-loop g l = record {
   interfaces : l.desk.interfaces ≡ l.initial.desk.interfaces;
   talking : Talking g.I.ReadsBytes.gives g.I.ReadsBytes.fails g.O.WritesTexts.takes
       (sources g.B.Taker.offers g.B.Taker.took g.B.Taker.refuses g.B.Taker.wanted
-      (IsListed g.B.Taker.own g.B.Taker.neighbor_at)
+      (IsListed g.B.Taker.began g.B.Taker.neighbor_at)
       IsAnyFile IsAnyPath)
       l.initial.desk.interfaces
       (place l.initial.console.input.now (operations_of l.initial.desk.loader)

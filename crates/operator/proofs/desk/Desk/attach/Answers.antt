@@ -11,7 +11,7 @@ pub returns-in-Err-clause-told : goal.returns-in-Err-clause-told
 returns-in-Err-clause-told g c =
     let desk = c.args.self.now in
     let port = c.args.port.now in
-    let lists = IsListed g.B.Taker.own g.B.Taker.neighbor_at in
+    let lists = IsListed g.B.Taker.began g.B.Taker.neighbor_at in
     let s =
     sources g.B.Taker.offers g.B.Taker.took g.B.Taker.refuses g.B.Taker.wanted lists
     g.F.ReadsFiles.holds g.F.ReadsFiles.unreadable in

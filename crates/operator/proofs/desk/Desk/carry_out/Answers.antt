@@ -16,7 +16,7 @@ pub returns-clause-told : goal.returns-clause-told
 returns-clause-told g c =
     let n = c.args.self.now.interfaces in
     let port = c.args.port.now in
-    let lists = IsListed g.B.Taker.own g.B.Taker.neighbor_at in
+    let lists = IsListed g.B.Taker.began g.B.Taker.neighbor_at in
     let s =
     sources g.B.Taker.offers g.B.Taker.took g.B.Taker.refuses g.B.Taker.wanted lists
     g.F.ReadsFiles.holds g.F.ReadsFiles.unreadable in
