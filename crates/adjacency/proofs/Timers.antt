@@ -21,7 +21,7 @@ use Rattle.adjacency.specs.Drafts.{Drafted, drafting}
 use Rattle.adjacency.specs.Neighbors.{Neighbor}
 use Rattle.adjacency.specs.Retransmissions.{repeats_description, that_fit}
 use Rattle.adjacency.specs.Requests.{still_outstanding}
-use Rattle.adjacency.specs.Steps.{any_exchange_or_later}
+use Rattle.adjacency.specs.Steps.{neighbor_is_exchange_or_later}
 use Rattle.adjacency.specs.Timers.{description_is_due, full_where, is_any_inactive, request_is_due}
 use Rattle.adjacency.specs.Timers.{expire_timers, retransmission_is_due}
 use Rattle.adjacency.specs.Views.{keys_of, neighbor_of}
@@ -165,24 +165,24 @@ module _ (moment dead : ℕ) where
 -- ---- a bad request
 
 module _ (moment : ℕ) where
-  pub begins_anew : (o : Option Neighbor) → any_exchange_or_later o ≡ true
+  pub begins_anew : (o : Option Neighbor) → neighbor_is_exchange_or_later o ≡ true
       → step_on (enter_exstart moment) o ≡ step_on (mismatch_step moment) o
   begins_anew None is = refl
   begins_anew (Some n) is = ap (λ b. Some (cond b (enter_exstart moment n) (no_sends n)).neighbor)
       (sym is)
 
-  pub sends_anew : (o : Option Neighbor) → any_exchange_or_later o ≡ true
+  pub sends_anew : (o : Option Neighbor) → neighbor_is_exchange_or_later o ≡ true
       → sent_on (enter_exstart moment) o ≡ sent_on (mismatch_step moment) o
   sends_anew None is = refl
   sends_anew (Some n) is = ap (λ b. (cond b (enter_exstart moment n) (no_sends n)).sends) (sym is)
 
-  pub rests_there : (o : Option Neighbor) → any_exchange_or_later o ≡ false
+  pub rests_there : (o : Option Neighbor) → neighbor_is_exchange_or_later o ≡ false
       → o ≡ step_on (mismatch_step moment) o
   rests_there None is = refl
   rests_there (Some n) is = ap (λ b. Some (cond b (enter_exstart moment n) (no_sends n)).neighbor)
       (sym is)
 
-  pub rests_unsent : (o : Option Neighbor) → any_exchange_or_later o ≡ false
+  pub rests_unsent : (o : Option Neighbor) → neighbor_is_exchange_or_later o ≡ false
       → [] ≡ sent_on (mismatch_step moment) o
   rests_unsent None is = refl
   rests_unsent (Some n) is = ap (λ b. (cond b (enter_exstart moment n) (no_sends n)).sends) (sym is)

@@ -9,9 +9,9 @@ use Rattle.adjacency.specs.Neighbors.{Neighbor, is_exchange_or_loading}
 use Rattle.adjacency.specs.Retransmissions.{is_entry}
 
 -- there is a neighbor in Exchange or Loading
-abbrev pub any_exchange_or_loading : Option Neighbor → Bool
-any_exchange_or_loading None = false
-any_exchange_or_loading (Some n) = is_exchange_or_loading n.state
+abbrev pub neighbor_is_exchange_or_loading : Option Neighbor → Bool
+neighbor_is_exchange_or_loading None = false
+neighbor_is_exchange_or_loading (Some n) = is_exchange_or_loading n.state
 
 -- the key is on the neighbor's request list
 abbrev pub was_requested : Key → Option Neighbor → Bool

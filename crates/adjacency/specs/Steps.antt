@@ -24,9 +24,9 @@ heard moment None = None
 heard moment (Some n) = Some (record n { last_heard = moment })
 
 -- there is a neighbor in Exchange or later
-abbrev pub any_exchange_or_later : Option Neighbor → Bool
-any_exchange_or_later None = false
-any_exchange_or_later (Some n) = is_exchange_or_later n.state
+abbrev pub neighbor_is_exchange_or_later : Option Neighbor → Bool
+neighbor_is_exchange_or_later None = false
+neighbor_is_exchange_or_later (Some n) = is_exchange_or_later n.state
 
 -- ---- Link State Requests (section 10.7)
 

@@ -19,7 +19,7 @@ use Rattle.event_rules.specs.Events.{OwnPart}
 use Rattle.event_rules.specs.Hellos.{is_foreign}
 use Rattle.event_rules.specs.Packets.{after_packet, from_neighbor, is_from, is_hello}
 use Rattle.event_rules.specs.Packets.{receive_description}
-use Rattle.event_rules.specs.Packets.{any_exchange_or_later}
+use Rattle.event_rules.specs.Packets.{neighbor_is_exchange_or_later}
 use Rattle.event_rules.specs.Routers.{Occurrence, Router}
 use Rattle.flood_laws.proofs.EventWalk.{IsHeard}
 use Rattle.agreement_laws.specs.Accepted.{AcceptsDescription, BringsDescription}
@@ -93,13 +93,15 @@ is_taken old moment event number n d a after own =
     of_body : (says : PacketBody) → says ≡ body.Description d → (o : Option Neighbor) → o ≡ Some n
         → cond (is_foreign old.id a.brings.packet.router &&
         (is_hello says || is_from a.brings.packet.router o))
-        (from_neighbor moment number a.brings.packet.router (any_exchange_or_later o) says begins)
+        (from_neighbor moment number a.brings.packet.router (neighbor_is_exchange_or_later o) says
+            begins)
         begins
         ≡ on_area (receive_description old.id moment number d) begins
     of_body says its o at =
         (λ i. cond (is_foreign old.id a.brings.packet.router &&
         (is_hello (its i) || is_from a.brings.packet.router (at i)))
-        (from_neighbor moment number a.brings.packet.router (any_exchange_or_later (at i)) (its i)
+        (from_neighbor moment number a.brings.packet.router (neighbor_is_exchange_or_later (at i))
+            (its i)
         begins) begins)
         ∙ (λ i. cond (its_other i &&
         (false || eq-eqb n.router a.brings.packet.router (sym a.brings.from) i))

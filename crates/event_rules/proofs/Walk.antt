@@ -52,7 +52,7 @@ use Rattle.event_rules.specs.Packets.{after_lsa, after_lsas, after_packet, recei
 use Rattle.event_rules.specs.Packets.{receive_hello}
 use Rattle.event_rules.specs.Packets.{after_parsed, case_in, from_neighbor, is_heard}
 use Rattle.event_rules.specs.Packets.{receive_description}
-use Rattle.event_rules.specs.Packets.{any_exchange_or_later, is_there, receive_request}
+use Rattle.event_rules.specs.Packets.{neighbor_is_exchange_or_later, is_there, receive_request}
 use Rattle.event_rules.specs.Packets.{requested_lsas}
 use Rattle.event_rules.specs.Packets.{after_self_originated}
 use Rattle.event_rules.specs.EventState.{EventState, flood_from_nobody, on_area, on_router}
@@ -324,8 +324,9 @@ module _ (i : Invariant) (kept : IsKeptByParts i) where
   packet_kept moment number packet p so h =
       let n : Option Neighbor = neighbor_on (link_at number p.router.area.links) in
       chosen InProgress (is_heard p.router.id packet n)
-      (from_neighbor moment number packet.router (any_exchange_or_later n) packet.body p) p
-      (λ is. from_neighbor_kept moment number packet.router (any_exchange_or_later n) packet.body p
+      (from_neighbor moment number packet.router (neighbor_is_exchange_or_later n) packet.body p) p
+      (λ is. from_neighbor_kept moment number packet.router (neighbor_is_exchange_or_later n)
+          packet.body p
       so h)
       (λ is. h)
 

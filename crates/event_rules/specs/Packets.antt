@@ -16,7 +16,7 @@ use Rattle.received.specs.adjacency.Contents.{Content, Step, no_sends}
 use Rattle.received.specs.adjacency.Descriptions.{after_description}
 use Rattle.received.specs.adjacency.Neighbors.{Neighbor}
 use Rattle.received.specs.adjacency.Retransmissions.{after_acknowledgment}
-pub use Rattle.received.specs.adjacency.Steps.{any_exchange_or_later, is_there}
+pub use Rattle.received.specs.adjacency.Steps.{neighbor_is_exchange_or_later, is_there}
 pub use Rattle.received.specs.adjacency.Steps.{lsas_of as requested_lsas}
 use Rattle.received.specs.Cases.{Case}
 use Rattle.received.specs.Links.{Link, change_link, link_at, neighbor_at}
@@ -144,5 +144,6 @@ abbrev pub after_packet : Moment → InterfaceNumber → Packet → EventState �
 after_packet moment interface packet p =
     let n : Option Neighbor = neighbor_at interface p.router.area.links in
     if is_heard p.router.id packet n
-    then from_neighbor moment interface packet.router (any_exchange_or_later n) packet.body p
+    then from_neighbor moment interface packet.router (neighbor_is_exchange_or_later n) packet.body
+        p
     else p

@@ -40,7 +40,8 @@ use Rattle.event_rules.specs.Originations.{postpone, receive_self_originated, ro
 use Rattle.event_rules.specs.Originations.{wanted_body}
 use Rattle.event_rules.specs.Packets.{after_lsas, after_packet, after_self_originated}
 use Rattle.event_rules.specs.Packets.{receive_acknowledgment}
-use Rattle.event_rules.specs.Packets.{after_parsed, any_exchange_or_later, case_in, from_neighbor}
+use Rattle.event_rules.specs.Packets.{after_parsed, neighbor_is_exchange_or_later, case_in}
+use Rattle.event_rules.specs.Packets.{from_neighbor}
 use Rattle.event_rules.specs.Packets.{is_heard}
 use Rattle.event_rules.specs.Packets.{receive_request}
 use Rattle.event_rules.specs.Refusals.{first_refusal, of_event}
@@ -135,8 +136,8 @@ packet_stays : (moment number : ℕ) (packet : Packet) (p : EventState)
 packet_stays moment number packet p =
     let n : Option Neighbor = neighbor_at number p.router.area.links in
     either (is_heard p.router.id packet n)
-    (from_neighbor moment number packet.router (any_exchange_or_later n) packet.body p) p p
-    (from_one moment number packet.router (any_exchange_or_later n) packet.body p) refl
+    (from_neighbor moment number packet.router (neighbor_is_exchange_or_later n) packet.body p) p p
+    (from_one moment number packet.router (neighbor_is_exchange_or_later n) packet.body p) refl
 
 -- ---- the other parts
 

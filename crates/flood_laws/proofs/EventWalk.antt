@@ -45,7 +45,8 @@ use Rattle.event_rules.specs.Originations.{originate_or_postpone, postpone, rece
 use Rattle.event_rules.specs.Originations.{router_key, wanted_body}
 use Rattle.event_rules.specs.Packets.{after_lsa, after_lsas, after_packet, receive_acknowledgment}
 use Rattle.event_rules.specs.Packets.{receive_hello, after_self_originated, after_parsed, case_in}
-use Rattle.event_rules.specs.Packets.{receive_description, any_exchange_or_later, from_neighbor}
+use Rattle.event_rules.specs.Packets.{receive_description, neighbor_is_exchange_or_later}
+use Rattle.event_rules.specs.Packets.{from_neighbor}
 use Rattle.event_rules.specs.Packets.{is_from, is_heard, is_hello, is_there, receive_request}
 use Rattle.event_rules.specs.Packets.{requested_lsas}
 use Rattle.event_rules.specs.EventState.{EventState, flood_from_nobody, on_area, on_router}
@@ -393,14 +394,15 @@ module _ (i : Invariant) (kept : IsKeptByParts i) (X Y : Lately) (old : Router) 
   packet_kept number bytes packet is text so h =
       let n : Option Neighbor = neighbor_at number start.router.area.links in
       chosen InProgress (is_heard start.router.id packet n)
-      (from_neighbor moment number packet.router (any_exchange_or_later n) packet.body start) start
+      (from_neighbor moment number packet.router (neighbor_is_exchange_or_later n) packet.body
+          start) start
       (λ heard. from_neighbor_kept number packet.router packet.body
       (record {
         bytes = bytes;
         is = is;
         text = text;
         from = λ other. or_not _ (is_hello packet.body) (is_from packet.router n) heard other;
-      }) (any_exchange_or_later n) so h) (λ heard. h)
+      }) (neighbor_is_exchange_or_later n) so h) (λ heard. h)
 
   -- ---- a Tick
 

@@ -8,7 +8,8 @@ use Rattle.adjacency.specs.lsdb.Copies.{Database}
 use Rattle.adjacency.specs.Adjacencies.{enter_exstart, mismatch_step}
 use Rattle.adjacency.specs.Contents.{Step, Updates, no_sends, sent_on, step_on}
 use Rattle.adjacency.specs.Neighbors.{Neighbor, is_exchange_or_later}
-use Rattle.adjacency.specs.Steps.{after_request, answer_to_request, any_exchange_or_later, is_there}
+use Rattle.adjacency.specs.Steps.{after_request, answer_to_request, neighbor_is_exchange_or_later}
+use Rattle.adjacency.specs.Steps.{is_there}
 use Rattle.adjacency.specs.Steps.{lsas_of}
 
 -- without a neighbor nothing changes
@@ -30,9 +31,9 @@ pub sends_nothing : (o : Option Neighbor) → [] ≡ sent_on no_sends o
 sends_nothing None = refl
 sends_nothing (Some n) = refl
 
-there_is : (o : Option Neighbor) (n : Neighbor) (b : Bool) → any_exchange_or_later o ≡ b
+there_is : (o : Option Neighbor) (n : Neighbor) (b : Bool) → neighbor_is_exchange_or_later o ≡ b
     → o ≡ Some n → is_exchange_or_later n.state ≡ b
-there_is o n b is there = sym (ap any_exchange_or_later there) ∙ is
+there_is o n b is there = sym (ap neighbor_is_exchange_or_later there) ∙ is
 
 module _ (moment : ℕ) (db : Database) (keys : List Key) where
   abbrev pub sends_them : Neighbor → Step
@@ -57,11 +58,13 @@ module _ (moment : ℕ) (db : Database) (keys : List Key) where
       ∙ ap (λ b. cond b (enter_exstart moment n) (no_sends n)) is)
 
   module _ (o : Option Neighbor) where
-    pub rests_on : any_exchange_or_later o ≡ false → o ≡ step_on (after_request moment db keys) o
+    pub rests_on : neighbor_is_exchange_or_later o ≡ false → o ≡ step_on
+        (after_request moment db keys) o
     rests_on is = stays o ∙ same_step no_sends (after_request moment db keys) o
         (λ n there. rests n (there_is o n false is there))
 
-    pub rests_sent : any_exchange_or_later o ≡ false → [] ≡ sent_on (after_request moment db keys) o
+    pub rests_sent : neighbor_is_exchange_or_later o ≡ false → [] ≡ sent_on
+        (after_request moment db keys) o
     rests_sent is = sends_nothing o ∙ same_sent no_sends (after_request moment db keys) o
         (λ n there. rests n (there_is o n false is there))
 
@@ -69,29 +72,29 @@ module _ (moment : ℕ) (db : Database) (keys : List Key) where
     stays_there None = refl
     stays_there (Some n) = refl
 
-    pub answers_on : any_exchange_or_later o ≡ true → list_all (is_there db) keys ≡ true
+    pub answers_on : neighbor_is_exchange_or_later o ≡ true → list_all (is_there db) keys ≡ true
         → o ≡ step_on (after_request moment db keys) o
     answers_on is all = stays_there o
         ∙ same_step sends_them (after_request moment db keys) o
         (λ n there. answers n (there_is o n true is there) all)
 
-    sends_all : (p : Option Neighbor) → any_exchange_or_later p ≡ true
+    sends_all : (p : Option Neighbor) → neighbor_is_exchange_or_later p ≡ true
         → map Updates (lsas_of moment db keys) ≡ sent_on sends_them p
     sends_all None is = absurd (false≢true is)
     sends_all (Some n) is = refl
 
-    pub answers_sent : any_exchange_or_later o ≡ true → list_all (is_there db) keys ≡ true
+    pub answers_sent : neighbor_is_exchange_or_later o ≡ true → list_all (is_there db) keys ≡ true
         → map Updates (lsas_of moment db keys) ≡ sent_on (after_request moment db keys) o
     answers_sent is all = sends_all o is
         ∙ same_sent sends_them (after_request moment db keys) o
         (λ n there. answers n (there_is o n true is there) all)
 
-    pub fails_on : any_exchange_or_later o ≡ true → list_all (is_there db) keys ≡ false
+    pub fails_on : neighbor_is_exchange_or_later o ≡ true → list_all (is_there db) keys ≡ false
         → step_on (enter_exstart moment) o ≡ step_on (after_request moment db keys) o
     fails_on is some = same_step (enter_exstart moment) (after_request moment db keys) o
         (λ n there. fails n (there_is o n true is there) some)
 
-    pub fails_sent : any_exchange_or_later o ≡ true → list_all (is_there db) keys ≡ false
+    pub fails_sent : neighbor_is_exchange_or_later o ≡ true → list_all (is_there db) keys ≡ false
         → sent_on (enter_exstart moment) o ≡ sent_on (after_request moment db keys) o
     fails_sent is some = same_sent (enter_exstart moment) (after_request moment db keys) o
         (λ n there. fails n (there_is o n true is there) some)

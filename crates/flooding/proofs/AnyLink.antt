@@ -9,7 +9,7 @@ use Rattle.adjacency.specs.Neighbors.{Neighbor}
 use Rattle.received.specs.Links.{has_retransmission, neighbor_is_exchange_or_loading}
 
 pub exchanging_is : (o : Option Neighbor)
-    → neighbor.any_exchange_or_loading o ≡ neighbor_is_exchange_or_loading o
+    → neighbor.neighbor_is_exchange_or_loading o ≡ neighbor_is_exchange_or_loading o
 exchanging_is None = refl
 exchanging_is (Some n) = refl
 

@@ -1,7 +1,7 @@
 //! The neighbor on a link, which may be Down.
 ghost use Rattle.std.specs.Prelude.{◌≡◌, IfOk, None, Some};
 ghost use Rattle.adjacency.specs.Adjacencies.{enter_exstart};
-ghost use Rattle.adjacency.specs.Steps.{any_exchange_or_later};
+ghost use Rattle.adjacency.specs.Steps.{neighbor_is_exchange_or_later};
 ghost use Rattle.adjacency.specs.Views.{restarted, present_of};
 ghost use Rattle.neighbors.specs.Doing.{Sends};
 ghost use Rattle.flooding.specs.Doing.{SlotSends};
@@ -150,7 +150,7 @@ impl NeighborSlot {
     /// Whether there is a neighbor in Exchange or later: its Link State Requests, Updates and
     /// Acknowledgments are accepted.
     pub fn is_exchange_or_later(&self) -> bool
-        ensures { result ≡ any_exchange_or_later self.now.present }
+        ensures { result ≡ neighbor_is_exchange_or_later self.now.present }
     {
         match &self.neighbor {
             None => false,

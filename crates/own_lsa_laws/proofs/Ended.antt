@@ -48,7 +48,7 @@ use Rattle.event_rules.specs.Originations.{originate_anyway, originate_body, ori
 use Rattle.event_rules.specs.Originations.{originate_or_postpone, router_body, postpone, router_key}
 use Rattle.event_rules.specs.Originations.{wanted_body, wanted_keys}
 use Rattle.event_rules.specs.Packets.{accept_hello, after_packet, from_neighbor, is_heard}
-use Rattle.event_rules.specs.Packets.{receive_hello_on, any_exchange_or_later, is_there}
+use Rattle.event_rules.specs.Packets.{receive_hello_on, neighbor_is_exchange_or_later, is_there}
 use Rattle.event_rules.specs.Packets.{receive_request, requested_lsas}
 use Rattle.event_rules.specs.Routers.{Router}
 use Rattle.event_rules.specs.Ticks.{acknowledgments_on, after_tick, again, send_acknowledgments}
@@ -151,7 +151,8 @@ module _ (moment : ℕ) (t : Terms) where
   pub packet_kept : (number : ℕ) (packet : Packet) (p : EventState) → Tells t p → So p
       → So (after_packet moment number packet p)
   packet_kept number packet p tells so =
-      let exchanges : Bool = any_exchange_or_later (neighbor_at number p.router.area.links) in
+      let exchanges : Bool = neighbor_is_exchange_or_later (neighbor_at number p.router.area.links)
+          in
       chosen So (is_heard p.router.id packet (neighbor_at number p.router.area.links))
       (from_neighbor moment number packet.router exchanges packet.body p) p
       (λ heard. from_kept number packet.router exchanges packet.body p tells so) (λ heard. so)

@@ -43,7 +43,8 @@ use Rattle.event_rules.specs.Originations.{router_key}
 use Rattle.event_rules.specs.Originations.{wanted_body}
 use Rattle.event_rules.specs.Packets.{after_lsas, after_packet, after_self_originated}
 use Rattle.event_rules.specs.Packets.{receive_acknowledgment}
-use Rattle.event_rules.specs.Packets.{after_parsed, any_exchange_or_later, case_in, from_neighbor}
+use Rattle.event_rules.specs.Packets.{after_parsed, neighbor_is_exchange_or_later, case_in}
+use Rattle.event_rules.specs.Packets.{from_neighbor}
 use Rattle.event_rules.specs.Packets.{is_heard}
 use Rattle.event_rules.specs.Packets.{receive_request}
 use Rattle.event_rules.specs.Routers.{Occurrence, Router, unannounced_router}
@@ -152,8 +153,8 @@ pub received : (moment : Moment) (number : InterfaceNumber) (packet : Packet)
 received moment number packet p =
     let n = neighbor_at number p.router.area.links in
     either (told p) (is_heard p.router.id packet n)
-    (from_neighbor moment number packet.router (any_exchange_or_later n) packet.body p) p
-    (from moment number packet.router (any_exchange_or_later n) packet.body p) refl
+    (from_neighbor moment number packet.router (neighbor_is_exchange_or_later n) packet.body p) p
+    (from moment number packet.router (neighbor_is_exchange_or_later n) packet.body p) refl
 
 pub ended : (old : Router) (moment : Moment) → Leaves (end_event old moment)
 ended old moment p =

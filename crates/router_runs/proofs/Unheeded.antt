@@ -35,7 +35,8 @@ use Rattle.event_rules.specs.Originations.{originate_anyway, originate_body, ori
 use Rattle.event_rules.specs.Originations.{originate_or_flush, originate_or_postpone, postpone}
 use Rattle.event_rules.specs.Originations.{receive_self_originated, wanted_body}
 use Rattle.event_rules.specs.Packets.{after_lsa, after_lsas, after_packet, after_self_originated}
-use Rattle.event_rules.specs.Packets.{after_parsed, any_exchange_or_later, case_in, from_neighbor}
+use Rattle.event_rules.specs.Packets.{after_parsed, neighbor_is_exchange_or_later, case_in}
+use Rattle.event_rules.specs.Packets.{from_neighbor}
 use Rattle.event_rules.specs.Packets.{is_heard}
 use Rattle.event_rules.specs.Packing.{outs_of}
 use Rattle.event_rules.specs.Routers.{Occurrence, Router}
@@ -185,7 +186,8 @@ module _ (answers : List (Route × ℕ)) where
       (after_packet moment number packet)
   a_packet moment number packet p =
       let heard : Bool = is_heard p.router.id packet (neighbor_at number p.router.area.links) in
-      let exchanges : Bool = any_exchange_or_later (neighbor_at number p.router.area.links) in
+      let exchanges : Bool = neighbor_is_exchange_or_later (neighbor_at number p.router.area.links)
+          in
       one_of heard (from_neighbor moment number packet.router exchanges packet.body p) p
       ∙ ap (λ (q : EventState). cond heard q (answering p))
       (from_its_neighbor moment number packet.router exchanges packet.body p)

@@ -26,12 +26,12 @@ module _ (id : RouterNumber) where
 
   by_key : (m : ByKey External) (key k : Key) (e x : External) (b : Bool) → AreOwn id m
       → IsWithItsKey id key e → eq_by_cmp key_cmp k key ≡ b → cond b (Some e) (finite.get m k)
-          ≡ Some x
+      ≡ Some x
       → IsWithItsKey id k x
   by_key m key k e x true own here tied is =
       subst (λ (y : External). IsWithItsKey id k y) (value_is e x is)
       (subst (λ (q : Key). IsWithItsKey id q e)
-          (sym (keys_exact k key (equal (key_cmp k key) tied)))
+      (sym (keys_exact k key (equal (key_cmp k key) tied)))
       here)
   by_key m key k e x false own here tied is = own k x is
 

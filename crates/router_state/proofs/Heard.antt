@@ -15,7 +15,8 @@ use Rattle.event_rules.specs.received.Links.{neighbor_at}
 use Rattle.event_rules.specs.EventState.{EventState, on_area}
 use Rattle.event_rules.specs.Packets.{after_lsas, after_packet, receive_acknowledgment}
 use Rattle.event_rules.specs.Packets.{receive_hello}
-use Rattle.event_rules.specs.Packets.{any_exchange_or_later, from_neighbor, is_from, is_heard}
+use Rattle.event_rules.specs.Packets.{neighbor_is_exchange_or_later, from_neighbor, is_from}
+use Rattle.event_rules.specs.Packets.{is_heard}
 use Rattle.event_rules.specs.Packets.{receive_description}
 use Rattle.event_rules.specs.Packets.{receive_request}
 use Rattle.event_rules.specs.Routers.{Router}
@@ -27,7 +28,7 @@ use Rattle.router_state.specs.Received.{is_from_named}
 use Rattle.router_state.specs.Received.{is_processed}
 
 pub exchange_named : (o : Option Neighbor)
-    → is_exchange_or_later_named (named_neighbor o) ≡ any_exchange_or_later o
+    → is_exchange_or_later_named (named_neighbor o) ≡ neighbor_is_exchange_or_later o
 exchange_named None = refl
 exchange_named (Some n) = refl
 
@@ -67,7 +68,7 @@ module _ (moment number : ℕ) (packet : Packet) where
   is_heard_at r = is_heard r.id packet (neighbor_at number r.area.links)
 
   abbrev pub exchanges_at : Router → Bool
-  exchanges_at r = any_exchange_or_later (neighbor_at number r.area.links)
+  exchanges_at r = neighbor_is_exchange_or_later (neighbor_at number r.area.links)
 
   abbrev pub is_processed_at : Router → Bool
   is_processed_at r = is_processed r.id packet (neighbor_at number r.area.links)

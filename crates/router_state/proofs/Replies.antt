@@ -12,7 +12,7 @@ use Rattle.flooding.specs.adjacency.Neighbors.{Neighbor, is_exchange_or_later}
 use Rattle.flooding.specs.adjacency.Steps.{after_request, answer_to_request, lsas_of}
 use Rattle.flooding.specs.received.Links.{Area, Link, neighbor_at, neighbor_on}
 use Rattle.flooding.specs.received.Outcomes.{sends_at, one_neighbor, sending}
-use Rattle.event_rules.specs.Packets.{any_exchange_or_later, is_there, receive_request}
+use Rattle.event_rules.specs.Packets.{neighbor_is_exchange_or_later, is_there, receive_request}
 use Rattle.flooding.specs.Links.{start, with_neighbor}
 use Rattle.router_state.proofs.OneLink.{leaves, link, link_is, one_neighbor_is, stays}
 use mathlib.Core.Bool.{false≢true}
@@ -57,7 +57,7 @@ module _ (moment k : ℕ) (a : Area) (keys : List Key) (first : 1 ≤ k) (last :
         ∙ sym (one_neighbor_is moment k a first last (mismatch_step moment))
 
     by_neighbor : (o : Option Neighbor) (l : Link) → l ≡ link moment k a first last → l.neighbor ≡ o
-        → any_exchange_or_later o ≡ true → leaves moment k a first last
+        → neighbor_is_exchange_or_later o ≡ true → leaves moment k a first last
         (neighbor.sent_on (after_request moment a.database keys) o)
         (with_neighbor (neighbor.step_on (after_request moment a.database keys) o) l)
         ≡ receive_request moment k keys (start a)
@@ -67,11 +67,11 @@ module _ (moment k : ℕ) (a : Area) (keys : List Key) (first : 1 ≤ k) (last :
         (counts moment a.database keys n exchanges)
         ∙ answers_by n l same is (list_all (is_there a.database) keys)
 
-    pub answers : any_exchange_or_later (neighbor_at k a.links) ≡ true
+    pub answers : neighbor_is_exchange_or_later (neighbor_at k a.links) ≡ true
         → one_neighbor moment k (after_request moment a.database keys) (start a)
         ≡ receive_request moment k keys (start a)
     answers exchanges =
         one_neighbor_is moment k a first last (after_request moment a.database keys)
         ∙ by_neighbor (link moment k a first last).neighbor (link moment k a first last) refl refl
-        (sym (ap (λ (o : Option Link). any_exchange_or_later (neighbor_on o))
+        (sym (ap (λ (o : Option Link). neighbor_is_exchange_or_later (neighbor_on o))
         (link_is moment k a first last)) ∙ exchanges)

@@ -8,7 +8,7 @@ use Rattle.flooding.specs.adjacency.lsdb.Headers.{Lsa}
 use Rattle.flooding.specs.adjacency.Neighbors.{Neighbor, is_exchange_or_later}
 use Rattle.flooding.specs.adjacency.declared.state.NeighborState.{NeighborState}
 use Rattle.event_rules.specs.received.Updates.{goes_on}
-use Rattle.event_rules.specs.Packets.{any_exchange_or_later, case_in, is_heard}
+use Rattle.event_rules.specs.Packets.{neighbor_is_exchange_or_later, case_in, is_heard}
 use Rattle.event_rules.specs.Routers.{Router}
 
 -- ---- by the neighbor's Router ID and state
@@ -34,7 +34,7 @@ counts_before_exchange (body.Acknowledgment headers) = false
 -- it is heard, and doesn't wait for Exchange before that
 abbrev pub is_processed : RouterNumber → Packet → Option Neighbor → Bool
 is_processed own packet n =
-    is_heard own packet n && (any_exchange_or_later n || counts_before_exchange packet.body)
+    is_heard own packet n && (neighbor_is_exchange_or_later n || counts_before_exchange packet.body)
 
 -- ---- LSAs of a Link State Update
 

@@ -3,7 +3,7 @@
 ghost use Rattle.std.specs.Prelude.{◌≡◌, ◌≤◌, length, true};
 ghost use Rattle.flooding.specs.received.Links.{neighbor_at};
 ghost use Rattle.event_rules.specs.EventState.{on_area};
-ghost use Rattle.event_rules.specs.Packets.{any_exchange_or_later, receive_acknowledgment};
+ghost use Rattle.event_rules.specs.Packets.{neighbor_is_exchange_or_later, receive_acknowledgment};
 ghost use Rattle.event_rules.specs.Packets.{receive_description, receive_hello};
 ghost use Rattle.event_rules.specs.Packets.{receive_request};
 ghost use Rattle.router_state.specs.Making.{RouterDoes};
@@ -86,7 +86,7 @@ impl Router {
     ) -> Result<(), AllocError>
         requires first { 1 ≤ interface }
         requires last { interface ≤ length self.old.present.area.links }
-        requires exchange { any_exchange_or_later
+        requires exchange { neighbor_is_exchange_or_later
             (neighbor_at interface self.old.present.area.links) ≡ true }
         ensures { RouterDoes (on_area (receive_request moment interface keys.now)) self.old self.new
             result }

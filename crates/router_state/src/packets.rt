@@ -2,7 +2,8 @@
 ghost use Rattle.std.specs.Prelude.{◌≡◌, ◌≤◌, length};
 ghost use Rattle.flooding.specs.adjacency.Steps.{named_neighbor};
 ghost use Rattle.event_rules.specs.received.Links.{neighbor_at};
-ghost use Rattle.event_rules.specs.Packets.{after_packet, any_exchange_or_later, is_from, is_heard};
+ghost use Rattle.event_rules.specs.Packets.{after_packet, neighbor_is_exchange_or_later, is_from};
+ghost use Rattle.event_rules.specs.Packets.{is_heard};
 ghost use Rattle.event_rules.specs.Packets.{is_hello};
 ghost use Rattle.router_state.specs.Making.{RouterDoes};
 ghost use Rattle.router_state.specs.Received.{counts_before_exchange, is_from_named};
@@ -75,7 +76,8 @@ fn neighbor_at(router: &Router, interface: usize) -> Option<(RouterId, NeighborS
 fn is_exchange_or_later(router: &Router, interface: usize) -> bool
     requires first { 1 ≤ interface }
     requires last { interface ≤ length router.now.present.area.links }
-    ensures { result ≡ any_exchange_or_later (neighbor_at interface router.now.present.area.links) }
+    ensures { result ≡ neighbor_is_exchange_or_later
+        (neighbor_at interface router.now.present.area.links) }
 {
     let neighbor = neighbor_at(router, interface);
     is_exchange_or_later_named(neighbor)

@@ -1,6 +1,7 @@
 //! What is asked of the neighbor on a link, which may be Down.
 ghost use Rattle.std.specs.Prelude.{◌≡◌};
-ghost use Rattle.adjacency.specs.Asked.{any_exchange_or_loading, has_instance, has_retransmission};
+ghost use Rattle.adjacency.specs.Asked.{neighbor_is_exchange_or_loading, has_instance};
+ghost use Rattle.adjacency.specs.Asked.{has_retransmission};
 ghost use Rattle.adjacency.specs.Asked.{was_requested};
 ghost use Rattle.adjacency.specs.Steps.{named_neighbor};
 ghost use Rattle.flooding.specs.Owed.{owed_on};
@@ -25,7 +26,7 @@ impl Link {
 
     /// Whether there is a neighbor in Exchange or Loading.
     pub fn is_exchange_or_loading(&self) -> bool
-        ensures { result ≡ any_exchange_or_loading self.now.present.neighbor }
+        ensures { result ≡ neighbor_is_exchange_or_loading self.now.present.neighbor }
     {
         match &self.slot.neighbor {
             None => false,

@@ -1,6 +1,6 @@
 use Rattle.std.proofs.Common.{◌≡◌, rules, sym, ap, ◌∙◌}
 use Rattle.std.specs.Prelude.{Some}
-use Rattle.adjacency.specs.Asked.{any_exchange_or_loading}
+use Rattle.adjacency.specs.Asked.{neighbor_is_exchange_or_loading}
 use Rattle.adjacency.specs.Neighbors.{is_exchange_or_loading}
 use Rattle.flooding.proofs.link.Link.is_exchange_or_loading.Goals as goal
 
@@ -9,4 +9,4 @@ returns-in-Some c =
     let some : c.args.self.now.present.neighbor ≡ Some c.in-Some.neighbor.present = search rules in
     c.is_exchange_or_loading.ensures
     ∙ ap (λ s. is_exchange_or_loading s.state) c.standing.ensures
-    ∙ ap any_exchange_or_loading (sym some)
+    ∙ ap neighbor_is_exchange_or_loading (sym some)

@@ -2,7 +2,7 @@ use Rattle.std.proofs.Common.{◌≤◌, length, refl, ap, ◌∙◌, arith}
 use Rattle.flooding.specs.adjacency.Steps.{after_request}
 use Rattle.flooding.specs.lsdb.Copies.{Database}
 use Rattle.flooding.specs.received.Links.{Area, neighbor_at}
-use Rattle.event_rules.specs.Packets.{any_exchange_or_later, receive_request}
+use Rattle.event_rules.specs.Packets.{neighbor_is_exchange_or_later, receive_request}
 use Rattle.router_state.proofs.Answered.{area_does}
 use Rattle.router_state.proofs.Conversed.{appends_request, keeps_request}
 use Rattle.router_state.proofs.OneLink.{steps}
@@ -17,7 +17,7 @@ returns c =
     let a : Area = c.self.inside.area.present in
     let last : n ≤ length a.links = omega
     (arith, ap (λ k. length k.present.area.links) c.self.view_is, c.requires.last) in
-    let exchange = ap (λ k. any_exchange_or_later (neighbor_at n k.present.area.links))
+    let exchange = ap (λ k. neighbor_is_exchange_or_later (neighbor_at n k.present.area.links))
     c.self.view_is
     ∙ c.requires.exchange in
     area_does (receive_request m n ks) (keeps_request m n ks) (appends_request m n ks) _
