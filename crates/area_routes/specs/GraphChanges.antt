@@ -41,26 +41,26 @@ AreListedAmong nodes places lsa =
     (router : RouterNumber) → Contains lsa.attached router
     → IsAmong nodes places (ARouter router)
 
--- a router's LSA says something before and after, and the router is recorded, with all that its
+-- a router's LSA has contents before and after, and the router is recorded, with all that its
 -- links led to or lead to
-pub record IsRouterNoted (contents : Option LsaBody) (says : Option LsaBody) (nodes : List Node)
-    (places : List ℕ) (router : RouterNumber) : Type 0 where
+pub record IsRouterNoted (old_contents : Option LsaBody) (new_contents : Option LsaBody)
+    (nodes : List Node) (places : List ℕ) (router : RouterNumber) : Type 0 where
   pub was : RouterLsa
   pub is : RouterLsa
-  pub before : contents ≡ Some (body.Router was)
-  pub now : says ≡ Some (body.Router is)
+  pub before : old_contents ≡ Some (body.Router was)
+  pub now : new_contents ≡ Some (body.Router is)
   pub own : IsAmong nodes places (ARouter router)
   pub ends_before : AreEndsAmong nodes places was
   pub ends : AreEndsAmong nodes places is
 
--- a network's LSA says something before and after, and the network is recorded, with all routers
+-- a network's LSA has contents before and after, and the network is recorded, with all routers
 -- that were or are listed
-pub record IsNetworkNoted (contents : Option LsaBody) (says : Option LsaBody) (nodes : List Node)
-    (places : List ℕ) (network : Node) : Type 0 where
+pub record IsNetworkNoted (old_contents : Option LsaBody) (new_contents : Option LsaBody)
+    (nodes : List Node) (places : List ℕ) (network : Node) : Type 0 where
   pub was : NetworkLsa
   pub is : NetworkLsa
-  pub before : contents ≡ Some (body.Network was)
-  pub now : says ≡ Some (body.Network is)
+  pub before : old_contents ≡ Some (body.Network was)
+  pub now : new_contents ≡ Some (body.Network is)
   pub own : IsAmong nodes places network
   pub listed_before : AreListedAmong nodes places was
   pub listed : AreListedAmong nodes places is

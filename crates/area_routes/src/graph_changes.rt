@@ -119,24 +119,24 @@ fn note_listed(
 }
 
 // The router-LSA in the body, if it is one.
-fn router_of(says: Option<&LsaBody>) -> Option<&RouterLsa>
+fn router_of(lsa_body: Option<&LsaBody>) -> Option<&RouterLsa>
     ensures { MatchOption result ((lsa : RouterValue)
-        → option_copied says.entry ≡ Some (body.Router lsa) → ⊥) (λ lsa.
-        option_copied says.entry ≡ Some (body.Router lsa.now)) }
+        → option_copied lsa_body.entry ≡ Some (body.Router lsa) → ⊥) (λ lsa.
+        option_copied lsa_body.entry ≡ Some (body.Router lsa.now)) }
 {
-    match says? {
+    match lsa_body? {
         LsaBody::Router(lsa) => Some(lsa),
         _ => None,
     }
 }
 
 // The network-LSA in the body, if it is one.
-fn network_of(says: Option<&LsaBody>) -> Option<&NetworkLsa>
+fn network_of(lsa_body: Option<&LsaBody>) -> Option<&NetworkLsa>
     ensures { MatchOption result ((lsa : NetworkValue)
-        → option_copied says.entry ≡ Some (body.Network lsa) → ⊥) (λ lsa.
-        option_copied says.entry ≡ Some (body.Network lsa.now)) }
+        → option_copied lsa_body.entry ≡ Some (body.Network lsa) → ⊥) (λ lsa.
+        option_copied lsa_body.entry ≡ Some (body.Network lsa.now)) }
 {
-    match says? {
+    match lsa_body? {
         LsaBody::Network(lsa) => Some(lsa),
         _ => None,
     }

@@ -24,7 +24,7 @@ HasNoWayOut contents router = (lsa : RouterLsa) → IsRouterLsa contents router 
 
 -- what the LSA with this key tells, if there is one
 abbrev pub OfOne : {R : Type 0} → (Key × LsaBody → R → Type 0) → Key → Option LsaBody → R → Type 0
-OfOne {R} Q key body r = (says : LsaBody) × (body ≡ Some says) × Q (key, says) r
+OfOne {R} Q key body r = (its_body : LsaBody) × (body ≡ Some its_body) × Q (key, its_body) r
 
 abbrev pub list_of : {R : Type 0} → Option R → List R
 list_of {R} None = []

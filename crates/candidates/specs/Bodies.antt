@@ -8,9 +8,10 @@ use Rattle.routes.specs.declared.offer.Offer.{Offer}
 
 -- each says what it says in the database, and all of the types up to `last` are among them
 pub record HaveAll (last : ℕ) (contents : Contents) (bodies : List (Key × LsaBody)) : Type 0 where
-  pub each : (key : Key) (says : LsaBody) → Contains bodies (key, says) → contents key ≡ Some says
-  pub all : (key : Key) (says : LsaBody) → key.ls_type ≤ last → contents key ≡ Some says
-      → Contains bodies (key, says)
+  pub each : (key : Key) (its_body : LsaBody) → Contains bodies (key, its_body) → contents key
+      ≡ Some its_body
+  pub all : (key : Key) (its_body : LsaBody) → key.ls_type ≤ last → contents key ≡ Some its_body
+      → Contains bodies (key, its_body)
 
 -- one of the LSAs of the database offers it
 abbrev pub OfContents : (Key × LsaBody → Offer → Type 0) → Contents → Offer → Type 0

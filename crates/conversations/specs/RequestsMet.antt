@@ -18,45 +18,46 @@ use Rattle.received.specs.WorkedTable.{external_lsa}
 
 -- the LSA with this sequence number
 abbrev pub instance : LsaBody → ℤ → Lsa
-instance says sequence = external_lsa says sequence 10
+instance contents sequence = external_lsa contents sequence 10
 
 -- the neighbor described number 5 at moment 100, which is on its request list
 abbrev pub told_entry : LsaBody → ListEntry
-told_entry says = record { header = (instance says (pos 5)).header; at = 100 }
+told_entry contents = record { header = (instance contents (pos 5)).header; at = 100 }
 
 abbrev pub its_key : LsaBody → Key
-its_key says = lsa_key (instance says (pos 5))
+its_key contents = lsa_key (instance contents (pos 5))
 
-pub record IsAskedFor (says : LsaBody) (state : NeighborState) (n : Neighbor) : Type 0 where
+pub record IsAskedFor (contents : LsaBody) (state : NeighborState) (n : Neighbor) : Type 0 where
   pub is_in : n.state ≡ state
-  pub is_requested : finite.get n.requests (its_key says) ≡ Some (told_entry says)
+  pub is_requested : finite.get n.requests (its_key contents) ≡ Some (told_entry contents)
 
 -- it is flooded to the neighbor at interface 2
 abbrev pub flooded_on : LsaBody → ℤ → Link → Neighbor → Step
-flooded_on says sequence link n = flood_to 100 (Some 1) (instance says sequence) 2 link n
+flooded_on contents sequence link n = flood_to 100 (Some 1) (instance contents sequence) 2 link n
 
 -- ---- what happens to the request and the LSA
 
 -- the request list still has its entry
 abbrev pub IsStillRequested : LsaBody → Step → Type 0
-IsStillRequested says s = finite.get s.neighbor.requests (its_key says) ≡ Some (told_entry says)
+IsStillRequested contents s = finite.get s.neighbor.requests (its_key contents) ≡ Some
+    (told_entry contents)
 
 -- it was removed from the request list, and is no longer outstanding
 abbrev pub IsMet : LsaBody → Step → Type 0
-IsMet says s =
-    (finite.get s.neighbor.requests (its_key says) ≡ None)
-    × (set.contains s.neighbor.outstanding (its_key says) ≡ false)
+IsMet contents s =
+    (finite.get s.neighbor.requests (its_key contents) ≡ None)
+    × (set.contains s.neighbor.outstanding (its_key contents) ≡ false)
 
 -- the LSA is neither sent nor on the retransmission list
 abbrev pub IsNotSent : LsaBody → Step → Type 0
-IsNotSent says s =
-    (s.sends ≡ []) × (finite.get s.neighbor.retransmissions (its_key says) ≡ None)
+IsNotSent contents s =
+    (s.sends ≡ []) × (finite.get s.neighbor.retransmissions (its_key contents) ≡ None)
 
 -- the LSA is sent, and on the retransmission list
 abbrev pub IsSentOn : LsaBody → Lsa → Step → Type 0
-IsSentOn says lsa s =
+IsSentOn contents lsa s =
     (s.sends ≡ Updates lsa ∷ [])
-    × (finite.get s.neighbor.retransmissions (its_key says)
+    × (finite.get s.neighbor.retransmissions (its_key contents)
     ≡ Some (record { header = lsa.header; at = 100 }))
 
 -- a state in which the request list matters

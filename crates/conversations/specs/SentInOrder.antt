@@ -70,7 +70,7 @@ pub record AcknowledgmentsAreInOrder (delay : ℕ) (contents : List Content) : T
 
 -- an LSA with this key, this age and 36 bytes
 abbrev pub lsa_of : ℕ → LsaBody → Key → Lsa
-lsa_of age says key = record {
+lsa_of age lsa_body key = record {
   header = record {
     age = age;
     options = 2;
@@ -81,7 +81,7 @@ lsa_of age says key = record {
     checksum = 0x5429;
     length = 36;
   };
-  body = says;
+  body = lsa_body;
 }
 
 abbrev pub key_named : ℕ → ℕ → ℕ → Key
@@ -90,14 +90,14 @@ key_named ls_type id router =
 
 -- the fourth, the second, the third and the first in the order of their keys
 abbrev pub arising : LsaBody → List Lsa
-arising says =
-    map (lsa_of 10 says) (key_named 5 1 1 ∷ key_named 1 2 8 ∷ key_named 1 3 1 ∷ key_named 1 2 7
+arising lsa_body =
+    map (lsa_of 10 lsa_body) (key_named 5 1 1 ∷ key_named 1 2 8 ∷ key_named 1 3 1 ∷ key_named 1 2 7
     ∷ [])
 
 -- a second older, by InfTransDelay
 abbrev pub told_in_order : LsaBody → List Lsa
-told_in_order says =
-    map (lsa_of 11 says) (key_named 1 2 7 ∷ key_named 1 2 8 ∷ key_named 1 3 1 ∷ key_named 5 1 1
+told_in_order lsa_body =
+    map (lsa_of 11 lsa_body) (key_named 1 2 7 ∷ key_named 1 2 8 ∷ key_named 1 3 1 ∷ key_named 5 1 1
     ∷ [])
 
 pub record WhatIsSentStandsInOrder : Type 0 where

@@ -11,9 +11,9 @@ use Rattle.received.specs.WorkedTable.{IsSender, comes_in, copy_of_it, external_
 
 -- a copy of instance 4 that this router originated and sent at moment 100
 abbrev pub originated_copy : LsaBody → Option DatabaseCopy
-originated_copy says =
+originated_copy contents =
     Some (record {
-      lsa = external_lsa says (pos 4) 0;
+      lsa = external_lsa contents (pos 4) 0;
       stored = 100;
       installed = None;
       sent = Some 100;

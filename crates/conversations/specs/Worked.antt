@@ -73,9 +73,9 @@ pub record WorkedEvents : Type 0 where
   pub renewed : (lsa : Lsa) → refresh_time_is_over 1800 (Some (flooded_copy (lsa_aged 0 lsa) 0))
       ≡ true
   -- a copy with MaxSequenceNumber is flushed before its LSA is originated again
-  pub wraps : (may_now : Bool) (moment : ℕ) (key : Key) (says : LsaBody) (c : DatabaseCopy)
+  pub wraps : (may_now : Bool) (moment : ℕ) (key : Key) (contents : LsaBody) (c : DatabaseCopy)
       (p : EventState) → finite.get p.router.area.database key ≡ Some c
-      → c.lsa.header.sequence ≡ pos 2147483647 → originate_body may_now moment key (Some says) p
+      → c.lsa.header.sequence ≡ pos 2147483647 → originate_body may_now moment key (Some contents) p
       ≡ flush moment key p
   -- the age in a packet is incremented up to MaxAge
   pub grows : (lsa : Lsa) → (sent_lsa 1 (lsa_aged 3598 lsa)).header.age ≡ 3599

@@ -64,8 +64,8 @@ is_at moment None = false
 is_at moment (Some at) = at == moment
 
 abbrev pub copy_has_body : LsaBody → Option DatabaseCopy → Bool
-copy_has_body says None = false
-copy_has_body says (Some c) = same_body c.lsa.body says
+copy_has_body contents None = false
+copy_has_body contents (Some c) = same_body c.lsa.body contents
 
 -- the copy of the router-LSA was originated at this moment and describes the present links
 abbrev pub is_current : Moment → Router → Bool

@@ -103,7 +103,7 @@ has_max_sequence (Some c) = is_eq (int_cmp c.lsa.header.sequence max_sequence_nu
 
 -- with age 0; its LS type, length and checksum are computed from the body
 abbrev pub new_instance : Key → Option DatabaseCopy → LsaBody → Lsa
-new_instance key copy says = sealed_lsa (record {
+new_instance key copy contents = sealed_lsa (record {
   header = record {
     age = 0;
     options = e_bit;
@@ -114,7 +114,7 @@ new_instance key copy says = sealed_lsa (record {
     checksum = 0;
     length = 0;
   };
-  body = says;
+  body = contents;
 })
 
 abbrev pub install_and_flood : Moment → Lsa → Outcome → Outcome
@@ -129,10 +129,10 @@ as_originated moment key r = record r {
 }
 
 abbrev pub originate : Moment → Key → LsaBody → EventState → EventState
-originate moment key says p =
+originate moment key contents p =
     on_router (as_originated moment key)
     (on_area (install_and_flood moment
-    (new_instance key (finite.get p.router.area.database key) says)) p)
+    (new_instance key (finite.get p.router.area.database key) contents)) p)
 
 -- ---- flushing (section 14.1)
 
@@ -168,9 +168,9 @@ postpone key r = record r { waiting = set.insert r.waiting key }
 -- copy is flushed first, and the LSA is originated when the copy has been removed from the database
 abbrev pub originate_body : Bool → Moment → Key → Option LsaBody → EventState → EventState
 originate_body may_now moment key None p = p
-originate_body may_now moment key (Some says) p =
+originate_body may_now moment key (Some contents) p =
     if has_max_sequence (finite.get p.router.area.database key) then flush moment key p
-    else if may_now && may_originate moment key p.router then originate moment key says p
+    else if may_now && may_originate moment key p.router then originate moment key contents p
     else on_router (postpone key) p
 
 -- now only if there is room for it
@@ -216,7 +216,7 @@ forget_originations moment r =
 
 abbrev pub should_originate : Option LsaBody → Bool
 should_originate None = false
-should_originate (Some says) = true
+should_originate (Some contents) = true
 
 abbrev pub originate_or_flush : Bool → Moment → Key → EventState → EventState
 originate_or_flush true moment key p = originate_or_postpone moment key p

@@ -53,12 +53,12 @@ fn is_among(prefixes: &[Prefix], prefix: Prefix) -> bool
 }
 
 // The AS-external-LSA's body, if it is one.
-fn external_of(says: Option<&LsaBody>) -> Option<&ExternalLsa>
+fn external_of(lsa_body: Option<&LsaBody>) -> Option<&ExternalLsa>
     ensures { MatchOption result ((lsa : ExternalValue)
-        → option_copied says.entry ≡ Some (body.External lsa) → ⊥) (λ lsa.
-        option_copied says.entry ≡ Some (body.External lsa.now)) }
+        → option_copied lsa_body.entry ≡ Some (body.External lsa) → ⊥) (λ lsa.
+        option_copied lsa_body.entry ≡ Some (body.External lsa.now)) }
 {
-    match says? {
+    match lsa_body? {
         LsaBody::External(lsa) => Some(lsa),
         _ => None,
     }
@@ -87,16 +87,16 @@ fn note(prefixes: &mut Vec<Prefix>, advertised: Option<Prefix>) -> Result<(), Al
 fn note_network(
     prefixes: &mut Vec<Prefix>,
     key: &Key,
-    says: Option<&LsaBody>,
+    lsa_body: Option<&LsaBody>,
 ) -> Result<(), AllocError>
     ensures kept { OnOk result ((prefix : Network) → Contains prefixes.old.items prefix
         → Contains prefixes.new.items prefix) }
     ensures noted { OnOk result ((lsa : ExternalValue) (prefix : Network)
-        → option_copied says.entry ≡ Some (body.External lsa)
+        → option_copied lsa_body.entry ≡ Some (body.External lsa)
         → IsPrefix key.now.link_state_id lsa.mask prefix
         → Contains prefixes.new.items prefix) }
 {
-    match external_of(says) {
+    match external_of(lsa_body) {
         None => Ok(()),
         Some(lsa) => {
             note(prefixes, network_of(key, lsa.mask))?;

@@ -40,10 +40,10 @@ fn offer_to(
     inner: &InnerRoutes,
     prefix: Prefix,
     key: &Key,
-    says: &LsaBody,
+    lsa_body: &LsaBody,
 ) -> Option<Offer>
     requires { AreSearchable inner.now }
-    ensures { IsJust (SaysTo root.now inner.now prefix (key.now, says.now)) result }
+    ensures { IsJust (SaysTo root.now inner.now prefix (key.now, lsa_body.now)) result }
 {
     let by = Inner {
         routers: &inner.advertised,
@@ -51,7 +51,7 @@ fn offer_to(
         networks: &inner.networks,
         lengths: &inner.lengths,
     };
-    match external_offer(root, &by, key, says) {
+    match external_offer(root, &by, key, lsa_body) {
         None => None,
         Some(offer) => to(prefix, &offer),
     }
@@ -76,7 +76,7 @@ fn external_to(
     }
     match db.body_at(moment, key) {
         None => None,
-        Some(says) => offer_to(root, inner, prefix, key, says),
+        Some(lsa_body) => offer_to(root, inner, prefix, key, lsa_body),
     }
 }
 

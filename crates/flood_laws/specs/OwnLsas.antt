@@ -17,5 +17,5 @@ is_router_or_external ls_type = ls_type == 1 || ls_type == 5
 abbrev pub OnlyRouterAndExternalLsasAreWanted : Type 0
 OnlyRouterAndExternalLsasAreWanted =
     (c : Config) (steps : List Step) (new : Router) → Run (initial c) steps new
-    → (key : Key) (says : LsaBody) → wanted_body new key ≡ Some says
-    → (is_router_or_external key.ls_type ≡ true) × (type_of says ≡ key.ls_type)
+    → (key : Key) (contents : LsaBody) → wanted_body new key ≡ Some contents
+    → (is_router_or_external key.ls_type ≡ true) × (type_of contents ≡ key.ls_type)

@@ -24,9 +24,9 @@ unless_flushed copy = if has_max_sequence copy then Flushes else Waits
 -- after MaxSequenceNumber the copy is flushed first
 abbrev pub origination : (may_now : Bool) → Moment → Key → LsaBody → Option DatabaseCopy
     → (last : Option Moment) → Origination
-origination may_now moment key says copy last =
+origination may_now moment key contents copy last =
     if has_max_sequence copy then Flushes
-    else if may_now && interval_is_over moment last then Originates (new_instance key copy says)
+    else if may_now && interval_is_over moment last then Originates (new_instance key copy contents)
     else Waits
 
 -- the state after the decision is carried out

@@ -16,5 +16,5 @@ abbrev pub next_number : Option DatabaseCopy → Option ℤ
 next_number copy = if has_max_sequence copy then None else Some (next_sequence copy)
 
 abbrev pub next_instance : Key → Option DatabaseCopy → LsaBody → Option Lsa
-next_instance key copy says =
-    if has_max_sequence copy then None else Some (new_instance key copy says)
+next_instance key copy contents =
+    if has_max_sequence copy then None else Some (new_instance key copy contents)

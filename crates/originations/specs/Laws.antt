@@ -9,7 +9,7 @@ use Rattle.originations.specs.Decisions.{after_origination, origination}
 
 abbrev pub OriginationsAreTheRules : Type 0
 OriginationsAreTheRules =
-    (may_now : Bool) (moment : ℕ) (key : Key) (says : LsaBody) (p : EventState)
-    → after_origination moment key (origination may_now moment key says
+    (may_now : Bool) (moment : ℕ) (key : Key) (contents : LsaBody) (p : EventState)
+    → after_origination moment key (origination may_now moment key contents
     (finite.get p.router.area.database key) (finite.get p.router.originated key)) p
-    ≡ originate_body may_now moment key (Some says) p
+    ≡ originate_body may_now moment key (Some contents) p

@@ -17,7 +17,7 @@ use Rattle.own_lsa_laws.specs.OwnCopies.{SpeaksForItself, SpeaksForItselfAfterTi
 -- ---- LSAs that router 7 never originated
 
 abbrev pub lsa_under : Key → LsaBody → Lsa
-lsa_under key says = record {
+lsa_under key contents = record {
   header = record {
     age = 1;
     options = 2;
@@ -28,7 +28,7 @@ lsa_under key says = record {
     checksum = 4660;
     length = 36;
   };
-  body = says;
+  body = contents;
 }
 
 -- it announces 192.0.2.0/24

@@ -11,7 +11,7 @@ use Rattle.received.specs.Cases.{Case, case_of_readable, is_on_senders_list, was
 
 -- an AS-external-LSA of 9.9.9.9 for 203.0.113.0
 abbrev pub external_lsa : LsaBody → ℤ → Seconds → Lsa
-external_lsa says sequence age = record {
+external_lsa contents sequence age = record {
   header = record {
     age = age;
     options = 2;
@@ -22,14 +22,14 @@ external_lsa says sequence age = record {
     checksum = 0x5429;
     length = 36;
   };
-  body = says;
+  body = contents;
 }
 
 -- a copy that was installed by flooding and sent at these moments, with its age at moment 90
 abbrev pub copy_of_it : LsaBody → ℤ → Seconds → Moment → Moment → Option DatabaseCopy
-copy_of_it says sequence age installed sent =
+copy_of_it contents sequence age installed sent =
     Some (record {
-      lsa = external_lsa says sequence age;
+      lsa = external_lsa contents sequence age;
       stored = 90;
       installed = Some installed;
       sent = Some sent;
@@ -37,18 +37,20 @@ copy_of_it says sequence age installed sent =
 
 -- the received LSA
 abbrev pub arrival : LsaBody → Lsa
-arrival says = external_lsa says (pos 5) 10
+arrival contents = external_lsa contents (pos 5) 10
 
 -- whether the LSA is on the sender's request list, and whether this instance is on its
 -- retransmission list
-pub record IsSender (says : LsaBody) (from : Option Neighbor) (asked listed : Bool) : Type 0 where
-  pub is_asked : was_requested from (arrival says) ≡ asked
-  pub is_listed : is_on_senders_list 100 from (arrival says) ≡ listed
+pub record IsSender (contents : LsaBody) (from : Option Neighbor) (asked listed : Bool) : Type 0
+    where
+  pub is_asked : was_requested from (arrival contents) ≡ asked
+  pub is_listed : is_on_senders_list 100 from (arrival contents) ≡ listed
 
 -- the case of the LSA received at moment 100 from a sender, by whether any neighbor is in Exchange
 -- or Loading
 abbrev pub comes_in : LsaBody → Option DatabaseCopy → Option Neighbor → Bool → Case
-comes_in says copy from synchronizing = case_of_readable 100 copy from synchronizing (arrival says)
+comes_in contents copy from synchronizing = case_of_readable 100 copy from synchronizing
+    (arrival contents)
 
 pub record WorkedTable : Type 0 where
   -- newer than a copy that was installed in the same second, and than one installed ten seconds ago

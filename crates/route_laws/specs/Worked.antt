@@ -38,7 +38,7 @@ key ls_type id router =
 
 -- an LSA with age 0 that was stored at moment 0
 abbrev pub copy_of : Key → LsaBody → DatabaseCopy
-copy_of k says = record {
+copy_of k contents = record {
   lsa = record {
     header = record {
       age = 0;
@@ -50,7 +50,7 @@ copy_of k says = record {
       checksum = 0;
       length = 0;
     };
-    body = says;
+    body = contents;
   };
   stored = 0;
   installed = Some 0;

@@ -13,7 +13,7 @@ use Rattle.routes.specs.Contents.{Contents}
 
 -- a copy with this sequence number and body, which had this age at this moment
 abbrev pub copy : LsaBody → ℤ → Seconds → Moment → DatabaseCopy
-copy says number age stored = record {
+copy contents number age stored = record {
   lsa = record {
     header = record {
       age = age;
@@ -25,7 +25,7 @@ copy says number age stored = record {
       checksum = 0;
       length = 0;
     };
-    body = says;
+    body = contents;
   };
   stored = stored;
   installed = Some stored;
@@ -84,7 +84,7 @@ pub record WorkedCopies : Type 0 where
 
 -- the LSAs of a type have this body, and no others say anything
 abbrev pub saying : ℕ → LsaBody → Contents
-saying ls_type says key = if key.ls_type == ls_type then Some says else None
+saying ls_type contents key = if key.ls_type == ls_type then Some contents else None
 
 abbrev pub silent : Contents
 silent key = None

@@ -14,7 +14,8 @@ use Rattle.originations.specs.declared.origination.Origination.{Origination}
 abbrev pub wanted_origination : (may_now : Bool) → Moment → Key → Router → Option LsaBody
     → Option Origination
 wanted_origination may_now moment key r None = None
-wanted_origination may_now moment key r (Some says) = Some (origination may_now moment key says
+wanted_origination may_now moment key r (Some contents) = Some
+    (origination may_now moment key contents
     (finite.get r.area.database key) (finite.get r.originated key))
 
 -- a new instance at once or at a Tick, if the LSA is wanted

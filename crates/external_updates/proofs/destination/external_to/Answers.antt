@@ -15,5 +15,5 @@ returns-in-None c x k = absurd (let no = c.in-None.ensures ∙ k.its in cc)
 pub returns-in-Some : goal.returns-in-Some
 returns-in-Some c =
     just_its c.args.moment c.args.db.now.present c.args.root.now c.args.inner.now c.args.prefix
-    c.args.key.now c.in-Some.says.now c.offer_to.result (sym c.in-Some.ensures)
+    c.args.key.now c.in-Some.lsa_body.now c.offer_to.result (sym c.in-Some.ensures)
     c.offer_to.ensures

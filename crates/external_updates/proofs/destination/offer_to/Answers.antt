@@ -32,7 +32,7 @@ external_offer-requires-clause-lengths c =
 pub returns-in-None : goal.returns-in-None
 returns-in-None c =
     let root = c.args.root.now in
-    let one : Key × LsaBody = (c.args.key.now, c.args.says.now) in
+    let one : Key × LsaBody = (c.args.key.now, c.args.lsa_body.now) in
     let it = c.args.inner.now in
     let o = c.external_offer.result in
     let Q : List Flagged → List Route → List Route → Type 0 =
@@ -51,7 +51,7 @@ returns-in-None c =
 pub returns-in-Some : goal.returns-in-Some
 returns-in-Some c =
     let root = c.args.root.now in
-    let one : Key × LsaBody = (c.args.key.now, c.args.says.now) in
+    let one : Key × LsaBody = (c.args.key.now, c.args.lsa_body.now) in
     let it = c.args.inner.now in
     let o = c.external_offer.result in
     let Q : List Flagged → List Route → List Route → Type 0 =
