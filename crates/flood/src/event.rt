@@ -11,7 +11,8 @@ use words::{Prefix, Sequence};
 pub enum Event {
     /// These bytes were received at the interface with this number.
     Packet(u16, Sequence<u8>),
-    /// Time has passed: what is due is done. All timers of the router expire only at a `Tick`.
+    /// Time has passed: what is due is done. Timers expire at a `Tick` and at no other event; that
+    /// an LSA reaches MaxAge is noticed at each event.
     Tick,
     /// An external destination is to be announced, with these answers for its tag and its metric.
     Redistribute(TagAnswer, PriceAnswer),

@@ -6,7 +6,7 @@ use std::alloc::{AllocError, Global};
 use words::{Route, TableRow};
 
 /// The rows of a table as programs see them, one for each route, in their order: the prefix and the
-/// total cost.
+/// route's `cost`, which of a type 2 external route is the type 2 metric alone.
 ///
 /// # Errors
 /// `AllocError` if an allocation is refused.
