@@ -10,7 +10,7 @@ use Rattle.adjacency.proofs.Kept.{chosen}
 use Rattle.received.specs.Links.{Link, any_exchange_or_loading}
 use Rattle.received.specs.Outcomes.{Outcome, on_database, on_links}
 use Rattle.event_rules.specs.Endings.{end_event, is_current, originate_router_lsa}
-use Rattle.event_rules.specs.Endings.{put_off_router_lsa}
+use Rattle.event_rules.specs.Endings.{postpone_router_lsa}
 use Rattle.event_rules.specs.Endings.{link_loading_done, links_differ, loading_done, request_all}
 use Rattle.event_rules.specs.Endings.{stays}
 use Rattle.event_rules.specs.EventState.{EventState, flood_from_nobody, on_router}
@@ -102,7 +102,7 @@ module _ (own moment : ℕ) (X : Outcome → Type 0) where
         ((order_kept own).own_router p.router h.so.announced) refl h) (λ is. h)
 
     describes_later : (before : List Link) (p : EventState) → Going p
-        → Going (put_off_router_lsa before p)
+        → Going (postpone_router_lsa before p)
     describes_later before p h =
         chosen Going (links_differ before p.router.area.links)
         (on_router (postpone (router_key p.router.id)) p) p
@@ -117,7 +117,7 @@ module _ (own moment : ℕ) (X : Outcome → Type 0) where
     ended Y stay leave old after h =
         let said : EventState = originate_router_lsa old.area.links moment (loading_done after) in
         let refilled : EventState =
-        put_off_router_lsa said.router.area.links (loading_done said) in
+        postpone_router_lsa said.router.area.links (loading_done said) in
         let q : Going refilled = describes_later said.router.area.links (loading_done said)
         (loads said (describes old.area.links (loading_done after) (loads after h))) in
         let o : Outcome = request_all moment (outcome refilled) in

@@ -28,7 +28,7 @@ use Rattle.adjacency.specs.Retransmissions.{next_retransmissions, request_again,
 use Rattle.adjacency.specs.Retransmissions.{update_again}
 use Rattle.received.specs.Links.{Link}
 use Rattle.received.specs.Outcomes.{one_neighbor}
-use Rattle.event_rules.specs.Endings.{end_event, is_at, originate_router_lsa, put_off_router_lsa}
+use Rattle.event_rules.specs.Endings.{end_event, is_at, originate_router_lsa, postpone_router_lsa}
 use Rattle.event_rules.specs.Endings.{copy_has_body, loading_done, remove_aged, start_event, stays}
 use Rattle.event_rules.specs.EventState.{EventState, on_area, on_router}
 use Rattle.event_rules.specs.Hellos.{hello_on}
@@ -243,7 +243,7 @@ pub replies_end : end_event greets_with.router 0 replied ≡ replied
 replies_end =
     let m : Neighbor = (replying ((k, listed) ∷ []) 1).neighbor in
     let later : EventState → EventState =
-    λ q. last 0 (put_off_router_lsa q.router.area.links (loading_done q)) in
+    λ q. last 0 (postpone_router_lsa q.router.area.links (loading_done q)) in
     ap later (describes_not greets_with.router.area.links 0 replied
     (differ_not greets_with.router.area.links replied.router.area.links refl))
     ∙ ap (last 0) (describes_not_later replied)
@@ -365,7 +365,7 @@ at_rest = waiting
 pub finishes_end : end_event replied.router 0 finished ≡ at_rest
 finishes_end =
     let later : EventState → EventState =
-    λ q. last 0 (put_off_router_lsa q.router.area.links (loading_done q)) in
+    λ q. last 0 (postpone_router_lsa q.router.area.links (loading_done q)) in
     ap later waits
     ∙ ap (last 0) (describes_not_later waiting)
     ∙ ap (λ (db : Database). record {

@@ -26,7 +26,7 @@ use Rattle.adjacency.specs.Descriptions.{as_received, knows_types}
 use Rattle.adjacency.specs.Neighbors.{Neighbor, fresh}
 use Rattle.adjacency.specs.Requests.{next_request}
 use Rattle.received.specs.Outcomes.{Outcome, one_neighbor}
-use Rattle.event_rules.specs.Endings.{end_event, loading_done, put_off_router_lsa, remove_aged}
+use Rattle.event_rules.specs.Endings.{end_event, loading_done, postpone_router_lsa, remove_aged}
 use Rattle.event_rules.specs.Endings.{flood_if_aged, start_event, stays}
 use Rattle.event_rules.specs.EventState.{EventState, flood_from_nobody, on_area, on_router}
 use Rattle.event_rules.specs.Hellos.{hello_on}
@@ -224,7 +224,7 @@ pub leads_end : end_event opened_at_end.router 3600 leads ≡ led
 leads_end =
     let m : Neighbor = (leads_with finite.empty true [] 0).neighbor in
     let later : EventState → EventState =
-    λ q. last 3600 (put_off_router_lsa q.router.area.links (loading_done q)) in
+    λ q. last 3600 (postpone_router_lsa q.router.area.links (loading_done q)) in
     let one : finite.entries m.requests ≡ (
       key_of its_header,
       record {

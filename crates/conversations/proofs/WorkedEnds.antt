@@ -25,7 +25,7 @@ use Rattle.adjacency.specs.declared.state.NeighborState.TheVariants.{Loading, Fu
 use Rattle.received.specs.Links.{Link, any_has_retransmission, any_exchange_or_loading}
 use Rattle.received.specs.Links.{neighbor_is_exchange_or_loading}
 use Rattle.received.specs.Outcomes.{Outcome, on_database}
-use Rattle.event_rules.specs.Endings.{originate_router_lsa, put_off_router_lsa, start_event}
+use Rattle.event_rules.specs.Endings.{originate_router_lsa, postpone_router_lsa, start_event}
 use Rattle.event_rules.specs.Endings.{link_loading_done, loading_done, loading_done_on, end_event}
 use Rattle.event_rules.specs.Endings.{is_current, links_differ, remove_aged, request_all, same_body}
 use Rattle.event_rules.specs.Endings.{flood_if_aged, stays, stays_as}
@@ -113,7 +113,7 @@ describes_not before moment p e = ap
     (λ b. cond (b && not (is_current moment p.router))
     (originate_or_postpone moment (router_key p.router.id) p) p) e
 
-pub describes_not_later : (p : EventState) → put_off_router_lsa p.router.area.links p ≡ p
+pub describes_not_later : (p : EventState) → postpone_router_lsa p.router.area.links p ≡ p
 describes_not_later p = ap (λ b. cond b (on_router (postpone (router_key p.router.id)) p) p)
     (differ_not p.router.area.links p.router.area.links refl)
 
@@ -167,11 +167,11 @@ pub finishes : (old : Router) (moment : ℕ) (p x : EventState) → loading_done
     → end_event old moment p ≡ x
 finishes old moment p x full same end =
     let later : EventState → EventState =
-    λ q. last moment (put_off_router_lsa q.router.area.links (loading_done q)) in
+    λ q. last moment (postpone_router_lsa q.router.area.links (loading_done q)) in
     ap (λ q. later (originate_router_lsa old.area.links moment q)) full
     ∙ ap later (describes_not old.area.links moment p
     (differ_not old.area.links p.router.area.links same))
-    ∙ ap (λ q. last moment (put_off_router_lsa p.router.area.links q)) full
+    ∙ ap (λ q. last moment (postpone_router_lsa p.router.area.links q)) full
     ∙ ap (last moment) (describes_not_later p)
     ∙ end
 

@@ -23,7 +23,7 @@ use Rattle.received.specs.Flooding.{satisfies_request}
 use Rattle.received.specs.Links.{Link, delay_acknowledgment}
 use Rattle.received.specs.Updates.{flood_and_install}
 use Rattle.event_rules.specs.declared.model.Out.{Out}
-use Rattle.event_rules.specs.Endings.{copy_has_body, originate_router_lsa, put_off_router_lsa}
+use Rattle.event_rules.specs.Endings.{copy_has_body, originate_router_lsa, postpone_router_lsa}
 use Rattle.event_rules.specs.Endings.{loading_done, end_event, is_at, is_current, links_differ}
 use Rattle.event_rules.specs.Events.{Happens}
 use Rattle.event_rules.specs.Originations.{announced_body, as_originated, flush, has_max_sequence}
@@ -155,7 +155,7 @@ ending r link n moment lsa own over meet unsaid is_over =
     let old : Router = beside r link (loading n) in
     let p : EventState = put r link moment lsa (full lsa n) in
     let later : EventState → EventState =
-    λ q. last moment (put_off_router_lsa q.router.area.links (loading_done q)) in
+    λ q. last moment (postpone_router_lsa q.router.area.links (loading_done q)) in
     let told : EventState = originate_or_postpone moment (router_key r.id) p in
     let still : finite.get p.router.area.database (router_key r.id) ≡ Some own =
     own_stays r.area.database lsa (router_key r.id) own moment meet.is_absent meet.own_there in
@@ -169,7 +169,7 @@ ending r link n moment lsa own over meet unsaid is_over =
     ∙ quietly over
   where
     quietly : (b : Bool) → last moment
-        (put_off_router_lsa (described b moment own
+        (postpone_router_lsa (described b moment own
         (put r link moment lsa (full lsa n))).router.area.links
         (loading_done (described b moment own (put r link moment lsa (full lsa n)))))
         ≡ ended moment (described b moment own (put r link moment lsa (full lsa n)))

@@ -35,7 +35,7 @@ use Rattle.event_rules.specs.Commands.{after_redistribute, after_withdraw, annou
 use Rattle.event_rules.specs.Commands.{answered_external, end_want, ls_infinity, is_announced_as}
 use Rattle.event_rules.specs.Commands.{is_for}
 use Rattle.event_rules.specs.Commands.{taken_down, unannounce}
-use Rattle.event_rules.specs.Endings.{originate_router_lsa, put_off_router_lsa, start_event}
+use Rattle.event_rules.specs.Endings.{originate_router_lsa, postpone_router_lsa, start_event}
 use Rattle.event_rules.specs.Endings.{link_loading_done, loading_done, end_event, is_current}
 use Rattle.event_rules.specs.Endings.{flood_aged, links_differ, remove_aged, request_all, stays}
 use Rattle.event_rules.specs.Events.{OwnPart}
@@ -431,7 +431,7 @@ module _ (i : Invariant) (kept : IsKeptByParts i) where
       (kept.own_router p.router h.announced) h) (λ is. h)
 
   described_later : (before : List Link) (p : EventState) → InProgress p
-      → InProgress (put_off_router_lsa before p)
+      → InProgress (postpone_router_lsa before p)
   described_later before p h =
       chosen InProgress (links_differ before p.router.area.links)
       (on_router (postpone (router_key p.router.id)) p) p
@@ -447,7 +447,7 @@ module _ (i : Invariant) (kept : IsKeptByParts i) where
       → InProgress (end_event old moment p)
   ended_kept old moment p h =
       let said : EventState = originate_router_lsa old.area.links moment (loading_done p) in
-      let refilled : EventState = put_off_router_lsa said.router.area.links (loading_done said)
+      let refilled : EventState = postpone_router_lsa said.router.area.links (loading_done said)
       in
       let so : InProgress refilled = described_later said.router.area.links (loading_done said)
       (all_loaded said (described old.area.links moment (loading_done p) (all_loaded p h))) in

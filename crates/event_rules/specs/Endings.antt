@@ -81,8 +81,8 @@ originate_router_lsa before moment p =
 
 -- flooding the router-LSA may meet a neighbor's last request, which makes that neighbor Full: the
 -- link to it waits for a Tick
-abbrev pub put_off_router_lsa : List Link → EventState → EventState
-put_off_router_lsa before p =
+abbrev pub postpone_router_lsa : List Link → EventState → EventState
+postpone_router_lsa before p =
     if links_differ before p.router.area.links then on_router (postpone (router_key p.router.id)) p
     else p
 
@@ -115,6 +115,6 @@ abbrev pub end_event : Router → Moment → EventState → EventState
 end_event old moment p =
     let originated : EventState = originate_router_lsa old.area.links moment (loading_done p) in
     let refilled : EventState =
-    put_off_router_lsa originated.router.area.links (loading_done originated) in
+    postpone_router_lsa originated.router.area.links (loading_done originated) in
     on_router (λ (r : Router). record r { moment = moment })
     (on_area (λ o. remove_aged moment (request_all moment o)) refilled)

@@ -26,7 +26,7 @@ use Rattle.event_rules.specs.Commands.{after_redistribute, after_withdraw, annou
 use Rattle.event_rules.specs.Commands.{answered_external, end_want, is_announced_as, is_for}
 use Rattle.event_rules.specs.Commands.{ls_infinity}
 use Rattle.event_rules.specs.Endings.{end_event, is_current, originate_router_lsa}
-use Rattle.event_rules.specs.Endings.{put_off_router_lsa}
+use Rattle.event_rules.specs.Endings.{postpone_router_lsa}
 use Rattle.event_rules.specs.Endings.{links_differ, loading_done, start_event}
 use Rattle.event_rules.specs.EventState.{EventState, on_area, on_router}
 use Rattle.event_rules.specs.Events.{Happens, OwnPart}
@@ -190,7 +190,7 @@ described_stays before moment p =
     (originate_or_postpone moment (router_key p.router.id) p) p p
     (waits moment (router_key p.router.id) p) refl
 
-later_stays : (before : List Link) (p : EventState) → of (put_off_router_lsa before p) ≡ of p
+later_stays : (before : List Link) (p : EventState) → of (postpone_router_lsa before p) ≡ of p
 later_stays before p = either (links_differ before p.router.area.links)
     (on_router (postpone (router_key p.router.id)) p) p p refl refl
 

@@ -32,7 +32,7 @@ use Rattle.received.specs.Updates.{after_case, case_at, goes_on}
 use Rattle.event_rules.specs.Commands.{after_redistribute, after_withdraw, announce, announce_as}
 use Rattle.event_rules.specs.Commands.{answered_external, end_want, is_announced_as, is_for}
 use Rattle.event_rules.specs.Commands.{ls_infinity, taken_down, unannounce}
-use Rattle.event_rules.specs.Endings.{originate_router_lsa, put_off_router_lsa, start_event}
+use Rattle.event_rules.specs.Endings.{originate_router_lsa, postpone_router_lsa, start_event}
 use Rattle.event_rules.specs.Endings.{link_loading_done, loading_done, end_event, is_current}
 use Rattle.event_rules.specs.Endings.{links_differ, request_all, stays}
 use Rattle.event_rules.specs.Events.{OwnPart}
@@ -520,7 +520,7 @@ module _ (i : Invariant) (kept : IsKeptByParts i) (X Y : Lately) (old : Router) 
       (kept.own_router p.router h.so.announced) h) (λ is. h)
 
   described_later : (before : List Link) (p : EventState) → InProgress p
-      → InProgress (put_off_router_lsa before p)
+      → InProgress (postpone_router_lsa before p)
   described_later before p h =
       chosen InProgress (links_differ before p.router.area.links)
       (on_router (postpone (router_key p.router.id)) p) p
@@ -533,7 +533,7 @@ module _ (i : Invariant) (kept : IsKeptByParts i) (X Y : Lately) (old : Router) 
       let begun : InProgress start = record { so = so; lately = lately } in
       let p : InProgress after = own_kept event after refl brings own begun in
       let said : EventState = originate_router_lsa old.area.links moment (loading_done after) in
-      let refilled : EventState = put_off_router_lsa said.router.area.links (loading_done said)
+      let refilled : EventState = postpone_router_lsa said.router.area.links (loading_done said)
       in
       let q : InProgress refilled =
       described_later said.router.area.links (loading_done said)

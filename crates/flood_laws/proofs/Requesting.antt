@@ -23,7 +23,7 @@ use Rattle.adjacency.proofs.Kept.{chosen}
 use Rattle.received.specs.Holds.{Holds, HoldsOfEach}
 use Rattle.received.specs.Links.{Link, any_exchange_or_loading}
 use Rattle.received.specs.Outcomes.{Outcome, Stepping, on_database, step_on}
-use Rattle.event_rules.specs.Endings.{end_event, originate_router_lsa, put_off_router_lsa}
+use Rattle.event_rules.specs.Endings.{end_event, originate_router_lsa, postpone_router_lsa}
 use Rattle.event_rules.specs.Endings.{link_loading_done, links_differ, loading_done}
 use Rattle.event_rules.specs.Endings.{loading_done_on}
 use Rattle.event_rules.specs.Endings.{request_all, stays}
@@ -136,7 +136,7 @@ end_requests : (old : Router) (moment : ℕ) (p : EventState)
 end_requests old moment p =
     let described : EventState = originate_router_lsa old.area.links moment (loading_done p) in
     let loaded : EventState = loading_done described in
-    let refilled : EventState = put_off_router_lsa described.router.area.links loaded in
+    let refilled : EventState = postpone_router_lsa described.router.area.links loaded in
     let o : Outcome = record { area = refilled.router.area; sends = refilled.sends } in
     let before : HoldsOfEach IsLoaded o.area.links =
     chosen (λ (q : EventState). HoldsOfEach IsLoaded q.router.area.links)

@@ -37,7 +37,7 @@ use Rattle.event_rules.specs.Commands.{after_redistribute, after_withdraw, annou
 use Rattle.event_rules.specs.Commands.{answered_external, end_want, is_announced_as, is_for}
 use Rattle.event_rules.specs.Commands.{unannounce}
 use Rattle.event_rules.specs.Endings.{copy_has_body, end_event, originate_router_lsa}
-use Rattle.event_rules.specs.Endings.{put_off_router_lsa, is_at, is_current, link_loading_done}
+use Rattle.event_rules.specs.Endings.{postpone_router_lsa, is_at, is_current, link_loading_done}
 use Rattle.event_rules.specs.Endings.{links_differ, loading_done, remove_aged, request_all, stays}
 use Rattle.event_rules.specs.EventState.{EventState, flood_from_nobody, on_area, on_router}
 use Rattle.event_rules.specs.Hellos.{accepts, names}
@@ -632,7 +632,7 @@ module _ (moment : ℕ) (p : EventState)
 pub later_kept : (moment : ℕ) (t : Terms) (said : EventState) → t.before ≡ text_of said → t.now
     ≡ text_of said → IsFilledOrSettled moment said → InProgress moment (full t) said
     → InProgress moment (told (text_of (loading_done said)) t.may_wait)
-    (put_off_router_lsa said.router.area.links (loading_done said))
+    (postpone_router_lsa said.router.area.links (loading_done said))
 later_kept moment t said before now settled h =
     let q : EventState = loading_done said in
     let r : Router = q.router in
@@ -670,7 +670,7 @@ later_kept moment t said before now settled h =
         Standing.HeldBack moment (inl (same_itself (router_key said.router.id)))
         (waits_there said.router.waiting (router_key said.router.id)) last (omega arith)
 
-later_faces : (before : List Link) (p : EventState) → StaysFaced p (put_off_router_lsa before p)
+later_faces : (before : List Link) (p : EventState) → StaysFaced p (postpone_router_lsa before p)
 later_faces before p = chosen (StaysFaced p) (links_differ before p.router.area.links)
     (on_router (postpone (router_key p.router.id)) p) p (λ is. refl) (λ is. refl)
 
@@ -711,7 +711,7 @@ ended_kept old moment t p before agrees h =
     described_settled moment first (once p.router.area.links) old.area.links in
     let last : EventState = loading_done said in
     let v : Terms = told (text_of last) t.may_wait in
-    let refilled : EventState = put_off_router_lsa said.router.area.links last in
+    let refilled : EventState = postpone_router_lsa said.router.area.links last in
     let so : InProgress moment v refilled =
     later_kept moment u said said_text said_text settled said_so in
     let r : Router = refilled.router in

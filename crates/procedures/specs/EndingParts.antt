@@ -3,7 +3,7 @@
 use Rattle.std.specs.Prelude.{List}
 use Rattle.words.specs.Numbers.{Moment}
 use Rattle.event_rules.specs.received.Links.{Link}
-use Rattle.event_rules.specs.Endings.{loading_done, originate_router_lsa, put_off_router_lsa}
+use Rattle.event_rules.specs.Endings.{loading_done, originate_router_lsa, postpone_router_lsa}
 use Rattle.event_rules.specs.EventState.{EventState}
 
 -- from Loading to Full, and the router-LSA is originated if the links have changed since `before`
@@ -12,4 +12,4 @@ loading_done_then_originate before moment p = originate_router_lsa before moment
 
 -- from Loading to Full once more, and what that changes waits for a Tick
 abbrev pub loading_done_then_postpone : EventState → EventState
-loading_done_then_postpone p = put_off_router_lsa p.router.area.links (loading_done p)
+loading_done_then_postpone p = postpone_router_lsa p.router.area.links (loading_done p)

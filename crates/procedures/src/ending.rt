@@ -1,7 +1,7 @@
 //! The end of an event in its parts.
 ghost use Rattle.std.specs.Prelude.{◌≡◌, List, length};
 ghost use Rattle.event_rules.specs.received.Links.{Link};
-ghost use Rattle.event_rules.specs.Endings.{end_event, originate_router_lsa, put_off_router_lsa};
+ghost use Rattle.event_rules.specs.Endings.{end_event, originate_router_lsa, postpone_router_lsa};
 ghost use Rattle.procedures.specs.Full.{full_routers};
 ghost use Rattle.procedures.specs.EndingParts.{loading_done_then_originate};
 ghost use Rattle.procedures.specs.EndingParts.{loading_done_then_postpone};
@@ -34,7 +34,7 @@ fn originate_router_lsa(
 }
 
 // If the body of the router-LSA has changed, it waits for a Tick.
-fn put_off_router_lsa(
+fn postpone_router_lsa(
     router: &mut Router,
     alloc: Global,
     before: &[Option<RouterId>],
@@ -43,7 +43,7 @@ fn put_off_router_lsa(
     ensures { (old : List Link)
         → interfaces_of old ≡ interfaces_of router.old.present.area.links
         → full_routers old ≡ before.now
-        → RouterDoes (put_off_router_lsa old) router.old router.new result }
+        → RouterDoes (postpone_router_lsa old) router.old router.new result }
 {
     let differ = has_changed(router, alloc, before)?;
     if !differ {
@@ -78,7 +78,7 @@ fn loading_done_then_postpone(router: &mut Router, alloc: Global) -> Result<(), 
 {
     let before = full_routers(router, alloc)?;
     router.end_loading();
-    put_off_router_lsa(router, alloc, &before)
+    postpone_router_lsa(router, alloc, &before)
 }
 
 /// The end of an event: each neighbor goes from Loading to Full if its request list is empty; the

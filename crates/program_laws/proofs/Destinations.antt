@@ -34,7 +34,7 @@ use Rattle.received.specs.Outcomes.{Outcome, Send, Stepping, each_neighbor, on_d
 use Rattle.received.specs.Outcomes.{stepping_sends}
 use Rattle.event_rules.specs.Endings as Endings
 use Rattle.event_rules.specs.Endings.{copy_has_body, end_event, originate_router_lsa}
-use Rattle.event_rules.specs.Endings.{put_off_router_lsa}
+use Rattle.event_rules.specs.Endings.{postpone_router_lsa}
 use Rattle.event_rules.specs.Endings.{is_at, is_current, link_loading_done, links_differ}
 use Rattle.event_rules.specs.Endings.{loading_done}
 use Rattle.event_rules.specs.Endings.{loading_done_on, remove_aged, request_all, same_body}
@@ -476,7 +476,7 @@ module _ (key : Key) where
     -- ---- the rest of an event's end
 
     abbrev refilled : EventState → EventState
-    refilled q = put_off_router_lsa q.router.area.links (loading_done q)
+    refilled q = postpone_router_lsa q.router.area.links (loading_done q)
 
     refills : Overlooks refilled
     refills q =

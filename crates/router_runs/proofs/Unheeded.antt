@@ -24,7 +24,7 @@ use Rattle.received.specs.Outcomes.{Outcome, on_links}
 use Rattle.event_rules.specs.Commands.{after_redistribute, after_withdraw, announce, announce_as}
 use Rattle.event_rules.specs.Commands.{answered_external, end_want, is_announced_as, is_for}
 use Rattle.event_rules.specs.Endings.{end_event, is_current, originate_router_lsa}
-use Rattle.event_rules.specs.Endings.{put_off_router_lsa, links_differ, loading_done, remove_aged}
+use Rattle.event_rules.specs.Endings.{postpone_router_lsa, links_differ, loading_done, remove_aged}
 use Rattle.event_rules.specs.Endings.{request_all, start_event}
 use Rattle.event_rules.specs.Events.{Happens, OwnPart}
 use Rattle.event_rules.specs.EventState.{EventState, on_area, on_router}
@@ -88,7 +88,7 @@ module _ (answers : List (Route × ℕ)) where
   -- the end from where the router-LSA was told
   abbrev rest : Moment → EventState → EventState
   rest moment p =
-      let refilled : EventState = put_off_router_lsa p.router.area.links (loading_done p) in
+      let refilled : EventState = postpone_router_lsa p.router.area.links (loading_done p) in
       on_router (λ (r : Router). record r { moment = moment })
       (on_area (λ o. remove_aged moment (request_all moment o)) refilled)
 
