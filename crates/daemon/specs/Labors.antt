@@ -25,7 +25,7 @@ HasServed {Transport = Transport} {Clock = Clock} {Flag = Flag} senses reads beg
     (told : Flag) × (transport : Transport) × (clock : Clock)
     × HasLived senses reads begun start told (standing transport clock known events)
 
--- so it lived until a round in which its transport failed
+-- so it lived, and began one more round: of a worker that ended so, its transport failed in that
 abbrev pub HasServedOn : {Transport Clock Flag : Type 0} → Senses Transport Clock → Reads Flag
     → (begun : Flag) → (start : Standing Transport Clock) → Type 0
 HasServedOn {Flag = Flag} senses reads begun start =

@@ -37,9 +37,9 @@ status_of_ended ended =
 
 -- ---- which router ran
 
--- A router that began as this one ran, with this number of interfaces: each had a worker that lived
--- until it was told to end, or its transport failed. So says that there is an `EndedWorker` of it,
--- which only `labor::work` makes.
+-- A router that began as this one ran, with an `EndedWorker` for each of this number of interfaces.
+-- Only `labor::work` makes one, of a worker that lived until it was told to end or its transport
+-- failed.
 pub record HasRan (origin : Router) (interfaces : ℕ) (ended : EndedRouter) : Type 0 where
   pub began : ended.origin.value ≡ origin
   pub workers : length ended.workers.items ≡ interfaces

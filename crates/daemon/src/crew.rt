@@ -114,7 +114,8 @@ fn in_scope<
     )
 }
 
-// Starts the others, lets the operator talk at the last port, and joins them after it.
+// Starts a worker at each port but the last one, which is the console's, number 0. When the
+// operator is done there, the workers are joined.
 fn crew<
     's,
     E,

@@ -114,7 +114,7 @@ remove_aged moment o =
 abbrev pub end_event : Router → Moment → EventState → EventState
 end_event old moment p =
     let originated : EventState = originate_router_lsa old.area.links moment (loading_done p) in
-    let refilled : EventState =
+    let postponed : EventState =
     postpone_router_lsa originated.router.area.links (loading_done originated) in
     on_router (λ (r : Router). record r { moment = moment })
-    (on_area (λ o. remove_aged moment (request_all moment o)) refilled)
+    (on_area (λ o. remove_aged moment (request_all moment o)) postponed)

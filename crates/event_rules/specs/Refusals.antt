@@ -44,6 +44,7 @@ abbrev pub no_interface : InterfaceNumber → Router → Option CoreError → Op
 no_interface interface old otherwise =
     if is_interface interface old then otherwise else Some error.NoInterface
 
+-- why the event is refused before anything of it is done
 abbrev pub of_event : Router → Occurrence → Option CoreError
 of_event old (Occurrence.Packet interface bytes) =
     no_interface interface old (bad_packet (fault_of bytes))

@@ -283,11 +283,11 @@ impl Core {
     }
 
     /// Whether some candidate is in none of the answers of the last `Install`, so that programs
-    /// have to be asked again. If there was none at an earlier call or when the answers came, and
-    /// no event since then has changed the body of an LSA, no candidate is visited. If there is no
-    /// valid walk, one is made and kept. `turns` asks this after each event, so a change of the
-    /// topology has the shortest paths calculated at once, without a delay that would join several
-    /// changes.
+    /// have to be asked again. No candidate is visited if an earlier call found none, or the
+    /// answers were on all candidates when they came, and no event since then has changed the body
+    /// of an LSA. If there is no valid walk, one is made and kept. `turns` asks this after each
+    /// event, so a change of the topology has the shortest paths calculated at once, without a
+    /// delay that would join several changes.
     ///
     /// # Errors
     /// `AllocError` if an allocation is refused.

@@ -79,9 +79,9 @@ pub data IsAsked (event : Occurrence) (interface : InterfaceNumber) (before : Ne
       → packet.body ≡ body.Description d → Contains (map key_of d.headers) key
       → IsAsked event interface before key
 
--- the LSA is flooded in this event, so that its entry is replaced or removed: a newer instance was
--- received, or originated, and stored; or the copy reached MaxAge, and a newer instance may be
--- requested of the neighbor
+-- How flooding in this event may remove the entry, or replace it by another instance's: a newer
+-- instance was received, or originated, and stored; or the copy reached MaxAge, and a newer
+-- instance may be requested of the neighbor, which then isn't sent this one.
 pub data IsFlooded (old : Router) (moment : Moment) (event : Occurrence) (new : Router)
     (interface : InterfaceNumber) (before : Neighbor) (key : Key) : Type 0 where
   Newer : BringsNewer old moment event key

@@ -15,8 +15,8 @@ use lsa::{Header, Lsa};
 use std::cmp::Ordering;
 use words::{MAX_AGE, Second, SequenceNumber};
 
-/// The case of an LSA in a received Link State Update: the first of the table that applies (RFC
-/// 2328, section 13).
+/// The case of an LSA in a received Link State Update: of the first test that succeeds (RFC 2328,
+/// section 13), in the order of `case_tests` in the crate `received`.
 #[derive(Clone, Copy)]
 pub enum Case {
     /// At MaxAge, without a database copy, and no neighbor is in Exchange or Loading: nothing to

@@ -84,6 +84,8 @@ pub fn is_exchange_or_loading(state: NeighborState) -> bool
     }
 }
 
+// Whether the copy isn't requested, or is newer than the requested instance (RFC 2328, section 13.3
+// (1) (b)).
 fn exceeds_request(moment: Second, copy: &DatabaseCopy<'_>, request: &Option<ListEntry>) -> bool
     ensures { result ≡ exceeds_request moment (lsa_now moment copy.now) request.now }
 {
@@ -96,6 +98,7 @@ fn exceeds_request(moment: Second, copy: &DatabaseCopy<'_>, request: &Option<Lis
     }
 }
 
+// Whether the requested instance isn't newer than the copy, so that nothing is left to request.
 fn satisfies_request(moment: Second, copy: &DatabaseCopy<'_>, request: &Option<ListEntry>) -> bool
     ensures { result ≡ satisfies_request moment (lsa_now moment copy.now) request.now }
 {

@@ -37,8 +37,8 @@ pub record Accepts (bytes : List ℕ) (accepted : Program) : Type 0 where
   pub safe : Safe accepted.code accepted.hook accepted.bound
 
 -- The program that the bytes hold may be refused at this slot by this rule, the first that counts
--- there: for its bound, whatever memory there is, if that exceeds the budget; a plain program only
--- if an allocation is refused.
+-- there. If its bound exceeds the budget, this is the refusal, whatever memory there is. A plain
+-- program is refused only if an allocation is.
 pub record RefusesProgram (bytes : List ℕ) (refusal : Refusal) : Type 0 where
   pub object : ObjectParts
   pub slots : List Slot

@@ -204,7 +204,7 @@ pub record IsAttached (s : Sources) (c : Change) (path : List ℕ) (hook : Hook)
   pub of_hook : program.hook ≡ hook
   pub of_bound : program.bound ≡ bound
 
--- a program was published, or lines say why none was; or memory was refused, and nothing changed
+-- a program was published, or lines say why none was; or `Memory` is answered, and nothing changed
 abbrev pub IsAnswerToAttach : Sources → Change → (path : List ℕ) → Reply → Type 0
 IsAnswerToAttach s c path (reply.Attached hook bound) = IsAttached s c path hook bound
 IsAnswerToAttach s c path (reply.Lines reason) =

@@ -24,7 +24,7 @@ pub enum Reply {
     Refused(u8),
     /// The line is no command.
     Unknown,
-    /// Memory was refused.
+    /// Memory was refused, or the history of the programs has no number left.
     Memory,
     /// The lines that were asked for, as they are printed.
     Lines(String),

@@ -1,5 +1,5 @@
--- The table of received LSAs, row by row, for instances of one LSA: the received one has sequence
--- number 5 and age 10 at moment 100.
+-- The tests of a received LSA (`case_tests`), row by row, for instances of one LSA: the received
+-- one has sequence number 5 and age 10 at moment 100.
 use Rattle.std.specs.Prelude.{◌≡◌, ℤ, pos, Bool, true, false, Option, Some}
 use Rattle.words.specs.Constants.{max_age, max_sequence_number}
 use Rattle.words.specs.Numbers.{Moment, Seconds}

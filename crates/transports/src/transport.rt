@@ -5,7 +5,7 @@ ghost use Rattle.std.specs.Prelude.{OnErr, length};
 use std::alloc::Global;
 use words::{Second, Sequence};
 
-/// A socket failed, for an unknown cause.
+/// A socket failed. For which cause isn't kept.
 #[derive(Clone, Copy, PartialEq, Eq)]
 pub struct SocketFault {}
 

@@ -361,8 +361,8 @@ abbrev pub IsChangedSince : Refuses → (events : ℕ) → ℕ → Type 0
 IsChangedSince refuses events before = (now : ℕ) × refuses.counted events now × (now ≢ before)
 
 -- The refresh that was due isn't taken: the programs were changed meanwhile, as the number of
--- changes tells that was read before the event, beside the one after it; or it was refused, as any
--- refresh is.
+-- changes tells that was read before the event, beside the one after it, as in `IsUnchanged`; or it
+-- was refused, as any refresh is.
 abbrev pub IsUnrefreshed : Offers → Refuses → (known now : List LoaderOperation) → Moment
     → (events : ℕ) → Type 0
 IsUnrefreshed offers refuses known now moment events =
@@ -370,7 +370,8 @@ IsUnrefreshed offers refuses known now moment events =
     ⊎ ((error : TurnError)
     × RefusesFor offers refuses known now (events + 1) moment work.Refresh error)
 
--- the number of changes that was read before the event was read after it too
+-- the number of changes that was read before the event was read after it too; of a book's own
+-- relations any number may have been read, so that this binds code that is generic over `Taker`
 abbrev pub IsUnchanged : Refuses → (events : ℕ) → Type 0
 IsUnchanged refuses events =
     (changes : ℕ) × refuses.counted events changes × refuses.counted (events + 1) changes

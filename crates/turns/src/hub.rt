@@ -103,9 +103,9 @@ impl<L: Site, B: Taker<L>> Hub<L, B> {
         self.shared.read(&mut port.seat, index)
     }
 
-    /// Tells the workers that the programs are now those of the notice. A refresh that follows a
-    /// turn from before is refused from now on, so that no answer of an earlier program comes after
-    /// those of the refresh that the caller makes next.
+    /// Tells the workers that the programs are now those of the notice. The caller refreshes the
+    /// table next. The refresh of a turn that began before is refused from now on: it may bring
+    /// answers of an earlier program, which would replace those of the caller's.
     pub fn programs_changed(&self, notice: &Notice)
         ensures { IsTold B.took (told_by notice.now) }
     {

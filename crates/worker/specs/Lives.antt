@@ -213,7 +213,8 @@ HasLived {Flag = Flag} senses reads begun start told now =
     (rounds : ℕ) × (ticked : Option ℕ) × (flag : Flag)
     × Lives senses reads begun start rounds ticked flag now × reads flag true told
 
--- some rounds, and then the flag was found unset, and one more round began
+-- some rounds, and then the flag was found unset, so that one more round began, of which nothing is
+-- said
 abbrev pub HasLivedOn : {Transport Clock Flag : Type 0} → Senses Transport Clock → Reads Flag
     → (begun : Flag) → (start : Standing Transport Clock) → (untold : Flag) → Type 0
 HasLivedOn {Transport = Transport} {Clock = Clock} {Flag = Flag} senses reads begun start untold =

@@ -57,8 +57,8 @@ abbrev pub IsNoneThere : {Socket : Type 0} → (refuses : Socket → Error → T
 IsNoneThere refuses socket =
     (error : Error) × refuses socket error × IsTrue (is_passing error)
 
--- Why a transport hears nothing of a socket: there was no datagram, nor after it has waited; or
--- there was no memory for the datagram that came.
+-- Why a transport hears nothing of a socket: there was no datagram, nor after it has waited; or one
+-- came that is lost. The code loses one only where memory lacks for it, which isn't said here.
 abbrev pub IsSilent : {Socket : Type 0} → (hands : Socket → List ℕ → Type 0)
     → (refuses : Socket → Error → Type 0) → (waits : Type 0) → Socket → Type 0
 IsSilent hands refuses waits socket =

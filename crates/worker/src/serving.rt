@@ -42,9 +42,9 @@ impl Ended {
 }
 
 /// Runs a worker. In each round it takes a Tick's turn if the second has changed, and a turn with
-/// the datagram that its transport gave, if one came, and sends what these turns send. Once before
-/// each round it looks at `quit`, and ends with `Quit` if that is set. With `Fault` it ends if its
-/// transport failed, and only then.
+/// the datagram that its transport received, if one came, and sends what these turns send. Once
+/// before each round it looks at `quit`, and ends with `Quit` if that is set. With `Fault` it ends
+/// if its transport failed, and only then.
 ///
 /// A refused turn sends nothing. After a fault in the midst of a turn's outs the event stands, and
 /// the later outs aren't sent.

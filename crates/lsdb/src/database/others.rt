@@ -70,9 +70,8 @@ impl<'a, T: KeyRule> ChangeTest<StoredLsa> for OthersAreUnchanged<'a, T> {
 impl Lsdb {
     /// Whether each copy whose key counts has the contents at the moment that the copy of its key
     /// had when the database was last committed, as `is_unchanged` compares them (RFC 2328, section
-    /// 13.2).
-    /// A key that had no copy then, or one that had MaxAge at the moment `before`, may have none
-    /// now, or one at MaxAge. It visits the edits since then.
+    /// 13.2). A key that had no copy then, or one that had MaxAge at the moment `before`, may have
+    /// none now, or one at MaxAge. It visits the edits since then.
     ///
     /// # Errors
     /// `AllocError` if an allocation for the rule, or for the bytes of LSAs, which are compared, is
