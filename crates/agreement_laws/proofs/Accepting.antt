@@ -94,14 +94,14 @@ is_taken old moment event number n d a after own =
         → cond (is_foreign old.id a.brings.packet.router &&
         (is_hello says || is_from a.brings.packet.router o))
         (from_neighbor moment number a.brings.packet.router (neighbor_is_exchange_or_later o) says
-            begins)
+        begins)
         begins
         ≡ on_area (receive_description old.id moment number d) begins
     of_body says its o at =
         (λ i. cond (is_foreign old.id a.brings.packet.router &&
         (is_hello (its i) || is_from a.brings.packet.router (at i)))
         (from_neighbor moment number a.brings.packet.router (neighbor_is_exchange_or_later (at i))
-            (its i)
+        (its i)
         begins) begins)
         ∙ (λ i. cond (its_other i &&
         (false || eq-eqb n.router a.brings.packet.router (sym a.brings.from) i))

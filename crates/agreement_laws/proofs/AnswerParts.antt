@@ -310,8 +310,8 @@ module _ (own : ℕ) (Acc : Description → Type 0) (Began : Conversation → Ty
 
   new_flooded : (lsa : Lsa) (m : Neighbor) → IsNew m → IsNew (flooding moment false lsa m).neighbor
   new_flooded lsa m h =
-      let met : IsNew (without_satisfied_request moment lsa m) = neighbor_steps.met IsNew moment lsa
-          m h h
+      let met : IsNew (without_satisfied_request moment lsa m) =
+      neighbor_steps.met IsNew moment lsa m h h
       in neighbor_steps.flooded IsNew moment false lsa m met met h
 
   aged_one : (lsa : Lsa) (o : Outcome) → Aged o → Aged (flood_from_nobody moment lsa o)

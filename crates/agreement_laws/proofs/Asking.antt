@@ -49,7 +49,7 @@ module _ (ranks : RanksFollowTheComparison) (key : Key) (moment : ℕ) (first : 
 
   met_entry : (b : Bool) (lsa : Lsa) (o : Option ListEntry) → o ≡ Some entry
       → satisfies_request moment lsa (cond b o None) ≡ true → is_at_least (instance_of lsa.header)
-          first ≡ true
+      first ≡ true
   met_entry false lsa o is e = absurd cc
   met_entry true lsa None is e = absurd cc
   met_entry true lsa (Some r) is e =
@@ -66,7 +66,7 @@ module _ (ranks : RanksFollowTheComparison) (key : Key) (moment : ℕ) (first : 
       ⊎ IsMet lsa
   met_where lsa m h =
       chosen (λ (n : Neighbor). Asking n ⊎ IsMet lsa)
-          (satisfies_request moment lsa (request_of m lsa))
+      (satisfies_request moment lsa (request_of m lsa))
       (without_request (lsa_key lsa) m) m (λ e. by_case e h) (λ e. inl h)
     where
       by_key : (b : Bool) → same_key key (lsa_key lsa) ≡ b → satisfies_request moment lsa

@@ -91,7 +91,7 @@ module _ (key : Key) (now : ℕ) (Of : ℕ → Type 0) (Said : Saying) where
       → Settled x (without_satisfied_request moment lsa m)
   met_where x moment lsa m h =
       chosen (Settled x) (satisfies_request moment lsa (request_of m lsa))
-          (without_request (lsa_key lsa) m) m
+      (without_request (lsa_key lsa) m) m
       (λ e. (h.0, met_said (lsa_key lsa) m.requests (conversation_with m) h.1, h.2)) (λ e. h)
 
   added_other : (moment : ℕ) (h : Header) (t s : ByKey ListEntry) (w : Conversation) (i : Instance)
@@ -145,7 +145,7 @@ module _ (key : Key) (now : ℕ) (Of : ℕ → Type 0) (Said : Saying) where
   -- if an LSA isn't newer than the request, one at least as new is requested, and so was said
   requested : (lsa : Lsa) (m : Neighbor) → key ≡ lsa_key lsa
       → AreSaid m.requests (conversation_with m) → exceeds_request now lsa (request_of m lsa)
-          ≡ false
+      ≡ false
       → Known (conversation_with m) (instance_of lsa.header)
   requested lsa m same said e = by_choice (is_exchange_or_loading m.state)
       (requested_entry m (lsa_key lsa)) refl e
@@ -203,7 +203,7 @@ module _ (key : Key) (now : ℕ) (Of : ℕ → Type 0) (Said : Saying) where
       same_conversation k =
           chosen (λ (n : Neighbor). Known (conversation_with n) (instance_of lsa.header))
           (satisfies_request now lsa (request_of m lsa)) (without_request (lsa_key lsa) m) m
-              (λ e. k)
+          (λ e. k)
           (λ e. k)
 
   -- an LSA from this neighbor, which thus has said it

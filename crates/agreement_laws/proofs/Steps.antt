@@ -93,8 +93,8 @@ module _ (P : Neighbor → Type 0) where
   pub met : (moment : ℕ) (lsa : Lsa) (m : Neighbor) → Of (without_request (lsa_key lsa) m) → Of m
       → Of (without_satisfied_request moment lsa m)
   met moment lsa m without h =
-      chosen Of (satisfies_request moment lsa (request_of m lsa)) (without_request (lsa_key lsa) m)
-          m
+      chosen Of (satisfies_request moment lsa (request_of m lsa))
+      (without_request (lsa_key lsa) m) m
       (λ e. without) (λ e. h)
 
   -- when it is added to the retransmission list, or that of its key is removed

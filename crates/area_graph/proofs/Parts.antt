@@ -167,8 +167,8 @@ module _ (contents : Contents) (root : Root) (nodes : List Node) (entries : List
             is_kind = c.is_kind;
             counts = omega (arith, c.costs, c.not_free);
             stands = subst P (sym c.is_id) stands;
-            back = subst Q (sym c.is_id) (back_point contents nodes entries advertised id router
-                l.1);
+            back = subst Q (sym c.is_id) (back_point contents nodes entries advertised id
+                router l.1);
             leads = (
               refl,
               sym c.costs,

@@ -90,8 +90,8 @@ IsAdvertisedAs contents nodes Attached entry =
     IsListedAt contents nodes entry.router entry.id entry.place × (entry.metric ≡ 0)
 
 -- exactly what LSAs advertise, sorted
-pub record AreEntries (contents : Contents) (nodes : List Node) (entries : List AdvertisedLink) :
-    Type 0
+pub record AreEntries (contents : Contents) (nodes : List Node) (entries : List AdvertisedLink)
+    : Type 0
   where
     pub each : (entry : AdvertisedLink)
         → Contains entries entry ↔ IsAdvertisedAs contents nodes entry.kind entry

@@ -80,8 +80,8 @@ abbrev pub IsCovered : (old : Contents) → (new : Contents) → List Node → (
 IsCovered old new nodes places key = (old key ≡ new key) ⊎ IsNoted old new nodes places key
 
 -- the same for each of these keys that is of a router-LSA or network-LSA
-abbrev pub AreCovered : (old : Contents) → (new : Contents) → List Node → (places : List ℕ) → List
-    Key
+abbrev pub AreCovered : (old : Contents) → (new : Contents) → List Node → (places : List ℕ)
+    → List Key
     → Type 0
 AreCovered old new nodes places keys =
     (key : Key) → Contains keys key → key.ls_type ≤ 2 → IsCovered old new nodes places key

@@ -28,8 +28,8 @@ HasLinkTo lsa kind id =
     (link : RouterLink) × Contains lsa.links link × (link.kind ≡ kind) × (link.link_id ≡ id)
 
 -- the index of a router, if it has a link of this kind to this Link ID
-abbrev pub IsNeighbor : Contents → List Node → RouterNumber → LinkKind → (id : ℕ) → Option ℕ → Type
-    0
+abbrev pub IsNeighbor : Contents → List Node → RouterNumber → LinkKind → (id : ℕ) → Option ℕ
+    → Type 0
 IsNeighbor contents nodes router kind id None = LinksBack contents router kind id → ⊥
 IsNeighbor contents nodes router kind id (Some at) =
     StandsAt nodes (ARouter router) at × LinksBack contents router kind id

@@ -60,8 +60,8 @@ KnowsCandidates contents root kept =
     IfSome kept.candidates (AreCandidates contents root)
 
 -- it is the result from the LSAs of types 1 to 4 by this walk, and can be searched
-pub record AreInnerBy (contents : Contents) (root : Root) (walk : KeptWalk) (inner : InnerRoutes) :
-    Type 0
+pub record AreInnerBy (contents : Contents) (root : Root) (walk : KeptWalk) (inner : InnerRoutes)
+    : Type 0
   where
     pub are_inner : AreInner contents root (way_in walk.reached) inner
     pub searchable : AreSearchable inner

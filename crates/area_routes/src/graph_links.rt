@@ -23,8 +23,8 @@ use words::{LinkStateId, RouterId};
 // The index of a router, if its LSA has a link of this kind to this Link ID.
 fn neighbor_at(at: &Surroundings<'_>, far: RouterId, kind: LinkKind, id: u32) -> Option<usize>
     requires { AreNodes (contents_at at.now.moment at.now.db.now.present) at.now.nodes.now }
-    ensures { IsNeighbor (contents_at at.now.moment at.now.db.now.present) at.now.nodes.now far kind
-        id
+    ensures { IsNeighbor (contents_at at.now.moment at.now.db.now.present) at.now.nodes.now far
+        kind id
         result }
 {
     match router_lsa(at, far) {

@@ -213,8 +213,8 @@ module _ (contents : Contents) (root : Root) where
         external_rank p.lsa.kind p.prefix p.lsa p.originator p.way,
       ))
 
-  walk_of : (o : Offer) → OffersWithin contents root o → (i : ℕ) × IsReached contents root o.prefix
-      o.cost i
+  walk_of : (o : Offer) → OffersWithin contents root o → (i : ℕ)
+      × IsReached contents root o.prefix o.cost i
   walk_of o x =
       let Reached : Offer → Type 0 = λ y. (i : ℕ) × IsReached contents root y.prefix y.cost i in
       subst Reached (sym x.is) (
@@ -290,8 +290,8 @@ module _ (contents : Contents) (root : Root) where
             )))
       ]
 
-  first_rank : (r : Route) (k : IsCandidate contents root r) → r.kind ≡ Intra → rank k.first.kind
-      ≡ 0
+  first_rank : (r : Route) (k : IsCandidate contents root r) → r.kind ≡ Intra
+      → rank k.first.kind ≡ 0
   first_rank r k e = ap rank (sym k.kind ∙ e)
 
   is_cheapest : (r : Route) (cost i : ℕ) → IsCandidate contents root r

@@ -223,8 +223,8 @@ module _ (ways : Ways) where
         } in
         record {
           lsa = tells.lsa;
-          its = ap contents (sym at) ∙ have.each key p.0.1 p.1 ∙ ap (λ (b : LsaBody). Some b)
-              tells.its;
+          its = ap contents (sym at) ∙ have.each key p.0.1 p.1
+              ∙ ap (λ (b : LsaBody). Some b) tells.its;
           has_flag = subst (λ f. bit_and f flag ≡ flag) tells.its_flags k.has_flag;
           reached = ap (λ r. ways (ARouter r)) (sym by) ∙ tells.reached
               ∙ ap (λ (w : Way). Some w) (sym k.its_way);

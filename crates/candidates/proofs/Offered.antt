@@ -187,8 +187,8 @@ module _ (contents : Contents) (root : Root) where
       let o = (f.is_route.hops i).0 (subst Has (ap (λ (x : Way). x.hops) f.is) t) in
       of_inside o.0 o.1.offered i o.2
 
-  of_external : (o : Offer) → OffersExternal contents root o → (i : ℕ) → IsTrue
-      (has_interface o.hops i)
+  of_external : (o : Offer) → OffersExternal contents root o → (i : ℕ)
+      → IsTrue (has_interface o.hops i)
       → i < limit
   of_external o x i t =
       let Has : ℕ → Type 0 = λ hops. IsTrue (has_interface hops i) in

@@ -20,17 +20,16 @@ use Rattle.candidates.proofs.NodePlaces.{beside, beside_none, seek}
 use Rattle.candidates.specs.Reached.{way_beside}
 
 -- a link leads to a node that has an LSA, so a walk from such a node ends at one
-pub far : (contents : Contents) (root : Root) (from : Node) (step : Step Node) → Leads contents root
-    from step
+pub far : (contents : Contents) (root : Root) (from : Node) (step : Step Node)
+    → Leads contents root from step
     → HasLsa contents step.target
-far contents root from step leads = far_end contents root from step.target step.cost step.exit
-    leads
+far contents root from step leads = far_end contents root from step.target step.cost step.exit leads
 
 pub ends : (contents : Contents) (root : Root) (from : Node) → HasLsa contents from
     → (walk : List (Step Node)) (to : Node) → IsWalk (Leads contents root) from walk to → HasLsa
     contents to
-ends contents root from has [] to is = let P : Node → Type 0 = λ n. HasLsa contents n in subst P is
-    has
+ends contents root from has [] to is = let P : Node → Type 0 =
+    λ n. HasLsa contents n in subst P is has
 ends contents root from has (step ∷ rest) to is =
     ends contents root step.target (far contents root from step is.0) rest to is.1
 

@@ -25,12 +25,12 @@ use Rattle.routes.specs.declared.offer.Offer.{Offer}
 use Rattle.routes.specs.declared.root.Root.{Root}
 
 -- the router's LSA has the flag, and this way leads to it
-pub record IsFlagged (contents : Contents) (ways : Ways) (router flag : ℕ) (way : Way) : Type 0
-  where
-    pub lsa : RouterLsa
-    pub its : IsRouterLsa contents router lsa
-    pub has_flag : bit_and lsa.flags flag ≡ flag
-    pub reached : ways (ARouter router) ≡ Some way
+pub record IsFlagged (contents : Contents) (ways : Ways) (router flag : ℕ) (way : Way) : Type
+    0 where
+  pub lsa : RouterLsa
+  pub its : IsRouterLsa contents router lsa
+  pub has_flag : bit_and lsa.flags flag ≡ flag
+  pub reached : ways (ARouter router) ≡ Some way
 
 -- ---- area border routers and AS boundary routers as a list
 

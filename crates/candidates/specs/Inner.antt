@@ -21,10 +21,10 @@ pub record AreSearchable (inner : InnerRoutes) : Type 0 where
   pub lengths : HasLengths inner.networks.items inner.lengths
 
 -- the results from what the LSAs say, given the ways by their links
-pub record AreInner (contents : Contents) (root : Root) (ways : Ways) (inner : InnerRoutes) : Type 0
-  where
-    pub flagged : AreFlagged contents ways inner.flagged.items
-    pub advertised : AreRoutesAmong (OfContents (Tells root inner.flagged.items) contents)
-        inner.advertised.items
-    pub networks : AreRoutesAmong (OffersInside contents root) inner.networks.items
-    pub offers : (o : Offer) → Contains inner.offers.items o ↔ OffersInside contents root o
+pub record AreInner (contents : Contents) (root : Root) (ways : Ways) (inner : InnerRoutes) : Type
+    0 where
+  pub flagged : AreFlagged contents ways inner.flagged.items
+  pub advertised : AreRoutesAmong (OfContents (Tells root inner.flagged.items) contents)
+      inner.advertised.items
+  pub networks : AreRoutesAmong (OffersInside contents root) inner.networks.items
+  pub offers : (o : Offer) → Contains inner.offers.items o ↔ OffersInside contents root o

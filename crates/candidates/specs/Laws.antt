@@ -33,8 +33,8 @@ first_exit [] = 0
 first_exit (step ∷ rest) = step.exit
 
 -- a walk to a node that attaches the network has this total cost, and leaves by this interface
-pub record IsReached (contents : Contents) (root : Root) (prefix : Network) (cost interface : ℕ) :
-    Type 0
+pub record IsReached (contents : Contents) (root : Root) (prefix : Network) (cost interface : ℕ)
+    : Type 0
   where
     pub node : Node
     pub more : ℕ

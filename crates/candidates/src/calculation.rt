@@ -157,8 +157,8 @@ fn with_externals(
     externals: &[ExternalAdvertisement],
 ) -> Result<Vec<Route>, AllocError>
     requires { AreSearchable inner.now }
-    ensures { IfOk result (λ routes. (contents : Contents) (ways : WaysTo) → AreWays contents
-        root.now ways
+    ensures { IfOk result (λ routes. (contents : Contents) (ways : WaysTo)
+        → AreWays contents root.now ways
         → AreInner contents root.now ways inner.now → AreExternals contents externals.now
         → AreCandidates contents root.now routes.items) }
 {

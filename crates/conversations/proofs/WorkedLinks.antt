@@ -118,7 +118,7 @@ flooding_keeps moment sender lsa number link n =
     } in
     let not_got : Step = no_sends (remove_retransmission (lsa_key lsa) m) in
     chosen_step (is_exchange_or_later n.state)
-        (cond (is_to_be_sent moment sender number lsa n) got not_got)
+    (cond (is_to_be_sent moment sender number lsa n) got not_got)
     (no_sends n) (who n)
     (chosen_step (is_to_be_sent moment sender number lsa n) got not_got (who n) same same) refl
 

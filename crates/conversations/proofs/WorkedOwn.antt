@@ -78,7 +78,7 @@ put r link moment lsa n = record {
 
 becomes_full : (r : Router) (link : Link) (n : Neighbor) (moment : ℕ) (lsa : Lsa)
     → finite.len n.requests ≡ 1 → satisfies_request moment lsa (requested_entry n (lsa_key lsa))
-        ≡ true
+    ≡ true
     → loading_done (on_area (flood_and_install moment 1 lsa) (start (beside r link (loading n))))
     ≡ put r link moment lsa (full lsa n)
 becomes_full r link n moment lsa one is_met =

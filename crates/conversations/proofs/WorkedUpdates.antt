@@ -94,14 +94,14 @@ alike lsa c moment same now young =
 
 -- ---- one Link State Update with one LSA
 
-pub after_one : (moment number : ℕ) (bytes_of_lsa : List ℕ) (lsa : Lsa) (p : EventState) → lsa_in
-    bytes_of_lsa
+pub after_one : (moment number : ℕ) (bytes_of_lsa : List ℕ) (lsa : Lsa) (p : EventState)
+    → lsa_in bytes_of_lsa
     ≡ Some lsa → after_lsas moment number (bytes_of_lsa ∷ []) p
     ≡ after_lsa (case_at moment number lsa p.router.area) moment number lsa p
 after_one moment number bytes_of_lsa lsa p e =
     chosen (goes_on (case_in moment number (lsa_in bytes_of_lsa) p))
-    (after_parsed moment number (lsa_in bytes_of_lsa) p) ∙ ap (λ o. after_parsed moment number o p)
-        e
+    (after_parsed moment number (lsa_in bytes_of_lsa) p)
+    ∙ ap (λ o. after_parsed moment number o p) e
 
 pub itself : (n : ℕ) → (n == n) ≡ true
 itself n = grind arith
@@ -132,8 +132,11 @@ pub own_part : (r : Router) (moment number : ℕ) (bytes : List ℕ) (lsa : Lsa)
     → after ≡ after_lsa (case_at moment number lsa r.area) moment number lsa
     (start r)
 own_part r moment number bytes lsa n after nothing there other part text own =
-    let packet : Packet = record { router = n.router; body = body.Update (text.bytes_of_lsa ∷ []) }
-        in
+    let packet : Packet = record {
+      router = n.router;
+      body =
+          body.Update (text.bytes_of_lsa ∷ []);
+    } in
     own.2
     ∙ ap (λ q. after_packet moment number q (start_event moment r))
     (one_packet bytes own.0 packet own.1 text.is_text)
@@ -164,7 +167,7 @@ sender_step moment number lsa link n part rest =
     ap (λ b. cond (satisfies_request moment lsa (cond b (requested_entry n (lsa_key lsa)) None))
     (without_request (lsa_key lsa) n) n) rest in
     λ i. cond (part i) (cond (not (itself number i) && exceeds_request moment lsa
-        (request_of n lsa)) got_it
+    (request_of n lsa)) got_it
     (no_sends (remove_retransmission (lsa_key lsa) (same i)))) (no_sends n)
 
 abbrev first : Router → ℕ → ℕ → Lsa → Outcome

@@ -39,8 +39,8 @@ flooded_on contents sequence link n = flood_to 100 (Some 1) (instance contents s
 
 -- the request list still has its entry
 abbrev pub IsStillRequested : LsaBody → Step → Type 0
-IsStillRequested contents s = finite.get s.neighbor.requests (its_key contents) ≡ Some
-    (told_entry contents)
+IsStillRequested contents s = finite.get s.neighbor.requests (its_key contents)
+    ≡ Some (told_entry contents)
 
 -- it was removed from the request list, and is no longer outstanding
 abbrev pub IsMet : LsaBody → Step → Type 0

@@ -326,7 +326,7 @@ module _ (i : Invariant) (kept : IsKeptByParts i) where
       chosen InProgress (is_heard p.router.id packet n)
       (from_neighbor moment number packet.router (neighbor_is_exchange_or_later n) packet.body p) p
       (λ is. from_neighbor_kept moment number packet.router (neighbor_is_exchange_or_later n)
-          packet.body p
+      packet.body p
       so h)
       (λ is. h)
 

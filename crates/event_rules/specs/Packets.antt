@@ -144,6 +144,6 @@ abbrev pub after_packet : Moment → InterfaceNumber → Packet → EventState �
 after_packet moment interface packet p =
     let n : Option Neighbor = neighbor_at interface p.router.area.links in
     if is_heard p.router.id packet n
-    then from_neighbor moment interface packet.router (neighbor_is_exchange_or_later n) packet.body
-        p
+    then from_neighbor moment interface packet.router (neighbor_is_exchange_or_later n)
+    packet.body p
     else p

@@ -46,8 +46,8 @@ pub begun : (r : Router) (id : ℕ) (area : Area) (moment : ℕ) (kept : KeptRou
 begun r id area moment kept a b c routes is =
     are_kept r id area moment r.answers kept a b c refl (record {
       routes = routes;
-      answered = unanswered (contents_at moment area.database) (root_by id area.links) r.answers
-          kept
+      answered = unanswered (contents_at moment area.database) (root_by id area.links)
+          r.answers kept
           is;
     })
 

@@ -395,7 +395,7 @@ module _ (i : Invariant) (kept : IsKeptByParts i) (X Y : Lately) (old : Router) 
       let n : Option Neighbor = neighbor_at number start.router.area.links in
       chosen InProgress (is_heard start.router.id packet n)
       (from_neighbor moment number packet.router (neighbor_is_exchange_or_later n) packet.body
-          start) start
+      start) start
       (λ heard. from_neighbor_kept number packet.router packet.body
       (record {
         bytes = bytes;

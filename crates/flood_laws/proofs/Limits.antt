@@ -406,7 +406,7 @@ start : (c : Config) → exceeds (initial c) ≡ false
 start c =
     let begun : EventState = record { router = unannounced_router c; sends = [] } in
     let end : OfEvent (within c.router) (originate_or_postpone c.start (router_key c.router)
-        begun) =
+    begun) =
     originate_or_wait_kept (within c.router) (parts_within c.router) c.start (router_key c.router)
     begun tt
     (record { area = empty_within c.router; announced = (refl, none_announced) }) in

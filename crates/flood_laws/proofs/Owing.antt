@@ -175,7 +175,7 @@ module _ (key : Key) (name : InstanceIdentity) (Asked : Type 0) where
       (λ e. inr (h.1 (subst (λ (k : Key). finite.contains_key m.requests k ≡ true)
       (sym (tied_key key (lsa_key lsa) same))
       (is_requested moment lsa m (first_false (exceeds_request moment lsa (request_of m lsa))
-          e))))))
+      e))))))
       (λ before. inl (inl before))
 
   -- ---- attempts and Hellos

@@ -9,8 +9,8 @@ use Rattle.words.specs.declared.key.Key.{Key}
 
 -- if the copy has MaxAge, it had it at the moment `before`
 abbrev pub HasNotJustReachedMaxAge : (before : Moment) → (moment : Moment) → DatabaseCopy → Type 0
-HasNotJustReachedMaxAge before moment copy = is_aged_out moment copy ≡ true → is_aged_out before
-    copy ≡ true
+HasNotJustReachedMaxAge before moment copy = is_aged_out moment copy ≡ true
+    → is_aged_out before copy ≡ true
 
 -- the same for the copy with this key, if its type is up to this one
 abbrev pub IsOld : Option ℕ → (before : Moment) → (moment : Moment) → Database → Key → Type 0

@@ -17,8 +17,8 @@ WalksAreKept =
 
 -- while all LSAs say the same, candidates and table are unchanged, and nothing becomes stale
 pub record RoutesAreKept : Type 0 where
-  pub candidates : (old new : Contents) (root : Root) (routes : List Route) → HaveSameContents None
-      old new
+  pub candidates : (old new : Contents) (root : Root) (routes : List Route)
+      → HaveSameContents None old new
       → AreCandidates old root routes → AreCandidates new root routes
   pub table : (old new : Contents) (root : Root) (answers : Answers) (table : List Route)
       → HaveSameContents None old new → IsTable old root answers table → IsTable new root answers

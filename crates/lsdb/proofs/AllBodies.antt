@@ -285,8 +285,8 @@ module _ (last : Option ℕ) (moment : ℕ) (d : Database) where
           ];
     }
 
-    pub stops : (IsUpTo last key → ⊥) → AreBodies last (λ q. contents_of moment (finite.get d q))
-        done
+    pub stops : (IsUpTo last key → ⊥) → AreBodies last
+        (λ q. contents_of moment (finite.get d q)) done
     stops beyond =
         are_bodies moment d last done ahead walk.whole walk.count
         (λ x among. none_beyond last (key, c) rest

@@ -151,8 +151,8 @@ module _ (moment : ℕ) (t : Terms) where
   pub packet_kept : (number : ℕ) (packet : Packet) (p : EventState) → Tells t p → So p
       → So (after_packet moment number packet p)
   packet_kept number packet p tells so =
-      let exchanges : Bool = neighbor_is_exchange_or_later (neighbor_at number p.router.area.links)
-          in
+      let exchanges : Bool = neighbor_is_exchange_or_later
+      (neighbor_at number p.router.area.links) in
       chosen So (is_heard p.router.id packet (neighbor_at number p.router.area.links))
       (from_neighbor moment number packet.router exchanges packet.body p) p
       (λ heard. from_kept number packet.router exchanges packet.body p tells so) (λ heard. so)

@@ -151,7 +151,7 @@ module _ (key : Key) where
       → AreAlike (flooding moment false lsa n) (flooding moment false lsa (without n))
   flooding_alike moment lsa n = alike_by (is_exchange_or_later n.state)
       (exceeds_request moment lsa (request_of n lsa))
-          (satisfies_request moment lsa (request_of n lsa)) moment lsa n
+      (satisfies_request moment lsa (request_of n lsa)) moment lsa n
 
   -- ---- the LSA of the key itself, if no neighbor requests it
 
@@ -190,7 +190,7 @@ module _ (key : Key) where
       none_of (is_exchange_or_loading n.state) (finite.get n.requests (lsa_key lsa)) none in
       ap (λ (o : Option ListEntry). without
       (step_by (is_exchange_or_later n.state) (exceeds_request moment lsa o)
-          (satisfies_request moment lsa o) moment
+      (satisfies_request moment lsa o) moment
       lsa n).neighbor) nothing
       ∙ own_by (is_exchange_or_later n.state) true moment lsa is n
 

@@ -488,7 +488,7 @@ module _ (key : Key) where
         ∙ ap router_body (loading_links links) ∙ sym (bodies again) in
         let k : Key = router_key q.router.id in
         chosen (links_differ links loaded) (on_router (postpone k) (loading_done q))
-            (loading_done q)
+        (loading_done q)
         (on_router (postpone k) (loading_done (cut q))) (loading_done (cut q))
         (one_after_another loading_done (on_router (postpone k)) loads (waits k) q) (loads q)
         ∙ (λ i. cut (cond (not (same_body (before i) (after_loading i)))

@@ -99,7 +99,7 @@ module _ (key : Key) (is_external : key.ls_type ≡ 5) where
   step_own : (later gets satisfies_request : Bool) (moment : Moment) (lsa : Lsa) (number : ℕ)
       (n : Neighbor)
       → AllOwn lsa (sends_at number (apart.step_by key later gets satisfies_request moment lsa
-          n).sends)
+      n).sends)
   step_own false gets satisfies_request moment lsa number n = tt
   step_own true true satisfies_request moment lsa number n = (refl, tt)
   step_own true false satisfies_request moment lsa number n = tt
@@ -337,7 +337,7 @@ module _ (key : Key) (is_external : key.ls_type ≡ 5) where
   still_none : (later gets satisfies_request : Bool) (moment : Moment) (lsa : Lsa) (n : Neighbor)
       → finite.get n.requests key ≡ None
       → is_some (finite.get (apart.step_by key later gets satisfies_request moment lsa
-          n).neighbor.requests
+      n).neighbor.requests
       key) ≡ false
   still_none false gets satisfies_request moment lsa n none = ap is_some none
   still_none true true true moment lsa n none =
@@ -368,7 +368,7 @@ module _ (key : Key) (is_external : key.ls_type ≡ 5) where
       on None e = refl
       on (Some n) e = still_none (is_exchange_or_later n.state)
           (exceeds_request moment lsa (request_of n lsa))
-              (satisfies_request moment lsa (request_of n lsa)) moment lsa n
+          (satisfies_request moment lsa (request_of n lsa)) moment lsa n
           (no_value (finite.get n.requests key) e)
 
   abbrev as_sent : Moment → DatabaseCopy → DatabaseCopy

@@ -209,7 +209,7 @@ flood_to_roomy moment sender lsa fits number link n h =
     } in
     let not_got : Step = no_sends (remove_retransmission (lsa_key lsa) m) in
     let met : HasRoomyLists m = chosen HasRoomyLists
-        (satisfies_request moment lsa (request_of n lsa))
+    (satisfies_request moment lsa (request_of n lsa))
     (without_request (lsa_key lsa) n) n (λ is. met_roomy (lsa_key lsa) n h) (λ is. h) in
     chosen IsRoomyStep (is_exchange_or_later n.state)
     (cond (is_to_be_sent moment sender number lsa n) got not_got) (no_sends n)

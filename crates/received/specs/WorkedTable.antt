@@ -41,8 +41,8 @@ arrival contents = external_lsa contents (pos 5) 10
 
 -- whether the LSA is on the sender's request list, and whether this instance is on its
 -- retransmission list
-pub record IsSender (contents : LsaBody) (from : Option Neighbor) (asked listed : Bool) : Type 0
-    where
+pub record IsSender (contents : LsaBody) (from : Option Neighbor) (asked listed : Bool) : Type
+    0 where
   pub is_asked : was_requested from (arrival contents) ≡ asked
   pub is_listed : is_on_senders_list 100 from (arrival contents) ≡ listed
 

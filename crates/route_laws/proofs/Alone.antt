@@ -82,8 +82,8 @@ alone_among IsOffered o offered only =
       );
     }
 
-pub alone : (contents : Contents) (root : Root) (o : Offer) → Offers contents root o → IsAlone
-    contents root o
+pub alone : (contents : Contents) (root : Root) (o : Offer) → Offers contents root o
+    → IsAlone contents root o
     → IsCandidate contents root (route_of o)
 alone contents root o offered only = alone_among (Offers contents root) o offered only
 
@@ -145,8 +145,8 @@ module _ (moment : ℕ) (es : Entries) (root : Root) (P : Offer → Type 0) wher
   pub by_stub : (router : ℕ) (prefix : Network) (more : ℕ)
       (a : Attaches (contents_at moment (database es)) (ARouter router) prefix more)
       → Known router a.0 → (way : Way)
-      → IsWay (Leads (contents_at moment (database es)) root) (ARouter root.router) (ARouter router)
-          way
+      → IsWay (Leads (contents_at moment (database es)) root) (ARouter root.router)
+      (ARouter router) way
       → (hops : ℕ) → (ARouter router ≡ ARouter root.router → hops ≡ 1)
       → ((ARouter router ≡ ARouter root.router → ⊥) → hops ≡ way.hops)
       → P (intra prefix (way.distance + more) hops)

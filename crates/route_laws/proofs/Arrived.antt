@@ -87,12 +87,12 @@ module _ (hops : EachHopIsNearer) (end : RoutesEndAtTheNetwork) (contents : Cont
               passed_on = forwards first among its e;
               attached =
                   subst P e (end.attached contents first.root first.route
-                      (candidate first among its)
+                  (candidate first among its)
                   within own);
             })
         | inr other ↦
             let hop = end.some_hop contents first.root first.route (candidate first among its)
-                within in
+            within in
             elim (cases_lt 0 hop.0) [
               | inl away ↦ on first below among its within e hop.0 away hop.1
               | inr none ↦ absurd (let itself : hop.0 ≡ 0 = omega (arith, none) in let P : ℕ

@@ -89,8 +89,8 @@ pub record IsHeard (moment : ℕ) (o : Option DatabaseCopy) (says : LsaBody) : T
   pub young : is_aged_out moment copy ≡ false
   pub is_body : copy.lsa.body ≡ says
 
-pub heard : (moment : ℕ) (o : Option DatabaseCopy) (says : LsaBody) → contents_of moment o ≡ Some
-    says
+pub heard : (moment : ℕ) (o : Option DatabaseCopy) (says : LsaBody) → contents_of moment o
+    ≡ Some says
     → IsHeard moment o says
 heard moment None says e = absurd (cc)
 heard moment (Some c) says e = by_age (is_aged_out moment c) refl e
@@ -139,7 +139,7 @@ linked (s ∷ ss) k r l t among =
 
 pub has_link : (moment : ℕ) (es : Entries) (router : ℕ) (l : RouterLink)
     → HasLink (contents_at moment (database es)) router l → Contains (links_of (sayings es))
-        (router, l)
+    (router, l)
 has_link moment es router l h = linked (sayings es) (record {
   ls_type = 1;
   link_state_id = router;

@@ -54,8 +54,8 @@ leaves_by : (contents : Contents) (root : Root) (router : ℕ) (way : Way)
 leaves_by contents root router way is other = by_walk is.distance.0 is.distance.1
   where
     by_walk : (walk : List (Step Node))
-        → IsLeastWalk (Leads contents root) (ARouter root.router) walk (ARouter router) → LeavesBy
-            way
+        → IsLeastWalk (Leads contents root) (ARouter root.router) walk (ARouter router)
+        → LeavesBy way
     by_walk [] l = absurd (let e : ARouter root.router ≡ ARouter router = l.is_walk in
         let same : router ≡ root.router = cc in other same)
     by_walk (first ∷ rest) l = record {
@@ -104,8 +104,8 @@ module _ (contents : Contents) (plain : AreBoundariesPlain contents) (root : Roo
   }
 
   by_boundary : (o : Offer) (x : OffersExternal contents root o)
-      → ReachesBoundaryRouter contents root x.originator x.is_way.boundary → IsSent contents root o
-          o.hops
+      → ReachesBoundaryRouter contents root x.originator x.is_way.boundary
+      → IsSent contents root o o.hops
   by_boundary o x r = record {
     originator = x.originator;
     of_another = x.of_another;
@@ -208,13 +208,13 @@ module _ (hops : EachHopIsNearer) (end : RoutesEndAtTheNetwork)
   -- what happens to a packet by a next hop: if it goes on, to a better route
   pub data Turn (stop : Stop) (i : ℕ) : Type 0 where
     Home : i ≡ 0 → stop.route.kind ≡ Intra
-        → Attaches contents (ARouter stop.root.router) stop.route.prefix stop.route.cost → Turn stop
-            i
+        → Attaches contents (ARouter stop.root.router) stop.route.prefix stop.route.cost
+        → Turn stop i
     Out : (originator : ℕ) → IsOtherEnd contents stop.root i originator
         → HandsToward contents stop.root stop.route originator originator → Turn stop i
     Next : (next : Stop) → IsOne next → IsOtherEnd contents stop.root i next.root.router
-        → HandsFurther contents stop.root stop.route next.root.router → IsBetter next.route
-            stop.route
+        → HandsFurther contents stop.root stop.route next.root.router
+        → IsBetter next.route stop.route
         → Turn stop i
 
   -- by an intra-area route
@@ -237,8 +237,8 @@ module _ (hops : EachHopIsNearer) (end : RoutesEndAtTheNetwork)
         has_route = r.1;
         is_for = r.2 ∙ one.is_for;
       } in
-      let near = hops.nearer contents stop.root next.0 stop.route (candidate stop one) intra hands
-          own
+      let near = hops.nearer contents stop.root next.0 stop.route (candidate stop one) intra
+      hands own
       r.0 (candidate there other) r.2 in
       Next there other next.2 (InTheArea intra hands) (ByCost (ap rank (near.0 ∙ sym intra)) near.1)
 
@@ -281,8 +281,8 @@ module _ (hops : EachHopIsNearer) (end : RoutesEndAtTheNetwork)
             Out s.originator (subst Q e next.2) (subst P e hands))
         | inr other ↦
             let own = are.own next.0 next.1 in
-            let r = toward.has_one contents stop.root next.0 stop.route s.originator k hands own
-                other
+            let r = toward.has_one contents stop.root next.0 stop.route s.originator k hands
+            own other
             (table next.0) (are.is_table next.0 next.1) in
             let there : Stop = record { root = next.0; route = r.0 } in
             let another : IsOne there = record {
@@ -434,7 +434,7 @@ all_arrive laws every = record {
       no_longer (λ (s : Stop). s.root) stops routers (each_among routers table prefix stops all)
       (none_twice laws contents prefix stops passed);
   each_hop = λ contents routers table are within prefix stop one i t. followed
-      (each_is_nearer laws every) (last_hop laws) (to_an_originator every) contents routers table
-          are
+      (each_is_nearer laws every) (last_hop laws) (to_an_originator every) contents routers
+      table are
       within prefix stop one i t;
 }

@@ -105,8 +105,8 @@ module _ (contents : Contents) (root : Root) where
         forwarded = λ some. absurd (some none);
       })
 
-      pub only_directly : (o : Offer) → IsOfferOf contents root id originator lsa o → its_offer way
-          ≡ o
+      pub only_directly : (o : Offer) → IsOfferOf contents root id originator lsa o
+          → its_offer way ≡ o
       only_directly o g = by_way way o g
           (boundary contents root originator way g.is_way.boundary reaches g.is_way.reaches
           ∙ sym (g.is_way.direct none))

@@ -57,13 +57,13 @@ has_route (r ∷ routes) prefix =
 
 module _ (contents : Contents) (root : Root) where
   pub exit_within : (target : Node) (price exit : ℕ)
-      → LeadsTo contents root (ARouter root.router) target price exit → exit < length root.addresses
-          + 1
+      → LeadsTo contents root (ARouter root.router) target price exit → exit
+      < length root.addresses + 1
   exit_within target price exit l = (counted contents root target price exit l).1
 
   offered : (prefix : Network) (cost i : ℕ) (x : IsReached contents root prefix cost i) (w : Way)
-      → IsWay (Leads contents root) (ARouter root.router) x.node w → (o : Offer) × Offers contents
-          root o
+      → IsWay (Leads contents root) (ARouter root.router) x.node w → (o : Offer)
+      × Offers contents root o
       × (o.prefix ≡ prefix)
   offered prefix cost i x w is =
       elim (is_root contents root x.node) [

@@ -37,8 +37,8 @@ module _ (contents : Contents) (root : Root) where
   of_way node w is i t =
       let hop = (is.hops i).0 t in
       let first : Step Node = hop.0 in
-      let P : ℕ → Type 0 = λ k. LeadsTo contents root (ARouter root.router) first.target first.cost
-          k
+      let P : ℕ → Type 0 = λ k. LeadsTo contents root (ARouter root.router) first.target
+      first.cost k
       in
       inr (record {
         target = first.target;

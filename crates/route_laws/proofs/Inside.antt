@@ -59,8 +59,8 @@ module _ (contents : Contents) (root : Root)
     best = λ other given e. against other given e;
   }
     where
-      against : (other : Offer) → Offers contents root other → other.prefix ≡ prefix → IsNoWorse o
-          other
+      against : (other : Offer) → Offers contents root other → other.prefix ≡ prefix
+          → IsNoWorse o other
       against other (Within x) e = k.best other (inl x) e
       against other (Between x) e = k.best other (inr x) e
       against other (External x) e = ByKind

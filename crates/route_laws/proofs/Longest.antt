@@ -35,8 +35,8 @@ first_link : CandidatesAreCheapestWalks → (contents : Contents) (root : Root) 
     (next : ℕ)
     → IsCandidate contents root route → route.kind ≡ Intra → HandsOn contents root route next
     → Link contents root next
-first_link laws contents root route next is within hands = by_walk x.walk x.node x.is_walk
-    x.leaves_by
+first_link laws contents root route next is within hands =
+    by_walk x.walk x.node x.is_walk x.leaves_by
   where
     x : IsReached contents root route.prefix route.cost hands.interface
     x = (laws.hops contents root route is within hands.interface).0 hands.is_hop
@@ -46,13 +46,13 @@ first_link laws contents root route next is within hands = by_walk x.walk x.node
         ≡ first_exit walk → Link contents root next
     by_walk [] node p leaves = absurd (omega (arith, hands.away, leaves))
     by_walk (step ∷ rest) node p leaves =
-        let P : ℕ → Type 0 = λ i. LeadsTo contents root (ARouter root.router) step.target step.cost
-            i
+        let P : ℕ → Type 0 = λ i. LeadsTo contents root (ARouter root.router) step.target
+        step.cost i
         in
         let here : step.target ≡ ARouter next =
         hands.other_end step.target step.cost (subst P (sym leaves) p.0) in
         let Q : Node → Type 0 = λ n. LeadsTo contents root (ARouter root.router) n step.cost
-            step.exit
+        step.exit
         in
         record { cost = step.cost; exit = step.exit; leads = subst Q here p.0 }
 
@@ -77,8 +77,8 @@ module _ (laws : CandidatesAreCheapestWalks) (every : EveryOfferHasACandidate) (
       omega (arith, low, ap (λ (p : Network). p.length) r.2)
 
   agree : (stop next : Stop) → ForwardsTo contents let_in address stop
-      → HandsOn contents stop.root stop.route next.root.router → ForwardsTo contents let_in address
-          next
+      → HandsOn contents stop.root stop.route next.root.router
+      → ForwardsTo contents let_in address next
       → next.route.prefix ≡ stop.route.prefix
   agree stop next f hands g =
       let is : IsCandidate contents stop.root stop.route = candidate stop f in
@@ -94,7 +94,7 @@ module _ (laws : CandidatesAreCheapestWalks) (every : EveryOfferHasACandidate) (
       let l : Link contents stop.root next.root.router =
       first_link laws contents stop.root stop.route next.root.router is f.within hands in
       let back = walk_there contents next.root stop.root f.own (ARouter next.root.router) x.node
-          x.walk
+      x.walk
       x.is_walk in
       let step : Step Node = record {
         target = ARouter next.root.router;
@@ -102,7 +102,7 @@ module _ (laws : CandidatesAreCheapestWalks) (every : EveryOfferHasACandidate) (
         exit = l.exit;
       } in
       let y : IsReached contents stop.root next.route.prefix (l.cost + cost_of back.0 + x.more)
-          l.exit
+      l.exit
       = record {
         node = x.node;
         more = x.more;

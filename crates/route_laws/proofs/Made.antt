@@ -47,7 +47,7 @@ from_root es root links its neighbor address cost n among not_free at = record {
 
 pub from_other : (es : Entries) (root : Root) (router : ℕ) (links : List RouterLink)
     → IsRouterLsa (contents_at 0 (database es)) router (router_lsa links)
-        → (router ≡ root.router → ⊥)
+    → (router ≡ root.router → ⊥)
     → (neighbor address cost : ℕ) → Contains links (point_to_point neighbor address cost)
     → 0 < cost → Counts (contents_at 0 (database es)) root router PointToPoint neighbor cost 0
 from_other es root router links its other neighbor address cost among not_free = record {
@@ -63,7 +63,7 @@ from_other es root router links its other neighbor address cost among not_free =
 
 pub back : (es : Entries) (router : ℕ) (links : List RouterLink)
     → IsRouterLsa (contents_at 0 (database es)) router (router_lsa links)
-        → (neighbor address cost : ℕ)
+    → (neighbor address cost : ℕ)
     → Contains links (point_to_point neighbor address cost)
     → LinksBack (contents_at 0 (database es)) router PointToPoint neighbor
 back es router links its neighbor address cost among = (

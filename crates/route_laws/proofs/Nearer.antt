@@ -66,8 +66,8 @@ module _ (contents : Contents) (any to : Root) (own : NamesItsInterfaces content
         )
       ]
 
-  pub leads_there : (from target : Node) (price exit : ℕ) → LeadsTo contents any from target price
-      exit
+  pub leads_there : (from target : Node) (price exit : ℕ)
+      → LeadsTo contents any from target price exit
       → (other : ℕ) × LeadsTo contents to from target price other
   leads_there (ARouter a) (ARouter b) price exit l =
       let c = counts_there a PointToPoint b price exit (inl refl) l.0 in
@@ -108,7 +108,7 @@ price_of_own contents root (ANetwork id by) price exit l = let leaves = l.0.by_i
 
 pub nearer : (contents : Contents) (root next : Root) (prefix : Network) (cost interface : ℕ)
     → NamesItsInterfaces contents next → 0 < interface → IsOtherEnd contents root interface
-        next.router
+    next.router
     → IsReached contents root prefix cost interface → IsNearer contents next prefix cost
 nearer contents root next prefix cost interface own away end x =
     by_walk x.walk x.is_walk x.costs x.leaves_by
@@ -119,8 +119,8 @@ nearer contents root next prefix cost interface own away end x =
         → IsNearer contents next prefix cost
     by_walk [] is costs leaves = absurd (omega (arith, away, leaves))
     by_walk (step ∷ rest) is costs leaves =
-        let P : ℕ → Type 0 = λ i. LeadsTo contents root (ARouter root.router) step.target step.cost
-            i
+        let P : ℕ → Type 0 = λ i. LeadsTo contents root (ARouter root.router) step.target
+        step.cost i
         in
         let here : step.target ≡ ARouter next.router =
         end step.target step.cost (subst P (sym leaves) is.0) in
@@ -206,4 +206,4 @@ last_hop laws = record {
         → Attaches contents (ARouter root.router) route.prefix route.cost
     at contents root route is within own =
         at_itself contents root route.prefix route.cost
-            ((laws.hops contents root route is within 0).0 own)
+        ((laws.hops contents root route is within 0).0 own)

@@ -288,17 +288,17 @@ module _ (root : Root) (moment : ℕ) (es : Entries) (router : ℕ)
       cc
 
   pub unreached : (root.router ≡ router → ⊥) → (way : Way)
-      → IsWay (Leads (contents_at moment (database es)) root) (ARouter root.router) (ARouter router)
-          way
+      → IsWay (Leads (contents_at moment (database es)) root) (ARouter root.router)
+      (ARouter router) way
       → ⊥
   unreached other way is =
       elim (arrives (Leads (contents_at moment (database es)) root) (ARouter root.router)
-          is.distance.0
+      is.distance.0
       (ARouter router) is.distance.1.is_walk) [
         | inl e ↦ let same : root.router ≡ router = cc in other same
         | inr k ↦
             let P : Node → Type 0 = λ w. LeadsTo (contents_at moment (database es)) root k.0 w
-                k.1.cost
+            k.1.cost
             k.1.exit in
             no_link k.0 k.1.cost k.1.exit (subst P k.3 k.2)
       ]

@@ -188,7 +188,7 @@ is_router (k, body.External e) = false
 
 pub no_external : (es : Entries) → list_all is_router (sayings es) ≡ true
     → (key : Key) (lsa : ExternalLsa) → Says (contents_at 0 (database es)) key
-        (body.External lsa) → ⊥
+    (body.External lsa) → ⊥
 no_external es all key lsa its = let e : false ≡ true =
     all_pass is_router (sayings es) all (key, body.External lsa)
     (is_said 0 es key (body.External lsa) its) in cc

@@ -33,8 +33,8 @@ forwarding contents root = one_forward (OffersInside contents root)
 
 -- ---- AS boundary routers
 
-one_between : (contents : Contents) (root : Root) (router : ℕ) (a b : Way) → IsWayBetween contents
-    root router a
+one_between : (contents : Contents) (root : Root) (router : ℕ) (a b : Way)
+    → IsWayBetween contents root router a
     → IsWayBetween contents root router b → a ≡ b
 one_between contents root router a b p q =
     let there : a.distance ≤ b.distance = p.least b.distance q.border q.advertised in
@@ -44,8 +44,11 @@ one_between contents root router a b p q =
     (λ i t. let h = (p.hops i).0 t in
     (q.hops i).1 (h.0, subst (λ d. IsAdvertised contents root router d h.0) distance h.1, h.2))
     (λ i t. let h = (q.hops i).0 t in
-    (p.hops i).1 (h.0, subst (λ d. IsAdvertised contents root router d h.0) (sym distance) h.1,
-        h.2)) in
+    (p.hops i).1 (
+      h.0,
+      subst (λ d. IsAdvertised contents root router d h.0) (sym distance) h.1,
+      h.2,
+    )) in
     λ i. record { distance = distance i; hops = hops i }
 
 pub boundary : BoundaryWaysAreDetermined

@@ -59,8 +59,8 @@ module _ (contents : Contents) (root next : Root) (own : NamesItsInterfaces cont
       let first : Step Node = hop.0 in
       let rest : List (Step Node) = hop.1 in
       let walk = hop.2.is_walk in
-      let P : ℕ → Type 0 = λ k. LeadsTo contents root (ARouter root.router) first.target first.cost
-          k
+      let P : ℕ → Type 0 = λ k. LeadsTo contents root (ARouter root.router) first.target
+      first.cost k
       in
       let here : first.target ≡ ARouter next.router =
       end first.target first.cost (subst P hop.3 walk.0) in
@@ -132,7 +132,7 @@ module _ (contents : Contents) (root next : Root) (own : NamesItsInterfaces cont
   again_between x t other none =
       let Has : ℕ → Type 0 = λ hops. IsTrue (has_interface hops i) in
       let s = shorter contents root next own (ARouter x.originator) x.border
-          x.counts.reaches.reached i
+      x.counts.reaches.reached i
       (subst Has (ap (λ (y : Offer). y.hops) x.is) t) end in
       way_on contents root next own (ARouter x.originator) x.border.distance s (λ w.
       let P : Offer → Type 0 = λ y. Again contents next y in
@@ -223,8 +223,8 @@ module _ (contents : Contents) (root next : Root) (own : NamesItsInterfaces cont
   next_says node way is t =
       let hop = (is.hops i).0 t in
       let first : Step Node = hop.0 in
-      let P : ℕ → Type 0 = λ k. LeadsTo contents root (ARouter root.router) first.target first.cost
-          k
+      let P : ℕ → Type 0 = λ k. LeadsTo contents root (ARouter root.router) first.target
+      first.cost k
       in
       let l = subst P hop.3 hop.2.is_walk.0 in
       let here : first.target ≡ ARouter next.router = end first.target first.cost l in
@@ -269,7 +269,7 @@ module _ (contents : Contents) (root next : Root) (own : NamesItsInterfaces cont
     -- the way that is advertised at the next router
     way_told : (distance : ℕ) (border : Way) → Telling distance border
         → (((way : Way) × IsWayBetween contents next router way
-            × (way.distance ≤ distance)) → ⊥) → ⊥
+        × (way.distance ≤ distance)) → ⊥) → ⊥
     way_told distance border advertised none =
         let n : ℕ = length next.addresses + 1 in
         least_telling distance distance border (omega arith) advertised (λ l.
@@ -297,15 +297,15 @@ module _ (contents : Contents) (root next : Root) (own : NamesItsInterfaces cont
   again_told : (x : OffersExternal contents root o) → x.lsa.forwarding ≡ 0
       → ((lsa : RouterLsa) → IsRouterLsa contents x.originator lsa → ⊥)
       → (border : Way) (advertised : IsAdvertised contents root x.originator
-          x.is_way.boundary.distance
+      x.is_way.boundary.distance
       border) → IsTrue (has_interface border.hops i) → (next.router ≡ advertised.originator → ⊥)
       → (Again contents next o → ⊥) → ⊥
   again_told x direct foreign border advertised t other none =
       let s = shorter contents root next own (ARouter advertised.originator) border
       advertised.counts.reaches.reached i t end in
       way_on contents root next own (ARouter advertised.originator) border.distance s (λ w.
-      let here : IsAdvertised contents next x.originator (w.0.distance + advertised.lsa.metric)
-          w.0 =
+      let here : IsAdvertised contents next x.originator
+      (w.0.distance + advertised.lsa.metric) w.0 =
       record {
         originator = advertised.originator;
         lsa = advertised.lsa;
@@ -359,7 +359,7 @@ module _ (contents : Contents) (root next : Root) (own : NamesItsInterfaces cont
 
   again : (originator hops : ℕ) → IsToward contents root o originator hops
       → IsTrue (has_interface hops i) → (next.router ≡ originator → ⊥)
-          → (Again contents next o → ⊥) → ⊥
+      → (Again contents next o → ⊥) → ⊥
   again originator hops (Border x e by) t other none = let Has : ℕ → Type 0 =
       λ h. IsTrue (has_interface h i) in again_between x (subst Has by t) (λ f. other (f ∙ e)) none
   again originator hops (Boundary x e direct way r by) t other none =
@@ -376,8 +376,8 @@ module _ (contents : Contents) (root next : Root) (own : NamesItsInterfaces cont
       → IsShort contents next (ARouter originator) here.distance
   short_toward originator hops (Border x e by) t here is =
       let Has : ℕ → Type 0 = λ h. IsTrue (has_interface h i) in
-      let R : ℕ → Type 0 = λ n. IsWay (Leads contents root) (ARouter root.router) (ARouter n)
-          x.border
+      let R : ℕ → Type 0 = λ n. IsWay (Leads contents root) (ARouter root.router)
+      (ARouter n) x.border
       in
       let same : x.border ≡ here = one_way (Leads contents root) (ARouter root.router)
       (ARouter originator) x.border here (subst R e x.counts.reaches.reached) is in
@@ -396,8 +396,8 @@ module _ (contents : Contents) (root next : Root) (own : NamesItsInterfaces cont
       ∙ ap (λ (w : Way). w.hops) same) t) end
   short_toward originator hops (Told x direct foreign border advertised e by) t here is =
       let Has : ℕ → Type 0 = λ h. IsTrue (has_interface h i) in
-      let R : ℕ → Type 0 = λ n. IsWay (Leads contents root) (ARouter root.router) (ARouter n) border
-          in
+      let R : ℕ → Type 0 = λ n. IsWay (Leads contents root) (ARouter root.router)
+      (ARouter n) border in
       let same : border ≡ here = one_way (Leads contents root) (ARouter root.router)
       (ARouter originator) border here (subst R e advertised.counts.reaches.reached) is in
       shorter contents root next own (ARouter originator) here is i
@@ -480,7 +480,7 @@ candidate_is_as_good contents root r o k best =
 
 pub again_is_better : (contents : Contents) (root next : Root) (route : Route) (o : Offer)
     → IsCandidate contents root route → IsBest contents root route.prefix o
-        → ((Again contents next o → ⊥) → ⊥)
+    → ((Again contents next o → ⊥) → ⊥)
     → (following : Route) → IsCandidate contents next following → following.prefix ≡ route.prefix
     → IsBetter following route
 again_is_better contents root next route o is best again following its same =
@@ -512,7 +512,7 @@ again_has_route every contents next prefix o is_for again routes are =
 
 module _ (contents : Contents) (root next : Root) (route : Route) (originator : ℕ)
     (is : IsCandidate contents root route)
-        (hands : HandsToward contents root route next.router originator)
+    (hands : HandsToward contents root route next.router originator)
     (own : NamesItsInterfaces contents next) where
   one_again : (next.router ≡ originator → ⊥) → (Again contents next hands.offer → ⊥) → ⊥
   one_again other = again contents root next own hands.offer hands.interface hands.other_end
@@ -525,16 +525,16 @@ module _ (contents : Contents) (root next : Root) (route : Route) (originator : 
       → there.distance < here.distance
   is_nearer here there p q =
       let s = short_toward contents root next own hands.offer hands.interface hands.other_end
-          originator
+      originator
       hands.hops hands.toward hands.is_hop here p in
       omega (arith, q.distance.2, q.distance.1.least s.walk s.is_walk, s.is_less)
 
   pub following_is_better : (next.router ≡ originator → ⊥) → (following : Route)
-      → IsCandidate contents next following → following.prefix ≡ route.prefix → IsBetter following
-          route
+      → IsCandidate contents next following → following.prefix ≡ route.prefix
+      → IsBetter following route
   following_is_better other following its same =
       again_is_better contents root next route hands.offer is hands.is_best (one_again other)
-          following
+      following
       its same
 
   pub has_following : EveryOfferHasACandidate → (next.router ≡ originator → ⊥)
@@ -583,17 +583,17 @@ module _ (laws : CandidatesAreCheapestWalks) (contents : Contents) (prefix : Net
   first_further first [] p = p
   first_further first (next ∷ others) p = p.0
 
-  hop_on : (first next : Stop) → ForwardsFor contents prefix first → ForwardsFor contents prefix
-      next
-      → HandsFurther contents first.root first.route next.root.router → IsBetter next.route
-          first.route
+  hop_on : (first next : Stop) → ForwardsFor contents prefix first
+      → ForwardsFor contents prefix next
+      → HandsFurther contents first.root first.route next.root.router
+      → IsBetter next.route first.route
   hop_on first next f g (InTheArea within hands) =
       let h = each_hop laws contents first.root next.root first.route f.candidate within hands g.own
       next.route g.candidate (g.is_for ∙ sym f.is_for) in
       ByCost (ap rank (h.0 ∙ sym within)) h.1
   hop_on first next f g (TowardAnother originator hands other) =
-      following_is_better contents first.root next.root first.route originator f.candidate hands
-          g.own
+      following_is_better contents first.root next.root first.route originator f.candidate
+      hands g.own
       other next.route g.candidate (g.is_for ∙ sym f.is_for)
 
   record IsLater (first stop : Stop) : Type 0 where
@@ -636,13 +636,13 @@ module _ (laws : CandidatesAreCheapestWalks) (contents : Contents) (prefix : Net
   pairs (first ∷ next ∷ others) p (suc i) (suc j) d before low =
       pairs (next ∷ others) p.2 i j d (omega (arith, before)) (omega (arith, low))
 
-  pub all_better : (stops : List Stop) → IsPassedFurther contents prefix stops → (i j : ℕ)
-      (d : Stop)
+  pub all_better : (stops : List Stop) → IsPassedFurther contents prefix stops
+      → (i j : ℕ) (d : Stop)
       → i < j → j < length stops → IsBetter (get_or stops j d).route (get_or stops i d).route
   all_better stops p i j d before low = (pairs stops p i j d before low).is_better
 
-  pub none_twice : (stops : List Stop) → IsPassedFurther contents prefix stops → (i j : ℕ)
-      (d : Stop)
+  pub none_twice : (stops : List Stop) → IsPassedFurther contents prefix stops
+      → (i j : ℕ) (d : Stop)
       → i < j → j < length stops → (get_or stops i d).root ≡ (get_or stops j d).root → ⊥
   none_twice stops p i j d before low same =
       let a : Stop = get_or stops i d in

@@ -204,12 +204,12 @@ one_place (x ∷ links) apart (suc m) (suc n) a b p q e =
 
 -- ---- the premises
 
-names : (contents : Contents) (router : RouterNumber) (links : List Link) → IsCurrent contents
-    router links
+names : (contents : Contents) (router : RouterNumber) (links : List Link)
+    → IsCurrent contents router links
     → NamesItsInterfaces contents (root_by router links)
 names contents router links current link h on =
-    let a : IsAlong links link = along links link (links_are contents router links current link h)
-        on in
+    let a : IsAlong links link = along links link
+    (links_are contents router links current link h) on in
     let P : ℕ → Type 0 = λ address. Contains (addresses_of links) address in
     subst P (ap (λ (x : RouterLink). x.link_data) a.toward.is)
     (has_address links a.place a.at a.stands)
@@ -227,10 +227,10 @@ cost_at (x ∷ links) costs (suc place) at e =
     cost_at links (both_true (nat_le 1 x.interface.cost)
     (list_all (λ (link : Link). nat_le 1 link.interface.cost) links) costs).1 place at e
 
-not_free : (contents : Contents) (router : RouterNumber) (links : List Link) → IsCurrent contents
-    router links
+not_free : (contents : Contents) (router : RouterNumber) (links : List Link)
+    → IsCurrent contents router links
     → HaveCosts links → (link : RouterLink) → HasLink contents router link → link.kind
-        ≡ PointToPoint
+    ≡ PointToPoint
     → 0 < link.metric
 not_free contents router links current costs link h kind =
     let a : IsAlong links link = along links link (links_are contents router links current link h)
@@ -255,7 +255,7 @@ module _ (contents : Contents) (router : RouterNumber) (links : List Link)
       let link : RouterLink = c.link in
       let Is : LinkKind → Type 0 = λ k. (k ≡ PointToPoint) ⊎ (k ≡ Transit) in
       let a : IsAlong links link = along links link
-          (links_are contents router links current link c.its)
+      (links_are contents router links current link c.its)
       (subst Is (sym c.is_kind) on) in
       let by = c.by_interface refl in
       let h : HasAddress links by.0 link.link_data = of_address links by.0 link.link_data by.2 in

@@ -32,8 +32,8 @@ module _ (laws : CandidatesAreCheapestWalks) (contents : Contents) (prefix : Net
         costs = omega (arith, x.costs, there.2);
         leaves_by = refl;
       } in
-      let P : Network → Type 0 = λ p. IsReached contents a.root p b.route.cost (first_exit there.0)
-          in
+      let P : Network → Type 0 = λ p. IsReached contents a.root p b.route.cost
+      (first_exit there.0) in
       laws.cheapest contents a.root a.route b.route.cost (first_exit there.0) fa.candidate
       (subst P (fb.is_for ∙ sym fa.is_for) y)
 
@@ -44,24 +44,24 @@ module _ (laws : CandidatesAreCheapestWalks) (contents : Contents) (prefix : Net
     no_dearer : stop.route.cost ≤ first.route.cost
 
   pub first_forwards : (first : Stop) (others : List Stop)
-      → IsPassedOn contents (ForwardsFor contents prefix) (first ∷ others) → ForwardsFor contents
-          prefix first
+      → IsPassedOn contents (ForwardsFor contents prefix) (first ∷ others)
+      → ForwardsFor contents prefix first
   first_forwards first [] p = p
   first_forwards first (next ∷ others) p = p.0
 
   pub hop : (first next : Stop) (others : List Stop)
       → IsPassedOn contents (ForwardsFor contents prefix) (first ∷ next ∷ others) → first.route.kind
-          ≡ Intra
+      ≡ Intra
       → (next.route.kind ≡ Intra) × (next.route.cost < first.route.cost)
   hop first next others p within =
       let f : ForwardsFor contents prefix next = first_forwards next others p.2 in
       each_hop laws contents first.root next.root first.route p.0.candidate within p.1 f.own
-          next.route
+      next.route
       f.candidate (f.is_for ∙ sym p.0.is_for)
 
   every : (first : Stop) (others : List Stop)
       → IsPassedOn contents (ForwardsFor contents prefix) (first ∷ others) → first.route.kind
-          ≡ Intra
+      ≡ Intra
       → (k : ℕ) (d : Stop) → k < length (first ∷ others)
       → Later first (get_or (first ∷ others) k d)
   every first others p within zero d low = record {
@@ -82,7 +82,7 @@ module _ (laws : CandidatesAreCheapestWalks) (contents : Contents) (prefix : Net
 
   pub falling : (first : Stop) (others : List Stop)
       → IsPassedOn contents (ForwardsFor contents prefix) (first ∷ others) → first.route.kind
-          ≡ Intra
+      ≡ Intra
       → (i j : ℕ) (d : Stop) → i < j → j < length (first ∷ others)
       → (get_or (first ∷ others) j d).route.cost < (get_or (first ∷ others) i d).route.cost
   falling first [] p within i j d before low = absurd (omega (arith, before, low))
@@ -99,7 +99,7 @@ module _ (laws : CandidatesAreCheapestWalks) (contents : Contents) (prefix : Net
 
   pub short : (first : Stop) (others : List Stop)
       → IsPassedOn contents (ForwardsFor contents prefix) (first ∷ others) → first.route.kind
-          ≡ Intra
+      ≡ Intra
       → length others ≤ first.route.cost
   short first [] p within = omega arith
   short first (next ∷ others) p within =
@@ -109,7 +109,7 @@ module _ (laws : CandidatesAreCheapestWalks) (contents : Contents) (prefix : Net
 
   pub no_twice : (first : Stop) (others : List Stop)
       → IsPassedOn contents (ForwardsFor contents prefix) (first ∷ others) → first.route.kind
-          ≡ Intra
+      ≡ Intra
       → (i j : ℕ) (d : Stop) → i < j → j < length (first ∷ others)
       → (get_or (first ∷ others) i d).root.router
       ≡ (get_or (first ∷ others) j d).root.router → ⊥
@@ -123,7 +123,7 @@ module _ (laws : CandidatesAreCheapestWalks) (contents : Contents) (prefix : Net
 
   pub all_within : (first : Stop) (others : List Stop)
       → IsPassedOn contents (ForwardsFor contents prefix) (first ∷ others) → first.route.kind
-          ≡ Intra
+      ≡ Intra
       → (k : ℕ) (d : Stop) → k < length (first ∷ others)
       → (get_or (first ∷ others) k d).route.kind ≡ Intra
   all_within first others p within k d low = (every first others p within k d low).within

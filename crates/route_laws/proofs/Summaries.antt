@@ -246,7 +246,7 @@ module _ (flags distant_flags : ℕ) (has_e : bit_and distant_flags 2 ≡ 2) whe
       let t = told_of (summary_key 3 x.id x.originator) (body.NetworkSummary x.lsa) x.its in
       let rest = t.1 x.counts.reachable in
       let Reaches : ℕ → Type 0 = λ router. ReachesBorderRouter contents summaries_root router
-          x.border
+      x.border
       in
       let reaches : ReachesBorderRouter contents summaries_root border x.border =
       subst Reaches t.0 x.counts.reaches in
@@ -281,7 +281,7 @@ module _ (flags distant_flags : ℕ) (has_e : bit_and distant_flags 2 ≡ 2) whe
       let reaches : ReachesBorderRouter contents summaries_root router its_way =
       subst Reaches from x.counts.reaches in
       let w : to_it ≡ its_way = one_way (Leads contents summaries_root) (ARouter near)
-          (ARouter router)
+      (ARouter router)
       to_it its_way there reaches.reached in
       let its_metric : x.lsa.metric ≡ metric = ap (λ (s : SummaryLsa). s.metric) same in
       let far : to_it.distance ≡ its_way.distance = ap (λ (y : Way). y.distance) w in (

@@ -438,8 +438,8 @@ is_current es id links routes current are = record {
 }
 
 pub up_to_date : (es : Entries) (id : ℕ) (links : List Link) (routes : List Route)
-    → Says (contents_at 0 (database es)) (router_key id) (router_body links) → HaveOwnAddresses
-        links
+    → Says (contents_at 0 (database es)) (router_key id) (router_body links)
+    → HaveOwnAddresses links
     → HaveCosts links → AreCandidates (contents_at 0 (database es)) (root_by id links) routes
     → IsUpToDate (forwarder id links es routes)
 up_to_date es id links routes current apart costs are = record {

@@ -143,8 +143,8 @@ module _ (root : Root) (es : Entries) (inside : ℕ → Bool)
         walks_inside s.target walk w p.1 (leads_inside v s.target s.cost s.exit p.0 t)
 
     outside : inside root.router ≡ true → (router : ℕ) → inside router ≡ false → (way : Way)
-        → IsWay (Leads (contents_at 0 (database es)) root) (ARouter root.router) (ARouter router)
-            way
+        → IsWay (Leads (contents_at 0 (database es)) root) (ARouter root.router)
+        (ARouter router) way
         → ⊥
     outside start router e way is =
         let t : inside router ≡ true = walks_inside (ARouter root.router) is.distance.0

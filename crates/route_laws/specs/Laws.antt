@@ -22,8 +22,8 @@ ForwardingIsDetermined =
 -- an AS boundary router has only one way, within the area or between areas
 abbrev pub BoundaryWaysAreDetermined : Type 0
 BoundaryWaysAreDetermined =
-    (contents : Contents) (root : Root) (router : ℕ) (a b : Way) → IsBoundaryWay contents root
-        router a
+    (contents : Contents) (root : Root) (router : ℕ) (a b : Way)
+    → IsBoundaryWay contents root router a
     → IsBoundaryWay contents root router b → a ≡ b
 
 -- ---- the table
@@ -43,8 +43,8 @@ pub record TablesArePartsOfCandidates : Type 0 where
   pub part : (contents : Contents) (root : Root) (answers : Answers) (routes table : List Route)
       → AreCandidates contents root routes → IsTable contents root answers table
       → (r : Route) → Contains table r ↔ (Contains routes r × IsLetIn answers r)
-  pub empty : (contents : Contents) (root : Root) (table : List Route) → IsTable contents root []
-      table
+  pub empty : (contents : Contents) (root : Root) (table : List Route)
+      → IsTable contents root [] table
       → table ≡ []
   pub whole : (contents : Contents) (root : Root) (answers : Answers) (routes table : List Route)
       → AreCandidates contents root routes → IsTable contents root answers table

@@ -27,8 +27,8 @@ use Rattle.route_laws.specs.Forwarding.{NamesItsInterfaces, Stop, last_of}
 -- ---- one hop
 
 -- the offer leads to this router, from whose LSA it comes, by these interfaces
-pub data IsToward (contents : Contents) (root : Root) (offer : Offer) (router hops : ℕ) : Type 0
-    where
+pub data IsToward (contents : Contents) (root : Root) (offer : Offer) (router hops : ℕ) : Type
+    0 where
   -- an area border router, which advertises the network in another area
   Border : (between : OffersBetween contents root offer) → between.originator ≡ router
       → hops ≡ offer.hops → IsToward contents root offer router hops
@@ -48,8 +48,8 @@ pub data IsToward (contents : Contents) (root : Root) (offer : Offer) (router ho
 
 -- a router forwards packets to the next router by a route: by a next hop that the route has from
 -- one of the best offers for the prefix, which leads to this originator
-pub record HandsToward (contents : Contents) (root : Root) (route : Route) (next originator : ℕ) :
-    Type 0
+pub record HandsToward (contents : Contents) (root : Root) (route : Route) (next originator : ℕ)
+    : Type 0
   where
     pub offer : Offer
     pub is_best : IsBest contents root route.prefix offer
@@ -91,8 +91,8 @@ pub record EachHopLeadsToAnOriginator : Type 0 where
 
 -- a router forwards packets to one that isn't their end: within the area, or toward another router
 pub data HandsFurther (contents : Contents) (root : Root) (route : Route) (next : ℕ) : Type 0 where
-  InTheArea : route.kind ≡ Intra → HandsOn contents root route next → HandsFurther contents root
-      route next
+  InTheArea : route.kind ≡ Intra → HandsOn contents root route next
+      → HandsFurther contents root route next
   TowardAnother : (originator : ℕ) → HandsToward contents root route next originator
       → next ≢ originator → HandsFurther contents root route next
 

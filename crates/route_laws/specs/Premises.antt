@@ -46,8 +46,8 @@ pub record IsNextHop (contents : Contents) (router : RouterNumber) (links : List
   pub is_on : neighbor_at interface links ≡ Some neighbor
   pub full : IsTrue (is_full neighbor.state)
   pub cost : ℕ
-  pub leads : LeadsTo contents (root_by router links) (ARouter router) (ARouter neighbor.router)
-      cost
+  pub leads : LeadsTo contents (root_by router links) (ARouter router)
+      (ARouter neighbor.router) cost
       interface
 
 pub record OwnRouterLsasMeetThePremises : Type 0 where

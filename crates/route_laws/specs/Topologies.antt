@@ -120,8 +120,8 @@ pub record HandsTo (topology : Topology) (address : ℕ) (from to : ℕ) : Type 
 
 -- a self-originated AS-external-LSA of the router advertises this destination, which contains the
 -- address, with a metric below LSInfinity
-pub record TellsOf (contents : Contents) (router : RouterNumber) (address : ℕ) (prefix : Network) :
-    Type 0
+pub record TellsOf (contents : Contents) (router : RouterNumber) (address : ℕ) (prefix : Network)
+    : Type 0
   where
     pub id : ℕ
     pub lsa : ExternalLsa

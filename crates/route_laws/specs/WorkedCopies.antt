@@ -112,10 +112,10 @@ pub record WorkedTypes : Type 0 where
   -- the same with copies, one of which is added between moments 100 and 110
   pub comes_before : (b : LsaBody) (old new : Database)
       → Comes (key 1) (copy b (pos 4) 10 105) old new → AreLsasUnchanged (Some 2) 100 110 old
-          new → ⊥
+      new → ⊥
   pub comes_last : (b : LsaBody) (old new : Database)
       → Comes (key 2) (copy b (pos 4) 10 105) old new → AreLsasUnchanged (Some 2) 100 110 old
-          new → ⊥
+      new → ⊥
   pub comes_behind : (b : LsaBody) (old new : Database)
       → Comes (key 3) (copy b (pos 4) 10 105) old new → AreLsasUnchanged (Some 2) 100 110 old new
   pub comes_anywhere : (b : LsaBody) (old new : Database)

@@ -186,8 +186,8 @@ module _ (answers : List (Route × ℕ)) where
       (after_packet moment number packet)
   a_packet moment number packet p =
       let heard : Bool = is_heard p.router.id packet (neighbor_at number p.router.area.links) in
-      let exchanges : Bool = neighbor_is_exchange_or_later (neighbor_at number p.router.area.links)
-          in
+      let exchanges : Bool = neighbor_is_exchange_or_later
+      (neighbor_at number p.router.area.links) in
       one_of heard (from_neighbor moment number packet.router exchanges packet.body p) p
       ∙ ap (λ (q : EventState). cond heard q (answering p))
       (from_its_neighbor moment number packet.router exchanges packet.body p)

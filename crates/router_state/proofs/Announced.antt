@@ -35,8 +35,8 @@ module _ (id : RouterNumber) where
       here)
   by_key m key k e x false own here tied is = own k x is
 
-  pub insert_own : (m : ByKey External) (key : Key) (e : External) → AreOwn id m → IsWithItsKey id
-      key e
+  pub insert_own : (m : ByKey External) (key : Key) (e : External) → AreOwn id m
+      → IsWithItsKey id key e
       → AreOwn id (finite.insert m key e)
   insert_own m key e own here k x is =
       by_key m key k e x (eq_by_cmp key_cmp k key) own here refl

@@ -133,10 +133,10 @@ bridged leads number g is v w at to nv nw (Some way) h =
 
 pub carried : GraphsCarryAnswers
 carried contents root place g is from to node None start end h =
-    bridged (Leads contents root) (λ v at. place v ≡ Some at) g is (ARouter root.router) node from
-        to
+    bridged (Leads contents root) (λ v at. place v ≡ Some at) g is (ARouter root.router) node
+    from to
     start end None h
 carried contents root place g is from to node (Some way) start end h =
-    bridged (Leads contents root) (λ v at. place v ≡ Some at) g is (ARouter root.router) node from
-        to
+    bridged (Leads contents root) (λ v at. place v ≡ Some at) g is (ARouter root.router) node
+    from to
     start end (Some way) h

@@ -56,8 +56,12 @@ pub record OffersExternal (contents : Contents) (root : Root) (o : Offer) : Type
   pub id : ℕ
   pub originator : ℕ
   pub lsa : ExternalLsa
-  pub its : Says contents (record { ls_type = 5; link_state_id = id; advertising_router =
-      originator })
+  pub its : Says contents (record {
+    ls_type = 5;
+    link_state_id = id;
+    advertising_router =
+        originator;
+  })
       (body.External lsa)
   pub reachable : lsa.metric < ls_infinity
   pub of_another : originator ≢ root.router

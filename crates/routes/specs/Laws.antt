@@ -13,8 +13,8 @@ use Rattle.routes.specs.Contents.{Contents}
 -- whatever the links, there is one way to a vertex
 abbrev pub WaysAreDetermined : Type 0
 WaysAreDetermined =
-    (contents : Contents) (root : Root) (from to : Node) (a b : Way) → IsWay (Leads contents root)
-        from to a
+    (contents : Contents) (root : Root) (from to : Node) (a b : Way)
+    → IsWay (Leads contents root) from to a
     → IsWay (Leads contents root) from to b → a ≡ b
 
 -- what LSAs of types 1 and 2 say determines all ways
@@ -26,8 +26,8 @@ WaysRestOnLinks =
 
 abbrev pub OneCandidateForEachPrefix : Type 0
 OneCandidateForEachPrefix =
-    (contents : Contents) (root : Root) (r s : Route) → IsCandidate contents root r → IsCandidate
-        contents root s
+    (contents : Contents) (root : Root) (r s : Route) → IsCandidate contents root r
+    → IsCandidate contents root s
     → r.prefix ≡ s.prefix → r ≡ s
 
 abbrev pub CandidatesAreDetermined : Type 0

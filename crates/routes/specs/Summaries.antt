@@ -18,8 +18,8 @@ use Rattle.routes.specs.declared.offer.Offer.{Offer}
 use Rattle.routes.specs.declared.root.Root.{Root}
 
 -- the router is reachable, and its flags have bit B
-pub record ReachesBorderRouter (contents : Contents) (root : Root) (router : ℕ) (way : Way) : Type 0
-    where
+pub record ReachesBorderRouter (contents : Contents) (root : Root) (router : ℕ) (way : Way) : Type
+    0 where
   pub lsa : RouterLsa
   pub its : IsRouterLsa contents router lsa
   pub has_b : bit_and lsa.flags 1 ≡ 1
@@ -69,8 +69,8 @@ OffersInside contents root o = OffersWithin contents root o ⊎ OffersBetween co
 -- ---- AS boundary routers (section 16.4)
 
 -- an area border router advertises a way with this cost to the router
-pub record IsAdvertised (contents : Contents) (root : Root) (router distance : ℕ) (border : Way) :
-    Type 0
+pub record IsAdvertised (contents : Contents) (root : Root) (router distance : ℕ)
+    (border : Way) : Type 0
   where
     pub originator : ℕ
     pub lsa : SummaryLsa
