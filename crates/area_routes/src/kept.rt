@@ -31,7 +31,7 @@ use pages::{Pages, RouteAnswers};
 use routes::Root;
 use std::alloc::{AllocError, Global};
 use std::marker::Model;
-use tables::{lacks_answers, rows_of, table_of};
+use tables::{lacks_answers, rows_of, table_among, table_of};
 use words::{Key, Route, RouterId, Second, TableRow};
 
 /// The candidates of a router, and the rows of its table, at one moment.
@@ -719,9 +719,9 @@ impl AreaRoutes {
             offered.candidates.items offered.rows.items) }
     {
         let shared = self.candidates(alloc, router, area, moment)?;
-        let table = table_of(&shared, answers)?;
-        let rows = rows_of(alloc, &table)?;
         let candidates = shared.to_vec()?;
+        let table = table_among(alloc, &candidates, answers)?;
+        let rows = rows_of(alloc, &table)?;
         Ok(Offered { candidates, rows })
     }
 

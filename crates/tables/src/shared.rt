@@ -10,7 +10,7 @@ ghost use Rattle.words.specs.declared.route.Route.{Route as RouteValue};
 
 use crate::answered::{is_stale, table};
 use pages::{Pages, RouteAnswers};
-use std::alloc::AllocError;
+use std::alloc::{AllocError, Global};
 use words::Route;
 
 /// The routing table, as [`table`] makes it.
@@ -22,11 +22,30 @@ pub fn table_of(candidates: &Pages<Route>, answers: &RouteAnswers) -> Result<Vec
         → AreCandidates contents root candidates.now → IsTable contents root answers.now
         table.items) }
 {
-    let alloc = candidates.allocator();
     let routes = candidates.to_vec()?;
-    let answers = answers.to_vec(alloc)?;
-    let made = table(alloc, &routes, &answers)?;
+    let made = table_among(candidates.allocator(), &routes, answers)?;
     Ok(made)
+}
+
+/// The same of candidates in one piece. Answers that are kept one by one aren't copied.
+///
+/// # Errors
+/// `AllocError` if an allocation is refused.
+pub fn table_among(
+    alloc: Global,
+    candidates: &[Route],
+    answers: &RouteAnswers,
+) -> Result<Vec<Route>, AllocError>
+    ensures { IfOk result (λ table. (contents : Contents) (root : Root)
+        → AreCandidates contents root candidates.now → IsTable contents root answers.now table.items) }
+{
+    match answers.kept() {
+        Ok(each) => table(alloc, candidates, each),
+        Err(_) => {
+            let each = answers.to_vec(alloc)?;
+            table(alloc, candidates, &each)
+        }
+    }
 }
 
 /// Whether some candidate's equal route has no answer, as [`is_stale`] tells. Where each candidate

@@ -1,13 +1,10 @@
 use Rattle.std.proofs.Common.{List, subst, sym, ◌∙◌}
 use Rattle.words.specs.declared.route.Route.{Route}
 use Rattle.routes.specs.Candidates.{AreCandidates}
-use Rattle.routes.specs.Tables.{Answers, IsTable}
 use Rattle.tables.proofs.shared.table_of.Goals as goal
 
 pub returns : goal.returns
 returns c contents root are =
     let routes = c.deref.ensures.value ∙ c.in_ok-routes.ensures in
-    let answers = c.deref-2.ensures.value ∙ c.in_ok-answers.ensures in
-    subst (λ (l : Answers). IsTable contents root l c.in_ok-made.made.items) answers
-    (c.in_ok-made.ensures contents root
-    (subst (λ (rs : List Route). AreCandidates contents root rs) (sym routes) are))
+    c.in_ok-made.ensures contents root (subst (λ (rs : List Route). AreCandidates contents root rs)
+    (sym routes) are)

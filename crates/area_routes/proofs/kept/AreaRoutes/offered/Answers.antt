@@ -11,10 +11,13 @@ pub returns : goal.returns
 returns c =
     let contents = contents_at c.args.moment c.args.area.now.present.database in
     let root = root_by c.args.router c.args.area.now.present.links in
+    let whole = c.in_ok-candidates.ensures in
     record {
       are_candidates = subst (λ (xs : List Route). AreCandidates contents root xs)
-          (sym c.in_ok-candidates.ensures) c.in_ok-shared.ensures;
+          (sym whole) c.in_ok-shared.ensures;
       table = c.in_ok-table.table.items;
-      is_table = c.in_ok-table.ensures contents root c.in_ok-shared.ensures;
-      are_rows = c.in_ok-rows.ensures ∙ ap rows_of c.deref.ensures.value;
+      is_table = c.in_ok-table.ensures contents root
+          (subst (λ (xs : List Route). AreCandidates contents root xs)
+          (sym (c.deref.ensures.value ∙ whole)) c.in_ok-shared.ensures);
+      are_rows = c.in_ok-rows.ensures ∙ ap rows_of c.deref-2.ensures.value;
     }
