@@ -33,5 +33,4 @@ pub use book::origin::Origin;
 pub use book::{Book, MAX_JOURNAL, MAX_TAKEN};
 pub use event::Event;
 pub use event_rules::{Config, ConfigError, CoreError, Out};
-pub use hooks::VetoAnswers;
 pub use router_core::Core;
