@@ -7,7 +7,7 @@ ghost use Rattle.area_graph.specs.Nodes.{network_lsa, router_lsa};
 use crate::lookups::few_from;
 use lsa::{LsaBody, NetworkLsa, RouterLsa};
 use lsdb::{KeyedBody, Lsdb};
-use words::{Key, LinkStateId, RouterId, Second};
+use words::{Key, LinkStateId, RouterId, Second, router_key};
 
 /// The greatest LS type that makes nodes: router-LSAs and network-LSAs do (RFC 2328, section
 /// A.4.1).
@@ -58,11 +58,7 @@ pub fn router_lsa<'a>(
     ensures { option_copied result
         ≡ router_lsa (contents_at advertised.now.moment advertised.now.db.now.present) router }
 {
-    let key = Key {
-        ls_type: 1,
-        link_state_id: LinkStateId::new(router.number()),
-        advertising_router: router,
-    };
+    let key = router_key(router);
     match body_near(advertised, place, &key) {
         Some(LsaBody::Router(lsa)) => Some(lsa),
         _ => None,

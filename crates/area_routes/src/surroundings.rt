@@ -9,7 +9,7 @@ ghost use Rattle.routes.specs.declared.node.Node.TheVariants.{ANetwork};
 use area_graph::Slots;
 use lsa::{LinkKind, LsaBody, NetworkLsa, RouterLink, RouterLsa};
 use routes::{Lsdb, Node};
-use words::{Key, LinkStateId, RouterId, Second};
+use words::{Key, LinkStateId, RouterId, Second, router_key};
 
 /// A database at a moment, and its nodes.
 #[derive(Drop)]
@@ -25,11 +25,7 @@ pub fn router_lsa<'a>(at: &Surroundings<'a>, router: RouterId) -> Option<&'a Rou
     ensures { option_copied result ≡ router_lsa (contents_at at.now.moment at.now.db.now.present)
         router }
 {
-    let key = Key {
-        ls_type: 1,
-        link_state_id: LinkStateId::new(router.number()),
-        advertising_router: router,
-    };
+    let key = router_key(router);
     match at.db.body_at(at.moment, &key) {
         Some(LsaBody::Router(lsa)) => Some(lsa),
         _ => None,

@@ -8,7 +8,6 @@ ghost use Rattle.candidates.specs.Inner.{AreInner, AreSearchable};
 ghost use Rattle.candidates.specs.Reached.{alone, way_in};
 ghost use Rattle.candidates.specs.Sources.{IsInner};
 ghost use Rattle.candidates.specs.Ways.{AreNear, AreWays};
-ghost use Rattle.routes.specs.Links.{router_key};
 ghost use Rattle.routes.specs.Contents.{contents_at};
 ghost use Rattle.routes.specs.declared.node.Node.{Node as NodeAt};
 
@@ -22,18 +21,7 @@ use lsa::LsaBody;
 use lsdb::Lsdb;
 use routes::{Offer, Root};
 use std::alloc::{AllocError, Global};
-use words::{Key, LinkStateId, Second};
-
-// The key of the root's router-LSA.
-fn own_key(root: &Root) -> Key
-    ensures { result ≡ router_key root.now.router }
-{
-    Key {
-        ls_type: 1,
-        link_state_id: LinkStateId::new(root.router.number()),
-        advertising_router: root.router,
-    }
-}
+use words::{Key, Second, router_key};
 
 // The router whose LSA has this key and body, if it has a flag and is reachable.
 fn flagged_by<W: Ways>(ways: &W, key: &Key, body: Option<&LsaBody>) -> Option<Flagged>
@@ -98,7 +86,7 @@ pub fn inner_alone<W: Ways>(
     ensures inner { IfOk result (λ inner. AreInner (contents_at moment db.now.present) root.now
         (W.ways ways.now) inner) }
 {
-    let key = own_key(root);
+    let key = router_key(root.router);
     let body = db.body_at(moment, &key);
     let flagged = listed(alloc, flagged_by(ways, &key, body))?;
     let mut none = Vec::new(alloc);

@@ -7,7 +7,7 @@ ghost use Rattle.candidates.specs.Alone.{HasNoWayOut, leads_nowhere};
 use lsa::{LinkKind, LsaBody, RouterLink, RouterLsa};
 use lsdb::Lsdb;
 use routes::Root;
-use words::{Key, LinkStateId, Second};
+use words::{Second, router_key};
 
 // Whether the link leads to neither a router nor a transit network.
 fn leads_nowhere(link: &RouterLink) -> bool
@@ -31,11 +31,7 @@ fn all_lead_nowhere(lsa: &RouterLsa) -> bool
 pub fn has_no_way_out(db: &Lsdb, root: &Root, moment: Second) -> bool
     ensures { IsTrue result → HasNoWayOut (contents_at moment db.now.present) root.now.router }
 {
-    let key = Key {
-        ls_type: 1,
-        link_state_id: LinkStateId::new(root.router.number()),
-        advertising_router: root.router,
-    };
+    let key = router_key(root.router);
     match db.body_at(moment, &key) {
         Some(LsaBody::Router(lsa)) => all_lead_nowhere(lsa),
         _ => false,

@@ -28,7 +28,7 @@ pub push_by-requires-clause-close : goal.push_by-requires-clause-close
 push_by-requires-clause-close g c =
     subst AreCloseBy (sym (c.deref.ensures.value ∙ c.in_ok-flagged.ensures))
     (one_close c.args.root.now (g.W.Ways.ways c.args.ways.now) c.requires.alone
-    c.own_key-key.result _ c.flagged_by.result c.requires.near c.flagged_by.ensures)
+    c.router_key-key.result _ c.flagged_by.result c.requires.near c.flagged_by.ensures)
 
 none_cheap : (offers : List Offer) → offers ≡ [] → AreCheap offers
 none_cheap offers none o among = absurd (of_empty o (subst (λ xs. Contains xs o) none among))
@@ -39,7 +39,7 @@ returns-clause-searchable g c = record {
     subst AscendByRouter (sym c.in_ok-flagged.ensures) (one_ascends c.flagged_by.result),
     subst AreCloseBy (sym c.in_ok-flagged.ensures)
         (one_close c.args.root.now (g.W.Ways.ways c.args.ways.now) c.requires.alone
-        c.own_key-key.result _ c.flagged_by.result c.requires.near c.flagged_by.ensures),
+        c.router_key-key.result _ c.flagged_by.result c.requires.near c.flagged_by.ensures),
   );
   advertised = (
     c.in_ok-advertised.ensures.routes.ascending,
@@ -62,24 +62,24 @@ returns-clause-inner g c =
     let own_key : Key = router_key root.router in
     let advertised : Option LsaBody = option_copied c.body_at-body.result in
     let own : advertised ≡ contents own_key = c.body_at-body.ensures ∙ ap contents
-    c.own_key-key.ensures in
+    c.router_key-key.ensures in
     let just : IsJust (OfOne (TellsFlags ways) own_key advertised) c.flagged_by.result =
     subst (λ (k : Key). IsJust (OfOne (TellsFlags ways) k advertised) c.flagged_by.result)
-    c.own_key-key.ensures c.flagged_by.ensures in
+    c.router_key-key.ensures c.flagged_by.ensures in
     let routers = c.in_ok-flagged.flagged.items in
     let flagged : AreFlagged contents ways routers =
     subst (AreFlagged contents ways) (sym c.in_ok-flagged.ensures)
     (one_flagged root ways c.requires.alone contents advertised own c.flagged_by.result just) in
     let offers = c.push_by.new.offers.items in
     let by_list : Adds c.new-offers.result.items offers (OfOne (IsInner root ways routers)
-    c.own_key-key.result advertised) =
+    c.router_key-key.result advertised) =
     subst (λ (rs : List Flagged). Adds c.new-offers.result.items offers
-    (OfOne (IsInner root ways rs) c.own_key-key.result advertised)) c.deref.ensures.value
+    (OfOne (IsInner root ways rs) c.router_key-key.result advertised)) c.deref.ensures.value
     c.in_ok-push_by.ensures.adds in
     let by_key : Adds c.new-offers.result.items offers (OfOne (IsInner root ways routers)
     own_key advertised) =
     subst (λ (k : Key). Adds c.new-offers.result.items offers
-    (OfOne (IsInner root ways routers) k advertised)) c.own_key-key.ensures by_list in
+    (OfOne (IsInner root ways routers) k advertised)) c.router_key-key.ensures by_list in
     let adds : Adds [] offers (OfOne (IsInner root ways routers) own_key advertised) =
     subst (λ (xs : List Offer). Adds xs offers
     (OfOne (IsInner root ways routers) own_key advertised))
