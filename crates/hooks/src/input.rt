@@ -1,37 +1,21 @@
 //! The hook that an input is for, and its default answer.
-ghost use Rattle.std.specs.Prelude.{◌≡◌, ◌+◌, ◌≤◌, length, slice_range};
+ghost use Rattle.std.specs.Prelude.{◌≡◌, slice_range};
 ghost use Rattle.isa.specs.Hooks.{hook_number};
 ghost use Rattle.machine.specs.Given.{given_by};
 ghost use Rattle.machine.specs.Memory.{number_of};
 ghost use Rattle.hooks.specs.Operations.{HasHookNumber, default_of};
 
 use machine::{Hook, Input};
-
-/// The number of four bytes, the lowest first.
-fn number_of(bytes: &[u8]) -> u64
-    requires { length bytes.now ≡ 4 }
-    ensures { result ≡ number_of bytes.now }
-{
-    match bytes {
-        [a, b, c, d] => {
-            let high = *c as u64 + 256 * *d as u64;
-            *a as u64 + 256 * (*b as u64 + 256 * high)
-        }
-        _ => unreachable!(),
-    }
-}
+use word_machine::number_of;
 
 /// The hook whose number is in the first four bytes of the context.
 pub fn hook_of(input: &Input) -> Hook
     requires { HasHookNumber (given_by input.now) }
     ensures { number_of (slice_range input.now.context 0 4) ≡ hook_number result }
 {
-    match number_of(&input.context[0..4]) {
-        1 => Hook::Count,
-        2 => Hook::Tag,
-        3 => Hook::Price,
-        4 => Hook::Veto,
-        _ => unreachable!(),
+    match Hook::from_number(number_of(&input.context[0..4]) as u8) {
+        Some(hook) => hook,
+        None => unreachable!(),
     }
 }
 
