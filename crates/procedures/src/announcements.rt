@@ -14,22 +14,13 @@ use words::{External, ExternalType, Key, LS_INFINITY, Prefix, Second, external_k
 pub fn same_network(a: Prefix, b: Prefix) -> bool
     ensures { result ≡ same_network a b }
 {
-    a.address() == b.address() && a.length() == b.length()
+    a == b
 }
 
 fn same_kind(a: ExternalType, b: ExternalType) -> bool
     ensures { result ≡ same_kind a b }
 {
-    match a {
-        ExternalType::Type1 => match b {
-            ExternalType::Type1 => true,
-            ExternalType::Type2 => false,
-        },
-        ExternalType::Type2 => match b {
-            ExternalType::Type1 => false,
-            ExternalType::Type2 => true,
-        },
-    }
+    a == b
 }
 
 /// Whether two destinations are the same in each field: prefix, metric, type and tag.
