@@ -9,7 +9,9 @@ use Rattle.routes.specs.Contents.{Contents}
 use Rattle.routes.specs.Tables.{Answers, IsStale}
 use Rattle.routes.specs.declared.root.Root.{Root}
 use Rattle.area_routes.specs.Kept.{KeptRoutes, KnowsAnswered, KnowsCandidates, KnowsInner}
-use Rattle.area_routes.specs.Kept.{KnowsWalk}
+use Rattle.area_routes.specs.Kept.{KnowsMatching, KnowsWalk}
+use Rattle.area_routes.specs.declared.matching.Matching.{Matching}
+use Rattle.area_routes.specs.declared.matching.Matching.TheVariants.{Unknown}
 use Rattle.area_routes.proofs.Candidates.{carried, inner_carried}
 use Rattle.external_updates.specs.Laws.{InnerRoutesAreKept}
 use Rattle.kept_routes.specs.Sameness.{HaveSameContents}
@@ -18,6 +20,12 @@ use Rattle.kept_routes.specs.Sameness.{HaveSameContents}
 pub unanswered : (contents : Contents) (root : Root) (answers : Answers) (kept : KeptRoutes)
     → kept.answered ≡ false → KnowsAnswered contents root answers kept
 unanswered contents root answers kept is on = absurd (false≢true (sym is ∙ on))
+
+-- nor of candidates and answers where nothing is known of these
+pub unmatched : (answers : Answers) (kept : KeptRoutes) → kept.matching ≡ Unknown
+    → KnowsMatching answers kept.candidates kept.matching
+unmatched answers kept is =
+    subst (λ (m : Matching). KnowsMatching answers kept.candidates m) (sym is) tt
 
 module _ (old new : Contents) (was is : Root) (kept : KeptRoutes) (serves : kept.behind ≡ false)
     (begins : kept.walk.root ≡ is) (knew : KnowsWalk old was kept) where

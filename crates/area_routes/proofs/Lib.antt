@@ -6,5 +6,6 @@ pub mod Stay
 pub mod Roots
 pub mod Limits
 pub mod Candidates
+pub mod Matches
 pub mod AfterExternals
 pub mod Externals

@@ -1,5 +1,6 @@
 -- The routes of a router as they are kept from one event to the next (RFC 2328, section 16).
-use Rattle.std.specs.Prelude.{◌≡◌, ◌≢◌, ℕ, Bool, true, false, IfSome, List, Option, Some}
+use Rattle.std.specs.Prelude.{◌≡◌, ◌≢◌, ℕ, Bool, true, false, IfSome, List, MatchOption, Option}
+use Rattle.std.specs.Prelude.{Some}
 use Rattle.std.specs.List.{Contains}
 use Rattle.std.specs.Global.{Vec}
 use Rattle.words.specs.Numbers.{Moment, RouterNumber}
@@ -7,6 +8,8 @@ use Rattle.words.specs.declared.key.Key.{Key}
 use Rattle.words.specs.declared.route.Route.{Route}
 use Rattle.flooding.specs.received.Links.{Area}
 use Rattle.area_routes.specs.Offers.{root_by}
+use Rattle.area_routes.specs.declared.matching.Matching.{Matching}
+use Rattle.area_routes.specs.declared.matching.Matching.TheVariants.{Exact, Lacking, Unknown}
 use Rattle.candidates.specs.Inner.{AreInner, AreSearchable}
 use Rattle.candidates.specs.declared.inner.InnerRoutes.{InnerRoutes}
 use Rattle.external_updates.specs.Placing.{AreAllAmong, HasAnother}
@@ -19,6 +22,7 @@ use Rattle.routes.specs.Candidates.{AreCandidates}
 use Rattle.routes.specs.Contents.{Contents, contents_at}
 use Rattle.routes.specs.Tables.{Answers, IsStale}
 use Rattle.routes.specs.declared.root.Root.{Root}
+use Rattle.tables.specs.Parts.{AreAnswersAmong, LacksAnswers}
 use Rattle.candidates.specs.AreaGraphs.{IsAreaGraph}
 use Rattle.candidates.specs.Reached.{way_in}
 use Rattle.candidates.specs.declared.graph.AreaGraph.{AreaGraph}
@@ -39,6 +43,8 @@ pub record KeptRoutes : Type 0 where
   pub externals : Option (Vec ExternalAdvertisement)
   -- whether each candidate is known to be among the answers
   pub answered : Bool
+  -- what else is known of the answers and of the candidates that are kept
+  pub matching : Matching
 
 -- unless it is behind, the walk is that of what the LSAs say, from this root
 pub record KnowsWalk (contents : Contents) (start : Root) (kept : KeptRoutes) : Type 0 where
@@ -87,6 +93,13 @@ AreOfOthers keys = (key : Key) → Contains keys key → key.ls_type ≢ 5
 abbrev pub KnowsAnswered : Contents → Root → Answers → KeptRoutes → Type 0
 KnowsAnswered contents root answers kept = kept.answered ≡ true → IsStale contents root answers → ⊥
 
+-- what is known of the answers and of the candidates that are kept, if any: with `Exact` each
+-- answered route is one of these, with `Lacking` some of these has no answer
+abbrev pub KnowsMatching : Answers → (kept : Option (List Route)) → Matching → Type 0
+KnowsMatching answers kept Unknown = Unit {0}
+KnowsMatching answers kept Exact = MatchOption kept ⊥ (AreAnswersAmong answers)
+KnowsMatching answers kept Lacking = MatchOption kept ⊥ (LacksAnswers answers)
+
 -- from what the LSAs said to what they say, no candidate appears that may lack an answer
 abbrev pub StayAnswered : (old : Contents) → (new : Contents) → Root → Type 0
 StayAnswered old new root =
@@ -96,6 +109,10 @@ StayAnswered old new root =
 abbrev pub HaveAnother : (kept : Option (List Route)) → (now : List Route) → Type 0
 HaveAnother kept now = IfSome kept (λ before. HasAnother before now)
 
+-- if candidates were kept, each of these was among them
+abbrev pub AreAmongKept : (kept : Option (List Route)) → (now : List Route) → Type 0
+AreAmongKept kept now = IfSome kept (λ before. AreAllAmong before now)
+
 -- candidates are kept before an event and after it, and each was one before
 pub record BringsNoneNew (old : KeptRoutes) (new : KeptRoutes) : Type 0 where
   pub before : List Route
@@ -103,6 +120,14 @@ pub record BringsNoneNew (old : KeptRoutes) (new : KeptRoutes) : Type 0 where
   pub were : old.candidates ≡ Some before
   pub are : new.candidates ≡ Some now
   pub among : AreAllAmong before now
+
+-- candidates are kept before an event and after it, and one wasn't one before
+pub record BringsAnother (old : KeptRoutes) (new : KeptRoutes) : Type 0 where
+  pub before : List Route
+  pub now : List Route
+  pub were : old.candidates ≡ Some before
+  pub are : new.candidates ≡ Some now
+  pub another : HasAnother before now
 
 -- All that a walk depends on is unchanged since the moment `before`: it has the same root, and of
 -- the LSAs of the types up to this one, or of all types if there is none, none was added or
@@ -157,3 +182,4 @@ pub record AreKept (router : RouterNumber) (area : Area) (moment : Moment) (answ
   pub answered : KnowsAnswered (contents_at moment area.database) (root_by router area.links)
       answers
       kept
+  pub matching : KnowsMatching answers kept.candidates kept.matching

@@ -1,7 +1,7 @@
 //! Candidates that follow AS-external-LSAs (RFC 2328, section 16.6).
 ghost use Rattle.std.specs.Prelude.{◌≡◌, ◌≤◌, IfSome, IsTrue, Some, false};
-ghost use Rattle.area_routes.specs.Kept.{AreInnerBy, HaveAnother, StayAnswered};
-ghost use Rattle.external_updates.specs.Placing.{HasAnother};
+ghost use Rattle.area_routes.specs.Kept.{AreAmongKept, AreInnerBy, HaveAnother, StayAnswered};
+ghost use Rattle.external_updates.specs.Placing.{AreAllAmong, HasAnother};
 ghost use Rattle.kept_routes.specs.Kept.{IsWalkOf};
 ghost use Rattle.kept_routes.specs.Sameness.{HaveSameContents};
 ghost use Rattle.routes.specs.Candidates.{AreCandidates};
@@ -48,6 +48,8 @@ fn follow_from(
         (contents_at before area.now.committed.database)
         (contents_at moment area.now.present.database)
         walk.now.root) }
+    ensures among { IfSome result (λ next. IsTrue next.none_new
+        → AreAllAmong routes next.candidates) }
     ensures another { IfSome result (λ next. next.none_new ≡ false
         → HasAnother routes next.candidates) }
 {
@@ -96,6 +98,8 @@ fn follow_some(
         (contents_at before area.now.committed.database)
         (contents_at moment area.now.present.database)
         walk.now.root) }
+    ensures among { IfSome result (λ next. IsTrue next.none_new
+        → AreAmongKept kept next.candidates) }
     ensures another { IfSome result (λ next. next.none_new ≡ false
         → HaveAnother kept next.candidates) }
 {
@@ -132,6 +136,8 @@ pub fn followed(
         (contents_at before area.now.committed.database)
         (contents_at moment area.now.present.database)
         walk.now.root) }
+    ensures among { IfSome result (λ next. IsTrue next.none_new
+        → AreAmongKept kept next.candidates) }
     ensures another { IfSome result (λ next. next.none_new ≡ false
         → HaveAnother kept next.candidates) }
 {

@@ -1,38 +1,38 @@
 //! The routes of a router, kept from one event to the next.
-ghost use Rattle.std.specs.Prelude.{◌≡◌, ◌+◌, ◌≤◌, ◌↔◌, ◌&&◌, None, Some, false, length, min, IfOk};
-ghost use Rattle.std.specs.Prelude.{IfSome, IsSome, IsTrue, OnErr, OnOk, true};
+ghost use Rattle.std.specs.Prelude.{◌≡◌, ◌+◌, ◌≤◌, ◌↔◌, ◌&&◌, None, Ok, Some, false, length, min};
+ghost use Rattle.std.specs.Prelude.{IfOk, IfSome, IsSome, IsTrue, OnErr, OnOk, true};
 ghost use Rattle.std.specs.FinMap as finite;
 ghost use Rattle.area_routes.specs.Kept.{AreKept, AreRoutesOf, AreCandidateInputsUnchanged};
-ghost use Rattle.area_routes.specs.Kept.{KnowsAnswered};
-ghost use Rattle.area_routes.specs.Kept.{KnowsCandidates, KnowsInner, KnowsWalk};
-ghost use Rattle.area_routes.specs.Kept.{KeepsWalkUnlessChanged};
-ghost use Rattle.area_routes.specs.Kept.{AreInnerBy, AreOffersOf, AreOfOthers, BringsNoneNew};
+ghost use Rattle.area_routes.specs.Kept.{AreOffersOf, BringsAnother, BringsNoneNew};
 ghost use Rattle.area_routes.specs.Kept.{ExternalsHaveSameContents, KnowsExternals, KnowsGraph};
-ghost use Rattle.candidates.specs.Externals.{AreExternals};
+ghost use Rattle.area_routes.specs.Kept.{KeepsWalkUnlessChanged};
+ghost use Rattle.area_routes.specs.Kept.{KnowsAnswered, KnowsCandidates, KnowsInner, KnowsMatching};
+ghost use Rattle.area_routes.specs.Kept.{KnowsWalk};
 ghost use Rattle.area_routes.specs.Offers.{AreCandidatesOf, AreOffered, IsStaleOf, IsTableOf};
 ghost use Rattle.area_routes.specs.Offers.{root_by};
-ghost use Rattle.kept_routes.specs.Externals.{AreOfferingLsasUnchanged, OfferTheSame};
+ghost use Rattle.area_routes.specs.declared.matching.Matching.TheVariants.{Exact, Lacking, Unknown};
 ghost use Rattle.kept_routes.specs.Kept.{IsWalkOf};
-ghost use Rattle.kept_routes.specs.Sameness.{AreLsasUnchanged, HaveSameContents};
-ghost use Rattle.routes.specs.Candidates.{AreCandidates};
-ghost use Rattle.routes.specs.Contents.{Contents, contents_at};
+ghost use Rattle.kept_routes.specs.Sameness.{HaveSameContents};
+ghost use Rattle.routes.specs.Contents.{contents_at};
 ghost use Rattle.routes.specs.Tables.{Answers};
 
+use crate::calculating::{Made, calculated, kept_or};
 use crate::following::followed;
 use crate::graphs::{graph_after, graph_at, walk_by};
+use crate::matching::{Matching, matching_after, matching_by};
 use crate::root::{is_root_of, root_of};
-use candidates::{AreaGraph, Calculated, ExternalAdvertisement, InnerRoutes, externals_at};
-use external_updates::changed_keys;
+use crate::unchanged::{area_lsas_are_unchanged, externals_stay, leaves_candidates};
+use candidates::{AreaGraph, Calculated, ExternalAdvertisement, InnerRoutes};
 use external_updates::laws::inner_routes_are_kept;
 use flooding::Area;
+use kept_routes::Routes;
 use kept_routes::laws::{candidates_are_kept, walks_are_kept};
-use kept_routes::{Routes, lsas_are_unchanged, offering_lsas_are_unchanged};
 use pages::{Pages, RouteAnswers};
 use routes::Root;
 use std::alloc::{AllocError, Global};
 use std::marker::Model;
 use tables::{lacks_answers, rows_of, table_among, table_of};
-use words::{Key, Route, RouterId, Second, TableRow};
+use words::{Route, RouterId, Second, TableRow};
 
 /// The candidates of a router, and the rows of its table, at one moment.
 #[derive(Drop)]
@@ -48,7 +48,8 @@ pub struct Offered {
 /// are valid while all LSAs say the same, apart from AS-external-LSAs that offer nothing (section
 /// 16.4). If only a few other AS-external-LSAs change, only the candidates for the destinations
 /// that these advertise are recalculated (section 16.6); and if none of these is a new route, as
-/// when an AS-external-LSA is removed, all candidates have answers if they had before.
+/// when an AS-external-LSA is removed, all candidates have answers if they had before. If one is a
+/// new route, and each answered route was a candidate, it has no answer, so that none is searched.
 /// [`update`](AreaRoutes::update), which is a part of each event, makes no walk. If it leaves no
 /// valid one, the next call that needs one makes it; [`is_stale`](AreaRoutes::is_stale) keeps it
 /// too. Since `turns` asks that after each event, the shortest paths are calculated at once after a
@@ -72,6 +73,8 @@ pub struct AreaRoutes {
     externals: Option<Vec<ExternalAdvertisement>>,
     // each candidate is known to be among the answers
     answered: bool,
+    // what else is known of the answers and of the candidates that are kept
+    matching: Matching,
 }
 
 impl Model for AreaRoutes {
@@ -87,173 +90,8 @@ impl Model for AreaRoutes {
       inner = a.inner;
       externals = a.externals;
       answered = a.answered;
+      matching = a.matching;
     } };
-}
-
-// Whether the event leaves the candidates by this walk unchanged.
-fn leaves_candidates(
-    alloc: Global,
-    area: &Area,
-    walk: &Routes,
-    before: Second,
-    moment: Second,
-) -> Result<bool, AllocError>
-    requires order { before ≤ moment }
-    requires walk { IsWalkOf (contents_at before area.now.committed.database) walk.now }
-    ensures same { IfOk result (λ same. IsTrue same → OfferTheSame
-        (contents_at before area.now.committed.database)
-        (contents_at moment area.now.present.database)
-        walk.now.root) }
-    ensures left { IfOk result (λ same. AreOfferingLsasUnchanged before moment
-        area.now.committed.database area.now.present.database walk.now → IsTrue same) }
-{
-    let db = area.database();
-    let same = offering_lsas_are_unchanged(alloc, db, walk, before, moment)?;
-    Ok(same)
-}
-
-// Whether the LSAs of the types up to this one, or of all types, say what they said before the
-// event.
-fn area_lsas_are_unchanged(
-    alloc: Global,
-    area: &Area,
-    last_type: Option<u32>,
-    before: Second,
-    moment: Second,
-) -> Result<bool, AllocError>
-    requires { before ≤ moment }
-    ensures same { IfOk result (λ same. IsTrue same → HaveSameContents last_type
-        (contents_at before area.now.committed.database)
-        (contents_at moment area.now.present.database)) }
-    ensures left { IfOk result (λ same. IsTrue same ↔ AreLsasUnchanged last_type before moment
-        area.now.committed.database area.now.present.database) }
-{
-    let db = area.database();
-    let same = lsas_are_unchanged(alloc, db, last_type, before, moment)?;
-    Ok(same)
-}
-
-// Whether all AS-external-LSAs say what they said before the event; false if an allocation is
-// refused.
-fn externals_stay(alloc: Global, area: &Area, before: Second, moment: Second) -> bool
-    requires { before ≤ moment }
-    ensures { IsTrue result → ExternalsHaveSameContents
-        (contents_at before area.now.committed.database)
-        (contents_at moment area.now.present.database) }
-{
-    let db = area.database();
-    if let Ok(keys) = changed_keys(alloc, db, before, moment) {
-        return are_of_others(&keys);
-    }
-    false
-}
-
-// Whether none of these keys is that of an AS-external-LSA.
-fn are_of_others(keys: &[Key]) -> bool
-    ensures { IsTrue result ↔ AreOfOthers keys.now }
-{
-    for key in keys {
-        if key.ls_type == 5 {
-            return false;
-        }
-    }
-    true
-}
-
-// What the AS-external-LSAs advertise at the moment.
-fn externals_now(
-    alloc: Global,
-    area: &Area,
-    moment: Second,
-) -> Result<Vec<ExternalAdvertisement>, AllocError>
-    ensures { IfOk result (λ advertised. AreExternals
-        (contents_at moment area.now.present.database) advertised.items) }
-{
-    let db = area.database();
-    let advertised = externals_at(alloc, db, moment)?;
-    Ok(advertised)
-}
-
-// The candidates by this walk, given what AS-external-LSAs advertise.
-fn calculate_by(
-    alloc: Global,
-    area: &Area,
-    walk: &Routes,
-    moment: Second,
-    externals: &[ExternalAdvertisement],
-) -> Result<Calculated, AllocError>
-    requires walk { IsWalkOf (contents_at moment area.now.present.database) walk.now }
-    requires externals { AreExternals (contents_at moment area.now.present.database) externals.now }
-    ensures routes { IfOk result (λ made. AreCandidates
-        (contents_at moment area.now.present.database)
-        walk.now.root made.routes.items) }
-    ensures inner { IfOk result (λ made. AreInnerBy (contents_at moment area.now.present.database)
-        walk.now.root walk.now made.inner) }
-{
-    let db = area.database();
-    let made = walk.calculate(alloc, db, moment, externals)?;
-    Ok(made)
-}
-
-// Candidates, with what AS-external-LSAs advertise unless that was kept.
-#[derive(Drop)]
-struct Made {
-    calculated: Calculated,
-    advertised: Option<Vec<ExternalAdvertisement>>,
-}
-
-// The candidates by this walk. `kept` is what AS-external-LSAs advertise, if that is known.
-fn calculated(
-    alloc: Global,
-    area: &Area,
-    walk: &Routes,
-    moment: Second,
-    kept: &Option<Vec<ExternalAdvertisement>>,
-) -> Result<Made, AllocError>
-    requires walk { IsWalkOf (contents_at moment area.now.present.database) walk.now }
-    requires externals { IfSome kept.now (λ advertised. AreExternals
-        (contents_at moment area.now.present.database) advertised.items) }
-    ensures routes { IfOk result (λ made. AreCandidates
-        (contents_at moment area.now.present.database)
-        walk.now.root made.calculated.routes.items) }
-    ensures inner { IfOk result (λ made. AreInnerBy (contents_at moment area.now.present.database)
-        walk.now.root walk.now made.calculated.inner) }
-    ensures externals { IfOk result (λ made. IfSome made.advertised (λ advertised. AreExternals
-        (contents_at moment area.now.present.database) advertised.items)) }
-{
-    match kept {
-        Some(advertised) => {
-            let calculated = calculate_by(alloc, area, walk, moment, advertised)?;
-            Ok(Made {
-                calculated,
-                advertised: None,
-            })
-        }
-        None => {
-            let advertised = externals_now(alloc, area, moment)?;
-            let calculated = calculate_by(alloc, area, walk, moment, &advertised)?;
-            Ok(Made {
-                calculated,
-                advertised: Some(advertised),
-            })
-        }
-    }
-}
-
-// What AS-external-LSAs advertise: the list that was kept, or else the one that was made now.
-fn kept_or(
-    kept: Option<Vec<ExternalAdvertisement>>,
-    made: Option<Vec<ExternalAdvertisement>>,
-) -> Option<Vec<ExternalAdvertisement>>
-    ensures { (contents : Contents) → IfSome kept
-        (λ advertised. AreExternals contents advertised.items)
-        → IfSome made (λ advertised. AreExternals contents advertised.items)
-        → IfSome result (λ advertised. AreExternals contents advertised.items) }
-{
-    match kept {
-        Some(advertised) => Some(advertised),
-        None => made,
-    }
 }
 
 impl AreaRoutes {
@@ -277,6 +115,7 @@ impl AreaRoutes {
         ensures inner { IfOk result (λ made. made.inner ≡ None) }
         ensures externals { IfOk result (λ made. made.externals ≡ None) }
         ensures answered { IfOk result (λ made. made.answered ≡ false) }
+        ensures matching { IfOk result (λ made. made.matching ≡ Unknown) }
     {
         let root = root_of(alloc, router, area)?;
         let db = area.database();
@@ -289,6 +128,7 @@ impl AreaRoutes {
             inner: None,
             externals: None,
             answered: false,
+            matching: Matching::Unknown,
         })
     }
 
@@ -332,6 +172,10 @@ impl AreaRoutes {
         // answers is unchanged: they needn't be searched when AS-external-LSAs are removed.
         ensures none_new { OnOk result (BringsNoneNew self.old self.new
             → self.new.answered ≡ self.old.answered) }
+        // If one of them is new, and each answered route was a candidate, it is known that some
+        // candidate has no answer: none is searched when an AS-external-LSA brings a route.
+        ensures lacking { OnOk result (BringsAnother self.old self.new
+            → self.old.matching ≡ Exact → self.new.matching ≡ Lacking) }
         ensures err { OnErr result (self.new ≡ self.old) }
     {
         let stay = self.externals_stay(alloc, area, before, moment);
@@ -411,6 +255,11 @@ impl AreaRoutes {
             → self.new ≡ self.old) }
         ensures none_new { OnOk result (BringsNoneNew self.old self.new
             → self.new.answered ≡ self.old.answered) }
+        ensures matching { OnOk result ((answers : Answers)
+            → KnowsMatching answers self.old.candidates self.old.matching
+            → KnowsMatching answers self.new.candidates self.new.matching) }
+        ensures lacking { OnOk result (BringsAnother self.old self.new
+            → self.old.matching ≡ Exact → self.new.matching ≡ Lacking) }
         ensures graph { self.new.graph ≡ self.old.graph }
         ensures externals { self.new.externals ≡ self.old.externals }
         ensures err { OnErr result (self.new ≡ self.old) }
@@ -423,6 +272,7 @@ impl AreaRoutes {
             self.candidates = None;
             self.inner = None;
             self.answered = false;
+            self.matching = Matching::Unknown;
             return Ok(());
         }
         if is_root_of(self.walk.root(), router, area) {
@@ -438,6 +288,7 @@ impl AreaRoutes {
         self.candidates = None;
         self.inner = None;
         self.answered = false;
+        self.matching = Matching::Unknown;
         Ok(())
     }
 
@@ -469,6 +320,11 @@ impl AreaRoutes {
             self.new }
         ensures none_new { BringsNoneNew self.old self.new
             → self.new.answered ≡ self.old.answered }
+        ensures matching { (answers : Answers)
+            → KnowsMatching answers self.old.candidates self.old.matching
+            → KnowsMatching answers self.new.candidates self.new.matching }
+        ensures lacking { BringsAnother self.old self.new
+            → self.old.matching ≡ Exact → self.new.matching ≡ Lacking }
     {
         // For the prover alone, by what the call ensures.
         inner_routes_are_kept();
@@ -481,6 +337,7 @@ impl AreaRoutes {
         self.candidates = None;
         self.inner = None;
         self.answered = false;
+        self.matching = Matching::Unknown;
     }
 
     // Updates the candidates if only AS-external-LSAs change: follows them, or forgets the
@@ -511,14 +368,21 @@ impl AreaRoutes {
             self.new }
         ensures none_new { BringsNoneNew self.old self.new
             → self.new.answered ≡ self.old.answered }
+        ensures matching { (answers : Answers)
+            → KnowsMatching answers self.old.candidates self.old.matching
+            → KnowsMatching answers self.new.candidates self.new.matching }
+        ensures lacking { BringsAnother self.old self.new
+            → self.old.matching ≡ Exact → self.new.matching ≡ Lacking }
     {
         let kept = self.candidates.take();
         let next = followed(alloc, area, &self.walk, before, moment, &self.inner, kept);
         let Some(next) = next else {
             self.answered = false;
+            self.matching = Matching::Unknown;
             return;
         };
         self.answered &= next.none_new;
+        self.matching = matching_after(self.matching, next.none_new);
         self.candidates = Some(next.candidates);
     }
 
@@ -603,6 +467,7 @@ impl AreaRoutes {
         ensures candidates { self.new.candidates ≡ self.old.candidates }
         ensures externals { self.new.externals ≡ self.old.externals }
         ensures answered { self.new.answered ≡ self.old.answered }
+        ensures matching { self.new.matching ≡ self.old.matching }
         ensures err { OnErr result (self.new ≡ record self.old { graph = self.new.graph }) }
     {
         if self.behind {
@@ -629,6 +494,7 @@ impl AreaRoutes {
         ensures behind { self.new.behind ≡ self.old.behind }
         ensures kept { AreKept router area.now.present moment answers.now self.new }
     {
+        self.matching = Matching::Unknown;
         if self.behind {
             self.answered = false;
             return;
@@ -726,7 +592,7 @@ impl AreaRoutes {
     }
 
     // Whether some candidate isn't among the answers, by searching for each. The candidates are
-    // kept.
+    // kept, and what that tells of them and of the answers.
     fn lacks_answers(
         &mut self,
         alloc: Global,
@@ -749,15 +615,19 @@ impl AreaRoutes {
         ensures externals { KnowsExternals (contents_at moment area.now.present.database) self.new }
         ensures kept { OnOk result (IsSome self.new.candidates) }
         ensures answered { self.new.answered ≡ self.old.answered }
+        ensures matching { OnOk result (KnowsMatching answers.now self.new.candidates
+            self.new.matching) }
+        ensures lacking { IfOk result (λ lacks. IsTrue lacks → self.new.matching ≡ Lacking) }
         ensures err { OnErr result (self.new ≡ self.old) }
     {
         if let Some(candidates) = &self.candidates {
-            let lacks = lacks_answers(candidates, answers)?;
-            return Ok(lacks);
+            let found = lacks_answers(candidates, answers)?;
+            self.matching = matching_by(found);
+            return Ok(found.lacks);
         }
         let made = calculated(alloc, area, &self.walk, moment, &self.externals)?;
         let pages = Pages::from_slice(alloc, &made.calculated.routes)?;
-        let lacks = lacks_answers(&pages, answers)?;
+        let found = lacks_answers(&pages, answers)?;
         let Made {
             calculated,
             advertised,
@@ -767,13 +637,14 @@ impl AreaRoutes {
         self.externals = kept_or(kept, advertised);
         self.inner = Some(inner);
         self.candidates = Some(pages);
-        Ok(lacks)
+        self.matching = matching_by(found);
+        Ok(found.lacks)
     }
 
     /// Whether some candidate isn't among the answers, so that they are to be requested again. If
-    /// it is known that each is, no candidate is looked at. That each is, and the candidates that
-    /// were calculated, are remembered until an LSA changes. If there is no valid walk, one is
-    /// made. There are at most 63 links and 16,384 LSAs.
+    /// it is known that each is, or that one isn't, no candidate is looked at. What was found, and
+    /// the candidates that were calculated, are remembered until an LSA changes. If there is no
+    /// valid walk, one is made. There are at most 63 links and 16,384 LSAs.
     ///
     /// # Errors
     /// `AllocError` if an allocation is refused; what is known of candidates and answers is then
@@ -795,7 +666,13 @@ impl AreaRoutes {
         ensures walk { self.old.behind ≡ false → self.new.walk ≡ self.old.walk }
         ensures noted { IfOk result (λ stale. stale ≡ false → self.new.answered ≡ true) }
         ensures looked { OnOk result (self.old.answered ≡ false → IsSome self.new.candidates) }
+        ensures found { IfOk result (λ stale. IsTrue stale → self.new.matching ≡ Lacking) }
+        ensures lacking { self.old.matching ≡ Lacking
+            → (result ≡ Ok true) × (self.new ≡ self.old) }
     {
+        if let Matching::Lacking = self.matching {
+            return Ok(true);
+        }
         if self.answered {
             return Ok(false);
         }

@@ -4,6 +4,7 @@
 //! only the links of these and of their neighbors are recalculated (section 16.1).
 #![tactic(auto)]
 
+mod calculating;
 mod following;
 mod graph_changes;
 mod graph_links;
@@ -11,8 +12,10 @@ mod graph_updates;
 mod graphs;
 mod kept;
 mod lookups;
+mod matching;
 mod root;
 mod surroundings;
+mod unchanged;
 
 pub use graph_updates::update_graph;
 pub use kept::{AreaRoutes, Offered};

@@ -2,7 +2,8 @@
 use Rattle.std.proofs.Common.{◌≡◌, ℕ, false, Option, None, Some, refl, subst, ◌∙◌}
 use Rattle.area_routes.specs.Kept.{AreKept, AreRoutesOf, KeptRoutes, KeepsWalkUnlessChanged}
 use Rattle.area_routes.specs.Offers.{root_by}
-use Rattle.area_routes.proofs.AfterExternals.{unanswered}
+use Rattle.area_routes.specs.declared.matching.Matching.TheVariants.{Unknown}
+use Rattle.area_routes.proofs.AfterExternals.{unanswered, unmatched}
 use Rattle.event_rules.specs.declared.model.CoreError.{CoreError}
 use Rattle.event_rules.specs.Refusals.{MayLackMemory}
 use Rattle.event_rules.specs.Routers.{Router}
@@ -42,13 +43,14 @@ walks_then before r committed id moment old new kept next last a b c d e f is =
 -- the first walk is kept
 pub begun : (r : Router) (id : ℕ) (area : Area) (moment : ℕ) (kept : KeptRoutes) → id ≡ r.id
     → area ≡ r.area → moment ≡ r.moment → AreRoutesOf id area moment kept → kept.answered ≡ false
-    → AreKeptNow r kept
-begun r id area moment kept a b c routes is =
+    → kept.matching ≡ Unknown → AreKeptNow r kept
+begun r id area moment kept a b c routes is unknown =
     are_kept r id area moment r.answers kept a b c refl (record {
       routes = routes;
       answered = unanswered (contents_at moment area.database) (root_by id area.links)
           r.answers kept
           is;
+      matching = unmatched r.answers kept unknown;
     })
 
 -- if no reason of refusal applies, an allocation may be refused

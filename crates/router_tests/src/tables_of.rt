@@ -1,8 +1,9 @@
 //! Tables of candidates and answers.
+use pages::{Pages, RouteAnswers};
 use std::alloc::{AllocError, Global};
 use std::process::Abort;
 use std::test::Fail;
-use tables::{is_stale, table};
+use tables::{is_stale, lacks_answers, table};
 use words::{Address, Hops, Prefix, Route, RouteKind};
 
 // An answer: the index of the candidate that it is for, the answer, and by how much the cost
@@ -115,6 +116,50 @@ fn answers_let_candidates_in(rt: HostRuntime) -> Result<(), Fail> {
     for case in CASES {
         let of_case = routes.get(..case.1).ok_or("at most three")?;
         assert!(rt; comes_out(rt.alloc(), of_case, case)?, "{}", case.0);
+    }
+    Ok(())
+}
+
+// A name; which of the offered routes are candidates; which were answered with 0; whether some
+// candidate lacks an answer; whether each answered route is known to be a candidate.
+type PagedCase = (&'static str, &'static [usize], &'static [usize], bool, bool);
+
+const PAGED_CASES: &[PagedCase] = &[
+    ("nothing", &[], &[], false, true),
+    ("the same", &[0, 1, 2], &[0, 1, 2], false, true),
+    ("a candidate that came", &[0, 1, 2], &[0, 2], true, false),
+    ("one that came last", &[0, 1, 2], &[0, 1], true, false),
+    ("one that left", &[0, 2], &[0, 1, 2], false, false),
+    ("the last one left", &[0, 1], &[0, 1, 2], false, false),
+    (
+        "one that left, and one that came",
+        &[0, 2],
+        &[0, 1],
+        true,
+        false,
+    ),
+];
+
+fn chosen(alloc: Global, routes: &[Route], places: &[usize]) -> Result<Pages<Route>, AllocError> {
+    let mut made = Vec::new(alloc);
+    for place in places {
+        if let Some(route) = routes.get(*place) {
+            made.push(*route)?;
+        }
+    }
+    Pages::from_slice(alloc, &made)
+}
+
+#[test]
+fn candidates_are_compared_with_answers(rt: HostRuntime) -> Result<(), Fail> {
+    let alloc = rt.alloc();
+    let offered = offered().ok_or("lengths of 24")?;
+    for case in PAGED_CASES {
+        let (name, candidates, answered, lacks, exact) = *case;
+        let candidates = chosen(alloc, &offered, candidates)?;
+        let answers = RouteAnswers::all_in(chosen(alloc, &offered, answered)?);
+        let found = lacks_answers(&candidates, &answers)?;
+        assert!(rt; found.lacks == lacks && found.exact == exact, "{name}");
     }
     Ok(())
 }

@@ -17,6 +17,10 @@ pub record AreLetIn (answers : Answers) (routes part : List Route) : Type 0 wher
 abbrev pub LacksAnswers : Answers → List Route → Type 0
 LacksAnswers answers routes = (r : Route) × Contains routes r × (HasAnswer answers r → ⊥)
 
+-- each answered route is one of these
+abbrev pub AreAnswersAmong : Answers → List Route → Type 0
+AreAnswersAmong answers routes = (r : Route) → HasAnswer answers r → Contains routes r
+
 -- the answer to this route is at this index
 abbrev pub StandsAt : Answers → ℕ → Route → Type 0
 StandsAt answers at route = (word : ℕ) × (slice_get answers at ≡ Some (route, word))

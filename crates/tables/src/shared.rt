@@ -4,8 +4,9 @@ ghost use Rattle.std.specs.Prelude.{length, slice_get};
 ghost use Rattle.pages.specs.Answers.{all_in};
 ghost use Rattle.routes.specs.Candidates.{AreCandidates};
 ghost use Rattle.routes.specs.Contents.{Contents};
-ghost use Rattle.routes.specs.Tables.{IsStale, IsTable};
+ghost use Rattle.routes.specs.Tables.{IsTable};
 ghost use Rattle.routes.specs.declared.root.Root.{Root};
+ghost use Rattle.tables.specs.Comparisons.{IsComparison};
 ghost use Rattle.words.specs.declared.route.Route.{Route as RouteValue};
 
 use crate::answered::{is_stale, table};
@@ -48,21 +49,32 @@ pub fn table_among(
     }
 }
 
-/// Whether some candidate's equal route has no answer, as [`is_stale`] tells. Where each candidate
-/// was answered with 0, in turn, each is visited once, and nothing is allocated.
+/// What a comparison of candidates with answers tells.
+#[derive(Clone, Copy)]
+pub struct Comparison {
+    /// Some candidate's equal route has no answer.
+    pub lacks: bool,
+    /// Each answered route is known to be a candidate.
+    pub exact: bool,
+}
+
+/// Whether some candidate's equal route has no answer, as [`is_stale`] tells, and whether each
+/// answered route is known to be a candidate. It is known where just the candidates were answered
+/// with 0, in turn: then each is visited once, and nothing is allocated.
 ///
 /// # Errors
 /// `AllocError` if an allocation is refused.
-pub fn lacks_answers(candidates: &Pages<Route>, answers: &RouteAnswers) -> Result<bool, AllocError>
-    ensures { IfOk result (λ stale. (contents : Contents) (root : Root)
-        → AreCandidates contents root candidates.now
-        → (IsTrue stale ↔ IsStale contents root answers.now)) }
+pub fn lacks_answers(
+    candidates: &Pages<Route>,
+    answers: &RouteAnswers,
+) -> Result<Comparison, AllocError>
+    ensures { IfOk result (IsComparison answers.now candidates.now) }
 {
     match answers.kept() {
         Ok(each) => lacks_each(candidates, each),
         Err(routes) => {
-            if let Some(lacks) = compared(candidates, routes) {
-                return Ok(lacks);
+            if let Some(found) = compared(candidates, routes) {
+                return Ok(found);
             }
             let each = answers.to_vec(candidates.allocator())?;
             lacks_each(candidates, &each)
@@ -71,32 +83,38 @@ pub fn lacks_answers(candidates: &Pages<Route>, answers: &RouteAnswers) -> Resul
 }
 
 // The same, where the answers are kept one by one.
-fn lacks_each(candidates: &Pages<Route>, answers: &[(Route, u64)]) -> Result<bool, AllocError>
-    ensures { IfOk result (λ stale. (contents : Contents) (root : Root)
-        → AreCandidates contents root candidates.now
-        → (IsTrue stale ↔ IsStale contents root answers.now)) }
+fn lacks_each(candidates: &Pages<Route>, answers: &[(Route, u64)]) -> Result<Comparison, AllocError>
+    ensures { IfOk result (IsComparison answers.now candidates.now) }
 {
     let alloc = candidates.allocator();
     let routes = candidates.to_vec()?;
-    let stale = is_stale(alloc, &routes, answers)?;
-    Ok(stale)
+    let lacks = is_stale(alloc, &routes, answers)?;
+    Ok(Comparison {
+        lacks,
+        exact: false,
+    })
 }
 
 // The same, where each of these routes was answered with 0. `None` if that takes a search.
-fn compared(candidates: &Pages<Route>, answered: &Pages<Route>) -> Option<bool>
-    ensures { IfSome result (λ stale. (contents : Contents) (root : Root)
-        → AreCandidates contents root candidates.now
-        → (IsTrue stale ↔ IsStale contents root (all_in answered.now))) }
+fn compared(candidates: &Pages<Route>, answered: &Pages<Route>) -> Option<Comparison>
+    ensures { IfSome result (IsComparison (all_in answered.now) candidates.now) }
 {
     let met = met_in_turn(candidates, answered);
     if met >= candidates.len() {
-        return Some(false);
+        let exact = answered.len() == candidates.len();
+        return Some(Comparison {
+            lacks: false,
+            exact,
+        });
     }
     let behind = candidates.part_from(met);
     if is_among_from(answered, met, &behind[0]) {
         return None;
     }
-    Some(true)
+    Some(Comparison {
+        lacks: true,
+        exact: false,
+    })
 }
 
 // Whether both are the same route.

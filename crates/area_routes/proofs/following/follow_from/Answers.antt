@@ -86,3 +86,14 @@ returns-in-SomeNew-clause-another c off =
 
 pub returns-in-NoneNew-clause-another : goal.returns-in-NoneNew-clause-another
 returns-in-NoneNew-clause-another c off = absurd (false≢true (sym off))
+
+pub returns-in-NoneNew-clause-among : goal.returns-in-NoneNew-clause-among
+returns-in-NoneNew-clause-among c on =
+    let items = c.update_externals.new.routes in
+    let here = c.database-db.result.now in
+    let done = subst (λ (f : Followed). HaveFollowed (contents_at c.args.moment here.present)
+    c.root-root.result.now c.args.routes items f) c.in-NoneNew.is c.in-Ok.ensures in
+    done.1
+
+pub returns-in-SomeNew-clause-among : goal.returns-in-SomeNew-clause-among
+returns-in-SomeNew-clause-among c on = absurd (false≢true on)

@@ -1,7 +1,7 @@
-use Rattle.std.proofs.Common.{◌≡◌, false, List, Option, subst, sym}
+use Rattle.std.proofs.Common.{◌≡◌, false, true, List, Option, subst, sym}
 use Rattle.std.specs.Prelude.{IfSome}
 use Rattle.words.specs.declared.route.Route.{Route}
-use Rattle.area_routes.specs.Kept.{HaveAnother}
+use Rattle.area_routes.specs.Kept.{AreAmongKept, HaveAnother}
 use Rattle.routes.specs.Candidates.{AreCandidates}
 use Rattle.routes.specs.Contents.{contents_at}
 use Rattle.area_routes.proofs.following.follow_some.Goals as goal
@@ -18,3 +18,9 @@ returns-in-Some-clause-another c =
     subst (λ (o : Option (List Route)). IfSome c.follow_from.result
     (λ next. next.none_new ≡ false → HaveAnother o next.candidates))
     (sym c.in-Some.is) c.follow_from.ensures.another
+
+pub returns-in-Some-clause-among : goal.returns-in-Some-clause-among
+returns-in-Some-clause-among c =
+    subst (λ (o : Option (List Route)). IfSome c.follow_from.result
+    (λ next. next.none_new ≡ true → AreAmongKept o next.candidates))
+    (sym c.in-Some.is) c.follow_from.ensures.among

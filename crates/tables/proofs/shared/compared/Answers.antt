@@ -1,8 +1,10 @@
-use Rattle.std.proofs.Common.{◌≡◌, ◌<◌, true, false, length, refl, arith}
+use Rattle.std.proofs.Common.{◌<◌, ◌≤◌, true, false, length, refl, arith}
+use mathlib.Core.Bool.{false≢true}
+use Rattle.std.proofs.lemmas.Bool.{eqb-true}
 use Rattle.pages.specs.Answers.{all_in}
 use Rattle.tables.proofs.InTurn.{none_lacks, one_lacks}
 use Rattle.tables.proofs.LetIn.{tells_stale}
-use Rattle.tables.proofs.InPages.{are_met, first_of_part, none_behind}
+use Rattle.tables.proofs.InPages.{all_among, are_met, first_of_part, none_behind}
 use Rattle.tables.proofs.shared.compared.Goals as goal
 
 pub bounds-behind-0 : goal.bounds-behind-0
@@ -15,15 +17,24 @@ returns-then-met-len c =
     let answered = c.args.answered.now in
     let candidates = c.args.candidates.now in
     let met = c.met_in_turn-met.result in
-    tells_stale (all_in answered) candidates false (
-      (λ t. absurd (let no : false ≡ true = t in cc)),
-      (λ lacks. absurd (none_lacks (all_in answered) candidates met
-          (let size = c.len.ensures in omega (arith, c.if-met-len.true, size))
-          (are_met answered candidates met c.met_in_turn-met.ensures.each) lacks)),
-    )
+    let size = c.len.ensures in
+    let whole : length candidates ≤ met = omega (arith, c.if-met-len.true, size) in
+    let each = c.met_in_turn-met.ensures.each in
+    record {
+      lacks = tells_stale (all_in answered) candidates false (
+        (λ t. absurd (false≢true t)),
+        (λ lacks. absurd (none_lacks (all_in answered) candidates met whole
+            (are_met answered candidates met each) lacks)),
+      );
+      exact = λ on.
+          let as_long = eqb-true c.len-then-met-len.result c.len-then-met-len-2.result on in
+          let few : length answered ≤ length candidates =
+          omega (arith, as_long, c.len-then-met-len.ensures, c.len-then-met-len-2.ensures) in
+          all_among answered candidates met few whole each;
+    }
 
 pub returns : goal.returns
-returns c contents root are =
+returns c =
     let answered = c.args.answered.now in
     let candidates = c.args.candidates.now in
     let met = c.met_in_turn-met.result in
@@ -34,6 +45,11 @@ returns c contents root are =
     c.part_from-behind.ensures inside c.index-behind-0.is in
     let behind = none_behind answered met route (c.is_among_from.ensures c.if-is_among_from.false)
     in
-    let lacks = one_lacks (all_in answered) candidates met route inside here are.ascending
-    (are_met answered candidates met c.met_in_turn-met.ensures.each) behind in
-    tells_stale (all_in answered) candidates true ((λ t. lacks), (λ any. refl)) contents root are
+    record {
+      lacks = λ contents root are.
+          let lacks = one_lacks (all_in answered) candidates met route inside here are.ascending
+          (are_met answered candidates met c.met_in_turn-met.ensures.each) behind in
+          tells_stale (all_in answered) candidates true ((λ t. lacks), (λ any. refl)) contents root
+          are;
+      exact = λ on. absurd (false≢true on);
+    }

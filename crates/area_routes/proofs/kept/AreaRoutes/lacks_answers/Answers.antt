@@ -2,7 +2,7 @@ use Rattle.std.proofs.Common.{◌≡◌, ◌∙◌, Option, Some, ap, subst, sym
 use Rattle.std.specs.Prelude.{IfSome, List}
 use Rattle.std.specs.Global.{Vec}
 use Rattle.words.specs.declared.route.Route.{Route}
-use Rattle.area_routes.specs.Kept.{AreInnerBy, KeptRoutes, KnowsExternals}
+use Rattle.area_routes.specs.Kept.{AreInnerBy, KeptRoutes, KnowsExternals, KnowsMatching}
 use Rattle.area_routes.specs.Offers.{root_by}
 use Rattle.kept_routes.specs.Kept.{IsWalkOf}
 use Rattle.candidates.specs.Externals.{AreExternals}
@@ -10,6 +10,7 @@ use Rattle.candidates.specs.declared.externals.ExternalAdvertisement.{ExternalAd
 use Rattle.routes.specs.Candidates.{AreCandidates}
 use Rattle.routes.specs.Contents.{contents_at}
 use Rattle.routes.specs.declared.root.Root.{Root}
+use Rattle.area_routes.proofs.Matches.{found_lacking}
 use Rattle.area_routes.proofs.kept.AreaRoutes.lacks_answers.Goals as goal
 
 pub returns-in-Some-clause-lacks : goal.returns-in-Some-clause-lacks
@@ -20,7 +21,23 @@ returns-in-Some-clause-lacks c =
     ap (λ (k : KeptRoutes). k.candidates) (sym c.self.view_is) ∙ c.in-Some.is in
     let kept = subst (λ (o : Option (List Route)). IfSome o (AreCandidates contents root)) is
     c.requires.routes.candidates in
-    c.in_ok-lacks.ensures contents root kept
+    c.in_ok-found.ensures.lacks contents root kept
+
+pub returns-in-Some-clause-matching : goal.returns-in-Some-clause-matching
+returns-in-Some-clause-matching c =
+    let contents = contents_at c.args.moment c.args.area.now.present.database in
+    let root = root_by c.args.router c.args.area.now.present.links in
+    let answers = c.args.answers.now in
+    let candidates = c.in-Some.candidates in
+    let is : c.args.self.now.candidates ≡ Some candidates =
+    ap (λ (k : KeptRoutes). k.candidates) (sym c.self.view_is) ∙ c.in-Some.is in
+    let kept = subst (λ (o : Option (List Route)). IfSome o (AreCandidates contents root)) is
+    c.requires.routes.candidates in
+    let found = c.in_ok-found.ensures in
+    subst (λ (o : Option (List Route)). KnowsMatching answers o c.matching_by-self-inside.result)
+    (sym c.in-Some.is)
+    (c.matching_by-self-inside.ensures.matches answers candidates
+    (found_lacking contents root answers candidates c.in_ok-found.found kept found) found.exact)
 
 pub calculated-requires-clause-walk : goal.calculated-requires-clause-walk
 calculated-requires-clause-walk c =
@@ -46,7 +63,26 @@ returns-clause-lacks c =
     subst (λ (xs : List Route). AreCandidates contents root xs)
     (sym (c.in_ok-pages.ensures ∙ c.deref.ensures.value))
     (subst (λ (r : Root). AreCandidates contents r items) begins c.in_ok-made.ensures.routes) in
-    c.in_ok-lacks-2.ensures contents root are
+    c.in_ok-found-2.ensures.lacks contents root are
+
+pub returns-clause-matching : goal.returns-clause-matching
+returns-clause-matching c =
+    let contents = contents_at c.args.moment c.args.area.now.present.database in
+    let root = root_by c.args.router c.args.area.now.present.links in
+    let answers = c.args.answers.now in
+    let candidates = c.in_ok-pages.pages in
+    let items = c.in_ok-made.made.calculated.routes.items in
+    let begins : c.self.inside.walk.root ≡ root =
+    ap (λ (k : KeptRoutes). k.walk.root) c.self.view_is
+    ∙ c.requires.routes.walk.root c.requires.behind in
+    let are =
+    subst (λ (xs : List Route). AreCandidates contents root xs)
+    (sym (c.in_ok-pages.ensures ∙ c.deref.ensures.value))
+    (subst (λ (r : Root). AreCandidates contents r items) begins c.in_ok-made.ensures.routes) in
+    let found = c.in_ok-found-2.ensures in
+    c.matching_by-self-inside-2.ensures.matches answers candidates
+    (found_lacking contents root answers candidates c.in_ok-found-2.found are found)
+    found.exact
 
 pub returns-clause-inner : goal.returns-clause-inner
 returns-clause-inner c =

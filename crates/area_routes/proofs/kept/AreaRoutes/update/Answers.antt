@@ -3,7 +3,8 @@ use Rattle.std.specs.Prelude.{IfSome}
 use Rattle.std.specs.Global.{Vec}
 use Rattle.candidates.specs.Externals.{AreExternals}
 use Rattle.candidates.specs.declared.externals.ExternalAdvertisement.{ExternalAdvertisement}
-use Rattle.area_routes.specs.Kept.{AreOffersOf, KeptRoutes, KnowsAnswered, KeepsWalkUnlessChanged}
+use Rattle.area_routes.specs.Kept.{AreOffersOf, KeptRoutes, KeepsWalkUnlessChanged, KnowsAnswered}
+use Rattle.area_routes.specs.Kept.{KnowsMatching}
 use Rattle.area_routes.specs.Offers.{root_by}
 use Rattle.area_routes.proofs.Externals.{both_else, externals_after, same_but}
 use Rattle.routes.specs.Contents.{contents_at}
@@ -56,6 +57,8 @@ returns-clause-answered c answers knows =
       routes = returns-clause-routes c;
       answered = subst (λ (k : KeptRoutes). KnowsAnswered new root answers k) (sym same)
           (c.in_ok-update_routes.ensures.answered answers knows.answered);
+      matching = subst (λ (k : KeptRoutes). KnowsMatching answers k.candidates k.matching)
+          (sym same) (c.in_ok-update_routes.ensures.matching answers knows.matching);
     }
 
 pub returns-clause-walks : goal.returns-clause-walks
@@ -94,3 +97,16 @@ returns-clause-none_new c brings =
       are = ap (λ (k : KeptRoutes). k.candidates) (sym same) ∙ brings.are;
       among = brings.among;
     })
+
+pub returns-clause-lacking : goal.returns-clause-lacking
+returns-clause-lacking c brings exact =
+    let same = both_else c.update_routes.new.self c.keep_externals.new.self c.update_graph.new.self
+    c.keep_externals.ensures.others c.update_graph.ensures.others in
+    ap (λ (k : KeptRoutes). k.matching) same
+    ∙ c.in_ok-update_routes.ensures.lacking (record {
+      before = brings.before;
+      now = brings.now;
+      were = brings.were;
+      are = ap (λ (k : KeptRoutes). k.candidates) (sym same) ∙ brings.are;
+      another = brings.another;
+    }) exact

@@ -4,11 +4,13 @@ use Rattle.std.specs.Prelude.{IfSome}
 use Rattle.std.proofs.lemmas.Bool.{and_parts}
 use Rattle.std.proofs.lemmas.Option.{same_Some}
 use Rattle.words.specs.declared.route.Route.{Route}
-use Rattle.area_routes.specs.Kept.{AreInnerBy, HaveAnother, KeptRoutes, KnowsCandidates, KnowsInner}
-use Rattle.area_routes.specs.Kept.{StayAnswered}
+use Rattle.area_routes.specs.Kept.{AreAmongKept, AreInnerBy, HaveAnother, KeptRoutes}
+use Rattle.area_routes.specs.Kept.{KnowsCandidates, KnowsInner, KnowsMatching, StayAnswered}
+use Rattle.area_routes.specs.declared.matching.Matching.{Matching}
 use Rattle.area_routes.specs.declared.following.Next.{Next}
 use Rattle.area_routes.proofs.Candidates.{and_true, none_another}
-use Rattle.external_updates.specs.Placing.{HasAnother}
+use Rattle.area_routes.proofs.Matches.{another_is_new}
+use Rattle.external_updates.specs.Placing.{AreAllAmong, HasAnother}
 use Rattle.kept_routes.specs.Kept.{IsWalkOf}
 use Rattle.routes.specs.Candidates.{AreCandidates}
 use Rattle.routes.specs.Contents.{contents_at}
@@ -82,6 +84,39 @@ returns-clause-none_new c brings =
     (none_another next.none_new brings.before brings.now another brings.among)
     ∙ ap (λ (k : KeptRoutes). k.answered) c.self.view_is
 
+pub returns-clause-matching : goal.returns-clause-matching
+returns-clause-matching c answers knew =
+    let next = c.in-Some.next in
+    let kept : Option (List Route) = c.take-kept.result in
+    let was : kept ≡ c.args.self.now.candidates =
+    c.take-kept.ensures.value ∙ ap (λ (k : KeptRoutes). k.candidates) c.self.view_is in
+    let told = subst (λ (o : Option Next). IfSome o
+    (λ n. n.none_new ≡ false → HaveAnother kept n.candidates)) c.in-Some.is
+    c.followed-next.ensures.another in
+    let still = subst (λ (m : Matching). KnowsMatching answers c.args.self.now.candidates m)
+    (sym (ap (λ (k : KeptRoutes). k.matching) c.self.view_is)) knew in
+    c.matching_after-self-inside.ensures.matches answers kept next.candidates told
+    (subst (λ (o : Option (List Route)). KnowsMatching answers o c.self.inside.matching) (sym was)
+    still)
+
+pub returns-clause-lacking : goal.returns-clause-lacking
+returns-clause-lacking c brings exact =
+    let next = c.in-Some.next in
+    let kept : Option (List Route) = c.take-kept.result in
+    let were : kept ≡ Some brings.before =
+    c.take-kept.ensures.value ∙ ap (λ (k : KeptRoutes). k.candidates) c.self.view_is
+    ∙ brings.were in
+    let are : next.candidates ≡ brings.now = same_Some _ _ brings.are in
+    let told = subst (λ (o : Option Next). IfSome o
+    (λ n. n.none_new ≡ true → AreAmongKept kept n.candidates)) c.in-Some.is
+    c.followed-next.ensures.among in
+    let among : next.none_new ≡ true → AreAllAmong brings.before brings.now = λ on.
+    subst (λ (v : List Route). AreAllAmong brings.before v) are
+    (subst (λ (o : Option (List Route)). AreAmongKept o next.candidates) were (told on)) in
+    c.matching_after-self-inside.ensures.lacking
+    (ap (λ (k : KeptRoutes). k.matching) c.self.view_is ∙ exact)
+    (another_is_new next.none_new brings.before brings.now among brings.another)
+
 pub returns-in_default-clause-inner : goal.returns-in_default-clause-inner
 returns-in_default-clause-inner c =
     let new = contents_at c.args.moment c.args.area.now.present.database in
@@ -93,3 +128,9 @@ returns-in_default-clause-answered c answers knew on stale = absurd (false≢tru
 
 pub returns-in_default-clause-none_new : goal.returns-in_default-clause-none_new
 returns-in_default-clause-none_new c brings = absurd (let no = brings.are in cc)
+
+pub returns-in_default-clause-matching : goal.returns-in_default-clause-matching
+returns-in_default-clause-matching c answers knew = tt
+
+pub returns-in_default-clause-lacking : goal.returns-in_default-clause-lacking
+returns-in_default-clause-lacking c brings exact = absurd (let no = brings.are in cc)

@@ -19,3 +19,9 @@ returns-clause-answered c answers knew on stale = absurd (false≢true on)
 
 pub returns-clause-none_new : goal.returns-clause-none_new
 returns-clause-none_new c brings = absurd (let no = brings.are in cc)
+
+pub returns-clause-matching : goal.returns-clause-matching
+returns-clause-matching c answers knew = tt
+
+pub returns-clause-lacking : goal.returns-clause-lacking
+returns-clause-lacking c brings exact = absurd (let no = brings.are in cc)

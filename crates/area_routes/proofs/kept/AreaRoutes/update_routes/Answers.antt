@@ -4,6 +4,7 @@ use Rattle.area_routes.specs.Kept.{KeptRoutes, KnowsAnswered, KnowsCandidates, K
 use Rattle.area_routes.specs.Offers.{root_by}
 use Rattle.area_routes.proofs.AfterExternals.{still_answered, still_inner, still_offers}
 use Rattle.area_routes.proofs.AfterExternals.{still_walks}
+use Rattle.area_routes.proofs.Matches.{none_beside}
 use Rattle.kept_routes.specs.Externals.{AreOfferingLsasUnchanged, OfferTheSame}
 use Rattle.kept_routes.specs.Kept.{IsWalkOf, KeptWalk}
 use Rattle.routes.specs.Contents.{contents_at}
@@ -149,6 +150,33 @@ returns-then-self-clause-none_new c brings = absurd (let no = brings.are in cc)
 
 pub returns-clause-none_new : goal.returns-clause-none_new
 returns-clause-none_new c brings = absurd (let no = brings.are in cc)
+
+pub returns-then-branch-clause-matching : goal.returns-then-branch-clause-matching
+returns-then-branch-clause-matching c answers knows =
+    c.update_offers.ensures.matching answers knows
+
+pub returns-then-branch-2-clause-matching : goal.returns-then-branch-2-clause-matching
+returns-then-branch-2-clause-matching c answers knows = knows
+
+pub returns-then-self-clause-matching : goal.returns-then-self-clause-matching
+returns-then-self-clause-matching c answers knows = tt
+
+pub returns-clause-matching : goal.returns-clause-matching
+returns-clause-matching c answers knows = tt
+
+pub returns-then-branch-clause-lacking : goal.returns-then-branch-clause-lacking
+returns-then-branch-clause-lacking c brings exact = c.update_offers.ensures.lacking brings exact
+
+pub returns-then-branch-2-clause-lacking : goal.returns-then-branch-2-clause-lacking
+returns-then-branch-2-clause-lacking c brings exact =
+    absurd (none_beside c.args.self.now.candidates brings.before brings.now brings.were brings.are
+    brings.another)
+
+pub returns-then-self-clause-lacking : goal.returns-then-self-clause-lacking
+returns-then-self-clause-lacking c brings exact = absurd (let no = brings.are in cc)
+
+pub returns-clause-lacking : goal.returns-clause-lacking
+returns-clause-lacking c brings exact = absurd (let no = brings.are in cc)
 
 pub returns-then-branch-clause-walks : goal.returns-then-branch-clause-walks
 returns-then-branch-clause-walks c = record {

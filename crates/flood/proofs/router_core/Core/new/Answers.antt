@@ -31,7 +31,7 @@ invariant_of-result c =
       begun c.commit.new.self.present c.id.result c.area.result.now.present c.moment.result
           c.in-Ok.routes
           c.id.ensures (ap (λ (a : RouterArea). a.present) c.area.ensures.parts) c.moment.ensures
-          c.in-Ok.ensures.routes c.in-Ok.ensures.answered,
+          c.in-Ok.ensures.routes c.in-Ok.ensures.answered c.in-Ok.ensures.matching,
       ap (λ k. k.drafted) c.commit.ensures
           ∙ sym (ap (λ (k : KeptRouter). nothing_at k.present.area.links) c.commit.ensures),
     )

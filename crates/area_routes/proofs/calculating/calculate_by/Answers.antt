@@ -6,7 +6,7 @@ use Rattle.candidates.specs.Externals.{AreExternals}
 use Rattle.routes.specs.Candidates.{AreCandidates}
 use Rattle.routes.specs.Contents.{contents_at}
 use Rattle.candidates.specs.Reached.{way_in}
-use Rattle.area_routes.proofs.kept.calculate_by.Goals as goal
+use Rattle.area_routes.proofs.calculating.calculate_by.Goals as goal
 
 pub calculate-requires-clause-walk : goal.calculate-requires-clause-walk
 calculate-requires-clause-walk c =

@@ -4,7 +4,7 @@ use Rattle.std.specs.Global.{Vec}
 use Rattle.candidates.specs.Externals.{AreExternals}
 use Rattle.candidates.specs.declared.externals.ExternalAdvertisement.{ExternalAdvertisement}
 use Rattle.routes.specs.Contents.{contents_at}
-use Rattle.area_routes.proofs.kept.calculated.Goals as goal
+use Rattle.area_routes.proofs.calculating.calculated.Goals as goal
 
 pub calculate_by-requires-clause-externals : goal.calculate_by-requires-clause-externals
 calculate_by-requires-clause-externals c =

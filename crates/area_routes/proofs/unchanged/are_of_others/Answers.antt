@@ -4,7 +4,7 @@ use Rattle.std.proofs.lemmas.List.{take_all, take_more}
 use Rattle.std.proofs.lemmas.List.Elements.{Contains-push_cases}
 use Rattle.words.specs.declared.key.Key.{Key}
 use Rattle.area_routes.specs.Kept.{AreOfOthers}
-use Rattle.area_routes.proofs.kept.are_of_others.Goals as goal
+use Rattle.area_routes.proofs.unchanged.are_of_others.Goals as goal
 
 pub loop-key-init : goal.loop-key-init
 loop-key-init c key among = absurd (omega (arith, among.1))

@@ -2,7 +2,7 @@ use Rattle.std.proofs.Common.{◌≡◌, subst, sym}
 use Rattle.std.specs.List.{Contains}
 use Rattle.routes.specs.lsdb.Kept.{RouterDatabase}
 use Rattle.routes.specs.Contents.{contents_at}
-use Rattle.area_routes.proofs.kept.externals_stay.Goals as goal
+use Rattle.area_routes.proofs.unchanged.externals_stay.Goals as goal
 
 pub returns-in-Ok : goal.returns-in-Ok
 returns-in-Ok c stay key is =

@@ -1,0 +1,58 @@
+//! How the answers match the candidates that are kept.
+ghost use Rattle.std.specs.Prelude.{◌≡◌, IsTrue, List, Option, Some, false};
+ghost use Rattle.area_routes.specs.Kept.{HaveAnother, KnowsMatching};
+ghost use Rattle.area_routes.specs.declared.matching.Matching.TheVariants.{Exact, Lacking};
+ghost use Rattle.routes.specs.Tables.{Answers};
+ghost use Rattle.tables.specs.Parts.{AreAnswersAmong, LacksAnswers};
+ghost use Rattle.words.specs.declared.route.Route.{Route as RouteValue};
+
+use tables::Comparison;
+
+/// What is known of the answers and of the candidates that are kept.
+#[derive(Clone, Copy)]
+pub enum Matching {
+    /// Nothing.
+    Unknown,
+    /// Each answered route is among the candidates.
+    Exact,
+    /// Some candidate has no answer.
+    Lacking,
+}
+
+/// What is known of candidates and answers that were compared.
+pub fn matching_by(found: Comparison) -> Matching
+    ensures matches { (answers : Answers) (candidates : List RouteValue)
+        → (IsTrue found.lacks → LacksAnswers answers candidates)
+        → (IsTrue found.exact → AreAnswersAmong answers candidates)
+        → KnowsMatching answers (Some candidates) result }
+    ensures lacking { IsTrue found.lacks → result ≡ Lacking }
+    ensures exact { found.lacks ≡ false → IsTrue found.exact → result ≡ Exact }
+{
+    if found.lacks {
+        return Matching::Lacking;
+    }
+    if found.exact {
+        return Matching::Exact;
+    }
+    Matching::Unknown
+}
+
+/// What is known after the candidates followed an event. If each answered route was a candidate, a
+/// candidate that wasn't one before has no answer.
+pub fn matching_after(matching: Matching, none_new: bool) -> Matching
+    ensures matches { (answers : Answers) (kept : Option (List RouteValue))
+        (now : List RouteValue)
+        → (none_new ≡ false → HaveAnother kept now)
+        → KnowsMatching answers kept matching
+        → KnowsMatching answers (Some now) result }
+    ensures lacking { matching ≡ Exact → none_new ≡ false → result ≡ Lacking }
+{
+    if none_new {
+        return Matching::Unknown;
+    }
+    match matching {
+        Matching::Unknown => Matching::Unknown,
+        Matching::Exact => Matching::Lacking,
+        Matching::Lacking => Matching::Unknown,
+    }
+}
