@@ -1,14 +1,11 @@
 -- The links of the router-LSA.
-use Rattle.std.proofs.Common.{◌≡◌, ◌≤◌, ◌<◌, ℕ, ◌+◌, ◌*◌, Bool, true, false, cond, List, [], ◌∷◌}
-use Rattle.std.proofs.Common.{◌++◌, map, length, get_or, take, Option, None, Some, sym, ap, ◌∙◌}
-use Rattle.std.proofs.Common.{arith, length-append, subst}
+use Rattle.std.proofs.Common.{◌≡◌, ◌≤◌, ◌*◌, Bool, true, false, cond, List, [], ◌∷◌, ◌++◌, map}
+use Rattle.std.proofs.Common.{length, Option, None, Some, sym, arith, length-append, subst}
 use Rattle.std.specs.List.{AllByRecursion, flat_map}
-use Rattle.std.proofs.lemmas.List.{flat_map_more, length-map, take_all, take_more}
-use Rattle.std.proofs.lemmas.List.Folds.{flat_map-map}
+use Rattle.std.proofs.lemmas.List.{length-map}
 use Rattle.lsa.specs.Ranges.{BodyFits, LinkFits}
 use Rattle.lsa.specs.Text.{body_text}
 use Rattle.lsa.specs.declared.body.LsaBody.{LsaBody}
-use Rattle.lsa.specs.declared.body.RouterLink.{RouterLink}
 use Rattle.lsa.specs.declared.body.LinkKind.TheVariants.{PointToPoint}
 use Rattle.flooding.specs.Kept.{KeptLink}
 use Rattle.flooding.specs.adjacency.Neighbors.{Neighbor, is_full}
@@ -17,26 +14,6 @@ use Rattle.event_rules.specs.Originations.{links_of, point_to_point, router_body
 use Rattle.event_rules.proofs.Fitting.{router_few}
 use Rattle.event_rules.proofs.Rooms.{both}
 use Rattle.flooding.specs.Links.{present}
-
--- ---- one more interface
-
-pub more_said : (links : List KeptLink) (i : ℕ) (link : KeptLink)
-    (said longer : List RouterLink) → i < length links → link ≡ get_or links i link
-    → said ≡ flat_map (λ (l : KeptLink). links_of l.present) (take i links)
-    → longer ≡ said ++ links_of link.present
-    → longer ≡ flat_map (λ (l : KeptLink). links_of l.present) (take (i + 1) links)
-more_said links i link said longer lt is before now =
-    now ∙ ap (λ ls. ls ++ links_of link.present) before
-    ∙ flat_map_more (λ (l : KeptLink). links_of l.present) [] (take i links) link
-    ∙ ap (λ ls. flat_map (λ (l : KeptLink). links_of l.present) ls)
-    (sym (take_more links i link lt ∙ ap (λ l. take i links ++ l ∷ []) (sym is)))
-
-pub all_said : (links : List KeptLink) (i : ℕ) (said : List RouterLink)
-    → said ≡ flat_map (λ (l : KeptLink). links_of l.present) (take i links) → length links ≤ i
-    → said ≡ flat_map links_of (map present links)
-all_said links i said is end =
-    is ∙ ap (λ ls. flat_map (λ (l : KeptLink). links_of l.present) ls) (take_all i links end)
-    ∙ sym (flat_map-map links_of present links)
 
 -- ---- the links fit
 

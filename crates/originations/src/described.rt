@@ -6,55 +6,14 @@ ghost use Rattle.flooding.specs.received.Links.{Link as OnLink};
 ghost use Rattle.event_rules.specs.Endings.{copy_has_body, links_differ, same_body};
 ghost use Rattle.event_rules.specs.Originations.{router_body};
 ghost use Rattle.flooding.specs.Links.{present};
-ghost use Rattle.originations.specs.Described.{
-  described_body,
-  full_router,
-  full_routers,
-  interfaces,
-};
+ghost use Rattle.originations.specs.Described.{described_body, full_routers, interfaces};
 
-use crate::router::{full_router, put_described};
+use crate::router::{described_body, full_routers};
 use flooding::{DatabaseCopy, Link};
-use lsa::{Header, Lsa, LsaBody, RouterLsa};
+use lsa::{Header, Lsa, LsaBody};
 use std::alloc::{AllocError, Global};
 use std::cmp::Ordering;
-use words::{E_BIT, LinkStateId, RouterId, Sequence, SequenceNumber};
-
-/// The Router IDs of the neighbors that are Full, interface n at index n - 1, `None` if there is
-/// none. Together with the configuration they determine the router-LSA.
-///
-/// # Errors
-/// `AllocError` if an allocation is refused.
-pub fn full_routers(alloc: Global, links: &[Link]) -> Result<Vec<Option<RouterId>>, AllocError>
-    ensures { IfOk result (λ full. full.items ≡ full_routers (map present links.now)) }
-{
-    let mut full = Vec::new(alloc);
-    for i in 0..links.len() {
-        full.push(full_router(links[i].neighbor()))?;
-    }
-    Ok(full)
-}
-
-// The body of the router-LSA of these interfaces while these neighbors are Full.
-fn described_body(
-    alloc: Global,
-    links: &[Link],
-    full: &[Option<RouterId>],
-) -> Result<LsaBody, AllocError>
-    requires { length full.now ≡ length links.now }
-    ensures { IfOk result (λ body. body
-        ≡ described_body (interfaces (map present links.now)) full.now) }
-{
-    let mut router_links = Vec::new(alloc);
-    for i in 0..links.len() {
-        let interface = links[i].interface();
-        put_described(alloc, &mut router_links, &interface, full[i])?;
-    }
-    Ok(LsaBody::Router(RouterLsa {
-        flags: 2,
-        links: Sequence::from_vec(router_links),
-    }))
-}
+use words::{E_BIT, LinkStateId, RouterId, SequenceNumber};
 
 // Some LSA with this body.
 fn lsa_with_body(alloc: Global, body: LsaBody) -> Result<Lsa, AllocError>

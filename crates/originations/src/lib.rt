@@ -9,9 +9,9 @@ mod origination;
 mod router;
 mod sequence;
 
-pub use described::{copy_describes, full_routers, links_differ};
+pub use described::{copy_describes, links_differ};
 pub use external::external_instance;
 pub use origination::{Origination, interval_is_over, originate_external, originate_router};
-pub use router::router_instance;
+pub use router::{full_routers, router_instance, subnet_mask};
 // Names from the crates below that crates above use.
 pub use flooding::Case;

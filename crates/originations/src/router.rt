@@ -2,10 +2,16 @@
 ghost use Rattle.std.specs.Prelude.{◌≡◌, ◌≤◌, ◌++◌, length, map, IfOk, OnOk};
 ghost use Rattle.std.specs.FinMap as finite;
 ghost use Rattle.words.specs.Prefixes.{mask_of, network_address};
-ghost use Rattle.event_rules.specs.Originations.{links_of, router_body, router_key, stub};
+ghost use Rattle.event_rules.specs.Originations.{router_body, router_key, stub};
 ghost use Rattle.flooding.specs.Links.{present};
 ghost use Rattle.originations.specs.Instances.{next_instance};
-ghost use Rattle.originations.specs.Described.{interface_links, full_router};
+ghost use Rattle.originations.specs.Described.{
+  described_body,
+  full_router,
+  full_routers,
+  interface_links,
+  interfaces,
+};
 
 use crate::instance::next_instance;
 use flooding::{Interface, Link, Lsdb, NeighborState};
@@ -13,8 +19,11 @@ use lsa::{LinkKind, Lsa, LsaBody, RouterLink, RouterLsa};
 use std::alloc::{AllocError, Global};
 use words::{Prefix, RouterId, Sequence, router_key};
 
-/// The neighbor's Router ID, if it is Full.
-pub fn full_router(neighbor: Option<(RouterId, NeighborState)>) -> Option<RouterId>
+// Bit E of a router-LSA's flags: an AS boundary router (RFC 2328, section A.4.2).
+const BOUNDARY: u8 = 2;
+
+// The neighbor's Router ID, if it is Full.
+fn full_router(neighbor: Option<(RouterId, NeighborState)>) -> Option<RouterId>
     ensures { result ≡ full_router neighbor }
 {
     let Some((router, state)) = neighbor else {
@@ -39,7 +48,8 @@ fn subnet_address(interface: &Interface) -> u32
     }
 }
 
-fn subnet_mask(interface: &Interface) -> u32
+/// The mask of the interface's subnet; 255.255.255.255 if its prefix length is more than 32.
+pub fn subnet_mask(interface: &Interface) -> u32
     ensures { result ≡ mask_of interface.now.length }
 {
     let address = interface.address;
@@ -62,12 +72,9 @@ fn stub(alloc: Global, interface: &Interface) -> RouterLink
     }
 }
 
-/// Appends the point-to-point link to the neighbor, if that is Full, and the stub link to the
-/// subnet.
-///
-/// # Errors
-/// `AllocError` if an allocation is refused.
-pub fn put_described(
+// Appends the point-to-point link to the neighbor, if that is Full, and the stub link to the
+// subnet.
+fn put_described(
     alloc: Global,
     links: &mut Vec<RouterLink>,
     interface: &Interface,
@@ -91,25 +98,43 @@ pub fn put_described(
     Ok(())
 }
 
-fn put_links(alloc: Global, links: &mut Vec<RouterLink>, link: &Link) -> Result<(), AllocError>
-    ensures { OnOk result (links.new.items ≡ links.old.items ++ links_of link.now.present) }
+/// The Router IDs of the neighbors that are Full, interface n at index n - 1, `None` if there is
+/// none. Together with the configuration they determine the router-LSA.
+///
+/// # Errors
+/// `AllocError` if an allocation is refused.
+pub fn full_routers(alloc: Global, links: &[Link]) -> Result<Vec<Option<RouterId>>, AllocError>
+    ensures { IfOk result (λ full. full.items ≡ full_routers (map present links.now)) }
 {
-    let interface = link.interface();
-    let full = full_router(link.neighbor());
-    put_described(alloc, links, &interface, full)
+    let mut full = Vec::new(alloc);
+    for i in 0..links.len() {
+        full.push(full_router(links[i].neighbor()))?;
+    }
+    Ok(full)
 }
 
-// The body of the router-LSA: the links of each interface in order. Of the flags only bit E is set,
-// whether or not an external destination is announced.
-fn router_body(alloc: Global, links: &[Link]) -> Result<LsaBody, AllocError>
-    ensures { IfOk result (λ body. body ≡ router_body (map present links.now)) }
+/// The body of the router-LSA of these interfaces while these neighbors are Full: the links of each
+/// interface in order. Of the flags only bit E is set, whether or not an external destination is
+/// announced.
+///
+/// # Errors
+/// `AllocError` if an allocation is refused.
+pub fn described_body(
+    alloc: Global,
+    links: &[Link],
+    full: &[Option<RouterId>],
+) -> Result<LsaBody, AllocError>
+    requires { length full.now ≡ length links.now }
+    ensures { IfOk result (λ body. body
+        ≡ described_body (interfaces (map present links.now)) full.now) }
 {
     let mut router_links = Vec::new(alloc);
-    for link in links {
-        put_links(alloc, &mut router_links, link)?;
+    for i in 0..links.len() {
+        let interface = links[i].interface();
+        put_described(alloc, &mut router_links, &interface, full[i])?;
     }
     Ok(LsaBody::Router(RouterLsa {
-        flags: 2,
+        flags: BOUNDARY,
         links: Sequence::from_vec(router_links),
     }))
 }
@@ -133,6 +158,7 @@ pub fn router_instance(
         (finite.get database.now.present key) (router_body (map present links.now))) }
 {
     let key = router_key(own);
-    let body = router_body(alloc, links)?;
+    let full = full_routers(alloc, links)?;
+    let body = described_body(alloc, links, &full)?;
     next_instance(alloc, database, &key, body)
 }

@@ -1,7 +1,7 @@
 use Rattle.std.proofs.Common.{◌≡◌, ◌++◌, drop, map}
 use Rattle.flooding.specs.Links.{present}
 use Rattle.originations.specs.Described.{described_links, interfaces}
-use Rattle.originations.proofs.described.described_body.Given as goal
+use Rattle.originations.proofs.router.described_body.Given as goal
 
 abbrev pub invariant-loop-i : goal.invariant-loop-i
 invariant-loop-i l = l.router_links.items

@@ -2,7 +2,7 @@ use Rattle.std.proofs.Common.{map, arith}
 use Rattle.flooding.specs.Links.{present}
 use Rattle.originations.specs.Described.{described_links, interfaces}
 use Rattle.originations.proofs.FullNeighbors.{count_of, described_next, interface_here}
-use Rattle.originations.proofs.described.described_body.Goals as goal
+use Rattle.originations.proofs.router.described_body.Goals as goal
 
 pub loop-i-preserved : goal.loop-i-preserved
 loop-i-preserved c =
