@@ -1,10 +1,10 @@
 //! Hellos that are sent (RFC 2328, section 9.5).
-ghost use Rattle.std.specs.Prelude.{◌≡◌, ◌≤◌, IfOk};
-ghost use Rattle.words.specs.Prefixes.{mask_of};
+ghost use Rattle.std.specs.Prelude.{◌≡◌, IfOk};
 ghost use Rattle.event_rules.specs.Hellos.{heard_of, hello_is_due, hello_on, is_due};
 ghost use Rattle.router_state.specs.SentHellos.{routers_of};
 
 use flooding::{Link, LinkStep, Lsdb, NeighborState, has_passed};
+use originations::subnet_mask;
 use packet::Hello;
 use std::alloc::{AllocError, Global};
 use words::{E_BIT, RouterId, Second, Sequence};
@@ -24,23 +24,6 @@ fn hello_is_due(moment: Second, link: &Link) -> bool
     let interface = link.interface();
     let last = link.last_hello_sent();
     is_due(moment, interface.hello_interval, last)
-}
-
-fn mask_within(length: u8) -> u32
-    requires { length ≤ 32 }
-    ensures { result ≡ mask_of length }
-{
-    ((1u64 << 32) - (1u64 << (32 - u32::from(length)))) as u32
-}
-
-// The mask of this prefix length; more than 32 counts as 32.
-fn mask(length: u8) -> u32
-    ensures { result ≡ mask_of length }
-{
-    if length > 32 {
-        return mask_within(32);
-    }
-    mask_within(length)
 }
 
 fn routers_of(
@@ -70,7 +53,7 @@ fn hello_on(alloc: Global, link: &Link) -> Result<Hello, AllocError>
     let interface = link.interface();
     let neighbors = heard_of(alloc, link)?;
     Ok(Hello {
-        mask: mask(interface.length),
+        mask: subnet_mask(&interface),
         hello_interval: interface.hello_interval,
         options: E_BIT,
         priority: 1,
