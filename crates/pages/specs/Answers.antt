@@ -1,7 +1,9 @@
 -- Answers on routes.
-use Rattle.std.specs.Prelude.{ℕ, List, map}
+use Rattle.std.specs.Prelude.{◌≡◌, ℕ, List, map}
 use Rattle.pages.specs.declared.route_answers.Kept.{Kept}
 use Rattle.pages.specs.declared.route_answers.Kept.TheVariants.{Each, AllIn}
+use Rattle.pages.specs.declared.route_answers.KeptAnswers.{KeptAnswers}
+use Rattle.pages.specs.declared.route_answers.KeptAnswers.TheVariants as shown
 use Rattle.words.specs.declared.route.Route.{Route}
 
 -- each of these routes with the word 0
@@ -12,3 +14,8 @@ all_in routes = map (λ route. (route, 0)) routes
 abbrev pub answers_of : Kept → List (Route × ℕ)
 answers_of (Each answers) = answers
 answers_of (AllIn routes) = all_in routes
+
+-- these are the answers
+abbrev pub AreKeptAs : KeptAnswers → List (Route × ℕ) → Type 0
+AreKeptAs (shown.Each each) answers = each.now ≡ answers
+AreKeptAs (shown.AllIn routes) answers = answers ≡ all_in routes.now

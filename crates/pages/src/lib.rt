@@ -8,4 +8,4 @@ mod places;
 mod route_answers;
 
 pub use pages::Pages;
-pub use route_answers::RouteAnswers;
+pub use route_answers::{KeptAnswers, RouteAnswers};

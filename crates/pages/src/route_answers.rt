@@ -1,6 +1,6 @@
 //! Answers on routes.
-ghost use Rattle.std.specs.Prelude.{◌≡◌, IfOk, MatchResult};
-ghost use Rattle.pages.specs.Answers.{all_in};
+ghost use Rattle.std.specs.Prelude.{◌≡◌, IfOk};
+ghost use Rattle.pages.specs.Answers.{AreKeptAs, all_in};
 
 use crate::pages::Pages;
 use std::alloc::{AllocError, Global};
@@ -12,6 +12,15 @@ use words::{Route, Sequence};
 enum Kept {
     Each(Sequence<(Route, u64)>),
     AllIn(Pages<Route>),
+}
+
+/// Answers on routes, as they are kept.
+#[derive(Clone, Copy)]
+pub enum KeptAnswers<'a> {
+    /// One by one.
+    Each(&'a [(Route, u64)]),
+    /// The word 0 for each of these routes.
+    AllIn(&'a Pages<Route>),
 }
 
 /// Routes, each with the word of its answer. Where each word is 0, copies share the routes.
@@ -56,14 +65,13 @@ impl RouteAnswers {
         }
     }
 
-    /// The answers one by one, or the routes if each was answered with 0.
-    pub fn kept(&self) -> Result<&[(Route, u64)], &Pages<Route>>
-        ensures { MatchResult result (λ answers. answers.now ≡ self.now)
-            (λ routes. self.now ≡ all_in routes.now) }
+    /// The answers as they are kept.
+    pub fn kept(&self) -> KeptAnswers<'_>
+        ensures { AreKeptAs result self.now }
     {
         match &self.kept {
-            Kept::Each(answers) => Ok(answers.as_slice()),
-            Kept::AllIn(routes) => Err(routes),
+            Kept::Each(answers) => KeptAnswers::Each(answers.as_slice()),
+            Kept::AllIn(routes) => KeptAnswers::AllIn(routes),
         }
     }
 

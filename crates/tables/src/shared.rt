@@ -10,7 +10,7 @@ ghost use Rattle.tables.specs.Comparisons.{IsComparison};
 ghost use Rattle.words.specs.declared.route.Route.{Route as RouteValue};
 
 use crate::answered::{is_stale, table};
-use pages::{Pages, RouteAnswers};
+use pages::{KeptAnswers, Pages, RouteAnswers};
 use std::alloc::{AllocError, Global};
 use words::Route;
 
@@ -41,8 +41,8 @@ pub fn table_among(
         → AreCandidates contents root candidates.now → IsTable contents root answers.now table.items) }
 {
     match answers.kept() {
-        Ok(each) => table(alloc, candidates, each),
-        Err(_) => {
+        KeptAnswers::Each(each) => table(alloc, candidates, each),
+        KeptAnswers::AllIn(_) => {
             let each = answers.to_vec(alloc)?;
             table(alloc, candidates, &each)
         }
@@ -71,8 +71,8 @@ pub fn lacks_answers(
     ensures { IfOk result (IsComparison answers.now candidates.now) }
 {
     match answers.kept() {
-        Ok(each) => lacks_each(candidates, each),
-        Err(routes) => {
+        KeptAnswers::Each(each) => lacks_each(candidates, each),
+        KeptAnswers::AllIn(routes) => {
             if let Some(found) = compared(candidates, routes) {
                 return Ok(found);
             }

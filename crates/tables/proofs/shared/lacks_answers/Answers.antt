@@ -7,14 +7,14 @@ use Rattle.tables.proofs.shared.lacks_answers.Goals as goal
 pub returns-in-Some : goal.returns-in-Some
 returns-in-Some c =
     subst (λ (l : Answers). IsComparison l c.args.candidates.now c.in-Some.found)
-    (sym c.in-Err.ensures) c.in-Some.ensures
+    (sym c.in-AllIn.ensures) c.in-Some.ensures
 
-pub returns-in-Ok : goal.returns-in-Ok
-returns-in-Ok c =
+pub returns-in-Each : goal.returns-in-Each
+returns-in-Each c =
     subst (λ (l : Answers). IfOk c.lacks_each.result (IsComparison l c.args.candidates.now))
-    c.in-Ok.ensures c.lacks_each.ensures
+    c.in-Each.ensures c.lacks_each.ensures
 
-pub returns-in_ok-each-in-Err : goal.returns-in_ok-each-in-Err
-returns-in_ok-each-in-Err c =
-    subst (λ (l : Answers). IfOk c.lacks_each-in-Err.result (IsComparison l c.args.candidates.now))
-    (c.deref.ensures.value ∙ c.in_ok-each-in-Err.ensures) c.lacks_each-in-Err.ensures
+pub returns-in_ok-each-in-AllIn : goal.returns-in_ok-each-in-AllIn
+returns-in_ok-each-in-AllIn c =
+    subst (λ (l : Answers). IfOk c.lacks_each-in-AllIn.result (IsComparison l c.args.candidates.now))
+    (c.deref.ensures.value ∙ c.in_ok-each-in-AllIn.ensures) c.lacks_each-in-AllIn.ensures
