@@ -4,7 +4,7 @@ use std::alloc::{AllocError, Global};
 use std::process::Abort;
 use std::test::Fail;
 use tables::{is_stale, lacks_answers, table};
-use words::{Address, Hops, Prefix, Route, RouteKind};
+use words::{Address, Hops, Prefix, Route, RouteKind, Sequence};
 
 // An answer: the index of the candidate that it is for, the answer, and by how much the cost
 // differed.
@@ -120,7 +120,7 @@ fn answers_let_candidates_in(rt: HostRuntime) -> Result<(), Fail> {
     Ok(())
 }
 
-// A name; which of the offered routes are candidates; which were answered with 0; whether some
+// A name; which of the offered routes are candidates; which were answered; whether some
 // candidate lacks an answer; whether each answered route is known to be a candidate.
 type PagedCase = (&'static str, &'static [usize], &'static [usize], bool, bool);
 
@@ -150,6 +150,17 @@ fn chosen(alloc: Global, routes: &[Route], places: &[usize]) -> Result<Pages<Rou
     Pages::from_slice(alloc, &made)
 }
 
+// The same, each answered with 1.
+fn kept_out(alloc: Global, routes: &[Route], places: &[usize]) -> Result<RouteAnswers, AllocError> {
+    let mut made = Vec::new(alloc);
+    for place in places {
+        if let Some(route) = routes.get(*place) {
+            made.push((*route, 1))?;
+        }
+    }
+    Ok(RouteAnswers::each(Sequence::from_vec(made)))
+}
+
 #[test]
 fn candidates_are_compared_with_answers(rt: HostRuntime) -> Result<(), Fail> {
     let alloc = rt.alloc();
@@ -160,6 +171,12 @@ fn candidates_are_compared_with_answers(rt: HostRuntime) -> Result<(), Fail> {
         let answers = RouteAnswers::all_in(chosen(alloc, &offered, answered)?);
         let found = lacks_answers(&candidates, &answers)?;
         assert!(rt; found.lacks == lacks && found.exact == exact, "{name}");
+        let each = kept_out(alloc, &offered, answered)?;
+        let found = lacks_answers(&candidates, &each)?;
+        assert!(rt;
+            found.lacks == lacks && found.exact == exact,
+            "{name}, one by one"
+        );
     }
     Ok(())
 }

@@ -3,13 +3,12 @@ use Rattle.std.proofs.Common.{◌≡◌, ℕ, ◌+◌, ◌-◌, ◌<◌, ◌≤�
 use Rattle.std.proofs.Common.{length, get_or, map, arith, sym, ◌∙◌, ap}
 use Rattle.std.specs.Prelude.{option_map, slice_get}
 use Rattle.std.proofs.lemmas.Bool.{cases_lt}
-use Rattle.std.proofs.lemmas.Option.{get_or_from_slice_get, same_Some, slice_get-get_or}
-use Rattle.std.proofs.lemmas.Option.{slice_get-map}
+use Rattle.std.proofs.lemmas.Option.{get_or_from_slice_get, same_Some, slice_get-map}
 use Rattle.std.proofs.lemmas.Option.{slice_get_cases, slice_get_read, slice_get_within}
 use Rattle.pages.specs.Answers.{all_in}
 use Rattle.pages.specs.Places.{IsPartFrom}
 use Rattle.words.specs.declared.route.Route.{Route}
-use Rattle.tables.specs.Parts.{AreAnswersAmong, StandsAt}
+use Rattle.tables.specs.Parts.{StandsAt}
 use Rattle.tables.proofs.InTurn.{AreMet}
 
 -- the first routes of both lists are the same
@@ -57,25 +56,6 @@ module _ (answered : List Route) where
       → ((k : ℕ) → met ≤ k → slice_get answered k ≡ Some route → ⊥) → (k : ℕ) → met ≤ k
       → StandsAt (all_in answered) k route → ⊥
   none_behind met route behind k low stands = behind k low (stood k route stands)
-
-  -- if there are no more of them than candidates that are the same, each is one of these
-  pub all_among : (candidates : List Route) (met : ℕ) → length answered ≤ length candidates
-      → length candidates ≤ met → AreSame candidates answered met
-      → AreAnswersAmong (all_in answered) candidates
-  all_among candidates met few whole each r (word, (k, within, is)) =
-      let answer : Route × ℕ = (r, word) in
-      let there : slice_get answered k ≡ Some r =
-      stood k r (
-        word,
-        slice_get-get_or (all_in answered) k answer within
-            ∙ ap (λ (x : Route × ℕ). Some x) is,
-      ) in
-      let low : k < length candidates =
-      omega (arith, slice_get_within answered k r there, few) in
-      let one : Route = get_or candidates k r in
-      let its : slice_get answered k ≡ Some one =
-      each k one (omega (arith, low, whole)) (slice_get-get_or candidates k r low) in
-      (k, low, same_Some one r (sym its ∙ there))
 
 -- the first one of a part
 pub first_of_part : (routes : List Route) (met : ℕ) (part : List Route) (route : Route)

@@ -1,6 +1,7 @@
 -- The first routes have their answers at their own indices.
 use Rattle.std.proofs.Common.{◌≡◌, ℕ, ◌<◌, ◌≤◌, inl, inr, List, Some, length, get_or, arith, sym}
-use Rattle.std.proofs.Common.{◌∙◌, ap, subst}
+use Rattle.std.proofs.Common.{◌∙◌, ◌+◌, ◌-◌, ap, drop, length-drop, subst}
+use Rattle.std.proofs.lemmas.List.{get_or-drop}
 use Rattle.std.specs.Prelude.{slice_get}
 use Rattle.std.proofs.lemmas.Bool.{cases_lt}
 use Rattle.std.proofs.lemmas.Option.{get_or_from_slice_get, same_Some, slice_get-get_or}
@@ -9,7 +10,8 @@ use Rattle.words.specs.declared.route.Route.{Route}
 use Rattle.routes.specs.Routes.{IsBefore}
 use Rattle.routes.specs.Tables.{Answers, HasAnswer}
 use Rattle.routes.proofs.OneMore.{never_itself}
-use Rattle.tables.specs.Parts.{Ascend, LacksAnswers, StandsAt}
+use Rattle.pages.specs.Places.{IsPartFrom}
+use Rattle.tables.specs.Parts.{AreAnswersAmong, Ascend, LacksAnswers, StandsAt}
 
 -- the first `met` routes have
 abbrev pub AreMet : Answers → List Route → ℕ → Type 0
@@ -59,3 +61,48 @@ module _ (answers : Answers) (routes : List Route) (met : ℕ) (route : Route)
 
   pub one_lacks : LacksAnswers answers routes
   one_lacks = (route, (met, within, sym here), unanswered)
+
+-- if there are no more answers than candidates that all have theirs, each is one of a candidate
+pub all_answered : (answers : Answers) (routes : List Route) (met : ℕ)
+    → length answers ≤ length routes → length routes ≤ met → AreMet answers routes met
+    → AreAnswersAmong answers routes
+all_answered answers routes met few whole each r (word, (k, within, is)) =
+    let answer : Route × ℕ = (r, word) in
+    let there : slice_get answers k ≡ Some answer =
+    slice_get-get_or answers k answer within ∙ ap (λ (x : Route × ℕ). Some x) is in
+    let low : k < length routes = omega (arith, within, few) in
+    let one : Route = get_or routes k r in
+    let its = each k one (omega (arith, low, whole)) (slice_get-get_or routes k r low) in
+    let read : Route × ℕ = (one, its.0) in
+    let same : read ≡ answer = same_Some read answer (sym its.1 ∙ there) in
+    (k, low, ap (λ (x : Route × ℕ). x.0) same)
+
+-- an answer behind the first ones
+stands_behind : (answers : Answers) (met k : ℕ) (r : Route) → StandsAt (drop met answers) k r
+    → StandsAt answers (met + k) r
+stands_behind answers met k r (word, is) =
+    let answer : Route × ℕ = (r, word) in
+    let inside = slice_get_within (drop met answers) k answer is in
+    let low : met + k < length answers = omega (arith, length-drop met answers, inside) in
+    let read : get_or answers (met + k) answer ≡ answer =
+    sym (get_or-drop met answers k answer)
+    ∙ get_or_from_slice_get (drop met answers) k answer answer is in (
+      word,
+      slice_get-get_or answers (met + k) answer low ∙ ap (λ (x : Route × ℕ). Some x) read,
+    )
+
+-- so many more, of a part
+pub more_met : (answers : Answers) (routes : List Route) (met same : ℕ) (part : List Route)
+    → IsPartFrom routes met part → same ≤ length part → AreMet (drop met answers) part same
+    → AreMet answers routes met → AreMet answers routes (met + same)
+more_met answers routes met same part is fits each before k r low there =
+    elim (cases_lt k met) [
+      | inl under ↦ before k r under there
+      | inr above ↦
+          let within : k - met < same = omega (arith, low, above) in
+          let back : met + (k - met) ≡ k = omega (arith, above) in
+          let first = is.each (k - met) (omega (arith, within, fits))
+          ∙ ap (λ n. slice_get routes n) back ∙ there in
+          subst (λ n. StandsAt answers n r) back
+          (stands_behind answers met (k - met) r (each (k - met) r within first))
+    ]

@@ -118,8 +118,8 @@ fn stands_at(answers: &[(Route, u64)], at: usize, route: &Route) -> bool
     false
 }
 
-// The number of the first routes that have their answers at their own indices.
-fn answered_in_turn(routes: &[Route], answers: &[(Route, u64)]) -> usize
+/// The number of the first routes that have their answers at their own indices.
+pub fn answered_in_turn(routes: &[Route], answers: &[(Route, u64)]) -> usize
     ensures within { result ≤ length routes.now }
     ensures each { (k : ℕ) (r : RouteValue) → k < result → slice_get routes.now k ≡ Some r
         → StandsAt answers.now k r }
@@ -132,8 +132,8 @@ fn answered_in_turn(routes: &[Route], answers: &[(Route, u64)]) -> usize
     routes.len()
 }
 
-// Whether an answer to the route is at this index or after it.
-fn is_answered_from(answers: &[(Route, u64)], from: usize, route: &Route) -> bool
+/// Whether an answer to the route is at this index or after it.
+pub fn is_answered_from(answers: &[(Route, u64)], from: usize, route: &Route) -> bool
     ensures { result ≡ false → (k : ℕ) → from ≤ k → StandsAt answers.now k route.now → ⊥ }
 {
     for at in from..answers.len() {

@@ -7,9 +7,10 @@ ghost use Rattle.routes.specs.Contents.{Contents};
 ghost use Rattle.routes.specs.Tables.{IsTable};
 ghost use Rattle.routes.specs.declared.root.Root.{Root};
 ghost use Rattle.tables.specs.Comparisons.{IsComparison};
+ghost use Rattle.tables.specs.Parts.{StandsAt};
 ghost use Rattle.words.specs.declared.route.Route.{Route as RouteValue};
 
-use crate::answered::{is_stale, table};
+use crate::answered::{answered_in_turn, is_answered_from, is_stale, table};
 use pages::{KeptAnswers, Pages, RouteAnswers};
 use std::alloc::{AllocError, Global};
 use words::Route;
@@ -59,8 +60,8 @@ pub struct Comparison {
 }
 
 /// Whether some candidate's equal route has no answer, as [`is_stale`] tells, and whether each
-/// answered route is known to be a candidate. It is known where just the candidates were answered
-/// with 0, in turn: then each is visited once, and nothing is allocated.
+/// answered route is known to be a candidate. It is known where just the candidates were answered,
+/// in turn: then each is visited once, and nothing is allocated.
 ///
 /// # Errors
 /// `AllocError` if an allocation is refused.
@@ -82,10 +83,14 @@ pub fn lacks_answers(
     }
 }
 
-// The same, where the answers are kept one by one.
+// The same, where the answers are kept one by one. The candidates are copied into one piece only if
+// that takes a search.
 fn lacks_each(candidates: &Pages<Route>, answers: &[(Route, u64)]) -> Result<Comparison, AllocError>
     ensures { IfOk result (IsComparison answers.now candidates.now) }
 {
+    if let Some(found) = compared_each(candidates, answers) {
+        return Ok(found);
+    }
     let alloc = candidates.allocator();
     let routes = candidates.to_vec()?;
     let lacks = is_stale(alloc, &routes, answers)?;
@@ -93,6 +98,47 @@ fn lacks_each(candidates: &Pages<Route>, answers: &[(Route, u64)]) -> Result<Com
         lacks,
         exact: false,
     })
+}
+
+// The same. `None` if that takes a search.
+fn compared_each(candidates: &Pages<Route>, answers: &[(Route, u64)]) -> Option<Comparison>
+    ensures { IfSome result (IsComparison answers.now candidates.now) }
+{
+    let met = answered_in_pages(candidates, answers);
+    if met >= candidates.len() {
+        let exact = answers.len() == candidates.len();
+        return Some(Comparison {
+            lacks: false,
+            exact,
+        });
+    }
+    let behind = candidates.part_from(met);
+    if is_answered_from(answers, met, &behind[0]) {
+        return None;
+    }
+    Some(Comparison {
+        lacks: true,
+        exact: false,
+    })
+}
+
+// How many first candidates have their answers at their own indices.
+fn answered_in_pages(candidates: &Pages<Route>, answers: &[(Route, u64)]) -> usize
+    ensures { (k : ℕ) (r : RouteValue) → k < result → slice_get candidates.now k ≡ Some r
+        → StandsAt answers.now k r }
+{
+    let mut met = 0;
+    while met < candidates.len() {
+        if met > answers.len() {
+            return met;
+        }
+        let same = answered_in_turn(candidates.part_from(met), &answers[met..]);
+        if same == 0 {
+            return met;
+        }
+        met += same;
+    }
+    met
 }
 
 // The same, where each of these routes was answered with 0. `None` if that takes a search.

@@ -1,10 +1,12 @@
-use Rattle.std.proofs.Common.{◌<◌, ◌≤◌, true, false, length, refl, arith}
+use Rattle.std.proofs.Common.{ℕ, ◌<◌, ◌≤◌, true, false, length, refl, arith}
 use mathlib.Core.Bool.{false≢true}
+use Rattle.std.proofs.lemmas.List.{length-map}
 use Rattle.std.proofs.lemmas.Bool.{eqb-true}
 use Rattle.pages.specs.Answers.{all_in}
-use Rattle.tables.proofs.InTurn.{none_lacks, one_lacks}
+use Rattle.words.specs.declared.route.Route.{Route}
+use Rattle.tables.proofs.InTurn.{all_answered, none_lacks, one_lacks}
 use Rattle.tables.proofs.LetIn.{tells_stale}
-use Rattle.tables.proofs.InPages.{all_among, are_met, first_of_part, none_behind}
+use Rattle.tables.proofs.InPages.{are_met, first_of_part, none_behind}
 use Rattle.tables.proofs.shared.compared.Goals as goal
 
 pub bounds-behind-0 : goal.bounds-behind-0
@@ -28,9 +30,17 @@ returns-then-met-len c =
       );
       exact = λ on.
           let as_long = eqb-true c.len-then-met-len.result c.len-then-met-len-2.result on in
-          let few : length answered ≤ length candidates =
-          omega (arith, as_long, c.len-then-met-len.ensures, c.len-then-met-len-2.ensures) in
-          all_among answered candidates met few whole each;
+          let f : Route → Route × ℕ = λ x. (x, 0) in
+          let few : length (all_in answered) ≤ length candidates =
+          omega (
+            arith,
+            length-map answered f,
+            as_long,
+            c.len-then-met-len.ensures,
+            c.len-then-met-len-2.ensures,
+          ) in
+          all_answered (all_in answered) candidates met few whole
+          (are_met answered candidates met each);
     }
 
 pub returns : goal.returns
