@@ -66,14 +66,14 @@ fn unless_flushed(copy: Option<DatabaseCopy<'_>>) -> Origination
     }
 }
 
-/// What happens to the router-LSA for these links, interface n at index n - 1: it is originated at
-/// once if `may_now` and MinLSInterval allow it, else at a Tick; after MaxSequenceNumber its copy
-/// is flushed first (RFC 2328, sections 12.4.1 and 12.1.6). `last` is the moment of the last
-/// origination, if it is known.
+/// Decides what is to happen to the router-LSA for these links, interface n at index n - 1: it is
+/// originated at once if `may_now` and MinLSInterval allow it, else at a Tick; after
+/// MaxSequenceNumber its copy is flushed first (RFC 2328, sections 12.4.1 and 12.1.6). `last` is the
+/// moment of the last origination, if it is known. The caller carries it out.
 ///
 /// # Errors
 /// `AllocError` if an allocation is refused.
-pub fn originate_router(
+pub fn decide_router_lsa(
     alloc: Global,
     may_now: bool,
     moment: Second,
@@ -96,12 +96,12 @@ pub fn originate_router(
     Ok(unless_flushed(database.get(&key)))
 }
 
-/// What happens to the AS-external-LSA for this destination, as in `originate_router` (RFC 2328,
-/// section 12.4.4).
+/// Decides what is to happen to the AS-external-LSA for this destination, as `decide_router_lsa`
+/// does (RFC 2328, section 12.4.4).
 ///
 /// # Errors
 /// `AllocError` if an allocation is refused.
-pub fn originate_external(
+pub fn decide_external_lsa(
     alloc: Global,
     may_now: bool,
     moment: Second,

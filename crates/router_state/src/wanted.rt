@@ -5,7 +5,7 @@ ghost use Rattle.event_rules.specs.Originations.{router_key, should_originate, w
 ghost use Rattle.router_state.specs.Wanted.{wanted_origination};
 
 use crate::router::Router;
-use originations::{Origination, originate_external, originate_router};
+use originations::{Origination, decide_external_lsa, decide_router_lsa};
 use std::alloc::{AllocError, Global};
 use words::{Key, RouterId, Second, router_key};
 
@@ -52,13 +52,13 @@ pub fn wanted_origination(
     let area = router.area();
     if names_router_lsa(own, key) {
         let links = area.links();
-        let found = originate_router(alloc, may_now, moment, own, links, area.database(), last)?;
+        let found = decide_router_lsa(alloc, may_now, moment, own, links, area.database(), last)?;
         return Ok(Some(found));
     }
     let Some(external) = router.announced().get(key) else {
         return Ok(None);
     };
     let database = area.database();
-    let found = originate_external(alloc, may_now, moment, own, external, database, last)?;
+    let found = decide_external_lsa(alloc, may_now, moment, own, external, database, last)?;
     Ok(Some(found))
 }
