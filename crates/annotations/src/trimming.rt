@@ -26,7 +26,7 @@ fn without_bits(kind: StatedKind) -> StatedKind {
     match kind {
         StatedKind::Number(numbers) => StatedKind::Number(any_bits(numbers)),
         StatedKind::MapValue(map, numbers) => StatedKind::MapValue(map, any_bits(numbers)),
-        StatedKind::Empty | StatedKind::Context(_) | StatedKind::Stack(_) => kind,
+        StatedKind::Unstated | StatedKind::Context(_) | StatedKind::Stack(_) => kind,
     }
 }
 

@@ -280,16 +280,16 @@ above_last before (Some m) slot l e is =
     let above : m.slot < slot = omega (arith, other, high) in
     subst (λ (x : StatementParts). x.slot < slot) (some_same m l is) above
 
-all_empty : (k : ℕ) (d : StatedKind) → k < 10 → IsKind (get_or (replicate 10 kinds.Empty) k d)
-all_empty k d h = subst IsKind (sym (get_or-replicate 10 k kinds.Empty d h)) tt
+all_empty : (k : ℕ) (d : StatedKind) → k < 10 → IsKind (get_or (replicate 10 kinds.Unstated) k d)
+all_empty k d h = subst IsKind (sym (get_or-replicate 10 k kinds.Unstated d h)) tt
 
 bare_open : (rest : List (Option AssemblyLine)) (slot : ℕ) (r : Rank)
-    → IsRankBehind (replicate 10 kinds.Empty) rest r → IsOpen rest (bare slot r)
+    → IsRankBehind (replicate 10 kinds.Unstated) rest r → IsOpen rest (bare slot r)
 bare_open rest slot r is = record {
   rank = is.0;
   first = is.1;
   second = is.2;
-  count = length-replicate 10 kinds.Empty;
+  count = length-replicate 10 kinds.Unstated;
   kinds = all_empty;
   stack = length-replicate 512 false;
 }
@@ -316,7 +316,7 @@ state_keeps s t target constant found place rest is e =
     (λ r. open_statement s slot r (order_fault s.before s.last slot)) t within.1 in
     let next = opened_from s t slot rank.0 (order_fault s.before s.last slot) rank.2 in
     let fits = leb-false (length s.code) slot within.0 in
-    let soon = rank_soon (replicate 10 kinds.Empty) rest constant found rank.0
+    let soon = rank_soon (replicate 10 kinds.Unstated) rest constant found rank.0
     (in_range (rank_of constant found rest) rank.0 rank.1) in
     let whole = all_closed (Some (lines.State target constant found) ∷ rest) (length s.code) slot
     s.before s.last (λ register. refl) is.most is.statements
@@ -441,32 +441,32 @@ number_put ks register kind r h n =
     )
 
 number_kept : (ks : List StatedKind) (register : ℕ) (kind : StatedKind) (r : ℕ)
-    → is_empty (get_or ks register kinds.Empty) ≡ true → IsNumberAt ks r
+    → is_empty (get_or ks register kinds.Unstated) ≡ true → IsNumberAt ks r
     → IsNumberAt (set ks register kind) r
 number_kept ks register kind r empty n =
     let h = slice_get_within ks r (kinds.Number n.0) n.1 in
-    let was = get_or_from_slice_get ks r (kinds.Number n.0) kinds.Empty n.1 in
+    let was = get_or_from_slice_get ks r (kinds.Number n.0) kinds.Unstated n.1 in
     let other : r ≢ register = λ e. false≢true
-    (ap is_empty (sym was ∙ ap (λ (i : ℕ). get_or ks i kinds.Empty) e) ∙ empty) in
+    (ap is_empty (sym was ∙ ap (λ (i : ℕ). get_or ks i kinds.Unstated) e) ∙ empty) in
     let there : r < length (set ks register kind) =
     subst (λ (m : ℕ). r < m) (sym (length-set ks register kind)) h in (
       n.0,
-      slice_get-get_or (set ks register kind) r kinds.Empty there
+      slice_get-get_or (set ks register kind) r kinds.Unstated there
           ∙ ap (λ (k : StatedKind). Some k)
-          (get_or-set_other ks register r kind kinds.Empty other ∙ was),
+          (get_or-set_other ks register r kind kinds.Unstated other ∙ was),
     )
 
 kind_kept : (p q : StatementParts) (register : ℕ) (kind : StatedKind)
     → kind_step p register kind ≡ Ok q
-    → (register < 10) × (is_empty (get_or p.kinds register kinds.Empty) ≡ true) × (record p {
+    → (register < 10) × (is_empty (get_or p.kinds register kinds.Unstated) ≡ true) × (record p {
       kinds = set p.kinds register kind;
     } ≡ q)
 kind_kept p q register kind e =
     let c = taken_else (nat_lt 9 register) faults.Range
-    (if is_empty (get_or p.kinds register kinds.Empty) then Ok (record p {
+    (if is_empty (get_or p.kinds register kinds.Unstated) then Ok (record p {
       kinds = set p.kinds register kind;
     }) else Err faults.Twice) q e in
-    let d = ok_chosen (is_empty (get_or p.kinds register kinds.Empty)) (record p {
+    let d = ok_chosen (is_empty (get_or p.kinds register kinds.Unstated)) (record p {
       kinds = set p.kinds register kind;
     }) q faults.Twice c.1 in
     let low = ltb-false 9 register c.0 in

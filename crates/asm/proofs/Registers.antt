@@ -29,7 +29,7 @@ use Rattle.asm.proofs.Pushed.{listed_push, listed_same}
 
 -- what the first registers hold, of those that are stated so far
 abbrev pub kinds_up_to : List StatedKind → ℕ → List StatedKind
-kinds_up_to ks at = take at ks ++ replicate (10 - at) kinds.Empty
+kinds_up_to ks at = take at ks ++ replicate (10 - at) kinds.Unstated
 
 abbrev pub stating : Front → ℕ → Rank → List StatedKind → Sketch
 stating f slot rank ks = sketch_of f (Some (record {
@@ -120,30 +120,30 @@ stated_term ks (Some term) rest over are = are term.register (omega arith) over
 -- ---- one more line
 
 up_to_more : (ks : List StatedKind) (at : ℕ) (k : StatedKind) → length ks ≡ 10 → at < 10
-    → get_or ks at k ≡ k → take at ks ++ k ∷ replicate (10 - (at + 1)) kinds.Empty
+    → get_or ks at k ≡ k → take at ks ++ k ∷ replicate (10 - (at + 1)) kinds.Unstated
     ≡ kinds_up_to ks (at + 1)
 up_to_more ks at k long h g =
-    sym (append_assoc (take at ks) (k ∷ []) (replicate (10 - (at + 1)) kinds.Empty))
-    ∙ ap (λ (xs : List StatedKind). xs ++ replicate (10 - (at + 1)) kinds.Empty)
+    sym (append_assoc (take at ks) (k ∷ []) (replicate (10 - (at + 1)) kinds.Unstated))
+    ∙ ap (λ (xs : List StatedKind). xs ++ replicate (10 - (at + 1)) kinds.Unstated)
     (ap (λ (x : StatedKind). take at ks ++ x ∷ []) (sym g)
     ∙ sym (take_more ks at k (omega (arith, long, h))))
 
 up_to_here : (ks : List StatedKind) (at : ℕ) → at < 10
-    → kinds_up_to ks at ≡ take at ks ++ kinds.Empty ∷ replicate (10 - (at + 1)) kinds.Empty
+    → kinds_up_to ks at ≡ take at ks ++ kinds.Unstated ∷ replicate (10 - (at + 1)) kinds.Unstated
 up_to_here ks at h =
     let more : 10 - at ≡ suc (10 - (at + 1)) = omega (arith, h) in
-    ap (λ (n : ℕ). take at ks ++ replicate n kinds.Empty) more
+    ap (λ (n : ℕ). take at ks ++ replicate n kinds.Unstated) more
 
 pub empty_step : (text : List ℕ) (f : Front) (slot : ℕ) (rank : Rank) (ks : List StatedKind)
-    (at : ℕ) → length ks ≡ 10 → at < 10 → get_or ks at kinds.Empty ≡ kinds.Empty
+    (at : ℕ) → length ks ≡ 10 → at < 10 → get_or ks at kinds.Unstated ≡ kinds.Unstated
     → Listed text (stating f slot rank (kinds_up_to ks at)) (AreStated ks at)
     → Listed text (stating f slot rank (kinds_up_to ks (at + 1))) (AreStated ks (at + 1))
 empty_step text f slot rank ks at long h g listed =
     listed_same text (stating f slot rank (kinds_up_to ks at))
     (stating f slot rank (kinds_up_to ks (at + 1))) (AreStated ks at) (AreStated ks (at + 1))
     (ap (λ (xs : List StatedKind). stating f slot rank xs)
-    (up_to_here ks at h ∙ up_to_more ks at kinds.Empty long h g))
-    (stated_past ks at kinds.Empty (ap is_number g)) listed
+    (up_to_here ks at h ∙ up_to_more ks at kinds.Unstated long h g))
+    (stated_past ks at kinds.Unstated (ap is_number g)) listed
 
 with_steps : (f : Front) (slot : ℕ) (rank : Rank) (ks : List StatedKind) (at : ℕ) (k : StatedKind)
     (content : RegisterContent) (n : ℕ) (place : Option Place) (rest : List (Option AssemblyLine))
@@ -154,18 +154,18 @@ with_steps f slot rank ks at k content n place rest long h g again =
     let now : List StatedKind = kinds_up_to ks at in
     let p : StatementParts = record { slot = slot; rank = rank; kinds = now; stack = no_bytes } in
     let front : length (take at ks) ≡ at = length-take-le at ks (omega (arith, long, h)) in
-    let tail = replicate (10 - (at + 1)) kinds.Empty in
-    let empty : slice_index_or now at kinds.Empty ≡ kinds.Empty =
-    ap (λ (xs : List StatedKind). slice_index_or xs at kinds.Empty) (up_to_here ks at h)
-    ∙ get_at (take at ks) kinds.Empty tail kinds.Empty at front in
+    let tail = replicate (10 - (at + 1)) kinds.Unstated in
+    let empty : slice_index_or now at kinds.Unstated ≡ kinds.Unstated =
+    ap (λ (xs : List StatedKind). slice_index_or xs at kinds.Unstated) (up_to_here ks at h)
+    ∙ get_at (take at ks) kinds.Unstated tail kinds.Unstated at front in
     let set : slice_set now at k ≡ kinds_up_to ks (at + 1) =
     ap (λ (xs : List StatedKind). slice_set xs at k) (up_to_here ks at h)
-    ∙ set_at (take at ks) kinds.Empty tail k at front ∙ up_to_more ks at k long h g in
+    ∙ set_at (take at ks) kinds.Unstated tail k at front ∙ up_to_more ks at k long h g in
     ap (λ (o : Option StatedKind). or_range_fault o >>= kind_step p at >>= with_last
     (stating f slot rank now)) again
     ∙ ap (λ (r : Result StatementParts AsmFault). r >>= with_last (stating f slot rank now))
     (cond-false (nat_lt 9 at) (Err faults.Range) _ (le-ltb 9 at (omega (arith, h)))
-    ∙ cond-true (is_empty (slice_index_or now at kinds.Empty)) (Ok (record p {
+    ∙ cond-true (is_empty (slice_index_or now at kinds.Unstated)) (Ok (record p {
       kinds = slice_set now at k;
     })) (Err faults.Twice) (ap is_empty empty)
     ∙ ap (λ (xs : List StatedKind). Ok (record {

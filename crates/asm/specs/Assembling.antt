@@ -88,7 +88,7 @@ instruction_step s line place = if is_some s.last then Err faults.Syntax
 -- with neither a register nor a byte stated yet
 abbrev pub bare : ℕ → Rank → StatementParts
 bare slot rank =
-    record { slot = slot; rank = rank; kinds = replicate 10 kinds.Empty; stack = no_bytes }
+    record { slot = slot; rank = rank; kinds = replicate 10 kinds.Unstated; stack = no_bytes }
 
 abbrev pub has_slot : List StatementParts → ℕ → Bool
 has_slot [] slot = false
@@ -125,13 +125,13 @@ state_step s slot constant found place rest = slot_of slot place
     >>= state_at s (rank_of constant found rest)
 
 abbrev pub is_empty : StatedKind → Bool
-is_empty kinds.Empty = true
+is_empty kinds.Unstated = true
 is_empty other = false
 
 -- the last statement with this register stated
 abbrev pub kind_step : StatementParts → ℕ → StatedKind → Result StatementParts AsmFault
 kind_step p register kind = if nat_lt 9 register then Err faults.Range
-    else (if is_empty (slice_index_or p.kinds register kinds.Empty)
+    else (if is_empty (slice_index_or p.kinds register kinds.Unstated)
     then Ok (record p { kinds = slice_set p.kinds register kind }) else Err faults.Twice)
 
 abbrev pub with_step : StatementParts → ℕ → RegisterContent → Result StatementParts AsmFault

@@ -89,7 +89,7 @@ the_range n =
     }
 
 abbrev pub the_content : StatedKind → Option RegisterContent
-the_content kinds.Empty = None
+the_content kinds.Unstated = None
 the_content (kinds.Number numbers) = Some (contents.Number (the_range numbers))
 the_content (kinds.Context offset) = Some (contents.Context (Natural offset))
 the_content (kinds.Stack offset) = Some (contents.Stack (Natural offset))

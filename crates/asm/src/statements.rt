@@ -186,7 +186,7 @@ pub(crate) struct OpenStatement {
 fn is_empty(kind: StatedKind) -> bool
     ensures { result ≡ is_empty kind }
 {
-    matches!(kind, StatedKind::Empty)
+    matches!(kind, StatedKind::Unstated)
 }
 
 impl OpenStatement {
@@ -201,7 +201,7 @@ impl OpenStatement {
         OpenStatement {
             slot,
             rank,
-            kinds: [StatedKind::Empty; 10],
+            kinds: [StatedKind::Unstated; 10],
             stack: StackBytes::new(),
         }
     }

@@ -96,12 +96,12 @@ fn range_of(numbers: StatedNumber) -> Range
 /// What a `with` line says of a register of this kind; `None` for an empty one.
 fn content_of(kind: StatedKind) -> Option<RegisterContent>
     ensures line { result ≡ the_content kind }
-    ensures again { MatchOption result (kind ≡ StatedKind.Empty) (λ content. kind_of content
+    ensures again { MatchOption result (kind ≡ StatedKind.Unstated) (λ content. kind_of content
         ≡ Some kind) }
     ensures numbers { is_number kind ≡ gives_number result }
 {
     match kind {
-        StatedKind::Empty => None,
+        StatedKind::Unstated => None,
         StatedKind::Number(numbers) => Some(RegisterContent::Number(range_of(numbers))),
         StatedKind::Context(offset) => Some(RegisterContent::Context(number(offset.bytes()))),
         StatedKind::Stack(offset) => Some(RegisterContent::Stack(number(offset.bytes()))),

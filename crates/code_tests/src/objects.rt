@@ -33,7 +33,7 @@ fn packed_statement() -> Option<Statement> {
         first: None,
         second: None,
     };
-    let mut kinds = [StatedKind::Empty; 10];
+    let mut kinds = [StatedKind::Unstated; 10];
     kinds[1] = StatedKind::Context(ContextOffset::new(0)?);
     kinds[2] = StatedKind::Stack(StackOffset::new(512)?);
     kinds[9] = StatedKind::MapValue(Map::Cells, StatedNumber::new(0, 504, 0, 0)?);

@@ -176,7 +176,7 @@ fn push_all(
         first: None,
         second: None,
     };
-    if let Some(entry) = Statement::new(0, constant, [Stated::Empty; 10], StackBytes::new()) {
+    if let Some(entry) = Statement::new(0, constant, [Stated::Unstated; 10], StackBytes::new()) {
         push_entered(page, &memory, object, code, &entry, refusal_in(verdict))
     }
     page.reasons.is_cut |= memory.is_refused.get();

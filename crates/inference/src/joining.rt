@@ -47,7 +47,7 @@ fn stated_of(value: Value) -> Option<StatedNumber> {
 fn numbered(numbers: Option<StatedNumber>) -> StatedKind {
     match numbers {
         Some(numbers) => StatedKind::Number(numbers),
-        None => StatedKind::Empty,
+        None => StatedKind::Unstated,
     }
 }
 
@@ -55,22 +55,22 @@ fn numbered(numbers: Option<StatedNumber>) -> StatedKind {
 fn placed(map: Map, numbers: Option<StatedNumber>) -> StatedKind {
     match numbers {
         Some(numbers) => StatedKind::MapValue(map, numbers),
-        None => StatedKind::Empty,
+        None => StatedKind::Unstated,
     }
 }
 
 /// The statement of what is known of a register: `Empty` if an object can't express it.
 fn told(known: Known<Value>) -> StatedKind {
     match known {
-        Known::Unknown => StatedKind::Empty,
+        Known::Unknown => StatedKind::Unstated,
         Known::Number(value) => numbered(stated_of(value)),
         Known::Pointer(PointerPlace::Context(at)) => match ContextOffset::new(at.min(65) as u32) {
             Some(offset) => StatedKind::Context(offset),
-            None => StatedKind::Empty,
+            None => StatedKind::Unstated,
         },
         Known::Pointer(PointerPlace::Stack(at)) => match StackOffset::new(at.min(513) as u32) {
             Some(offset) => StatedKind::Stack(offset),
-            None => StatedKind::Empty,
+            None => StatedKind::Unstated,
         },
         Known::Pointer(PointerPlace::Map(map, value)) => placed(map, stated_of(value)),
     }
@@ -126,16 +126,16 @@ fn joined_kind(growth: Growth<'_>, old: &StatedKind, new: &StatedKind) -> Stated
             if *map == *other {
                 placed(*map, joined_numbers(growth, *old, *new))
             } else {
-                StatedKind::Empty
+                StatedKind::Unstated
             }
         }
-        _ => StatedKind::Empty,
+        _ => StatedKind::Unstated,
     }
 }
 
 /// What is known of the live registers, as statements say it.
 fn kinds_of(live: Registers, known: &[Known<Value>]) -> [StatedKind; 10] {
-    let mut kinds = [StatedKind::Empty; 10];
+    let mut kinds = [StatedKind::Unstated; 10];
     for register in 0..10 {
         if has(live, register) {
             kinds[register] = told(element_or(known, register, Known::Unknown));
@@ -182,7 +182,7 @@ pub fn joined_statement(
 ) -> Option<Statement> {
     let mut kinds = kinds_of(live, &state.kinds);
     for register in 0..10 {
-        let before = element_or(old.kinds(), register, StatedKind::Empty);
+        let before = element_or(old.kinds(), register, StatedKind::Unstated);
         let joined = joined_kind(growth, &before, &kinds[register]);
         kinds[register] = joined;
     }

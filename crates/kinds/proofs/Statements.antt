@@ -24,7 +24,7 @@ pub record IsKindOf {D : Type 0} (contains : D → ℕ → Type 0) (gives : Give
 abbrev pub AreKindsOf : {D : Type 0} → (D → ℕ → Type 0) → GivesStated D → StatementParts
     → SegmentStart D → Type 0
 AreKindsOf contains gives statement segment =
-    (r : ℕ) → r < 10 → IsKindOf contains gives (get_or statement.kinds r said.Empty)
+    (r : ℕ) → r < 10 → IsKindOf contains gives (get_or statement.kinds r said.Unstated)
     (get_or segment.kinds.items r Unknown)
 
 module _ {D : Type 0} (contains : D → ℕ → Type 0) (gives : GivesStated D)

@@ -6,7 +6,7 @@ use Rattle.std.proofs.Math.Seq.{take-append_seam, drop-append_seam}
 use Rattle.std.proofs.lemmas.List.{take-append-drop, drop-drop, length-drop, append_assoc}
 use Rattle.std.proofs.lemmas.List.{ext_get_or}
 use Rattle.object.specs.declared.kind.StatedKind.{StatedKind}
-use Rattle.object.specs.declared.kind.StatedKind.TheVariants.{Empty}
+use Rattle.object.specs.declared.kind.StatedKind.TheVariants.{Unstated}
 use Rattle.std.specs.Prelude.{IfSome, ◌≢◌}
 use Rattle.std.proofs.Common.{set, Option, Some, None, length-set, below_more, get_or-set_same}
 use Rattle.std.proofs.Common.{get_or-set_other}
@@ -37,7 +37,7 @@ length-kinds (k ∷ ks) = length-append (kind_text k) (flat_map kind_text ks)
 
 -- the text of one of them stands at its place
 pub kind_at : (ks : List StatedKind) (i : ℕ) → i < length ks
-    → take 40 (drop (40 * i) (flat_map kind_text ks)) ≡ kind_text (get_or ks i Empty)
+    → take 40 (drop (40 * i) (flat_map kind_text ks)) ≡ kind_text (get_or ks i Unstated)
 kind_at [] i lt = absurd (omega arith)
 kind_at (k ∷ ks) zero lt = take-append_seam (kind_text k) (flat_map kind_text ks)
 kind_at (k ∷ ks) (suc i) lt =
@@ -49,7 +49,7 @@ kind_at (k ∷ ks) (suc i) lt =
 
 -- If each text stands at its place, together they are the bytes.
 pub kinds_join : (ks : List StatedKind) (bytes : List ℕ) → length bytes ≡ 40 * length ks
-    → ((i : ℕ) → i < length ks → kind_text (get_or ks i Empty) ≡ take 40 (drop (40 * i) bytes))
+    → ((i : ℕ) → i < length ks → kind_text (get_or ks i Unstated) ≡ take 40 (drop (40 * i) bytes))
     → flat_map kind_text ks ≡ bytes
 kinds_join [] [] l h = refl
 kinds_join [] (b ∷ bs) l h = absurd (omega arith)
@@ -64,15 +64,15 @@ kinds_join (k ∷ ks) bytes l h =
 -- the first ones of the bytes, whatever kinds they spell
 pub record AreRead (read : List StatedKind) (bytes : List ℕ) (i : ℕ) : Type 0 where
   pub count : length read ≡ 10
-  pub texts : (k : ℕ) → k < i → kind_text (get_or read k Empty) ≡ take 40 (drop (40 * k) bytes)
+  pub texts : (k : ℕ) → k < i → kind_text (get_or read k Unstated) ≡ take 40 (drop (40 * k) bytes)
   pub same : (ks : List StatedKind) → All IsKind ks → length ks ≡ 10 → flat_map kind_text ks ≡ bytes
-      → (k : ℕ) → k < i → get_or read k Empty ≡ get_or ks k Empty
+      → (k : ℕ) → k < i → get_or read k Unstated ≡ get_or ks k Unstated
 
 pub same_kinds : (as' bs : List StatedKind) → All IsKind as' → All IsKind bs
     → length as' ≡ length bs → flat_map kind_text as' ≡ flat_map kind_text bs → as' ≡ bs
-same_kinds as' bs p q l e = ext_get_or Empty as' bs l (λ i lt.
-    same_kind (get_or as' i Empty) (get_or bs i Empty) (All-get_or IsKind as' i Empty lt p)
-    (All-get_or IsKind bs i Empty (omega arith) q)
+same_kinds as' bs p q l e = ext_get_or Unstated as' bs l (λ i lt.
+    same_kind (get_or as' i Unstated) (get_or bs i Unstated) (All-get_or IsKind as' i Unstated lt p)
+    (All-get_or IsKind bs i Unstated (omega arith) q)
     (sym (kind_at as' i lt) ∙ ap (λ t. take 40 (drop (40 * i) t)) e ∙ kind_at bs i (omega arith)))
 
 pub kind_found : (r : Option StatedKind) (f : RegisterFields) (bytes : List ℕ)
@@ -95,19 +95,19 @@ pub read_more : (read : List StatedKind) (bytes part : List ℕ) (i : ℕ) (one 
     → AreRead (set read i one) bytes (i + 1)
 read_more read bytes part i one h lt part_is found only =
     let count = h.count in
-    let text : kind_text (get_or (set read i one) i Empty) ≡ take 40 (drop (40 * i) bytes) =
-    ap kind_text (get_or-set_same read i one Empty (omega arith)) ∙ found ∙ part_is in
+    let text : kind_text (get_or (set read i one) i Unstated) ≡ take 40 (drop (40 * i) bytes) =
+    ap kind_text (get_or-set_same read i one Unstated (omega arith)) ∙ found ∙ part_is in
     record {
       count = length-set read i one ∙ h.count;
-      texts = below_more (λ k. kind_text (get_or (set read i one) k Empty)
+      texts = below_more (λ k. kind_text (get_or (set read i one) k Unstated)
           ≡ take 40 (drop (40 * k) bytes)) i
           (λ k less. let other : k ≢ i = omega (arith, less) in
-          ap kind_text (get_or-set_other read i k one Empty other) ∙ h.texts k less) text;
-      same = λ ks all ten e. below_more (λ k. get_or (set read i one) k Empty ≡ get_or ks k Empty) i
+          ap kind_text (get_or-set_other read i k one Unstated other) ∙ h.texts k less) text;
+      same = λ ks all ten e. below_more (λ k. get_or (set read i one) k Unstated ≡ get_or ks k Unstated) i
           (λ k less. let other : k ≢ i = omega (arith, less) in
-          get_or-set_other read i k one Empty other ∙ h.same ks all ten e k less)
-          (get_or-set_same read i one Empty (omega arith)
-          ∙ only (get_or ks i Empty) (All-get_or IsKind ks i Empty (omega (arith, ten)) all)
+          get_or-set_other read i k one Unstated other ∙ h.same ks all ten e k less)
+          (get_or-set_same read i one Unstated (omega arith)
+          ∙ only (get_or ks i Unstated) (All-get_or IsKind ks i Unstated (omega (arith, ten)) all)
           (sym (kind_at ks i (omega (arith, ten))) ∙ ap (λ t. take 40 (drop (40 * i) t)) e
           ∙ sym part_is));
     }
@@ -121,7 +121,7 @@ pub read_same : (read : List StatedKind) (bytes : List ℕ) (i : ℕ) → AreRea
     → (ks : List StatedKind) → All IsKind ks → length ks ≡ 10 → flat_map kind_text ks ≡ bytes
     → read ≡ ks
 read_same read bytes i h le ks all ten e =
-    ext_get_or Empty read ks (h.count ∙ sym ten)
+    ext_get_or Unstated read ks (h.count ∙ sym ten)
     (λ k lt. let count = h.count in h.same ks all ten e k (omega (arith, lt)))
 
 -- ---- a statement

@@ -141,14 +141,14 @@ map_from n = if n == 0 then maps.Counters else maps.Cells
 kind_from : RegisterFields → StatedKind
 kind_from f =
     let n : Numbers = record { low = f.low; high = f.high; mask = f.mask; value = f.value } in
-    if f.kind == 0 then kinds.Empty else
+    if f.kind == 0 then kinds.Unstated else
     if f.kind == 1 then kinds.Number n else
     if f.kind == 2 then kinds.Context f.offset else
     if f.kind == 3 then kinds.Stack f.offset else kinds.MapValue (map_from f.map) n
 
 kind_again : (k : StatedKind) → kind_from (fields_of_kind k) ≡ k
 unfolding kind_from map_from
-kind_again kinds.Empty = refl
+kind_again kinds.Unstated = refl
 kind_again (kinds.Number n) = refl
 kind_again (kinds.Context o) = refl
 kind_again (kinds.Stack o) = refl
@@ -156,7 +156,7 @@ kind_again (kinds.MapValue maps.Counters n) = refl
 kind_again (kinds.MapValue maps.Cells n) = refl
 
 pub small_kind : (k : StatedKind) → IsKind k → AreRegister (fields_of_kind k)
-small_kind kinds.Empty h = record {
+small_kind kinds.Unstated h = record {
   unused = omega arith;
   offset = omega arith;
   low = omega arith;

@@ -45,7 +45,7 @@ no_numbers = record { low = 0; high = 0; mask = 0; value = 0 }
 
 -- A field that a kind doesn't use is zero.
 abbrev pub fields_of_kind : StatedKind → RegisterFields
-fields_of_kind kinds.Empty = register_fields 0 0 0 no_numbers
+fields_of_kind kinds.Unstated = register_fields 0 0 0 no_numbers
 fields_of_kind (kinds.Number numbers) = register_fields 1 0 0 numbers
 fields_of_kind (kinds.Context offset) = register_fields 2 0 offset no_numbers
 fields_of_kind (kinds.Stack offset) = register_fields 3 0 offset no_numbers

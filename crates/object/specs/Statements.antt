@@ -9,7 +9,7 @@ use Rattle.object.specs.Numbers.{Numbers, IsNumbers, Term, IsTerm}
 use Rattle.object.specs.Sets.{IsStackBytes}
 
 abbrev pub IsKind : StatedKind → Type 0
-IsKind kinds.Empty = Unit {0}
+IsKind kinds.Unstated = Unit {0}
 IsKind (kinds.Number numbers) = IsNumbers numbers
 IsKind (kinds.Context offset) = offset ≤ 64
 IsKind (kinds.Stack offset) = offset ≤ 512

@@ -6,8 +6,9 @@ use isa::Map;
 /// What a statement says that a register holds.
 #[derive(Clone, Copy, PartialEq, Eq)]
 pub enum StatedKind {
-    /// Anything, or nothing: the program writes the register before it reads it.
-    Empty,
+    /// Nothing is stated: it may be empty or hold anything, so the program has to write it before it
+    /// reads it. Kind 0 of the format, which calls it empty.
+    Unstated,
     /// One of these numbers.
     Number(StatedNumber),
     /// A pointer into the context.
@@ -27,7 +28,7 @@ impl StatedKind {
         ensures { IsKind self.now }
     {
         match self {
-            StatedKind::Empty => {}
+            StatedKind::Unstated => {}
             StatedKind::Number(numbers) | StatedKind::MapValue(_, numbers) => {
                 let _low = numbers.low();
             }

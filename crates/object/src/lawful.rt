@@ -31,7 +31,7 @@ fn empty(fields: RegisterFields) -> Option<StatedKind>
         → result ≡ Some kind }
 {
     if fields.map == 0 && fields.offset == 0 && has_no_numbers(fields) {
-        Some(StatedKind::Empty)
+        Some(StatedKind::Unstated)
     } else {
         None
     }

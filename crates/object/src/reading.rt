@@ -38,7 +38,7 @@ fn kinds(bytes: &[u8]) -> Option<[StatedKind; 10]>
     ensures only { (kinds : List StatedKind) → All IsKind kinds → length kinds ≡ 10
         → flat_map kind_text kinds ≡ bytes.now → result ≡ Some kinds }
 {
-    let mut kinds = [StatedKind::Empty; 10];
+    let mut kinds = [StatedKind::Unstated; 10];
     for register in 0..10 {
         let Some(one) = kind(&bytes[40 * register..40 * register + 40]) else {
             return None;

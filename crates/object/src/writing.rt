@@ -50,7 +50,7 @@ fn fields_of_kind(kind: &StatedKind) -> RegisterFields
     ensures { result ≡ fields_of_kind kind.now }
 {
     match kind {
-        StatedKind::Empty => without_numbers(0, 0),
+        StatedKind::Unstated => without_numbers(0, 0),
         StatedKind::Number(numbers) => with_numbers(1, 0, numbers),
         StatedKind::Context(offset) => without_numbers(2, offset.bytes()),
         StatedKind::Stack(offset) => without_numbers(3, offset.bytes()),

@@ -19,7 +19,7 @@ use Rattle.machine.specs.Given.{blank}
 use Rattle.machine.specs.Label.{Silent}
 use Rattle.machine.specs.State.{with_register, setting_of, start}
 use Rattle.machine.specs.Runs.{Run}
-use Rattle.object.specs.declared.kind.StatedKind.TheVariants.{Context, Empty}
+use Rattle.object.specs.declared.kind.StatedKind.TheVariants.{Context, Unstated}
 use Rattle.object.specs.Sets.{no_bytes, with_range}
 use Rattle.kinds.specs.Stated.{GivesStated, any_number}
 use Rattle.regions.specs.declared.Region.{Region}
@@ -147,12 +147,12 @@ nothing_is_byte n byte none is = cc
 pub starts_as_stated : {D : Type 0} (contains : D → ℕ → Type 0) (gives : GivesStated D)
     (hook : Hook) → StartsAsStated contains gives hook
 starts_as_stated contains gives hook = record {
-  offset = λ meet. context_apart ((meet blank 0 [] start (says_first Empty (Context 8))
+  offset = λ meet. context_apart ((meet blank 0 [] start (says_first Unstated (Context 8))
       (no_steps hook) refl).registers 1 (omega arith));
-  filled = λ meet. let held = (meet blank 0 [] start (says_first any_number Empty) (no_steps hook)
+  filled = λ meet. let held = (meet blank 0 [] start (says_first any_number Unstated) (no_steps hook)
       refl).registers 0 (omega arith) in nothing_is_number held.0 held.1;
   byte = λ meet. let byte = (meet blank 0 [] start
-      (record (says_first Empty Empty) { stack = with_range 0 1 no_bytes }) (no_steps hook)
+      (record (says_first Unstated Unstated) { stack = with_range 0 1 no_bytes }) (no_steps hook)
       refl).stack 0 refl in
       nothing_is_byte byte.0 _ (get_or-replicate 512 0 stack_bytes.Nothing stack_bytes.Nothing
       (omega arith)) byte.1;

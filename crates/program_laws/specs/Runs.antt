@@ -8,7 +8,7 @@ use Rattle.isa.specs.declared.instruction.LoadSize.TheVariants.{Unsigned64}
 use Rattle.isa.specs.declared.instruction.Source.TheVariants.{Register}
 use Rattle.isa.specs.declared.instruction.StoreSize.TheVariants as stored
 use Rattle.object.specs.declared.kind.StatedKind.{StatedKind}
-use Rattle.object.specs.declared.kind.StatedKind.TheVariants.{Context, Empty}
+use Rattle.object.specs.declared.kind.StatedKind.TheVariants.{Context, Unstated}
 use Rattle.object.specs.Sets.{no_bytes, with_range}
 use Rattle.object.specs.Statements.{StatementParts}
 use Rattle.kinds.specs.Stated.{GivesStated, any_number}
@@ -55,7 +55,7 @@ abbrev pub says_first : StatedKind → StatedKind → StatementParts
 says_first first second = record {
   slot = 0;
   rank = constant_rank 0;
-  kinds = first ∷ second ∷ replicate 8 Empty;
+  kinds = first ∷ second ∷ replicate 8 Unstated;
   stack = no_bytes;
 }
 
@@ -64,11 +64,11 @@ says_first first second = record {
 pub record StartsAsStated {D : Type 0} (contains : D → ℕ → Type 0) (gives : GivesStated D)
     (hook : Hook) : Type 0 where
   pub offset : RunsMeetStatements contains gives loads_context hook
-      (says_first Empty (Context 8) ∷ []) → ⊥
+      (says_first Unstated (Context 8) ∷ []) → ⊥
   pub filled : RunsMeetStatements contains gives loads_context hook
-      (says_first any_number Empty ∷ []) → ⊥
+      (says_first any_number Unstated ∷ []) → ⊥
   pub byte : RunsMeetStatements contains gives loads_context hook
-      (record (says_first Empty Empty) { stack = with_range 0 1 no_bytes } ∷ []) → ⊥
+      (record (says_first Unstated Unstated) { stack = with_range 0 1 no_bytes } ∷ []) → ⊥
 
 -- `r0 = 7; exit` doesn't leave a pointer in r0: so no program with such a statement after it is
 -- accepted.

@@ -65,7 +65,7 @@ fn planned(
 
 /// What the statement says of r0 to r9.
 pub fn kinds_of(statement: &Statement) -> [StatedKind; 10] {
-    let mut kinds = [StatedKind::Empty; 10];
+    let mut kinds = [StatedKind::Unstated; 10];
     for (register, kind) in statement.kinds().iter().enumerate() {
         if register < 10 {
             kinds[register] = *kind;

@@ -35,7 +35,7 @@ struct Gap {
 fn bounds_at(statement: &Statement) -> Bounds {
     let mut bounds = NO_BOUNDS;
     for register in 0..10usize {
-        let stated = element_or(statement.kinds(), register, Stated::Empty);
+        let stated = element_or(statement.kinds(), register, Stated::Unstated);
         if let Kind::Number(value) = kind_of::<Value>(stated) {
             let (low, high) = value.range();
             bounds.lows[register] = low;

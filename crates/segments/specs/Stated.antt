@@ -21,7 +21,7 @@ pub record IsSegmentStartOf {D : Type 0} (contains : D → ℕ → Type 0) (stat
   pub same : segment.statement.now ≡ statement
   pub ten : length segment.kinds.items ≡ 10
   pub read : (r : ℕ) → r < 10
-      → IsRead contains (slice_index_or statement.kinds r said.Empty)
+      → IsRead contains (slice_index_or statement.kinds r said.Unstated)
       (slice_index_or segment.kinds.items r kinds.Unknown)
 
 abbrev pub Agrees : {D : Type 0} → (D → ℕ → Type 0) → Option StatementParts

@@ -77,20 +77,20 @@ leads_from = each (λ slot i. LeadsTo slot i 2 → slot ≡ 1)
     (⊎_elim (λ (jumps : None ≡ Some 2). absurd (none-some _ jumps))
     (λ (on : (false ≡ true) × (3 ≡ 2)). never on.0))
 
-empty_is_number : (said : StatedKind) (numbers : Numbers) → said ≡ kinds.Empty
+empty_is_number : (said : StatedKind) (numbers : Numbers) → said ≡ kinds.Unstated
     → said ≡ kinds.Number numbers → ⊥
 empty_is_number said numbers empty number = cc
 
-stated_plainly : (r : ℕ) → r < 10 → (said_of (says 2 any_number 0) r ≡ kinds.Empty)
+stated_plainly : (r : ℕ) → r < 10 → (said_of (says 2 any_number 0) r ≡ kinds.Unstated)
     ⊎ (said_of (says 2 any_number 0) r ≡ any_number)
 stated_plainly zero low = inr refl
-stated_plainly (suc r) low = inl (get_or-replicate 9 r kinds.Empty kinds.Empty (omega (arith, low)))
+stated_plainly (suc r) low = inl (get_or-replicate 9 r kinds.Unstated kinds.Unstated (omega (arith, low)))
 
 number_is_r0 : (r : ℕ) → IsNumberIn (says 2 any_number 0) r → r ≡ 0
 number_is_r0 zero number = refl
 number_is_r0 (suc r) number =
-    absurd (empty_is_number (get_or (replicate 9 kinds.Empty) r kinds.Empty) number.numbers
-    (get_or-replicate 9 r kinds.Empty kinds.Empty (let low = number.low in omega (arith, low)))
+    absurd (empty_is_number (get_or (replicate 9 kinds.Unstated) r kinds.Unstated) number.numbers
+    (get_or-replicate 9 r kinds.Unstated kinds.Unstated (let low = number.low in omega (arith, low)))
     number.says)
 
 third_is_none : Begins tested_code 3 → ⊥
@@ -214,13 +214,13 @@ is_unreached plain = (plain.made 2).reached (record {
 
 -- ---- statements that aren't plain
 
-pub is_stray : IsPlain (then_exit seven) 0 (says 5 kinds.Empty 0 ∷ []) → ⊥
+pub is_stray : IsPlain (then_exit seven) 0 (says 5 kinds.Unstated 0 ∷ []) → ⊥
 is_stray plain = (plain.made 5).target (inr (record {
   stated = refl;
   nowhere = λ begins. none-some _ begins.1;
 }))
 
-only_is_empty : only_seven ≡ kinds.Empty → ⊥
+only_is_empty : only_seven ≡ kinds.Unstated → ⊥
 only_is_empty is = cc
 
 abbrev low_of : StatedKind → ℕ
@@ -230,7 +230,7 @@ low_of other = 0
 pub says_seven : IsPlain (then_exit seven) 0 (says 1 only_seven 0 ∷ []) → ⊥
 says_seven plain =
     ⊎_elim
-    (λ (empty : only_seven ≡ kinds.Empty). only_is_empty empty)
+    (λ (empty : only_seven ≡ kinds.Unstated). only_is_empty empty)
     (λ (any : only_seven ≡ any_number). let low : 7 ≡ 0 = ap low_of any in omega (arith, low))
     ((plain.states 1 (says 1 only_seven 0) refl).registers 0 (omega arith))
 
@@ -279,15 +279,15 @@ rises plain =
     }) 0 (at_entry refl refl refl) in
     omega (arith, falls)
 
-pub rises_at_entry : IsPlain (then_exit seven) 0 (says 0 kinds.Empty 1 ∷ []) → ⊥
-rises_at_entry plain = let falls = plain.entry_falls (says 0 kinds.Empty 1) refl in
+pub rises_at_entry : IsPlain (then_exit seven) 0 (says 0 kinds.Unstated 1 ∷ []) → ⊥
+rises_at_entry plain = let falls = plain.entry_falls (says 0 kinds.Unstated 1) refl in
     omega (arith, falls)
 
-pub stays_equal : IsPlain endless_code 0 (says 0 kinds.Empty 0 ∷ []) → ⊥
+pub stays_equal : IsPlain endless_code 0 (says 0 kinds.Unstated 0 ∷ []) → ⊥
 stays_equal plain =
-    let falls = plain.falls 0 (instructions.Jump (negsuc 0)) 0 (says 0 kinds.Empty 0) (record {
+    let falls = plain.falls 0 (instructions.Jump (negsuc 0)) 0 (says 0 kinds.Unstated 0) (record {
       at = refl;
       leads = inl refl;
       stated = refl;
-    }) 0 (at_statement (says 0 kinds.Empty 0) refl refl) in
+    }) 0 (at_statement (says 0 kinds.Unstated 0) refl refl) in
     omega (arith, falls)

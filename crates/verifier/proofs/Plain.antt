@@ -84,25 +84,25 @@ asks_nothing : {D : Type 0} (contains : D → ℕ → Type 0) (kind : Kind D) (f
 asks_nothing contains kind filled empty = rw empty tt
 
 asks_of : {D : Type 0} (contains : D → ℕ → Type 0) (says : Stated) (kind : Kind D) (filled : Type 0)
-    → IsRead contains says kind → (says ≡ said.Empty) ⊎ (says ≡ any_number)
+    → IsRead contains says kind → (says ≡ said.Unstated) ⊎ (says ≡ any_number)
     → ((numbers : Numbers) → says ≡ said.Number numbers → filled)
     → AsksAtMost contains filled kind
 asks_of contains says kind filled read plain is =
     ⊎_elim
-    (λ (empty : says ≡ said.Empty). asks_nothing contains kind filled (read.empty empty))
+    (λ (empty : says ≡ said.Unstated). asks_nothing contains kind filled (read.empty empty))
     (λ (any : says ≡ any_number). asks_number contains kind filled (read.any any) (is _ any))
     plain
 
-empty_is_number : (says : Stated) (numbers : Numbers) → says ≡ said.Empty
+empty_is_number : (says : Stated) (numbers : Numbers) → says ≡ said.Unstated
     → says ≡ said.Number numbers → ⊥
 empty_is_number says numbers empty number = cc
 
 number_stated : {D : Type 0} (contains : D → ℕ → Type 0) (says : Stated) (kind : Kind D)
-    (numbers : Numbers) → IsRead contains says kind → (says ≡ said.Empty) ⊎ (says ≡ any_number)
+    (numbers : Numbers) → IsRead contains says kind → (says ≡ said.Unstated) ⊎ (says ≡ any_number)
     → says ≡ said.Number numbers → IsNumber kind
 number_stated contains says kind numbers read plain number =
     ⊎_elim
-    (λ (empty : says ≡ said.Empty). absurd (empty_is_number says numbers empty number))
+    (λ (empty : says ≡ said.Unstated). absurd (empty_is_number says numbers empty number))
     (λ (any : says ≡ any_number). number_of_every contains kind (read.any any))
     plain
 

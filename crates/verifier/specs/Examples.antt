@@ -55,7 +55,7 @@ abbrev pub says : ℕ → StatedKind → ℕ → StatementParts
 says slot kind constant = record {
   slot = slot;
   rank = constant_rank constant;
-  kinds = kind ∷ replicate 9 kinds.Empty;
+  kinds = kind ∷ replicate 9 kinds.Unstated;
   stack = no_bytes;
 }
 
@@ -68,7 +68,7 @@ abbrev pub says_byte : StatementParts
 says_byte = record {
   slot = 1;
   rank = constant_rank 0;
-  kinds = any_number ∷ replicate 9 kinds.Empty;
+  kinds = any_number ∷ replicate 9 kinds.Unstated;
   stack = with_range 0 1 no_bytes;
 }
 
@@ -81,6 +81,6 @@ says_term = record {
     first = Some (record { register = 0; coefficient = 1 });
     second = None;
   };
-  kinds = any_number ∷ replicate 9 kinds.Empty;
+  kinds = any_number ∷ replicate 9 kinds.Unstated;
   stack = no_bytes;
 }

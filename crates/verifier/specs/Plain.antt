@@ -22,12 +22,12 @@ use Rattle.segments.specs.Stated.{statement_at}
 
 -- what is said of a register
 abbrev pub said_of : StatementParts → ℕ → StatedKind
-said_of s r = slice_index_or s.kinds r kinds.Empty
+said_of s r = slice_index_or s.kinds r kinds.Unstated
 
 -- it says of each register nothing, or that it is any number, and nothing of the stack; its rank is
 -- a constant
 pub record IsPlainStatement (s : StatementParts) : Type 0 where
-  pub registers : (r : ℕ) → r < 10 → (said_of s r ≡ kinds.Empty) ⊎ (said_of s r ≡ any_number)
+  pub registers : (r : ℕ) → r < 10 → (said_of s r ≡ kinds.Unstated) ⊎ (said_of s r ≡ any_number)
   pub stack : s.stack ≡ no_bytes
   pub rank : IsConstant s.rank
 

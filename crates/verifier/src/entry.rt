@@ -32,7 +32,7 @@ pub fn entry_statement(rank: u32) -> Statement
         first: None,
         second: None,
     };
-    match Statement::new(0, constant, [Stated::Empty; 10], StackBytes::new()) {
+    match Statement::new(0, constant, [Stated::Unstated; 10], StackBytes::new()) {
         Some(statement) => statement,
         None => unreachable!(),
     }

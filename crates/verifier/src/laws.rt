@@ -3,7 +3,7 @@ ghost use Rattle.std.specs.Prelude.{[], ◌∷◌, pos};
 ghost use Rattle.isa.specs.declared.code.Slot.TheVariants.{Start};
 ghost use Rattle.isa.specs.declared.instruction.Instruction.TheVariants.{Call, Exit};
 ghost use Rattle.isa.specs.declared.instruction.Source.TheVariants.{Immediate, Register};
-ghost use Rattle.object.specs.declared.kind.StatedKind.TheVariants.{Empty};
+ghost use Rattle.object.specs.declared.kind.StatedKind.TheVariants.{Unstated};
 ghost use Rattle.kinds.specs.Stated.{any_number};
 ghost use Rattle.verifier.specs.Examples.{then_exit, endless_code, move_of};
 ghost use Rattle.verifier.specs.Examples.{only_seven, says, says_byte};
@@ -32,7 +32,7 @@ pub fn these_codes_are_not_plain()
 /// which numbers a register may hold, which stack bytes are bytes of numbers, or a rank that isn't
 /// a constant.
 pub fn these_statements_are_not_plain()
-    ensures stray { IsPlain (then_exit seven) 0 (says 5 Empty 0 ∷ []) → ⊥ }
+    ensures stray { IsPlain (then_exit seven) 0 (says 5 Unstated 0 ∷ []) → ⊥ }
     ensures numbers { IsPlain (then_exit seven) 0 (says 1 only_seven 0 ∷ []) → ⊥ }
     ensures bytes { IsPlain (then_exit seven) 0 (says_byte ∷ []) → ⊥ }
     ensures term { IsPlain (then_exit seven) 0 (says_term ∷ []) → ⊥ }
@@ -45,6 +45,6 @@ pub fn these_edges_are_not_plain()
         (says 1 any_number 0 ∷ []) → ⊥ }
     ensures entry_unfilled { IsPlain (then_exit seven) 0 (says 0 any_number 0 ∷ []) → ⊥ }
     ensures rises { IsPlain (then_exit seven) 0 (says 1 any_number 1 ∷ []) → ⊥ }
-    ensures entry_rises { IsPlain (then_exit seven) 0 (says 0 Empty 1 ∷ []) → ⊥ }
-    ensures stays { IsPlain endless_code 0 (says 0 Empty 0 ∷ []) → ⊥ }
+    ensures entry_rises { IsPlain (then_exit seven) 0 (says 0 Unstated 1 ∷ []) → ⊥ }
+    ensures stays { IsPlain endless_code 0 (says 0 Unstated 0 ∷ []) → ⊥ }
 {}

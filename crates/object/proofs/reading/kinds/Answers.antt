@@ -1,6 +1,6 @@
 use Rattle.std.proofs.Common.{◌≡◌, ◌+◌, ◌-◌, ◌*◌, take, drop, Some, refl, sym, ap, ◌∙◌, arith}
 use Rattle.std.proofs.lemmas.List.Elements.{All-get_or}
-use Rattle.object.specs.declared.kind.StatedKind.TheVariants.{Empty}
+use Rattle.object.specs.declared.kind.StatedKind.TheVariants.{Unstated}
 use Rattle.object.specs.Statements.{IsKind}
 use Rattle.object.proofs.Parts.{kind_at, read_none, read_more, read_text, read_same}
 use Rattle.object.proofs.reading.kinds.Goals as goal
@@ -28,7 +28,7 @@ returns-in_default-clause-only c ks all ten e =
     let here = sym (kind_at ks i (omega (arith, ten))) ∙ ap (λ t. take 40 (drop (40 * i) t)) e
     ∙ ap (λ n. take n (drop (40 * i) c.args.bytes.now)) (sym forty) in
     absurd (c.in_default.not-Some _ (c.kind.ensures.only _
-    (All-get_or IsKind ks i Empty (omega (arith, ten)) all) here))
+    (All-get_or IsKind ks i Unstated (omega (arith, ten)) all) here))
 
 pub returns : goal.returns
 returns c = record {
