@@ -70,7 +70,7 @@ impl Area {
     ///
     /// # Errors
     /// `AllocError` if an allocation is refused.
-    pub fn after_case(
+    pub fn carry_out_case(
         &mut self,
         alloc: Global,
         case: Case,

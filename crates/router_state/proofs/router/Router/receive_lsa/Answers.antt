@@ -76,12 +76,12 @@ returns-then-newer-clause-does c =
     (newer_installs m n lsa case newer (start c.self.inside.area.present))).makes
     (c.in_ok-receive_self_originated.ensures lsa (sym c.header-header.ensures)).makes)))
 
-pub returns-in_err-after_case-clause-does : goal.returns-in_err-after_case-clause-does
-returns-in_err-after_case-clause-does c =
-    let away = c.from_residual-in_err-after_case in
+pub returns-in_err-carry_out_case-clause-does : goal.returns-in_err-carry_out_case-clause-does
+returns-in_err-carry_out_case-clause-does c =
+    let away = c.from_residual-in_err-carry_out_case in
     refused away.result away.ensures.0
-    (area_stays _ c.args.self.now c.self.inside.area c.after_case.new.self c.self.view_is refl
-    c.in_err-after_case.ensures.committed)
+    (area_stays _ c.args.self.now c.self.inside.area c.carry_out_case.new.self c.self.view_is refl
+    c.in_err-carry_out_case.ensures.committed)
 
 pub returns-clause-goes_on : goal.returns-clause-goes_on
 returns-clause-goes_on c =
@@ -107,5 +107,5 @@ returns-clause-does c =
     ∙ ap (λ (r : KeptRouter). case_at m n lsa r.present.area) c.self.view_is)
     (other_received m n lsa case (sym c.is_newer-newer.ensures ∙ c.if-newer.false)
     (area_does (after_case case m n lsa) (keeps_case m n lsa case) (appends_case m n lsa case) _
-    c.args.self.now c.self.inside.area c.after_case.new.self _ c.self.view_is refl
-    c.in_ok-after_case.ensures refl).makes)))
+    c.args.self.now c.self.inside.area c.carry_out_case.new.self _ c.self.view_is refl
+    c.in_ok-carry_out_case.ensures refl).makes)))

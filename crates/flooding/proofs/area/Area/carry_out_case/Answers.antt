@@ -17,7 +17,7 @@ use Rattle.flooding.specs.Links.{area_of, start}
 use Rattle.flooding.proofs.Doing.{area_rests, area_same}
 use Rattle.flooding.proofs.Lent.{lent_do, lent_number}
 use Rattle.flooding.proofs.Marking.{mismatch_alone, on_links_alone, removal_alone}
-use Rattle.flooding.proofs.area.Area.after_case.Goals as goal
+use Rattle.flooding.proofs.area.Area.carry_out_case.Goals as goal
 
 pub returns-in-NothingToFlush : goal.returns-in-NothingToFlush
 returns-in-NothingToFlush c =
