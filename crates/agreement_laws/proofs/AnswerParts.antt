@@ -22,7 +22,7 @@ use Rattle.adjacency.specs.Requests.{request_next}
 use Rattle.adjacency.specs.Retransmissions.{after_acknowledgment, remove_retransmission}
 use Rattle.adjacency.proofs.Kept.{chosen}
 use Rattle.received.specs.Cases.{Case}
-use Rattle.received.specs.Flooding.{flood, flood_to, is_sender}
+use Rattle.received.specs.Flooding.{flood, flood_to, is_received_at}
 use Rattle.received.specs.Holds.{Holds}
 use Rattle.received.specs.Links.{Link, change_link, delay_acknowledgment, link_at, neighbor_at}
 use Rattle.received.specs.Links.{neighbor_on}
@@ -292,7 +292,7 @@ module _ (own : ℕ) (Acc : Description → Type 0) (Began : Conversation → Ty
       → Stands (flood moment sender lsa o)
   floods sender lsa o h =
       each_step (flood_to moment sender lsa) o
-      (λ link m is at. steps.flooded own Acc Began moment (is_sender sender number) lsa
+      (λ link m is at. steps.flooded own Acc Began moment (is_received_at sender number) lsa
       (Said o.sends) m at) h
 
   -- ---- ages

@@ -37,7 +37,7 @@ use Rattle.adjacency.specs.Requests.{request_next}
 use Rattle.adjacency.specs.Retransmissions.{after_acknowledgment, remove_retransmission}
 use Rattle.adjacency.proofs.Kept.{chosen}
 use Rattle.received.specs.Cases.{Case}
-use Rattle.received.specs.Flooding.{flood, flood_to, is_sender}
+use Rattle.received.specs.Flooding.{flood, flood_to, is_received_at}
 use Rattle.received.specs.Holds.{Holds, HoldsOfEach}
 use Rattle.received.specs.Links.{Link, delay_acknowledgment, link_at, neighbor_at, neighbor_on}
 use Rattle.received.specs.Outcomes.{Outcome, on_database}
@@ -256,7 +256,7 @@ flood_kept : (moment : ℕ) (sender : Option ℕ) (lsa : Lsa) (o : Outcome) → 
     → OnOutcome (flood moment sender lsa o)
 flood_kept moment sender lsa o h =
     each_keeps IsDone moment (flood_to moment sender lsa)
-    (λ number link n at. flooded moment (is_sender sender number) lsa n at) o h
+    (λ number link n at. flooded moment (is_received_at sender number) lsa n at) o h
 
 install_kept : (moment number : ℕ) (lsa : Lsa) (o : Outcome) → OnOutcome o
     → OnOutcome (flood_and_install moment number lsa o)

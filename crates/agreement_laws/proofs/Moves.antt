@@ -22,7 +22,7 @@ use Rattle.adjacency.specs.Retransmissions.{after_acknowledgment, remove_retrans
 use Rattle.adjacency.proofs.Kept.{chosen}
 use Rattle.adjacency.specs.Descriptions.{after_description}
 use Rattle.received.specs.Cases.{Case}
-use Rattle.received.specs.Flooding.{flood, flood_to, is_sender}
+use Rattle.received.specs.Flooding.{flood, flood_to, is_received_at}
 use Rattle.received.specs.Holds.{Holds}
 use Rattle.received.specs.Links.{Link, change_link, delay_acknowledgment, link_at, neighbor_at}
 use Rattle.received.specs.Outcomes.{Outcome, Stepping, each_neighbor, on_database, on_links}
@@ -108,7 +108,7 @@ module _ (old : Router) (moment : ℕ) (event : Occurrence) (number : ℕ) (n : 
   floods : (sender : Option ℕ) (lsa : Lsa) (o : Outcome) → Stands o
       → Stands (flood moment sender lsa o)
   floods sender lsa o h = each_step (flood_to moment sender lsa) o
-      (λ link m at. steps.flooded n moment (is_sender sender number) lsa m at) h
+      (λ link m at. steps.flooded n moment (is_received_at sender number) lsa m at) h
 
   -- ---- ages: they leave it as it was
 
@@ -127,7 +127,7 @@ module _ (old : Router) (moment : ℕ) (event : Occurrence) (number : ℕ) (n : 
       (flood_from_nobody moment (lsa_now moment e.1) o) o
       (λ just. interface.stepped SameThere number (flood_to moment None (lsa_now moment e.1))
       o.area.links
-      (λ link m k. steps.same_flooded n moment (is_sender None number) (lsa_now moment e.1) m k) h)
+      (λ link m k. steps.same_flooded n moment (is_received_at None number) (lsa_now moment e.1) m k) h)
       (λ young. h))
 
   same_begun : SameThere (neighbor_at number start.router.area.links)

@@ -20,7 +20,7 @@ use Rattle.adjacency.specs.Descriptions.{verdict, verdict_in, with_requests}
 use Rattle.adjacency.specs.Neighbors.{Neighbor}
 use Rattle.adjacency.specs.Requests.{request_next}
 use Rattle.adjacency.proofs.Kept.{chosen}
-use Rattle.received.specs.Flooding.{flood_to, is_sender}
+use Rattle.received.specs.Flooding.{flood_to, is_received_at}
 use Rattle.received.specs.Links.{Link, neighbor_at}
 use Rattle.received.specs.Outcomes.{Outcome, on_database, only_at, step_on}
 use Rattle.event_rules.specs.declared.model.Out.{Out}
@@ -158,7 +158,7 @@ module _ (own moment number : ℕ) (x : Neighbor) where
 
   floods : (lsa : Lsa) (o : Outcome) → StaysSame o → StaysSame (flood_from_nobody moment lsa o)
   floods lsa o h = interface.stepped SameThere number (flood_to moment None lsa) o.area.links
-      (λ link m at. same_flooded x moment (is_sender None number) lsa m at) h
+      (λ link m at. same_flooded x moment (is_received_at None number) lsa m at) h
 
   kept : IsKeptToEnd own moment StaysSame
   kept = record {

@@ -29,7 +29,7 @@ use Rattle.adjacency.specs.Requests.{request_next}
 use Rattle.adjacency.specs.Retransmissions.{after_acknowledgment, remove_retransmission}
 use Rattle.adjacency.proofs.Kept.{chosen}
 use Rattle.received.specs.Cases.{Case}
-use Rattle.received.specs.Flooding.{flood, flood_to, is_sender}
+use Rattle.received.specs.Flooding.{flood, flood_to, is_received_at}
 use Rattle.received.specs.Holds.{Holds}
 use Rattle.received.specs.Links.{Link, change_link, delay_acknowledgment}
 use Rattle.received.specs.Links.{link_at, neighbor_at, neighbor_on}
@@ -267,7 +267,7 @@ module _ (key : Key) (moment : ℕ) (number : ℕ) (There : Type 0) (Of : ℕ �
     flood_other sender lsa o other h =
         each_step (flood_to moment sender lsa) o (held moment key o.area.database)
         (λ link m at. settling.flooded_other key moment Of (SaidBy o.sends)
-        (held moment key o.area.database) moment (is_sender sender number) lsa m other at) h
+        (held moment key o.area.database) moment (is_received_at sender number) lsa m other at) h
 
     -- an LSA of another key, whatever is held
     pub flood_any : (sender : Option ℕ) (lsa : Lsa) (o : Outcome) (x : Option Instance)
@@ -280,7 +280,7 @@ module _ (key : Key) (moment : ℕ) (number : ℕ) (There : Type 0) (Of : ℕ �
         (neighbor_at number (stepped_links (flood_to moment sender lsa) o.area.links))
         (interface.stepped (HoldsThere o.sends x) number (flood_to moment sender lsa) o.area.links
         (λ link m k. settling.flooded_other key moment Of (SaidBy o.sends) x moment
-        (is_sender sender number) lsa m other k) h)
+        (is_received_at sender number) lsa m other k) h)
 
     -- an LSA of this key that wasn't received from a neighbor; what was held before doesn't matter
     pub flood_same : (lsa : Lsa) (o : Outcome) (x : Option Instance) → same_key key (lsa_key lsa)

@@ -21,7 +21,7 @@ use Rattle.adjacency.specs.Retransmissions.{after_acknowledgment, remove_retrans
 use Rattle.adjacency.proofs.Kept.{chosen}
 use Rattle.adjacency.proofs.Maps.{OfEntry}
 use Rattle.received.specs.Cases.{Case}
-use Rattle.received.specs.Flooding.{flood, flood_to, is_sender}
+use Rattle.received.specs.Flooding.{flood, flood_to, is_received_at}
 use Rattle.received.specs.Holds.{Holds}
 use Rattle.received.specs.Links.{Link, change_link, delay_acknowledgment, link_at, neighbor_at}
 use Rattle.received.specs.Outcomes.{Outcome, Send, Stepping, each_neighbor, on_database, on_links}
@@ -145,7 +145,7 @@ module _ (ranks : RanksFollowTheComparison) (key : Key) (moment : ℕ) (first : 
       one : (link : Link) (n : Option Neighbor) → AsksThere n → Met (step_on (f number link) n)
       one link None k = inl k
       one link (Some m) k = flooded ranks key moment first entry low with_it May
-          (is_sender sender number) lsa m k
+          (is_received_at sender number) lsa m k
 
       by_result : Met (neighbor_at number (stepped_links f o.area.links))
           → Stands (on_links (stepped_links f) o)

@@ -29,7 +29,7 @@ use Rattle.adjacency.specs.Retransmissions.{that_fit, update_again}
 use Rattle.adjacency.proofs.Kept.{chosen}
 use Rattle.adjacency.proofs.Maps.{IfThere, OfEntry, entries_in, inserted_in, none_in}
 use Rattle.received.specs.Cases.{Case}
-use Rattle.received.specs.Flooding.{flood, flood_to, is_sender}
+use Rattle.received.specs.Flooding.{flood, flood_to, is_received_at}
 use Rattle.received.specs.Holds.{Holds}
 use Rattle.received.specs.Links.{Area, Link, change_link, delay_acknowledgment, link_at}
 use Rattle.received.specs.Outcomes.{Outcome, Send, Stepping, each_neighbor, marked_database}
@@ -320,7 +320,7 @@ module _ (old : Router) (moment : ℕ) where
   flooded sender lsa o so h =
       each_so (flood_to moment sender lsa) o
       (λ number link n at. flooded_so old (AsNew o.area.database) number moment
-      (is_sender sender number) lsa n so at) h
+      (is_received_at sender number) lsa n so at) h
 
   -- ---- copies
 

@@ -41,7 +41,7 @@ use Rattle.adjacency.proofs.Kept.{chosen}
 use Rattle.adjacency.proofs.Maps.{OfEntry}
 use Rattle.received.specs.Cases.{Case, case_of_readable, first_case, is_on_senders_list}
 use Rattle.received.specs.Cases.{is_wrapping, was_requested}
-use Rattle.received.specs.Flooding.{flood, flood_to, is_sender}
+use Rattle.received.specs.Flooding.{flood, flood_to, is_received_at}
 use Rattle.received.specs.Holds.{Holds}
 use Rattle.received.specs.Links.{Area, Link, any_exchange_or_loading, delay_acknowledgment}
 use Rattle.received.specs.Links.{change_link, link_at, neighbor_at, neighbor_on}
@@ -364,7 +364,7 @@ module _ (old : Router) (moment : ℕ) (event : Occurrence) (number : ℕ) (befo
       → Became (flood moment sender lsa o).area t
   flood_other_became sender lsa o t other h =
       each_became (flood_to moment sender lsa)
-      (λ link m at. flooded_other key name Asked moment (is_sender sender number) lsa m other
+      (λ link m at. flooded_other key name Asked moment (is_received_at sender number) lsa m other
       at) o t h
 
   abbrev OwesOrAsked : Option Neighbor → Type 0
@@ -1077,7 +1077,7 @@ module _ (old : Router) (moment : ℕ) (event : Occurrence) (number : ℕ) (befo
       one : (link : Link) (n : Option Neighbor) → StandsThere n
           → StandsThere (step_on (flood_to moment None lsa number link) n)
       one link None at = at
-      one link (Some m) at = flooding_stands (is_sender None number) lsa m at
+      one link (Some m) at = flooding_stands (is_received_at None number) lsa m at
 
   like_aged : (c : DatabaseCopy) → is_aged_out moment copy ≡ true → IsLike c
       → is_aged_out moment c ≡ true

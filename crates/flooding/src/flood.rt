@@ -3,7 +3,7 @@ ghost use Rattle.std.specs.Prelude.{◌≡◌, ◌≤◌, ◌||◌, IfOk, None, 
 ghost use Rattle.words.specs.Constants.{max_age};
 ghost use Rattle.adjacency.specs.lsdb.Copies.{has_just_aged_out, lsa_now};
 ghost use Rattle.adjacency.specs.Floods.{is_any};
-ghost use Rattle.received.specs.Flooding.{flood_to, is_sender};
+ghost use Rattle.received.specs.Flooding.{flood_to, is_received_at};
 ghost use Rattle.received.specs.Outcomes.{stepped_links, stepping_sends};
 ghost use Rattle.received.specs.Updates.{flood_and_install};
 ghost use Rattle.flooding.specs.Doing.{AreaDoes, LinksDo};
@@ -20,10 +20,10 @@ use lsdb::CopyTimes;
 use std::alloc::{AllocError, Global};
 use words::{Key, Second};
 
-fn is_sender(sender: Option<usize>, interface: usize) -> bool
-    ensures { result ≡ is_sender sender interface }
+fn is_received_at(received_at: Option<usize>, interface: usize) -> bool
+    ensures { result ≡ is_received_at received_at interface }
 {
-    match sender {
+    match received_at {
         None => false,
         Some(s) => s == interface,
     }
@@ -40,20 +40,20 @@ fn was_sent(before: bool, here: bool) -> bool
 fn flood_links(
     alloc: Global,
     moment: Second,
-    sender: Option<usize>,
+    received_at: Option<usize>,
     copy: &DatabaseCopy<'_>,
     links: &mut [Link],
 ) -> Result<bool, AllocError>
-    ensures does { LinksDo (stepped_links (flood_to moment sender (lsa_now moment copy.now)))
-        (stepping_sends (flood_to moment sender (lsa_now moment copy.now)))
+    ensures does { LinksDo (stepped_links (flood_to moment received_at (lsa_now moment copy.now)))
+        (stepping_sends (flood_to moment received_at (lsa_now moment copy.now)))
         links.old links.new result }
     ensures sent { IfOk result (λ sent. sent
-        ≡ is_any (stepping_sends (flood_to moment sender (lsa_now moment copy.now))
+        ≡ is_any (stepping_sends (flood_to moment received_at (lsa_now moment copy.now))
         (map present links.old))) }
 {
     let mut sent = false;
     for i in 0..links.len() {
-        let came_in = is_sender(sender, i + 1);
+        let came_in = is_received_at(received_at, i + 1);
         let one = links[i].flood(alloc, moment, came_in, copy)?;
         sent = was_sent(sent, one);
     }
@@ -65,16 +65,16 @@ fn flood_links(
 fn flood_received(
     alloc: Global,
     moment: Second,
-    sender: Option<usize>,
+    received_at: Option<usize>,
     lsa: &Lsa,
     links: &mut [Link],
 ) -> Result<bool, AllocError>
     requires age { lsa.now.header.age ≤ max_age }
-    ensures does { LinksDo (stepped_links (flood_to moment sender lsa.now))
-        (stepping_sends (flood_to moment sender lsa.now))
+    ensures does { LinksDo (stepped_links (flood_to moment received_at lsa.now))
+        (stepping_sends (flood_to moment received_at lsa.now))
         links.old links.new result }
     ensures sent { IfOk result (λ sent. sent
-        ≡ is_any (stepping_sends (flood_to moment sender lsa.now) (map present links.old))) }
+        ≡ is_any (stepping_sends (flood_to moment received_at lsa.now) (map present links.old))) }
 {
     let header = lsa.header();
     let times = CopyTimes {
@@ -84,7 +84,7 @@ fn flood_received(
         sent: None,
     };
     let copy = DatabaseCopy { lsa, times };
-    flood_links(alloc, moment, sender, &copy, links)
+    flood_links(alloc, moment, received_at, &copy, links)
 }
 
 fn has_just_aged_out(before: Second, moment: Second, copy: &DatabaseCopy<'_>) -> bool

@@ -30,7 +30,7 @@ use Rattle.adjacency.specs.Retransmissions.{next_retransmissions, remove_retrans
 use Rattle.adjacency.specs.Retransmissions.{repeats_description, request_again, update_again}
 use Rattle.adjacency.proofs.Kept.{chosen}
 use Rattle.received.specs.Cases.{Case}
-use Rattle.received.specs.Flooding.{flood, flood_to, is_sender}
+use Rattle.received.specs.Flooding.{flood, flood_to, is_received_at}
 use Rattle.received.specs.Links.{Link, delay_acknowledgment}
 use Rattle.received.specs.Outcomes.{Outcome, Stepping, each_neighbor, on_database, only_at, step_on}
 use Rattle.received.specs.Updates.{after_case, goes_on, send_copy}
@@ -183,8 +183,8 @@ flooded_so moment from lsa n =
 flood_so : (moment : ℕ) (sender : Option ℕ) (lsa : Lsa) → LeavesStates (flood_to moment sender lsa)
 flood_so moment sender lsa number link n =
     chosen (λ (s : Step). IsAsBefore n s.neighbor) (is_exchange_or_later n.state)
-    (flooded_in_exchange moment (is_sender sender number) lsa n) (no_sends n)
-    (λ e. flooded_so moment (is_sender sender number) lsa n) (λ e. (refl, refl))
+    (flooded_in_exchange moment (is_received_at sender number) lsa n) (no_sends n)
+    (λ e. flooded_so moment (is_received_at sender number) lsa n) (λ e. (refl, refl))
 
 pub flood_faces : (moment : ℕ) (sender : Option ℕ) (lsa : Lsa) (o : Outcome)
     → faces (flood moment sender lsa o).area.links ≡ faces o.area.links

@@ -13,13 +13,13 @@ stays : (moment : ℕ) (sender : Option ℕ) (lsa : Lsa) (number : ℕ) (link : 
     → (requested_entry (flood_to moment sender lsa number link n).neighbor (lsa_key lsa)
     ≡ Some r.entry) × ((flood_to moment sender lsa number link n).sends ≡ [])
 stays moment sender lsa number link n true r = (
-  rw (r.is_later, r.is_sender, r.is_synchronizing, r.is_requested, r.is_older) r.is_requested,
-  rw (r.is_later, r.is_sender) refl,
+  rw (r.is_later, r.is_received_at, r.is_synchronizing, r.is_requested, r.is_older) r.is_requested,
+  rw (r.is_later, r.is_received_at) refl,
 )
 stays moment sender lsa number link n false r = (
-  rw (r.is_later, r.is_sender, r.is_synchronizing, r.is_requested, r.is_newer, r.is_older)
+  rw (r.is_later, r.is_received_at, r.is_synchronizing, r.is_requested, r.is_newer, r.is_older)
       r.is_requested,
-  rw (r.is_later, r.is_sender, r.is_synchronizing, r.is_requested, r.is_newer) refl,
+  rw (r.is_later, r.is_received_at, r.is_synchronizing, r.is_requested, r.is_newer) refl,
 )
 
 goes : (moment : ℕ) (sender : Option ℕ) (lsa : Lsa) (number : ℕ) (link : Link) (n : Neighbor)
@@ -27,14 +27,14 @@ goes : (moment : ℕ) (sender : Option ℕ) (lsa : Lsa) (number : ℕ) (link : L
     → DropsRequest (flood_to moment sender lsa number link n) lsa
     × ((flood_to moment sender lsa number link n).sends ≡ [])
 goes moment sender lsa number link n true r = (
-  rw (r.is_later, r.is_sender, r.is_synchronizing, r.is_requested, r.is_older)
+  rw (r.is_later, r.is_received_at, r.is_synchronizing, r.is_requested, r.is_older)
       (removed n.requests (lsa_key lsa)),
-  rw (r.is_later, r.is_sender) refl,
+  rw (r.is_later, r.is_received_at) refl,
 )
 goes moment sender lsa number link n false r = (
-  rw (r.is_later, r.is_sender, r.is_synchronizing, r.is_requested, r.is_newer, r.is_older)
+  rw (r.is_later, r.is_received_at, r.is_synchronizing, r.is_requested, r.is_newer, r.is_older)
       (removed n.requests (lsa_key lsa)),
-  rw (r.is_later, r.is_sender, r.is_synchronizing, r.is_requested, r.is_newer) refl,
+  rw (r.is_later, r.is_received_at, r.is_synchronizing, r.is_requested, r.is_newer) refl,
 )
 
 pub examined : FloodingExaminesEachNeighbor
@@ -42,9 +42,9 @@ examined = record {
   less_recent = stays;
   the_same = goes;
   more_recent = λ moment sender lsa number link n r. (
-    rw (r.is_later, r.is_sender, r.is_synchronizing, r.is_requested, r.is_newer, r.is_older)
+    rw (r.is_later, r.is_received_at, r.is_synchronizing, r.is_requested, r.is_newer, r.is_older)
         (removed n.requests (lsa_key lsa)),
-    rw (r.is_later, r.is_sender, r.is_synchronizing, r.is_requested, r.is_newer) refl,
+    rw (r.is_later, r.is_received_at, r.is_synchronizing, r.is_requested, r.is_newer) refl,
   );
   not_requested = λ moment sender lsa number link n later none from. rw (later, from, none) refl;
   back = λ moment sender lsa number link n later from. rw (later, from) refl;

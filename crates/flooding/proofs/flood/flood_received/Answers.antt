@@ -14,7 +14,7 @@ pub returns : goal.returns
 returns c =
     let m = c.args.moment in
     let lsa = c.args.lsa.now in
-    let sender = c.args.sender in
+    let sender = c.args.received_at in
     let P = map present c.args.links.now in
     let same : lsa_now m (copy_of lsa (record {
       age = c.header-header.result.age;
