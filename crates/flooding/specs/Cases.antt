@@ -18,17 +18,17 @@ case_of named.SentJustNow = Case.SentJustNow
 case_of named.Older = Case.Older
 
 -- it is newer than the copy, or there is none: it is installed
-abbrev pub is_newer : Case → Bool
-is_newer Case.Unreadable = false
-is_newer Case.NothingToFlush = false
-is_newer Case.TooSoon = false
-is_newer Case.Newer = true
-is_newer Case.BadRequest = false
-is_newer Case.ImpliedAcknowledgment = false
-is_newer Case.Duplicate = false
-is_newer Case.SequenceWraps = false
-is_newer Case.SentJustNow = false
-is_newer Case.Older = false
+abbrev pub is_installed : Case → Bool
+is_installed Case.Unreadable = false
+is_installed Case.NothingToFlush = false
+is_installed Case.TooSoon = false
+is_installed Case.Newer = true
+is_installed Case.BadRequest = false
+is_installed Case.ImpliedAcknowledgment = false
+is_installed Case.Duplicate = false
+is_installed Case.SequenceWraps = false
+is_installed Case.SentJustNow = false
+is_installed Case.Older = false
 
 -- the tests in order, each with its case
 abbrev pub tests_of : Tests → List (Bool × Case)
