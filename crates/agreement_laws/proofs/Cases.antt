@@ -3,7 +3,7 @@ use Rattle.std.proofs.Common.{◌≡◌, ℕ, Bool, true, false, not, ◌&&◌, 
 use Rattle.std.proofs.Common.{is_some, refl, subst}
 use Rattle.std.specs.Prelude.{is_none}
 use Rattle.std.proofs.lemmas.Bool.{and_parts}
-use Rattle.lsdb.specs.Copies.{DatabaseCopy, installed_just_now, newer_than_copy, same_as_copy}
+use Rattle.lsdb.specs.Copies.{DatabaseCopy, received_just_now, newer_than_copy, same_as_copy}
 use Rattle.lsdb.specs.Copies.{sent_just_now}
 use Rattle.lsdb.specs.Headers.{Lsa}
 use Rattle.lsdb.specs.Order.{is_max_age}
@@ -63,7 +63,7 @@ module _ (moment place : ℕ) (lsa : Lsa) (a : Area) where
   passed case is =
       subst PassedHere is
       (by_tests has_nothing
-      (is_some (copy_of lsa a) && is_newer && installed_just_now moment (copy_of lsa a)) is_newer
+      (is_some (copy_of lsa a) && is_newer && received_just_now moment (copy_of lsa a)) is_newer
       (was_requested (neighbor_at place a.links) lsa) (is_same && is_listed) is_same
       (is_wrapping moment (copy_of lsa a)) (sent_just_now moment (copy_of lsa a)))
 

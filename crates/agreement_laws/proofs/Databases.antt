@@ -42,11 +42,11 @@ use Rattle.agreement_laws.proofs.Cases.{is_newer_case}
 -- ---- copies that are stored at the moment
 
 abbrev pub originated_copy : ℕ → Lsa → DatabaseCopy
-originated_copy moment lsa = record { lsa = lsa; stored = moment; installed = None; sent = None }
+originated_copy moment lsa = record { lsa = lsa; stored = moment; received = None; sent = None }
 
 abbrev pub installed_copy : ℕ → Lsa → DatabaseCopy
 installed_copy moment lsa =
-    record { lsa = lsa; stored = moment; installed = Some moment; sent = None }
+    record { lsa = lsa; stored = moment; received = Some moment; sent = None }
 
 pub aged_out : (moment : ℕ) (k : Key) (c : DatabaseCopy) (db : Database) → finite.get db k ≡ Some c
     → age_prematurely moment k db ≡ finite.insert db k (flushed_copy moment c)

@@ -50,7 +50,7 @@ lsa id address = new_instance (router_key id) None
     (router_body (fresh_link (interface address) ∷ []))
 
 abbrev pub copy : ℕ → ℕ → DatabaseCopy
-copy id address = record { lsa = lsa id address; stored = 0; installed = None; sent = None }
+copy id address = record { lsa = lsa id address; stored = 0; received = None; sent = None }
 
 abbrev pub database : ℕ → ℕ → Database
 database id address = finite.insert finite.empty (lsa_key (lsa id address)) (copy id address)

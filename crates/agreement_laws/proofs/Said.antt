@@ -332,19 +332,19 @@ module _ (old : Router) (moment : ℕ) where
       (c, at, itself_at_least (copy_now moment c))
 
   -- a copy that is stored at this moment
-  put_so : (lsa : Lsa) (installed sent : Option ℕ) (db : Database) (key : Key) → lsa_key lsa ≡ key
+  put_so : (lsa : Lsa) (received sent : Option ℕ) (db : Database) (key : Key) → lsa_key lsa ≡ key
       → AsNew (finite.insert db key (record {
         lsa = lsa;
         stored = moment;
-        installed = installed;
+        received = received;
         sent = sent;
       })) (lsa_key lsa)
       (instance_of lsa.header)
-  put_so lsa installed sent db key is =
+  put_so lsa received sent db key is =
       held_same follow (lsa_key lsa) moment (instance_of lsa.header) key (record {
         lsa = lsa;
         stored = moment;
-        installed = installed;
+        received = received;
         sent = sent;
       }) db
       (ap (same_key (lsa_key lsa)) (sym is) ∙ itself (lsa_key lsa))
@@ -378,7 +378,7 @@ module _ (old : Router) (moment : ℕ) where
       (subst (λ (db : Database). AsNew db (lsa_key c.lsa)
       (instance_of (lsa_aged 3600 c.lsa).header))
       (sym (aged_out moment key c o.area.database at))
-      (put_so (lsa_aged 3600 c.lsa) c.installed c.sent o.area.database key
+      (put_so (lsa_aged 3600 c.lsa) c.received c.sent o.area.database key
       (own_at o.area.database key c own at)))
       (on_copies o (age_prematurely moment key o.area.database)
       (λ k i so. held_flushed follow k moment i key c o.area.database at so) h)

@@ -8,7 +8,7 @@ use Rattle.std.specs.Ordering.{int_cmp, is_eq, ordering_then}
 use Rattle.std.proofs.lemmas.Bool.{or_right}
 use Rattle.words.specs.declared.key.Key.{Key}
 use Rattle.lsdb.specs.Copies.{Database, DatabaseCopy, age_prematurely, install_flooded}
-use Rattle.lsdb.specs.Copies.{installed_just_now}
+use Rattle.lsdb.specs.Copies.{received_just_now}
 use Rattle.lsdb.specs.Copies.{newer_than_copy}
 use Rattle.lsdb.specs.Headers.{Header, Lsa, header_aged, key_of, lsa_aged, lsa_key}
 use Rattle.lsdb.specs.Instances.{ListEntry}
@@ -47,7 +47,7 @@ use Rattle.conversations.proofs.WorkedUpdates.{own_part, same_age, start, taken_
 
 newer_case : (moment : ℕ) (lsa : Lsa) (a : Area) (own : DatabaseCopy)
     → finite.get a.database (lsa_key lsa) ≡ Some own → newer_than_copy moment lsa.header (Some own)
-    ≡ true → installed_just_now moment (Some own) ≡ false → lsa.header.age < 3600
+    ≡ true → received_just_now moment (Some own) ≡ false → lsa.header.age < 3600
     → case_at moment 1 lsa a ≡ Case.Newer
 newer_case moment lsa a own there newer settled young =
     ap (λ c. case_of_readable moment c (neighbor_at 1 a.links) (any_exchange_or_loading a.links)
@@ -249,6 +249,6 @@ numbers_end = record {
       (λ i. is_eq (ordering_then (tied_itself int_cmp_total h.sequence i)
       (ordering_then (tied_itself nat_cmp_total h.checksum i)
       (compare_ages 3600 (at_max at moment i)))));
-  copy_stays = λ lsa at moment installed sent. ap is_max_age (at_max at moment);
+  copy_stays = λ lsa at moment received sent. ap is_max_age (at_max at moment);
   leaves = leaves_it;
 }

@@ -56,7 +56,7 @@ announces : (old new : Router) (moment tag : ℕ) (e : External) (outs : List Ou
     ≡ Some (record {
       lsa = first_external old e tag 16777214;
       stored = moment;
-      installed = None;
+      received = None;
       sent = sent;
     })))
 announces old new moment tag e outs rest may event =
@@ -86,7 +86,7 @@ announces old new moment tag e outs rest may event =
     let router : new ≡ (ended moment said).router = event.router
     ∙ ap (λ (z : EventState). z.router) end in
     let o : Outcome = record { area = said.router.area; sends = said.sends } in
-    let c : DatabaseCopy = record { lsa = lsa; stored = moment; installed = None; sent = None } in
+    let c : DatabaseCopy = record { lsa = lsa; stored = moment; received = None; sent = None } in
     let there : finite.get (finite.insert old.area.database (lsa_key lsa) c) key ≡ Some c =
     subst (λ k. finite.get (finite.insert old.area.database (lsa_key lsa) c) k ≡ Some c)
     (key_is old e tag 16777214) (inserted old.area.database (lsa_key lsa) c) in

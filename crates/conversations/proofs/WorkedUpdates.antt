@@ -11,7 +11,7 @@ use Rattle.std.specs.declared.cmp.Ordering.TheVariants.{Less, Equal, Greater}
 use Rattle.words.specs.declared.key.Key.{Key}
 use Rattle.lsa.specs.Reading.{lsa_in}
 use Rattle.lsdb.specs.Copies.{DatabaseCopy, copy_now, has_just_aged_out, install_flooded}
-use Rattle.lsdb.specs.Copies.{installed_just_now, sent_just_now}
+use Rattle.lsdb.specs.Copies.{received_just_now, sent_just_now}
 use Rattle.lsdb.specs.Headers.{Lsa, lsa_key}
 use Rattle.lsdb.specs.Instances.{instance_of}
 use Rattle.lsdb.specs.Keys.{ByKey}
@@ -217,7 +217,7 @@ abbrev pub brought : Lsa → ℕ → Option ℕ → DatabaseCopy
 brought lsa moment sent = record {
   lsa = lsa;
   stored = moment;
-  installed = Some moment;
+  received = Some moment;
   sent = sent;
 }
 
@@ -261,7 +261,7 @@ same_case moment number lsa a sent n there from none entry young =
     (λ i. case_of_readable moment (there i) (from i) busy lsa)
     ∙ (λ i. first_case (
     (is_young lsa.header.age young i && false && not busy, Case.NothingToFlush)
-    ∷ (true && is_gt (equal i) && installed_just_now moment (Some c), Case.TooSoon)
+    ∷ (true && is_gt (equal i) && received_just_now moment (Some c), Case.TooSoon)
     ∷ (is_gt (equal i), Case.Newer)
     ∷ (is_some (none i), Case.BadRequest)
     ∷ (is_eq (equal i) && is_entry moment lsa.header (entry i), Case.ImpliedAcknowledgment)

@@ -15,7 +15,7 @@ originated_copy contents =
     Some (record {
       lsa = external_lsa contents (pos 4) 0;
       stored = 100;
-      installed = None;
+      received = None;
       sent = Some 100;
     })
 

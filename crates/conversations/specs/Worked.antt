@@ -34,7 +34,7 @@ destination prefix = record { prefix = prefix; metric = 20; kind = Type2; tag = 
 
 -- a copy that was installed by flooding at this moment
 abbrev pub flooded_copy : Lsa → ℕ → DatabaseCopy
-flooded_copy lsa at = record { lsa = lsa; stored = at; installed = Some at; sent = None }
+flooded_copy lsa at = record { lsa = lsa; stored = at; received = Some at; sent = None }
 
 pub record WorkedEvents : Type 0 where
   -- 10.0.0.0/16 can't be announced together with 10.0.0.0/8, and withdrawing what isn't announced

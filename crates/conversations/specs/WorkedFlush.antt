@@ -3,7 +3,7 @@
 use Rattle.std.specs.Prelude.{◌≡◌, ◌<◌, ℕ, pos, true, false, List, [], ◌∷◌, Option, None, Some}
 use Rattle.std.specs.FinMap as finite
 use Rattle.words.specs.declared.key.Key.{Key}
-use Rattle.lsdb.specs.Copies.{DatabaseCopy, installed_just_now, is_aged_out, newer_than_copy}
+use Rattle.lsdb.specs.Copies.{DatabaseCopy, received_just_now, is_aged_out, newer_than_copy}
 use Rattle.lsdb.specs.Headers.{Header, Lsa, header_aged, key_of, lsa_aged, lsa_key}
 use Rattle.lsdb.specs.Instances.{ListEntry, same_as_listed}
 use Rattle.packet.specs.declared.model.PacketBody.TheVariants as body
@@ -30,7 +30,7 @@ pub record ComesBack (r : Router) (n : Neighbor) (moment : ℕ) (lsa : Lsa)
   pub nothing_ages : NothingAges r moment
   pub is_other : is_foreign r.id n.router ≡ true
   pub own_there : finite.get r.area.database (router_key r.id) ≡ Some own
-  pub not_just_now : installed_just_now moment (Some own) ≡ false
+  pub not_just_now : received_just_now moment (Some own) ≡ false
   pub is_own : lsa_key lsa ≡ router_key r.id
   pub is_newer : newer_than_copy moment lsa.header (Some own) ≡ true
   pub is_last : lsa.header.sequence ≡ pos 2147483647
@@ -42,7 +42,7 @@ IsFlushed r moment lsa =
     (sent : Option ℕ) × (finite.get r.area.database (router_key r.id) ≡ Some (record {
       lsa = lsa_aged 3600 lsa;
       stored = moment;
-      installed = Some moment;
+      received = Some moment;
       sent = sent;
     }))
 
@@ -78,11 +78,11 @@ pub record TheNumbersEnd : Type 0 where
   pub entry_stays : (h : Header) (at moment : ℕ)
       → same_as_listed moment (header_aged 3600 h) (record { header = header_aged 3600 h; at = at })
       ≡ true
-  pub copy_stays : (lsa : Lsa) (at moment : ℕ) (installed sent : Option ℕ)
+  pub copy_stays : (lsa : Lsa) (at moment : ℕ) (received sent : Option ℕ)
       → is_aged_out moment (record {
         lsa = lsa_aged 3600 lsa;
         stored = at;
-        installed = installed;
+        received = received;
         sent = sent;
       }) ≡ true
   -- the acknowledgment removes it from the list, and the copy is removed from the database in the

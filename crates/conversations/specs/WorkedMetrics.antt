@@ -37,7 +37,7 @@ pub record MetricsAnnounceOrWithhold : Type 0 where
       ≡ Some (record {
         lsa = first_external old e tag 16777214;
         stored = moment;
-        installed = None;
+        received = None;
         sent = sent;
       })))
   -- 16,777,215: it isn't announced, and the database has no LSA for it

@@ -33,7 +33,7 @@ pub record IsFlushed (r : Router) (moment : ℕ) (lsa : Lsa) : Type 0 where
   pub copy : finite.get r.area.database (lsa_key lsa) ≡ Some (record {
     lsa = lsa_aged 3600 lsa;
     stored = moment;
-    installed = Some moment;
+    received = Some moment;
     sent = sent;
   })
   pub on_list : HasOnList r (lsa_key lsa)

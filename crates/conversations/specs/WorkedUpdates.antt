@@ -55,7 +55,7 @@ HasBrought r moment lsa =
     (sent : Option ℕ) × (finite.get r.area.database (lsa_key lsa) ≡ Some (record {
       lsa = lsa;
       stored = moment;
-      installed = Some moment;
+      received = Some moment;
       sent = sent;
     }))
 

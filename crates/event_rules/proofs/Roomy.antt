@@ -179,7 +179,7 @@ originated_roomy moment key says p wants h =
     (inserted_fit p.router.area.database (lsa_key lsa) (record {
       lsa = lsa;
       stored = moment;
-      installed = None;
+      received = None;
       sent = None;
     }) h.fit fits) h)
 

@@ -15,7 +15,7 @@ use Rattle.words.specs.declared.key.Key.{Key}
 use Rattle.lsa.specs.Reading.{lsa_in}
 use Rattle.lsdb.specs.Copies.{DatabaseCopy, age_now, age_prematurely, copy_now, has_just_aged_out}
 use Rattle.lsdb.specs.Copies.{install_flooded, install_originated, in_this_second}
-use Rattle.lsdb.specs.Copies.{installed_just_now, is_aged_out, lsa_now, newer_than_copy}
+use Rattle.lsdb.specs.Copies.{received_just_now, is_aged_out, lsa_now, newer_than_copy}
 use Rattle.lsdb.specs.Copies.{same_as_copy, sent_just_now}
 use Rattle.lsdb.specs.Headers.{Header, Lsa, header_aged, key_of, lsa_aged, lsa_key}
 use Rattle.lsdb.specs.Instances.{instance_of}
@@ -172,11 +172,11 @@ not_just_now false b e is = absurd cc
 newer_case : (moment : ℕ) (c : DatabaseCopy) (sender : Option Neighbor) (synchronizing : Bool)
     (lsa : Lsa) → case_of_readable moment (Some c) sender synchronizing lsa ≡ Case.Newer
     → (newer_than_copy moment lsa.header (Some c) ≡ true)
-    × (installed_just_now moment (Some c) ≡ false)
+    × (received_just_now moment (Some c) ≡ false)
 newer_case moment c sender synchronizing lsa is =
     let found = newer_found
     (is_max_age lsa.header.age && is_none (Some c) && not synchronizing)
-    (is_some (Some c) && newer_than_copy moment lsa.header (Some c) && installed_just_now moment
+    (is_some (Some c) && newer_than_copy moment lsa.header (Some c) && received_just_now moment
     (Some c))
     (newer_than_copy moment lsa.header (Some c))
     (was_requested sender lsa)
@@ -187,7 +187,7 @@ newer_case moment c sender synchronizing lsa is =
     is in (
       found.1,
       not_just_now (newer_than_copy moment lsa.header (Some c))
-          (installed_just_now moment (Some c)) found.0 found.1,
+          (received_just_now moment (Some c)) found.0 found.1,
     )
 
 -- ---- keys and copies
@@ -246,7 +246,7 @@ module _ (old : Router) (moment : ℕ) (event : Occurrence) (number : ℕ) (befo
   -- a copy with the instance; it is unchanged, or has MaxAge
   record IsLike (c : DatabaseCopy) : Type 0 where
     name_is : instance_of_lsa c.lsa ≡ name
-    installed : c.installed ≡ copy.installed
+    received : c.received ≡ copy.received
     age : ((c.lsa ≡ copy.lsa) × (c.stored ≡ copy.stored)) ⊎ (is_aged_out moment c ≡ true)
 
   -- it reached MaxAge in this event, unless it was flushed
@@ -275,7 +275,7 @@ module _ (old : Router) (moment : ℕ) (event : Occurrence) (number : ℕ) (befo
   -- ---- what stays the same
 
   still_like : (c : DatabaseCopy) (sent : Option ℕ) → IsLike c → IsLike (record c { sent = sent })
-  still_like c sent l = record { name_is = l.name_is; installed = l.installed; age = l.age }
+  still_like c sent l = record { name_is = l.name_is; received = l.received; age = l.age }
 
   still_stored : (a b : Area) → ((c : DatabaseCopy) → finite.get a.database key ≡ Some c
       → IsStill b.database key c) → IsStored a → IsStored b
@@ -484,7 +484,7 @@ module _ (old : Router) (moment : ℕ) (event : Occurrence) (number : ℕ) (befo
         (young_before c like young) e) only_that
         (IsOwed (flushed_copy moment c) put_there (record {
           name_is = like.name_is;
-          installed = like.installed;
+          received = like.received;
           age = inr (aged_at_once moment);
         }) h)
 
@@ -566,7 +566,7 @@ module _ (old : Router) (moment : ℕ) (event : Occurrence) (number : ℕ) (befo
           let c : DatabaseCopy = record {
             lsa = lsa;
             stored = moment;
-            installed = None;
+            received = None;
             sent = None;
           } in
           record {
@@ -583,7 +583,7 @@ module _ (old : Router) (moment : ℕ) (event : Occurrence) (number : ℕ) (befo
           let c : DatabaseCopy = record {
             lsa = lsa;
             stored = moment;
-            installed = None;
+            received = None;
             sent = None;
           } in
           record {
@@ -700,9 +700,9 @@ module _ (old : Router) (moment : ℕ) (event : Occurrence) (number : ℕ) (befo
           of_key = its_key;
           newer = subst (λ (x : Option DatabaseCopy). newer_than_copy moment lsa.header x ≡ true)
               (sym there) (newer_before c lsa.header like found.0);
-          in_time = subst (λ (x : Option DatabaseCopy). installed_just_now moment x ≡ false)
+          in_time = subst (λ (x : Option DatabaseCopy). received_just_now moment x ≡ false)
               (sym there)
-              (subst (λ (x : Option ℕ). in_this_second moment x ≡ false) like.installed found.1);
+              (subst (λ (x : Option ℕ). in_this_second moment x ≡ false) like.received found.1);
         }
 
     install_became : (lsa : Lsa) (o : Outcome) (t : ByKey ℕ)
@@ -727,7 +727,7 @@ module _ (old : Router) (moment : ℕ) (event : Occurrence) (number : ℕ) (befo
             let c : DatabaseCopy = record {
               lsa = lsa;
               stored = moment;
-              installed = Some moment;
+              received = Some moment;
               sent = None;
             } in
             by_same (tied_key key (lsa_key lsa) same)
@@ -736,7 +736,7 @@ module _ (old : Router) (moment : ℕ) (event : Occurrence) (number : ℕ) (befo
             let c : DatabaseCopy = record {
               lsa = lsa;
               stored = moment;
-              installed = Some moment;
+              received = Some moment;
               sent = None;
             } in
             change_became place (delay_acknowledgment lsa.header) (λ link at. at)
@@ -1146,7 +1146,7 @@ module _ (old : Router) (moment : ℕ) (event : Occurrence) (number : ℕ) (befo
       let o : Outcome = record { area = old.area; sends = [] } in
       let like : IsLike copy = record {
         name_is = is_it;
-        installed = refl;
+        received = refl;
         age = inl (refl, refl);
       } in
       let all = ages_became keys (finite.entries old.area.database) (all_there old.area.database) o

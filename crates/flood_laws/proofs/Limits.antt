@@ -182,12 +182,12 @@ module _ (id : RouterNumber) where
       (marked_within moment s.content db h)
 
   -- an LSA for which there is room
-  installed : (db : Database) (key : Key) (c : DatabaseCopy)
+  put_within : (db : Database) (key : Key) (c : DatabaseCopy)
       → (finite.contains_key db key ||
       (nat_lt (finite.len db) 16384 &&
       (not (is_own_external id key) || nat_lt (own_externals id db) 4096))) ≡ true
       → IsWithin db → IsWithin (finite.insert db key c)
-  installed db key c room h = record {
+  put_within db key c room h = record {
     all = subst (λ n. n ≤ 16384) (sym (finite.len-insert keys_total db key c))
         (all_by (finite.contains_key db key) room);
     externals = subst (λ n. n ≤ 4096) (sym (count_put (is_own_external id) db key c))
@@ -310,15 +310,15 @@ module _ (id : RouterNumber) where
         (subst (λ (k : Key). IsWithin (finite.insert db k (record {
           lsa = lsa;
           stored = moment;
-          installed = None;
+          received = None;
           sent = None;
         })))
         (sym (new_key key (finite.get db key) says
         (wanted_type p.router key says h.announced.1 wants)))
-        (installed db key (record {
+        (put_within db key (record {
           lsa = lsa;
           stored = moment;
-          installed = None;
+          received = None;
           sent = None;
         }) room h.area));
     own_router = λ r same. tt;

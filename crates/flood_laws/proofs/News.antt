@@ -297,7 +297,7 @@ module _ (old : Router) (moment : ℕ) (event : Occurrence) where
   originate_numbers k copy says o t at its_key own over h =
       let lsa : Lsa = new_instance k copy says in
       let u : ByKey ℕ = finite.insert t k moment in
-      let c : DatabaseCopy = record { lsa = lsa; stored = moment; installed = None; sent = None } in
+      let c : DatabaseCopy = record { lsa = lsa; stored = moment; received = None; sent = None } in
       let p : Outcome = on_database (install_originated moment lsa) o in
       let now : finite.get u k ≡ Some moment = put_same t k k moment (itself k) in
       let so : Why u (instance_of_lsa lsa) =
@@ -328,7 +328,7 @@ module _ (old : Router) (moment : ℕ) (event : Occurrence) where
           (sym (put_other o.area.database (lsa_key (new_instance k copy says)) q (record {
             lsa = new_instance k copy says;
             stored = moment;
-            installed = None;
+            received = None;
             sent = None;
           }) other))
           (last_follows t (finite.insert t k moment) (insert_follows t k) q

@@ -357,20 +357,20 @@ flood_kept moment sender lsa old o keys adds others each =
     })
 
 -- an LSA that was just stored is flooded
-put_kept : (moment : ℕ) (sender : Option ℕ) (lsa : Lsa) (installed : Option ℕ) (o : Outcome)
+put_kept : (moment : ℕ) (sender : Option ℕ) (lsa : Lsa) (received : Option ℕ) (o : Outcome)
     → OfOutcome o → OfOutcome (flood moment sender lsa
     (on_database (λ db. finite.insert db (lsa_key lsa) (record {
       lsa = lsa;
       stored = moment;
-      installed = installed;
+      received = received;
       sent = None;
     })) o))
-put_kept moment sender lsa installed o h =
+put_kept moment sender lsa received o h =
     let db : Database = o.area.database in
     let c : DatabaseCopy = record {
       lsa = lsa;
       stored = moment;
-      installed = installed;
+      received = received;
       sent = None;
     } in
     flood_kept moment sender lsa db (on_database (λ d. finite.insert d (lsa_key lsa) c) o)

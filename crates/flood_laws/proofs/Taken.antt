@@ -8,7 +8,7 @@ use Rattle.std.specs.declared.cmp.Ordering.TheVariants.{Less, Equal, Greater}
 use Rattle.std.specs.FinMap.{int_cmp-IsAntisymmetric, nat_cmp-IsAntisymmetric}
 use Rattle.std.specs.List.{Contains}
 use Rattle.std.specs.Ordering.{int_cmp, is_eq, nat_cmp, ordering_then}
-use Rattle.lsdb.specs.Copies.{DatabaseCopy, installed_just_now, newer_than_copy, same_as_copy}
+use Rattle.lsdb.specs.Copies.{DatabaseCopy, received_just_now, newer_than_copy, same_as_copy}
 use Rattle.lsdb.specs.Copies.{sent_just_now}
 use Rattle.lsdb.specs.Headers.{Header, Lsa, key_of}
 use Rattle.lsdb.specs.Instances.{ListEntry, listed_now, same_as_listed}
@@ -77,7 +77,7 @@ owed_where_implied moment copy sender synchronizing lsa is =
     second (same_as_copy moment lsa.header copy) (is_on_senders_list moment sender lsa)
     (implied
     (is_max_age lsa.header.age && is_none copy && not synchronizing)
-    (is_some copy && newer_than_copy moment lsa.header copy && installed_just_now moment copy)
+    (is_some copy && newer_than_copy moment lsa.header copy && received_just_now moment copy)
     (newer_than_copy moment lsa.header copy)
     (was_requested sender lsa)
     (same_as_copy moment lsa.header copy && is_on_senders_list moment sender lsa)

@@ -179,7 +179,7 @@ module _ (t : Telling) (id : ℕ) (news : (key : Key) (copy : Option DatabaseCop
       (inserted_in (OfCopy t) p.router.area.database (lsa_key lsa) (record {
         lsa = lsa;
         stored = moment;
-        installed = None;
+        received = None;
         sent = None;
       }) h.copies so) h)
 

@@ -50,7 +50,7 @@ abbrev pub installed_copy : Moment → Lsa → DatabaseCopy
 installed_copy moment lsa = record {
   lsa = lsa;
   stored = moment;
-  installed = Some moment;
+  received = Some moment;
   sent = None;
 }
 

@@ -6,7 +6,7 @@ use Rattle.std.specs.FinMap as finite
 use Rattle.std.specs.List.{Contains}
 use Rattle.words.specs.Numbers.{InterfaceNumber, Moment, RouterNumber}
 use Rattle.words.specs.declared.key.Key.{Key}
-use Rattle.lsdb.specs.Copies.{DatabaseCopy, installed_just_now, is_aged_out, newer_than_copy}
+use Rattle.lsdb.specs.Copies.{DatabaseCopy, received_just_now, is_aged_out, newer_than_copy}
 use Rattle.lsdb.specs.Headers.{Lsa, key_of, lsa_key}
 use Rattle.lsdb.specs.Instances.{ListEntry}
 use Rattle.packet.specs.declared.model.PacketBody.TheVariants as body
@@ -51,7 +51,7 @@ pub record BringsNewer (old : Router) (moment : Moment) (event : Occurrence) (ke
   pub brought : BringsLsa event lsa
   pub of_key : lsa_key lsa ≡ key
   pub newer : newer_than_copy moment lsa.header (finite.get old.area.database key) ≡ true
-  pub in_time : installed_just_now moment (finite.get old.area.database key) ≡ false
+  pub in_time : received_just_now moment (finite.get old.area.database key) ≡ false
 
 -- the copy was stored at this moment, unless it was removed from the database since
 abbrev pub is_gone_or_stored : Moment → Option DatabaseCopy → Bool

@@ -1,7 +1,7 @@
 //! The case of an LSA in a received Link State Update (RFC 2328, section 13).
 ghost use Rattle.std.specs.Prelude.{◌≡◌, ◌&&◌, not, None, Option};
 ghost use Rattle.words.specs.Numbers.{Moment};
-ghost use Rattle.adjacency.specs.lsdb.Copies.{in_this_second, installed_just_now, newer_than_copy};
+ghost use Rattle.adjacency.specs.lsdb.Copies.{in_this_second, received_just_now, newer_than_copy};
 ghost use Rattle.adjacency.specs.lsdb.Copies.{same_as_copy, sent_just_now};
 ghost use Rattle.adjacency.specs.lsdb.Order.{is_max_age};
 ghost use Rattle.adjacency.specs.Neighbors.{Neighbor};
@@ -91,12 +91,12 @@ fn in_this_second(moment: Second, then: Option<Second>) -> bool
     }
 }
 
-fn installed_just_now(moment: Second, copy: &Option<DatabaseCopy<'_>>) -> bool
-    ensures { result ≡ installed_just_now moment copy.now }
+fn received_just_now(moment: Second, copy: &Option<DatabaseCopy<'_>>) -> bool
+    ensures { result ≡ received_just_now moment copy.now }
 {
     match copy {
         None => false,
-        Some(copy) => in_this_second(moment, copy.times.installed),
+        Some(copy) => in_this_second(moment, copy.times.received),
     }
 }
 
@@ -174,11 +174,11 @@ impl Tests {
         let missing = copy.is_none();
         let newer = newer_than_copy(moment, &header, copy);
         let same = same_as_copy(moment, &header, copy);
-        let installed = installed_just_now(moment, copy);
+        let received = received_just_now(moment, copy);
         let listed = link.has_instance(moment, &header);
         Tests {
             nothing_to_flush: nothing_to_flush(header.age, missing, synchronizing),
-            too_soon: there && newer && installed,
+            too_soon: there && newer && received,
             newer,
             requested: link.was_requested(&header.key()),
             implied: same && listed,

@@ -80,7 +80,7 @@ fn flood_received(
     let times = CopyTimes {
         age: header.age,
         stored: moment,
-        installed: Some(moment),
+        received: Some(moment),
         sent: None,
     };
     let copy = DatabaseCopy { lsa, times };

@@ -331,7 +331,7 @@ impl Lsdb {
     }
 
     /// Installs an LSA at this moment in place of the copy of its key (RFC 2328, section 13.2).
-    /// `installed` is the moment too if the LSA was received by flooding, and none if this router
+    /// `received` is the moment too if the LSA was received by flooding, and none if this router
     /// originated it (section 12.4).
     ///
     /// # Errors
@@ -340,15 +340,15 @@ impl Lsdb {
         &mut self,
         moment: Second,
         lsa: Lsa,
-        installed: Option<Second>,
+        received: Option<Second>,
     ) -> Result<(), AllocError>
-        ensures { DatabaseDoes (put_copy moment lsa installed) self.old self.new result }
+        ensures { DatabaseDoes (put_copy moment lsa received) self.old self.new result }
     {
         let header = lsa.header();
         let times = CopyTimes {
             age: header.age,
             stored: moment,
-            installed,
+            received,
             sent: None,
         };
         let name = header.key();

@@ -8,8 +8,8 @@ pub struct CopyTimes {
     pub age: u16,
     /// When it had this age: when it was installed, or was aged prematurely.
     pub stored: Second,
-    /// When it was installed by flooding, for MinLSArrival; `None` if this router originated it.
-    pub installed: Option<Second>,
+    /// When it was received by flooding, for MinLSArrival; `None` if this router originated it.
+    pub received: Option<Second>,
     /// When it was last sent in a Link State Update, if it was.
     pub sent: Option<Second>,
 }

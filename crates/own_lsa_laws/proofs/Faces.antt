@@ -218,7 +218,7 @@ case_faces Case.Newer moment number lsa o on =
     let p : Outcome = on_database (λ db. finite.insert db (lsa_key lsa) (record {
       lsa = lsa;
       stored = moment;
-      installed = Some moment;
+      received = Some moment;
       sent = None;
     })) o in
     changed_faces number (delay_acknowledgment lsa.header) (λ link. refl) 1
@@ -261,7 +261,7 @@ originate_faces moment key says p =
     (on_database (λ db. finite.insert db (lsa_key lsa) (record {
       lsa = lsa;
       stored = moment;
-      installed = None;
+      received = None;
       sent = None;
     })) (record {
       area = p.router.area;

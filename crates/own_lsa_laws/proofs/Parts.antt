@@ -288,7 +288,7 @@ module _ (moment : ℕ) (t : Terms) (key : Key) (says : LsaBody) (p : EventState
   new = new_instance key (finite.get p.router.area.database key) says
 
   abbrev made : DatabaseCopy
-  made = record { lsa = new; stored = moment; installed = None; sent = None }
+  made = record { lsa = new; stored = moment; received = None; sent = None }
 
   abbrev Fit : Key → DatabaseCopy → Type 0
   Fit = Fits moment (full t) p.router.id p.router.announced left then_
@@ -484,7 +484,7 @@ installed_kept moment number t lsa p h =
     let c : DatabaseCopy = record {
       lsa = lsa;
       stored = moment;
-      installed = Some moment;
+      received = Some moment;
       sent = None;
     } in
     let db : Database = finite.insert r.area.database key c in

@@ -27,7 +27,7 @@ use Rattle.own_lsa_laws.proofs.Standing.{same_itself}
 -- ---- a database with one copy
 
 abbrev copied : ℕ → Lsa → DatabaseCopy
-copied moment lsa = record { lsa = lsa; stored = moment; installed = Some 20; sent = None }
+copied moment lsa = record { lsa = lsa; stored = moment; received = Some 20; sent = None }
 
 abbrev no_copies : Database
 no_copies = finite.empty

@@ -67,7 +67,7 @@ holding key lsa = record (with_links 7 [] 20) {
     links = [];
     database =
         finite.insert finite.empty key
-        (record { lsa = lsa; stored = 20; installed = Some 20; sent = None });
+        (record { lsa = lsa; stored = 20; received = Some 20; sent = None });
   };
 }
 

@@ -246,7 +246,7 @@ module _ (key : Key) where
       (λ d e agree. apart.agree_inserted key d e agree (lsa_key lsa) (record {
         lsa = lsa;
         stored = moment;
-        installed = None;
+        received = None;
         sent = None;
       }))) (floods moment lsa)
 

@@ -195,7 +195,7 @@ module _ (key : Key) (is_external : key.ls_type ≡ 5) where
       let copy : DatabaseCopy = record {
         lsa = lsa;
         stored = moment;
-        installed = None;
+        received = None;
         sent = None;
       } in
       let kept = own_flooded moment lsa is (on_database (install_originated moment lsa) o) none in
@@ -311,13 +311,13 @@ module _ (key : Key) (is_external : key.ls_type ≡ 5) where
       let says : LsaBody = external_body e in
       let copy = finite.get p.router.area.database key in
       let lsa : Lsa = new_instance key copy says in
-      let installed : EventState = on_area (install_and_flood moment lsa) p in
+      let placed : EventState = on_area (install_and_flood moment lsa) p in
       one_of (has_max_sequence copy) (flush moment key p)
       (cond (true && may_originate moment key p.router) (originate moment key says p)
       (on_router (postpone key) p)) p (flush_kept moment p none under)
       (one_of (true && may_originate moment key p.router) (originate moment key says p)
       (on_router (postpone key) p) p
-      (originated_ moment installed ∙ lifted (install_and_flood moment lsa) p
+      (originated_ moment placed ∙ lifted (install_and_flood moment lsa) p
       (own_installed moment lsa (new_key key is_external copy e) (record {
         area = p.router.area;
         sends = p.sends;

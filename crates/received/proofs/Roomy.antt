@@ -238,16 +238,16 @@ install_roomy : (moment number : ℕ) (lsa : Lsa) (o : Outcome) → Fits lsa →
     → IsRoomyOutcome (flood_and_install moment number lsa o)
 install_roomy moment number lsa o fits h =
     let p : Outcome = on_database (install_flooded moment lsa) o in
-    let installed : IsRoomyOutcome p =
+    let put : IsRoomyOutcome p =
     on_database_roomy (install_flooded moment lsa) o
     (inserted_fit o.area.database (lsa_key lsa) (record {
       lsa = lsa;
       stored = moment;
-      installed = Some moment;
+      received = Some moment;
       sent = None;
     }) h.fit fits) h in
     changed_roomy number (delay_acknowledgment lsa.header) (λ link at. at)
-    (flood moment (Some number) lsa p) (flood_roomy moment (Some number) lsa p fits installed)
+    (flood moment (Some number) lsa p) (flood_roomy moment (Some number) lsa p fits put)
 
 copy_roomy : (moment number : ℕ) (c : Option DatabaseCopy) (o : Outcome) → FitsIfThere c
     → IsRoomyOutcome o → IsRoomyOutcome (send_copy moment number c o)

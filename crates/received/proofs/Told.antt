@@ -251,12 +251,12 @@ module _ (t : Telling) where
       → OfOutcome t (flood_and_install moment number lsa o)
   install_told moment number lsa o so h =
       let p : Outcome = on_database (install_flooded moment lsa) o in
-      let installed : OfOutcome t p =
+      let put : OfOutcome t p =
       on_database_told (install_flooded moment lsa) o
       (inserted_in (OfCopy t) o.area.database (lsa_key lsa) (record {
         lsa = lsa;
         stored = moment;
-        installed = Some moment;
+        received = Some moment;
         sent = None;
       }) h.copies so) h in
       change_told number (delay_acknowledgment lsa.header)
@@ -265,7 +265,7 @@ module _ (t : Telling) where
         acknowledgments = inserted_in (OfWaiting t) link.acknowledgments (key_of lsa.header)
             lsa.header at.acknowledgments (t.header lsa so);
       })
-      (flood moment (Some number) lsa p) (flood_told moment (Some number) lsa p so installed)
+      (flood moment (Some number) lsa p) (flood_told moment (Some number) lsa p so put)
 
   copy_told : (moment number : ℕ) (key : Key) (c : Option DatabaseCopy) (o : Outcome)
       → IfThere (OfCopy t) key c → OfOutcome t o → OfOutcome t (send_copy moment number c o)

@@ -27,11 +27,11 @@ external_lsa contents sequence age = record {
 
 -- a copy that was installed by flooding and sent at these moments, with its age at moment 90
 abbrev pub copy_of_it : LsaBody → ℤ → Seconds → Moment → Moment → Option DatabaseCopy
-copy_of_it contents sequence age installed sent =
+copy_of_it contents sequence age received sent =
     Some (record {
       lsa = external_lsa contents sequence age;
       stored = 90;
-      installed = Some installed;
+      received = Some received;
       sent = Some sent;
     })
 

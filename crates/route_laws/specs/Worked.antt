@@ -53,7 +53,7 @@ copy_of k contents = record {
     body = contents;
   };
   stored = 0;
-  installed = Some 0;
+  received = Some 0;
   sent = None;
 }
 

@@ -28,7 +28,7 @@ copy contents number age stored = record {
     body = contents;
   };
   stored = stored;
-  installed = Some stored;
+  received = Some stored;
   sent = None;
 }
 

@@ -19,13 +19,13 @@ returns c =
     let same : lsa_now m (copy_of lsa (record {
       age = c.header-header.result.age;
       stored = m;
-      installed = Some m;
+      received = Some m;
       sent = None;
     })) ≡ lsa =
     ap (λ (h : Header). lsa_now m (copy_of lsa (record {
       age = h.age;
       stored = m;
-      installed = Some m;
+      received = Some m;
       sent = None;
     }))) c.header-header.ensures
     ∙ at_once m lsa (Some m) c.requires.age in

@@ -10,7 +10,7 @@ use Rattle.flooding.specs.Drafted.{drafts_with}
 use Rattle.flooding.specs.Kept.{RouterArea}
 use Rattle.flooding.specs.Links.{area_of, draft_of, flooded_copy, originate_outcome, present}
 use Rattle.flooding.specs.Links.{committed_link, start}
-use Rattle.flooding.proofs.Installed.{at_once, installed}
+use Rattle.flooding.proofs.Installed.{at_once, just_installed}
 use Rattle.flooding.proofs.Marking.{area_is}
 use Rattle.flooding.proofs.area.Area.install_and_flood_own.Goals as goal
 
@@ -30,7 +30,7 @@ returns c =
     ∙ ap (λ j. flooded_copy m None (finite.get (install_originated m lsa d) j)
     (start (area_of ls (install_originated m lsa d)))) key
     ∙ ap (λ o. flooded_copy m None o (start (area_of ls (install_originated m lsa d))))
-    (installed m lsa None d)
+    (just_installed m lsa None d)
     ∙ ap (λ l. flood m None l (start (area_of ls (install_originated m lsa d))))
     (at_once m lsa None c.prove_age.ensures) in
     record {
