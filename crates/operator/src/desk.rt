@@ -162,7 +162,7 @@ impl<L: Site, Q: Wait + Drop, K: Transport + Drop, C: Seconds + Drop> Desk<L, Q,
         ensures interfaces { self.new.interfaces ≡ self.old.interfaces }
     {
         let notice = self.loader.notice();
-        hub.programs_changed(&notice);
+        hub.count_program_change(&notice);
         port.learn(notice);
         self.refresh(rt, hub, port);
     }

@@ -103,13 +103,13 @@ impl<L: Site, B: Taker<L>> Hub<L, B> {
         self.shared.read(&mut port.seat, index)
     }
 
-    /// Tells the workers that the programs are now those of the notice. The caller refreshes the
+    /// Counts a change of the programs, which are now those of the notice. The caller refreshes the
     /// table next. The refresh of a turn that began before is refused from now on: it may bring
     /// answers of an earlier program, which would replace those of the caller's.
-    pub fn programs_changed(&self, notice: &Notice)
+    pub fn count_program_change(&self, notice: &Notice)
         ensures { IsTold B.took (told_by notice.now) }
     {
-        B::tell(&self.changes, notice);
+        B::count_change(&self.changes, notice);
     }
 
     /// Takes an event under the lock.

@@ -246,7 +246,7 @@ pub trait Taker<L: Origin> {
         ensures short { OnErr result (IsLacking refuses Lack.Memory) };
 
     /// Counts one more change of the programs, which are now those of the notice.
-    fn tell(changes: &AtomicU64, notice: &Notice)
+    fn count_change(changes: &AtomicU64, notice: &Notice)
         ensures { IsTold took (told_by notice.now) };
 
     /// How many changes were counted, as it is read by the port that has this share.
@@ -417,7 +417,7 @@ impl<L: Origin> Taker<L> for Book<L> {
         bytes.copy()
     }
 
-    fn tell(changes: &AtomicU64, _notice: &Notice) {
+    fn count_change(changes: &AtomicU64, _notice: &Notice) {
         let _before = changes.fetch_add(1, Ordering::SeqCst);
     }
 

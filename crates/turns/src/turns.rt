@@ -42,7 +42,7 @@ use words::Second;
 /// mark ([`Book::mark`](flood::Book::mark)).
 ///
 /// The refresh is refused too if the programs were changed since the turn began
-/// ([`Hub::programs_changed`]). A refusal of it leaves the turn's outs as they are, and the next
+/// ([`Hub::count_program_change`]). A refusal of it leaves the turn's outs as they are, and the next
 /// turn tries again; so it does if memory was lacking to find out whether the router is stale.
 ///
 /// A turn that is refused before its event is given hasn't passed the gate.

@@ -87,7 +87,7 @@ struct Changing<'a, L: Site, B: Taker<L>> {
 impl<'a, L: Site, B: Taker<L>> Gate for Changing<'a, L, B> {
     fn pass(&mut self, _port: u16) {
         if let Some(notice) = &self.notice {
-            self.hub.programs_changed(notice);
+            self.hub.count_program_change(notice);
         }
     }
 }

@@ -128,7 +128,7 @@ impl<L: Site> Taker<L> for Tableless<L> {
         Err(AllocError)
     }
 
-    fn tell(_changes: &AtomicU64, _notice: &Notice) {}
+    fn count_change(_changes: &AtomicU64, _notice: &Notice) {}
 
     fn changes(_changes: &AtomicU64, _mine: &Share<L>) -> u64 {
         0

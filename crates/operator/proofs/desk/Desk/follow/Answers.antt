@@ -14,7 +14,7 @@ returns-clause-followed g c =
     (operations_of c.args.self.now.loader) (told_by c.notice-notice.result)
     (known_to c.learn.new.self.asker) (known_to c.refresh.new.port.asker)
     c.refresh.new.self.unrefreshed c.args.port.now.share.amount c.learn.new.self.share.amount
-    c.refresh.new.port.share.amount c.notice-notice.ensures.0 c.programs_changed.ensures
+    c.refresh.new.port.share.amount c.notice-notice.ensures.0 c.count_program_change.ensures
     c.learn.ensures.learnt c.refresh.ensures.known (λ i. (c.learn.ensures.share i).amount)
     c.refresh.ensures.done
 
