@@ -2,7 +2,7 @@
 ghost use Rattle.std.specs.Prelude.{◌≡◌, ◌⊎◌, ◌≤◌, ◌+◌, All, IfErr, IfOk, false, length, map};
 ghost use Rattle.std.specs.Prelude.{nat_lt, vec_len, ⊤};
 ghost use Rattle.transports.specs.Descending.{CountDownTo};
-ghost use Rattle.hooks.specs.Known.{history_of};
+ghost use Rattle.hooks.specs.Known.{loader_history};
 ghost use Rattle.worker.specs.Ends.{has_failed};
 ghost use Rattle.worker.specs.Wires.{AreBound};
 ghost use Rattle.worker.specs.event_rules.Events.{initial};
@@ -185,7 +185,7 @@ fn run_all<
     output: &'x mut O,
 ) -> Result<EndedRouter, StartError>
     requires setup { IsSetUpFor L.name L.parts L.words L.history setup }
-    requires history { history_of loader ≡ L.history }
+    requires history { loader_history loader ≡ L.history }
     requires origin { core ≡ L.origin }
     requires transports { vec_len setup.seats ≡ vec_len transports + 1 }
     requires interfaces { CountDownTo 1 (map (λ l. l.own) transports.items) }

@@ -12,23 +12,23 @@ abbrev pub operations_of : {R : Type 0} → Loader R → List LoaderOperation
 operations_of l = published_operations l.writer.desk.shown.value
 
 -- their history
-abbrev pub history_of : {R : Type 0} → Loader R → Book
-history_of l = history l.writer.desk.shown.value
+abbrev pub loader_history : {R : Type 0} → Loader R → Book
+loader_history l = history l.writer.desk.shown.value
 
 -- the operations that the loader told, and their history
 abbrev pub told_by : Notice → List LoaderOperation
 told_by n = n.front.seen.log
 
-abbrev pub tells_of : Notice → Book
-tells_of n = n.front.seen.book
+abbrev pub notice_history : Notice → Book
+notice_history n = n.front.seen.book
 
 -- all operations that the asker saw or was told, and their history
 abbrev pub known_to : Asker → List LoaderOperation
 known_to a = a.front.seen.log
 
-abbrev pub asks_of : Asker → Book
-asks_of a = a.front.seen.book
+abbrev pub asker_history : Asker → Book
+asker_history a = a.front.seen.book
 
 -- it has seen nothing and was told nothing
 abbrev pub IsNew : Book → Asker → Type 0
-IsNew book a = (asks_of a ≡ book) × (known_to a ≡ [])
+IsNew book a = (asker_history a ≡ book) × (known_to a ≡ [])

@@ -69,7 +69,7 @@ fn ask_by(
 }
 
 impl Asker {
-    ghost use Rattle.hooks.specs.Known.{known_to, asks_of, told_by, tells_of};
+    ghost use Rattle.hooks.specs.Known.{known_to, asker_history, told_by, notice_history};
 
     pub(crate) fn new(reader: ProgramReader, front: HistoryPrefix) -> Asker
         requires { HasSeen front.seen.book (view reader.place) }
@@ -86,7 +86,7 @@ impl Asker {
     pub fn ask(&mut self, input: &Input, shared: &Shared, seat: &mut Seat) -> Option<HookAnswer>
         requires asked { HasHookNumber (given_by input.now) }
         requires table { IsSeatOf shared.now seat.old }
-        ensures history { asks_of self.new ≡ asks_of self.old }
+        ensures history { asker_history self.new ≡ asker_history self.old }
         ensures unread { IfNone result ((known_to self.new ≡ known_to self.old)
             × (seat.new ≡ seat.old)) }
         ensures answered { IfSome result (λ a. IsAnswered (known_to self.old) (known_to self.new)
@@ -103,8 +103,8 @@ impl Asker {
 
     /// From now on the asker sees all that the loader had done at the notice.
     pub fn learn(&mut self, notice: Notice)
-        requires { asks_of self.old ≡ tells_of notice }
-        ensures history { asks_of self.new ≡ asks_of self.old }
+        requires { asker_history self.old ≡ notice_history notice }
+        ensures history { asker_history self.new ≡ asker_history self.old }
         ensures known { IsPrefix (known_to self.old) (known_to self.new)
             × IsPrefix (told_by notice) (known_to self.new) }
         ensures one { (known_to self.new ≡ known_to self.old)

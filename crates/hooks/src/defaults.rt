@@ -5,7 +5,7 @@ ghost use Rattle.isa.specs.declared.hook.Hook.TheVariants.{Veto};
 ghost use Rattle.left_right.specs.Sides.{view};
 ghost use Rattle.words.specs.declared.route.Route.{Route};
 ghost use Rattle.words.specs.declared.route.TableRow.{TableRow};
-ghost use Rattle.hooks.specs.Known.{known_to, asks_of};
+ghost use Rattle.hooks.specs.Known.{known_to, asker_history};
 ghost use Rattle.hooks.specs.Questions.{tag_input, price_input, veto_input};
 ghost use Rattle.hooks.specs.Rule.{HasSeen};
 ghost use Rattle.hooks.specs.Vacant.{AreVacancies, IsAnsweredByNone, IsVacant, let_in};
@@ -45,7 +45,7 @@ impl Asker {
     // Which hooks have no program, by one reading of the published programs; `None` if they can't
     // be read, or are older than those that the asker knows.
     fn vacancies(&mut self) -> Option<Vacancies>
-        ensures history { asks_of self.new ≡ asks_of self.old }
+        ensures history { asker_history self.new ≡ asker_history self.old }
         ensures known { IsPrefix (known_to self.old) (known_to self.new) }
         ensures vacant { IfSome result (AreVacancies (known_to self.new)) }
     {
@@ -60,7 +60,7 @@ impl Asker {
     /// Whether no program stands at `veto`, as one reading shows. `None` if the published programs
     /// can't be read.
     pub fn is_veto_vacant(&mut self) -> Option<bool>
-        ensures history { asks_of self.new ≡ asks_of self.old }
+        ensures history { asker_history self.new ≡ asker_history self.old }
         ensures known { IsPrefix (known_to self.old) (known_to self.new) }
         ensures vacant { IfSome result (λ vacant.
             IsTrue vacant ↔ IsVacant Veto (known_to self.new)) }
@@ -78,7 +78,7 @@ impl Asker {
         external: &External,
         moment: Second,
     ) -> Option<(TagAnswer, PriceAnswer)>
-        ensures history { asks_of self.new ≡ asks_of self.old }
+        ensures history { asker_history self.new ≡ asker_history self.old }
         ensures known { IsPrefix (known_to self.old) (known_to self.new) }
         ensures tag { IfSome result (λ r. (r.0.external ≡ external.now) × (r.0.moment ≡ moment)) }
         ensures price { IfSome result (λ r. (r.1.external ≡ external.now) × (r.1.moment ≡ moment)) }
@@ -101,7 +101,7 @@ impl Asker {
     /// is accepted. They are the same whatever the rows, and use no seat. `None` if the hook has a
     /// program, or if the published programs can't be read.
     pub fn all_let_in(&mut self, routes: Pages<Route>, moment: Second) -> Option<VetoAnswers>
-        ensures history { asks_of self.new ≡ asks_of self.old }
+        ensures history { asker_history self.new ≡ asker_history self.old }
         ensures known { IsPrefix (known_to self.old) (known_to self.new) }
         ensures all { IfSome result (λ answers. answers ≡ map (let_in moment) routes) }
         ensures answered { IfSome result (λ answers.

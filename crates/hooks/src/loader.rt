@@ -82,7 +82,7 @@ fn make_room<R: Wait>(
 }
 
 impl<R: Wait + Drop> Loader<R> {
-    ghost use Rattle.hooks.specs.Known.{operations_of, history_of, told_by, tells_of, IsNew};
+    ghost use Rattle.hooks.specs.Known.{operations_of, loader_history, told_by, notice_history, IsNew};
     ghost use Rattle.hooks.specs.declared.error.HookError.TheVariants.{Count};
 
     pub(crate) fn new(alloc: Global, rt: R, askers: usize) -> Result<Loader<R>, AllocError>
@@ -100,8 +100,8 @@ impl<R: Wait + Drop> Loader<R> {
     pub(crate) fn askers(&mut self, alloc: Global, askers: usize) -> Result<Vec<Asker>, HookError>
         requires { operations_of self.old ≡ [] }
         ensures same { (operations_of self.new ≡ operations_of self.old)
-            × (history_of self.new ≡ history_of self.old) }
-        ensures made { IfOk result (λ v. (vec_len v ≡ askers) × All (IsNew (history_of self.old))
+            × (loader_history self.new ≡ loader_history self.old) }
+        ensures made { IfOk result (λ v. (vec_len v ≡ askers) × All (IsNew (loader_history self.old))
             v.items) }
         ensures count { IfErr result (λ e. e ≢ Count) }
     {
@@ -127,7 +127,7 @@ impl<R: Wait + Drop> Loader<R> {
         ensures operations { MatchResult result (λ _. operations_of self.new
             ≡ operations_of self.old ++ Attach accepted ∷ []) (λ _. operations_of self.new
             ≡ operations_of self.old) }
-        ensures history { history_of self.new ≡ history_of self.old }
+        ensures history { loader_history self.new ≡ loader_history self.old }
     {
         self.publish(LoaderOperation::Attach(accepted))
     }
@@ -140,7 +140,7 @@ impl<R: Wait + Drop> Loader<R> {
         ensures operations { MatchResult result (λ _. operations_of self.new
             ≡ operations_of self.old ++ Detach hook ∷ []) (λ _. operations_of self.new
             ≡ operations_of self.old) }
-        ensures history { history_of self.new ≡ history_of self.old }
+        ensures history { loader_history self.new ≡ loader_history self.old }
     {
         self.publish(LoaderOperation::Detach(hook))
     }
@@ -150,7 +150,7 @@ impl<R: Wait + Drop> Loader<R> {
         ensures operations { MatchResult result (λ _. operations_of self.new
             ≡ operations_of self.old ++ operation ∷ []) (λ _. operations_of self.new
             ≡ operations_of self.old) }
-        ensures history { history_of self.new ≡ history_of self.old }
+        ensures history { loader_history self.new ≡ loader_history self.old }
     {
         let front = &self.writer.published().front;
         let Some(numbered) = Numbered::next(front, &self.head, operation) else {
@@ -164,7 +164,7 @@ impl<R: Wait + Drop> Loader<R> {
     /// A notice of all operations so far.
     pub fn notice(&self) -> Notice
         ensures { (told_by result ≡ operations_of self.now)
-            × (tells_of result ≡ history_of self.now) }
+            × (notice_history result ≡ loader_history self.now) }
     {
         Notice {
             front: self.writer.published().front.copy(),

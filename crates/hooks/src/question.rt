@@ -2,7 +2,7 @@
 ghost use Rattle.std.specs.Prelude.{◌≡◌, IfSome, IfNone};
 ghost use Rattle.maps.specs.Words.{IsSeatOf};
 ghost use Rattle.hooks.specs.Answered.{IsAnswered};
-ghost use Rattle.hooks.specs.Known.{known_to, asks_of};
+ghost use Rattle.hooks.specs.Known.{known_to, asker_history};
 ghost use Rattle.hooks.specs.Questions.{count_input, tag_input, price_input, veto_input};
 
 use crate::answer::{PriceAnswer, TagAnswer, VetoAnswer};
@@ -27,7 +27,7 @@ impl Asker {
         seat: &mut Seat,
     ) -> Option<HookAnswer>
         requires table { IsSeatOf shared.now seat.old }
-        ensures history { asks_of self.new ≡ asks_of self.old }
+        ensures history { asker_history self.new ≡ asker_history self.old }
         ensures unread { IfNone result ((known_to self.new ≡ known_to self.old)
             × (seat.new ≡ seat.old)) }
         ensures answered { IfSome result (λ a. IsAnswered (known_to self.old) (known_to self.new)
@@ -53,7 +53,7 @@ impl Asker {
         seat: &mut Seat,
     ) -> Option<TagAnswer>
         requires table { IsSeatOf shared.now seat.old }
-        ensures history { asks_of self.new ≡ asks_of self.old }
+        ensures history { asker_history self.new ≡ asker_history self.old }
         ensures unread { IfNone result ((known_to self.new ≡ known_to self.old)
             × (seat.new ≡ seat.old)) }
         ensures question { IfSome result (λ a. (a.external ≡ external.now) × (a.moment ≡ moment)) }
@@ -81,7 +81,7 @@ impl Asker {
         seat: &mut Seat,
     ) -> Option<PriceAnswer>
         requires table { IsSeatOf shared.now seat.old }
-        ensures history { asks_of self.new ≡ asks_of self.old }
+        ensures history { asker_history self.new ≡ asker_history self.old }
         ensures unread { IfNone result ((known_to self.new ≡ known_to self.old)
             × (seat.new ≡ seat.old)) }
         ensures question { IfSome result (λ a. (a.external ≡ external.now) × (a.moment ≡ moment)) }
@@ -109,7 +109,7 @@ impl Asker {
         seat: &mut Seat,
     ) -> Option<VetoAnswer>
         requires table { IsSeatOf shared.now seat.old }
-        ensures history { asks_of self.new ≡ asks_of self.old }
+        ensures history { asker_history self.new ≡ asker_history self.old }
         ensures unread { IfNone result ((known_to self.new ≡ known_to self.old)
             × (seat.new ≡ seat.old)) }
         ensures question { IfSome result (λ a. (a.route ≡ route.now) × (a.moment ≡ moment)) }

@@ -1,7 +1,7 @@
 //! Makes a loader and its askers.
 ghost use Rattle.std.specs.Prelude.{◌≡◌, ◌<◌, ◌⊎◌, ◌↔◌, [], All, IfOk, Err, vec_len};
 ghost use Rattle.hooks.specs.declared.error.HookError.TheVariants.{Count};
-ghost use Rattle.hooks.specs.Known.{operations_of, history_of, IsNew};
+ghost use Rattle.hooks.specs.Known.{operations_of, loader_history, IsNew};
 
 use crate::MAX_ASKERS;
 use crate::asker::Asker;
@@ -23,7 +23,7 @@ pub fn programs<R: Wait + Drop>(
     askers: usize,
 ) -> Result<(Loader<R>, Vec<Asker>), HookError>
     ensures made { IfOk result (λ t. (operations_of t.0 ≡ []) × (vec_len t.1 ≡ askers)
-        × All (IsNew (history_of t.0)) t.1.items) }
+        × All (IsNew (loader_history t.0)) t.1.items) }
     ensures count { (result ≡ Err Count) ↔ ((askers ≡ 0) ⊎ (64 < askers)) }
 {
     if askers == 0 || askers > MAX_ASKERS {

@@ -5,7 +5,7 @@ ghost use mathlib.Core.List.{IsPrefix};
 ghost use Rattle.left_right.specs.Sides.{view};
 ghost use Rattle.maps.specs.Words.{IsSeatOf, SeatView};
 ghost use Rattle.hooks.specs.Answered.{AreAnswered, AreAnsweredInPart};
-ghost use Rattle.hooks.specs.Known.{known_to, asks_of};
+ghost use Rattle.hooks.specs.Known.{known_to, asker_history};
 ghost use Rattle.hooks.specs.Rule.{HasSeen};
 ghost use Rattle.hooks.specs.declared.operation.LoaderOperation.{LoaderOperation};
 
@@ -75,7 +75,7 @@ impl Asker {
         requires table { IsSeatOf shared.now seat.old }
         requires left { vec_len answers.old < length routes.now }
         requires room { length routes.now ≤ vec_capacity answers.old }
-        ensures history { asks_of self.new ≡ asks_of self.old }
+        ensures history { asker_history self.new ≡ asker_history self.old }
         ensures known { IsPrefix (known_to self.old) (known_to self.new) }
         ensures answered { (known : List LoaderOperation) (first : SeatView)
             → AreAnswered known (known_to self.old) first seat.old moment rows.now
@@ -119,7 +119,7 @@ impl Asker {
         seat: &mut Seat,
     ) -> Result<Option<Vec<VetoAnswer>>, AllocError>
         requires table { IsSeatOf shared.now seat.old }
-        ensures history { asks_of self.new ≡ asks_of self.old }
+        ensures history { asker_history self.new ≡ asker_history self.old }
         ensures known { IsPrefix (known_to self.old) (known_to self.new) }
         ensures unread { IfOk result (λ o. IfNone o (AreAnsweredInPart (known_to self.old)
             (known_to self.new) seat.old seat.new moment rows.now routes.now)) }

@@ -2,7 +2,7 @@
 ghost use Rattle.std.specs.Prelude.{◌≡◌, ℕ, Bool, List};
 ghost use mathlib.Core.List.{IsPrefix};
 ghost use Rattle.maps.specs.Words.{SeatView};
-ghost use Rattle.hooks.specs.Known.{history_of, known_to, operations_of};
+ghost use Rattle.hooks.specs.Known.{loader_history, known_to, operations_of};
 ghost use Rattle.hooks.specs.declared.operation.LoaderOperation.{LoaderOperation};
 ghost use Rattle.worker.specs.Lives.{senses_of, standing};
 ghost use Rattle.worker.specs.Turns.{IsListed};
@@ -62,7 +62,7 @@ pub struct Desk<L: Site, Q: Wait + Drop, K: Transport + Drop, C: Seconds + Drop>
     /// tried again.
     pub unrefreshed: bool,
     pub of: PhantomData<L>,
-    pub ghost loaded: { history_of loader ≡ L.history },
+    pub ghost loaded: { loader_history loader ≡ L.history },
 }
 
 // Announces a destination, unless the answer of `price` withholds it.

@@ -2,7 +2,7 @@
 ghost use Rattle.std.specs.Prelude.{◌≡◌};
 ghost use mathlib.Core.List.{IsPrefix};
 ghost use Rattle.maps.specs.Words.{IsSeatOf};
-ghost use Rattle.hooks.specs.Known.{asks_of, known_to, tells_of, told_by};
+ghost use Rattle.hooks.specs.Known.{asker_history, known_to, notice_history, told_by};
 
 use crate::site::{Site, WorkerSeat};
 use hooks::{Asker, Notice};
@@ -20,7 +20,7 @@ pub struct Port<L: Site> {
     pub(crate) asker: Asker,
     pub ghost one_part: { share.parts ≡ 1 },
     pub ghost seated: { IsSeatOf L.words seat },
-    pub ghost asks: { asks_of asker ≡ L.history },
+    pub ghost asks: { asker_history asker ≡ L.history },
 }
 
 impl<L: Site> Port<L> {
@@ -48,7 +48,7 @@ impl<L: Site> Port<L> {
 
     /// From now on its programs are no older than the loader's were at the notice.
     pub fn learn(&mut self, notice: Notice)
-        requires { tells_of notice ≡ L.history }
+        requires { notice_history notice ≡ L.history }
         ensures share { self.new.share ≡ self.old.share }
         ensures number { self.new.number ≡ self.old.number }
         ensures saw { IsPrefix (known_to self.old.asker) (known_to self.new.asker) }

@@ -2,7 +2,7 @@
 ghost use Rattle.std.specs.Prelude.{◌≡◌, IfErr, IfOk};
 ghost use mathlib.Core.List.{IsPrefix};
 ghost use Rattle.maps.specs.Words.{IsSeatOf};
-ghost use Rattle.hooks.specs.Known.{asks_of, known_to};
+ghost use Rattle.hooks.specs.Known.{asker_history, known_to};
 ghost use Rattle.turns.specs.Turns.{
   AreVetoes,
   AsksFor,
@@ -46,7 +46,7 @@ pub fn make_event<L: Site, B: Taker<L>, R: Wait>(
     ensures asked { AsksFor B.took moment work.now }
     ensures err { IfErr result (RefusesQuestions B.refuses work.now moment) }
     ensures seat { IsSeatOf L.words seat.new }
-    ensures history { asks_of asker.new ≡ asks_of asker.old }
+    ensures history { asker_history asker.new ≡ asker_history asker.old }
     ensures known { IsPrefix (known_to asker.old) (known_to asker.new) }
 {
     match work {
@@ -86,7 +86,7 @@ fn make_redistribute<L: Site, B: Taker<L>, R: Wait>(
         (Work.Add external.now) moment event) }
     ensures err { IfErr result (RefusesQuestions B.refuses (Work.Add external.now) moment) }
     ensures seat { IsSeatOf L.words seat.new }
-    ensures history { asks_of asker.new ≡ asks_of asker.old }
+    ensures history { asker_history asker.new ≡ asker_history asker.old }
     ensures known { IsPrefix (known_to asker.old) (known_to asker.new) }
 {
     match asker.configured(external, moment) {
@@ -111,7 +111,7 @@ fn ask_about_external<L: Site, B: Taker<L>, R: Wait>(
         (Work.Add external.now) moment event) }
     ensures err { IfErr result (RefusesQuestions B.refuses (Work.Add external.now) moment) }
     ensures seat { IsSeatOf L.words seat.new }
-    ensures history { asks_of asker.new ≡ asks_of asker.old }
+    ensures history { asker_history asker.new ≡ asker_history asker.old }
     ensures known { IsPrefix (known_to asker.old) (known_to asker.new) }
 {
     let offered = hub.offered(rt)?;
@@ -144,7 +144,7 @@ fn ask_tag_and_price<L: Site, B: Taker<L>>(
         offered.now.rows.items r.1) }
     ensures err { IfErr result (RefusesQuestions B.refuses (Work.Add external.now) moment) }
     ensures seat { IsSeatOf shared.now seat.new }
-    ensures history { asks_of asker.new ≡ asks_of asker.old }
+    ensures history { asker_history asker.new ≡ asker_history asker.old }
     ensures known { IsPrefix (known_to asker.old) (known_to asker.new) }
 {
     let rows = offered.rows.as_slice();
@@ -168,7 +168,7 @@ fn tag<L: Site, B: Taker<L>>(
         IsTagOn (known_to asker.old) (known_to asker.new) external.now moment rows.now a) }
     ensures err { IfErr result (RefusesQuestions B.refuses (Work.Add external.now) moment) }
     ensures seat { IsSeatOf shared.now seat.new }
-    ensures history { asks_of asker.new ≡ asks_of asker.old }
+    ensures history { asker_history asker.new ≡ asker_history asker.old }
     ensures known { IsPrefix (known_to asker.old) (known_to asker.new) }
 {
     match B::tag(asker, external, moment, rows, shared, seat) {
@@ -190,7 +190,7 @@ fn price<L: Site, B: Taker<L>>(
         IsPriceOn (known_to asker.old) (known_to asker.new) external.now moment rows.now a) }
     ensures err { IfErr result (RefusesQuestions B.refuses (Work.Add external.now) moment) }
     ensures seat { IsSeatOf shared.now seat.new }
-    ensures history { asks_of asker.new ≡ asks_of asker.old }
+    ensures history { asker_history asker.new ≡ asker_history asker.old }
     ensures known { IsPrefix (known_to asker.old) (known_to asker.new) }
 {
     match B::price(asker, external, moment, rows, shared, seat) {
@@ -217,7 +217,7 @@ pub fn make_install<L: Site, B: Taker<L>, R: Wait>(
         IsInstall B.offers (known_to asker.old) (known_to asker.new) moment event) }
     ensures err { IfErr result (RefusesQuestions B.refuses Work.Refresh moment) }
     ensures seat { IsSeatOf L.words seat.new }
-    ensures history { asks_of asker.new ≡ asks_of asker.old }
+    ensures history { asker_history asker.new ≡ asker_history asker.old }
     ensures known { IsPrefix (known_to asker.old) (known_to asker.new) }
 {
     match asker.is_veto_vacant() {
@@ -240,7 +240,7 @@ fn let_in<L: Site, B: Taker<L>, R: Wait>(
         IsInstall B.offers (known_to asker.old) (known_to asker.new) moment event) }
     ensures err { IfErr result (RefusesQuestions B.refuses Work.Refresh moment) }
     ensures seat { IsSeatOf L.words seat.new }
-    ensures history { asks_of asker.new ≡ asks_of asker.old }
+    ensures history { asker_history asker.new ≡ asker_history asker.old }
     ensures known { IsPrefix (known_to asker.old) (known_to asker.new) }
 {
     let candidates = hub.candidates(rt)?;
@@ -264,7 +264,7 @@ fn ask_about_candidates<L: Site, B: Taker<L>, R: Wait>(
         IsInstall B.offers (known_to asker.old) (known_to asker.new) moment event) }
     ensures err { IfErr result (RefusesQuestions B.refuses Work.Refresh moment) }
     ensures seat { IsSeatOf L.words seat.new }
-    ensures history { asks_of asker.new ≡ asks_of asker.old }
+    ensures history { asker_history asker.new ≡ asker_history asker.old }
     ensures known { IsPrefix (known_to asker.old) (known_to asker.new) }
 {
     let offered = hub.offered(rt)?;
@@ -285,7 +285,7 @@ fn ask_vetoes<L: Site, B: Taker<L>>(
         moment offered.now.rows.items offered.now.candidates.items answers.items) }
     ensures err { IfErr result (RefusesQuestions B.refuses Work.Refresh moment) }
     ensures seat { IsSeatOf shared.now seat.new }
-    ensures history { asks_of asker.new ≡ asks_of asker.old }
+    ensures history { asker_history asker.new ≡ asker_history asker.old }
     ensures known { IsPrefix (known_to asker.old) (known_to asker.new) }
 {
     let alloc = *offered.candidates.allocator();

@@ -2,7 +2,7 @@
 ghost use Rattle.std.specs.Prelude.{◌≡◌, []};
 ghost use Rattle.logbook.specs.Pages.{Book as History};
 ghost use Rattle.maps.specs.Words.{IsSeatOf, SharedWords};
-ghost use Rattle.hooks.specs.Known.{asks_of};
+ghost use Rattle.hooks.specs.Known.{asker_history};
 
 use flood::Origin;
 use hooks::Asker;
@@ -44,7 +44,7 @@ pub struct WorkerSeat<L: Site> {
     pub(crate) asker: Asker,
     pub(crate) of: PhantomData<L>,
     pub ghost seated: { IsSeatOf L.words seat },
-    pub ghost asks: { asks_of asker ≡ L.history },
+    pub ghost asks: { asker_history asker ≡ L.history },
 }
 
 impl<L: Site> WorkerSeat<L> {
@@ -52,7 +52,7 @@ impl<L: Site> WorkerSeat<L> {
     /// the asker of its programs.
     pub fn new(seat: Seat, asker: Asker) -> WorkerSeat<L>
         requires seated { IsSeatOf L.words seat }
-        requires asks { asks_of asker ≡ L.history }
+        requires asks { asker_history asker ≡ L.history }
     {
         WorkerSeat {
             seat,

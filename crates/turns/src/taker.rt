@@ -11,7 +11,7 @@ ghost use Rattle.words.specs.declared.route.Route.{Route as RouteValue};
 ghost use Rattle.words.specs.declared.route.TableRow.{TableRow};
 ghost use Rattle.maps.specs.Words.{IsSeatOf};
 ghost use Rattle.hooks.specs.Answered.{AreAnswered, IsAnswered};
-ghost use Rattle.hooks.specs.Known.{asks_of, known_to, told_by};
+ghost use Rattle.hooks.specs.Known.{asker_history, known_to, told_by};
 ghost use Rattle.hooks.specs.Questions.{count_input, price_input, tag_input, veto_input};
 ghost use Rattle.hooks.specs.Vacant.{IsAnsweredByNone, let_in};
 ghost use Rattle.flood.specs.event_rules.Events.{Happens};
@@ -149,7 +149,7 @@ pub trait Taker<L: Origin> {
         seat: &mut Seat,
     ) -> Option<HookAnswer>
         requires { IsSeatOf shared.now seat.old }
-        ensures history { asks_of asker.new ≡ asks_of asker.old }
+        ensures history { asker_history asker.new ≡ asker_history asker.old }
         ensures asked { IsAsked took (count_input interface moment packet.now) }
         ensures unread { IfNone result ((known_to asker.new ≡ known_to asker.old)
             × (seat.new ≡ seat.old)) }
@@ -170,7 +170,7 @@ pub trait Taker<L: Origin> {
         seat: &mut Seat,
     ) -> Option<TagAnswer>
         requires { IsSeatOf shared.now seat.old }
-        ensures history { asks_of asker.new ≡ asks_of asker.old }
+        ensures history { asker_history asker.new ≡ asker_history asker.old }
         ensures unread { IfNone result ((known_to asker.new ≡ known_to asker.old)
             × (seat.new ≡ seat.old)) }
         ensures lacking { IfNone result
@@ -192,7 +192,7 @@ pub trait Taker<L: Origin> {
         seat: &mut Seat,
     ) -> Option<PriceAnswer>
         requires { IsSeatOf shared.now seat.old }
-        ensures history { asks_of asker.new ≡ asks_of asker.old }
+        ensures history { asker_history asker.new ≡ asker_history asker.old }
         ensures unread { IfNone result ((known_to asker.new ≡ known_to asker.old)
             × (seat.new ≡ seat.old)) }
         ensures lacking { IfNone result
@@ -215,7 +215,7 @@ pub trait Taker<L: Origin> {
         seat: &mut Seat,
     ) -> Result<Option<Vec<VetoAnswer>>, AllocError>
         requires { IsSeatOf shared.now seat.old }
-        ensures history { asks_of asker.new ≡ asks_of asker.old }
+        ensures history { asker_history asker.new ≡ asker_history asker.old }
         ensures known { IsPrefix (known_to asker.old) (known_to asker.new) }
         ensures lacking { IfOk result (λ o. IfNone o ((route : RouteValue)
             × Contains routes.now route
@@ -229,7 +229,7 @@ pub trait Taker<L: Origin> {
     /// The answers on these routes if `veto` has no program: each is let in, by
     /// [`Asker::all_let_in`]. `None` if it has one, or the published programs can't be read.
     fn all_let_in(asker: &mut Asker, routes: Pages<Route>, moment: Second) -> Option<VetoAnswers>
-        ensures history { asks_of asker.new ≡ asks_of asker.old }
+        ensures history { asker_history asker.new ≡ asker_history asker.old }
         ensures known { IsPrefix (known_to asker.old) (known_to asker.new) }
         ensures all { IfSome result (λ answers. answers ≡ map (let_in moment) routes) }
         ensures answered { IfSome result (λ answers.

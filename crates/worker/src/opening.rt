@@ -1,7 +1,7 @@
 //! A hub and its ports.
 ghost use Rattle.std.specs.Prelude.{◌≡◌, ◌+◌, ◌≤◌, All, IfNone, IfOk, IfSome, map, vec_len};
 ghost use Rattle.maps.specs.Words.{IsSeatOf};
-ghost use Rattle.hooks.specs.Known.{asks_of};
+ghost use Rattle.hooks.specs.Known.{asker_history};
 ghost use Rattle.transports.specs.Descending.{CountDownTo};
 ghost use Rattle.worker.specs.Opening.{IsSetUpFor};
 
@@ -55,7 +55,7 @@ fn ports_of<L: Site>(
     requires enough { vec_len askers ≡ vec_len seats }
     requires few { vec_len seats ≤ 64 }
     requires seated { All (IsSeatOf L.words) seats.items }
-    requires asks { All (λ a. asks_of a ≡ L.history) askers.items }
+    requires asks { All (λ a. asker_history a ≡ L.history) askers.items }
     requires parts { (all.old.parts ≡ vec_len seats) × (all.old.amount ≡ 0) }
     ensures ports { IfOk result (λ ports.
         (vec_len ports ≡ vec_len seats) × (all.new.parts ≡ 0)) }
@@ -73,7 +73,7 @@ fn places<L: Site>(
 ) -> Result<Vec<WorkerSeat<L>>, AllocError>
     requires enough { vec_len askers ≡ vec_len seats }
     requires seated { All (IsSeatOf L.words) seats.items }
-    requires asks { All (λ a. asks_of a ≡ L.history) askers.items }
+    requires asks { All (λ a. asker_history a ≡ L.history) askers.items }
     ensures { IfOk result (λ places. vec_len places ≡ vec_len seats) }
 {
     let (mut seats, mut askers) = (seats, askers);
@@ -88,10 +88,10 @@ fn places<L: Site>(
 fn next_place<L: Site>(seats: &mut Vec<Seat>, askers: &mut Vec<Asker>) -> Option<WorkerSeat<L>>
     requires enough { vec_len askers.old ≡ vec_len seats.old }
     requires seated { All (IsSeatOf L.words) seats.old.items }
-    requires asks { All (λ a. asks_of a ≡ L.history) askers.old.items }
+    requires asks { All (λ a. asker_history a ≡ L.history) askers.old.items }
     ensures enough { vec_len askers.new ≡ vec_len seats.new }
     ensures seated { All (IsSeatOf L.words) seats.new.items }
-    ensures asks { All (λ a. asks_of a ≡ L.history) askers.new.items }
+    ensures asks { All (λ a. asker_history a ≡ L.history) askers.new.items }
     ensures some { IfSome result (λ _. vec_len seats.new + 1 ≡ vec_len seats.old) }
     ensures none { IfNone result (vec_len seats.old ≡ 0) }
 {

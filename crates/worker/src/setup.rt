@@ -2,7 +2,7 @@
 ghost use Rattle.std.specs.Prelude.{◌≡◌, ◌⊎◌, ◌↔◌, ◌+◌, ◌<◌, ◌≤◌, [], All, Err, IfOk, vec_len};
 ghost use Rattle.maps.specs.Words.{IsSeatOf};
 ghost use Rattle.hooks.specs.declared.error.HookError.TheVariants.{Count};
-ghost use Rattle.hooks.specs.Known.{IsNew, asks_of, history_of, operations_of};
+ghost use Rattle.hooks.specs.Known.{IsNew, asker_history, loader_history, operations_of};
 
 use hooks::{Asker, HookError, Loader, programs};
 use maps::{MAX_SEATS, Seat, Shared};
@@ -41,7 +41,7 @@ impl Setup {
     ) -> Result<(Loader<R>, Setup), HookError>
         ensures ports { IfOk result (λ r. vec_len r.1.seats ≡ ports) }
         ensures loader { IfOk result (λ r. (operations_of r.0 ≡ [])
-            × All (IsNew (history_of r.0)) r.1.askers.items) }
+            × All (IsNew (loader_history r.0)) r.1.askers.items) }
         ensures count { (result ≡ Err Count) ↔ ((ports ≡ 0) ⊎ (64 < ports)) }
     {
         if ports == 0 || ports > MAX_SEATS {

@@ -1,6 +1,6 @@
 //! What is played at a router, and what its book holds in the end.
 ghost use Rattle.std.specs.Prelude.{◌≡◌};
-ghost use Rattle.hooks.specs.Known.{history_of};
+ghost use Rattle.hooks.specs.Known.{loader_history};
 ghost use Rattle.worker.specs.Opening.{IsSetUpFor};
 
 use crate::operated::operate;
@@ -139,7 +139,7 @@ fn play_at<L: Site + Send + Sync, R: Threads + Wait + Clock + Sync, Q: Wait + Dr
 ) -> End
     requires setup { IsSetUpFor L.name L.parts L.words L.history setup }
     requires origin { core ≡ L.origin }
-    requires history { history_of loader ≡ L.history }
+    requires history { loader_history loader ≡ L.history }
 {
     match open_hub::<L>(alloc, setup, core) {
         Ok((hub, ports, _rest)) => play_in_hub(rt, alloc, hub, Stage { ports, loader }, scene),

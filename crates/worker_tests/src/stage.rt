@@ -1,6 +1,6 @@
 //! A router with three ports, and a player of steps at it.
 ghost use Rattle.std.specs.Prelude.{◌≡◌};
-ghost use Rattle.hooks.specs.Known.{history_of};
+ghost use Rattle.hooks.specs.Known.{loader_history};
 
 use crate::samples::{destination, hello};
 use hooks::{Loader, Notice};
@@ -53,7 +53,7 @@ pub type StageStep = (u64, Deed, Seen);
 pub struct Stage<L: Site, Q: Wait + Drop> {
     pub ports: Vec<Port<L>>,
     pub loader: Loader<Q>,
-    pub ghost loaded: { history_of loader ≡ L.history },
+    pub ghost loaded: { loader_history loader ≡ L.history },
 }
 
 /// What a turn is for that does this; None if it is no turn, or for want of memory.
@@ -151,7 +151,7 @@ fn is_same(one: &Seen, other: &Seen) -> bool {
 
 // Attaches the program of this object file, if there is memory for it.
 fn attach<Q: Wait + Drop>(alloc: Global, loader: &mut Loader<Q>, object: &[u8]) -> bool
-    ensures { history_of loader.new ≡ history_of loader.old }
+    ensures { loader_history loader.new ≡ loader_history loader.old }
 {
     match verify_object(alloc, object) {
         Ok(program) => loader.attach(program).is_ok(),

@@ -1,7 +1,7 @@
 //! An asker, with its loader on another thread.
 ghost use Rattle.std.specs.Prelude.{◌≡◌};
 ghost use Rattle.maps.specs.Words.{IsSeatOf};
-ghost use Rattle.hooks.specs.Known.{asks_of, history_of};
+ghost use Rattle.hooks.specs.Known.{asker_history, loader_history};
 
 use crate::questions::trial::{HookTrial, MOMENT, SEVEN, accepted, samples};
 use hooks::{Asker, Loader};
@@ -23,7 +23,7 @@ struct Worker {
 impl Worker {
     fn price(&mut self, external: &External, shared: &Shared) -> Option<u64>
         requires { IsSeatOf shared.now self.old.seat }
-        ensures history { asks_of self.new.asker ≡ asks_of self.old.asker }
+        ensures history { asker_history self.new.asker ≡ asker_history self.old.asker }
         ensures table { IsSeatOf shared.now self.new.seat }
     {
         let answer = self
@@ -36,7 +36,7 @@ impl Worker {
     // neither the program's nor the metric.
     fn ask_for_others(&mut self, external: &External, shared: &Shared) -> u32
         requires { IsSeatOf shared.now self.old.seat }
-        ensures history { asks_of self.new.asker ≡ asks_of self.old.asker }
+        ensures history { asker_history self.new.asker ≡ asker_history self.old.asker }
         ensures table { IsSeatOf shared.now self.new.seat }
     {
         let mut others = 0u32;
@@ -52,7 +52,7 @@ impl Worker {
 
 // Attaches and detaches many times, and detaches at the end. Whether each succeeded.
 fn load<R: Wait + Drop>(alloc: Global, loader: Loader<R>) -> (Loader<R>, bool)
-    ensures { history_of result.0 ≡ history_of loader }
+    ensures { loader_history result.0 ≡ loader_history loader }
 {
     let mut loader = loader;
     let mut done = true;
@@ -88,7 +88,7 @@ fn race<R: Threads + Wait + Sync>(
         move || load(alloc, loader),
         move || -> (Worker, u32)
             requires { IsSeatOf words.now worker.seat }
-            ensures history { asks_of result.0.asker ≡ asks_of worker.asker }
+            ensures history { asker_history result.0.asker ≡ asker_history worker.asker }
             ensures table { IsSeatOf words.entry.now result.0.seat }
         {
             let mut worker = worker;

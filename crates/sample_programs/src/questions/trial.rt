@@ -1,7 +1,7 @@
 //! A loader, one of its askers, and a seat of a table.
 ghost use Rattle.std.specs.Prelude.{◌≡◌, All, IfOk, IfSome};
 ghost use Rattle.maps.specs.Words.{IsSeatOf};
-ghost use Rattle.hooks.specs.Known.{IsNew, asks_of, history_of};
+ghost use Rattle.hooks.specs.Known.{IsNew, asker_history, loader_history};
 
 use crate::trials::{accepted_in, file_of, one_seat, row};
 use hooks::{Asker, HookError, Loader, MAX_ASKERS, VetoAnswers, programs};
@@ -76,7 +76,7 @@ pub struct HookTrial<R: Wait + Drop> {
     pub asker: Asker,
     pub shared: Shared,
     pub seat: Seat,
-    ghost same: { asks_of asker ≡ history_of loader },
+    ghost same: { asker_history asker ≡ loader_history loader },
     ghost table: { IsSeatOf shared seat },
 }
 
@@ -86,14 +86,14 @@ fn loader_and_askers<R: Wait + Drop>(
     alloc: Global,
     rt: R,
 ) -> Result<(Loader<R>, Vec<Asker>), HookError>
-    ensures { IfOk result (λ t. All (IsNew (history_of t.0)) t.1.items) }
+    ensures { IfOk result (λ t. All (IsNew (loader_history t.0)) t.1.items) }
 {
     programs(alloc, rt, MAX_ASKERS)
 }
 
 // A loader with the last of its askers.
 fn loader_and_asker<R: Wait + Drop>(alloc: Global, rt: R) -> Option<(Loader<R>, Asker)>
-    ensures { IfSome result (λ t. asks_of t.1 ≡ history_of t.0) }
+    ensures { IfSome result (λ t. asker_history t.1 ≡ loader_history t.0) }
 {
     let Ok((loader, mut askers)) = loader_and_askers(alloc, rt) else {
         return None;

@@ -1,5 +1,5 @@
 use Rattle.std.proofs.Common.{refl}
-use Rattle.hooks.specs.Known.{history_of}
+use Rattle.hooks.specs.Known.{loader_history}
 use Rattle.hooks.proofs.Fresh.{all_ask}
 use Rattle.bench.proofs.turn_speed.print.Goals as goal
 
@@ -9,6 +9,6 @@ print_at-requires-clause-setup g c =
       refl,
       refl,
       refl,
-      all_ask (history_of loader.loader) loader.setup.askers.items
+      all_ask (loader_history loader.loader) loader.setup.askers.items
           loader.ensures.loader.1,
     )

@@ -1,4 +1,4 @@
-use Rattle.hooks.specs.Known.{history_of}
+use Rattle.hooks.specs.Known.{loader_history}
 use Rattle.bench.proofs.turn_speed.print.Given as goal
 
 -- the ledger is that of the setup
@@ -16,5 +16,5 @@ ghosts-print_at-L-Origin g a = record { origin = a.core }
 abbrev pub ghosts-print_at-L-Site : goal.ghosts-print_at-L-Site
 ghosts-print_at-L-Site g a = record {
   words = a.setup.shared;
-  history = history_of a.loader.now;
+  history = loader_history a.loader.now;
 }

@@ -1,4 +1,4 @@
-use Rattle.hooks.specs.Known.{history_of}
+use Rattle.hooks.specs.Known.{loader_history}
 use Rattle.daemon.proofs.running.operate.Given as goal
 
 -- the ledger is that of the setup
@@ -11,4 +11,4 @@ ghosts-run_all-L-Origin g a = record { origin = a.core }
 
 -- and the workers share its words, and ask the programs of the loader
 abbrev pub ghosts-run_all-L-Site : goal.ghosts-run_all-L-Site
-ghosts-run_all-L-Site g a = record { words = a.setup.shared; history = history_of a.loader }
+ghosts-run_all-L-Site g a = record { words = a.setup.shared; history = loader_history a.loader }

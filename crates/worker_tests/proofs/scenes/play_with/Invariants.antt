@@ -1,4 +1,4 @@
-use Rattle.hooks.specs.Known.{history_of}
+use Rattle.hooks.specs.Known.{loader_history}
 use Rattle.worker_tests.proofs.scenes.play_with.Given as goal
 
 -- the ledger is that of the setup
@@ -11,4 +11,4 @@ ghosts-play_at-L-Origin g a = record { origin = a.core }
 
 -- and the workers share its words, and ask the programs of the loader
 abbrev pub ghosts-play_at-L-Site : goal.ghosts-play_at-L-Site
-ghosts-play_at-L-Site g a = record { words = a.setup.shared; history = history_of a.loader }
+ghosts-play_at-L-Site g a = record { words = a.setup.shared; history = loader_history a.loader }

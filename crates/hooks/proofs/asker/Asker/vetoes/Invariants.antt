@@ -2,13 +2,13 @@ use Rattle.std.specs.Prelude.{◌≡◌, ◌≤◌, ◌-◌, length, take, vec_c
 use mathlib.Core.List.{IsPrefix}
 use Rattle.maps.specs.Words.{IsSeatOf}
 use Rattle.hooks.specs.Answered.{AreAnswered}
-use Rattle.hooks.specs.Known.{asks_of, known_to}
+use Rattle.hooks.specs.Known.{asker_history, known_to}
 use Rattle.hooks.proofs.asker.Asker.vetoes.Given as goal
 
 abbrev pub invariant-loop-asked : goal.invariant-loop-asked
 invariant-loop-asked l = record {
   table : IsSeatOf l.shared l.seat;
-  history : asks_of l.self ≡ asks_of l.fn.self;
+  history : asker_history l.self ≡ asker_history l.fn.self;
   known : IsPrefix (known_to l.fn.self) (known_to l.self);
   room : length l.routes ≤ vec_capacity l.answers;
   many : vec_len l.answers ≡ l.asked;
