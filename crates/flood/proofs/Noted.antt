@@ -17,10 +17,10 @@ use Rattle.flood.specs.Occurrences.{brings_answers, occurrence_of}
 use Rattle.flood.specs.declared.book.entry.JournalEntry.{JournalEntry}
 use Rattle.flood.specs.declared.book.error.BookError.{BookError}
 use Rattle.flood.specs.declared.book.error.BookError.TheVariants as refusing
-use Rattle.flood.specs.Refusals.{RefusesByRules, RefusesAnewByRules, IsFull, IsRefusedEarly}
+use Rattle.flood.specs.Refusals.{RefusesByRules, RefusesWithMarksByRules, IsFull, IsRefusedEarly}
 use Rattle.flood.specs.Refusals.{IsSpent}
-use Rattle.flood.specs.Replay.{BookView, EndsWith, IsLightened, IsNotedIn, IsSameOrAnew}
-use Rattle.flood.specs.Replay.{IsSameOrMarked, forgotten_at, marked_book}
+use Rattle.flood.specs.Replay.{BookView, EndsWith, IsLightened, IsNotedIn, MayBeMarked}
+use Rattle.flood.specs.Replay.{IsMarkedIfDue, forgotten_at, marked_book}
 
 -- two lists with one entry behind them
 same_ends : (xs ys : List JournalEntry) (x y : JournalEntry) → xs ++ x ∷ [] ≡ ys ++ y ∷ []
@@ -61,16 +61,16 @@ noted_in before grown new e is same light =
               ∙ ap (λ (x : JournalEntry). forgotten_at before.journal place ++ x ∷ []) ends.1,
         )
 
-pub same_or_anew : (old new : BookView) → IsSameOrMarked old new → IsSameOrAnew old new
+pub same_or_anew : (old new : BookView) → IsMarkedIfDue old new → MayBeMarked old new
 same_or_anew old new (inl same) = inl same
 same_or_anew old new (inr marked) = inr marked.1
 
 -- a book that is marked for want of memory, whatever room was made in it before
-pub marked_again : (old between last new : BookView) → IsSameOrMarked old between → last ≡ between
+pub marked_again : (old between last new : BookView) → IsMarkedIfDue old between → last ≡ between
     → new ≡ marked_book last → new ≡ marked_book old
 marked_again old between last new first same is = is ∙ ap marked_book same ∙ was first
   where
-    was : IsSameOrMarked old between → marked_book between ≡ marked_book old
+    was : IsMarkedIfDue old between → marked_book between ≡ marked_book old
     was (inl stays) = ap marked_book stays.1
     was (inr before) = ap marked_book before.1
 
@@ -85,7 +85,7 @@ happens_at a b moment e back outs new same router happens =
 -- a refusal looks at the router as it is now, and at how many events were taken
 pub answered_at : {X : Type 0} (a b : BookView) (moment : Moment) (e : Event)
     (r : Result X BookError) → b.current ≡ a.current → b.taken ≡ a.taken
-    → RefusesAnewByRules b moment e r → RefusesAnewByRules a moment e r
+    → RefusesWithMarksByRules b moment e r → RefusesWithMarksByRules a moment e r
 answered_at {X = X} a b moment e (Ok x) current taken (fresh, answers) = (
   (λ spent. fresh (taken ∙ spent)),
   subst (λ (r : Router). router.RefusesByRules {X = X} r moment (occurrence_of e) (Ok x)) current
@@ -102,7 +102,7 @@ answered_at a b moment e (Err (refusing.Core x)) current taken (fresh, answers) 
 -- if the journal has room, only a book that may take no more is full
 pub answered_anew : {X : Type 0} (b : BookView) (moment : Moment) (e : Event)
     (r : Result X BookError) → length b.journal < 65536 → RefusesByRules b moment e r
-    → RefusesAnewByRules b moment e r
+    → RefusesWithMarksByRules b moment e r
 answered_anew b moment e (Ok x) room (free, answers) = ((λ spent. free (inr spent)), answers)
 answered_anew b moment e (Err refusing.Journal) room (inl long) = absurd (omega (arith, room, long))
 answered_anew b moment e (Err refusing.Journal) room (inr spent) = spent
@@ -111,10 +111,10 @@ answered_anew b moment e (Err (refusing.Core x)) room (free, answers) =
 
 pub answered_back : {X : Type 0} (a b : BookView) (moment : Moment) (e back : Event)
     (r : Result X BookError) → back ≡ e → b.current ≡ a.current → b.taken ≡ a.taken
-    → RefusesAnewByRules b moment back r → RefusesAnewByRules a moment e r
+    → RefusesWithMarksByRules b moment back r → RefusesWithMarksByRules a moment e r
 answered_back {X = X} a b moment e back r same current taken answers =
     answered_at {X = X} a b moment e r current taken
-    (subst (λ (x : Event). RefusesAnewByRules {X = X} b moment x r) same answers)
+    (subst (λ (x : Event). RefusesWithMarksByRules {X = X} b moment x r) same answers)
 
 -- the answer is no refusal
 pub where_ok : {X E : Type 0} (r : Result X E) (P : Type 0) → is_err r ≡ false → OnOk r P → P

@@ -39,9 +39,9 @@ abbrev pub RefusesByRules : {X : Type 0} → BookView → Moment → Event → R
 RefusesByRules b moment e r = RefusesWhere IsFull b moment e r
 
 -- a book that starts anew if its journal is full
-abbrev pub RefusesAnewByRules : {X : Type 0} → BookView → Moment → Event → Result X BookError
+abbrev pub RefusesWithMarksByRules : {X : Type 0} → BookView → Moment → Event → Result X BookError
     → Type 0
-RefusesAnewByRules b moment e r = RefusesWhere IsSpent b moment e r
+RefusesWithMarksByRules b moment e r = RefusesWhere IsSpent b moment e r
 
 -- the answer, of which a refusal gives the event back, without the event
 abbrev pub without_event : {X : Type 0} → Result X Refused → Result X BookError

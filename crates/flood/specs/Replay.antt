@@ -107,12 +107,12 @@ IsDue b =
     ⊎ (allowed_for (finite.len b.current.area.database) < bytes_of b.journal)
 
 -- it is the same book, whose journal isn't too much; or the one that was marked
-abbrev pub IsSameOrAnew : (old new : BookView) → Type 0
-IsSameOrAnew old new = ((IsDue old → ⊥) × (new ≡ old)) ⊎ (new ≡ marked_book old)
+abbrev pub MayBeMarked : (old new : BookView) → Type 0
+MayBeMarked old new = ((IsDue old → ⊥) × (new ≡ old)) ⊎ (new ≡ marked_book old)
 
 -- it is the book that was marked if its journal was too much, and only then; else the same one
-abbrev pub IsSameOrMarked : (old new : BookView) → Type 0
-IsSameOrMarked old new =
+abbrev pub IsMarkedIfDue : (old new : BookView) → Type 0
+IsMarkedIfDue old new =
     ((IsDue old → ⊥) × (new ≡ old)) ⊎ (IsDue old × (new ≡ marked_book old))
 
 -- the entry stands last in the journal
@@ -122,7 +122,7 @@ IsNotedIn before e new = (new.start ≡ before.start) × EndsWith before.journal
 -- the entry stands last in the journal, which goes on; or alone in one that was emptied by a mark
 -- before, since it was too much, or for want of memory
 abbrev pub IsNotedAtLast : (old : BookView) → JournalEntry → (new : BookView) → Type 0
-IsNotedAtLast old e new = (before : BookView) × IsSameOrAnew old before × IsNotedIn before e new
+IsNotedAtLast old e new = (before : BookView) × MayBeMarked old before × IsNotedIn before e new
 
 -- what holds of the fields of every book that began with this router; `total` is its ledger's
 pub record IsKept (origin : Router) (start : Router) (journal : List JournalEntry) (now : Router)

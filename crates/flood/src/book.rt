@@ -7,10 +7,10 @@ ghost use Rattle.event_rules.specs.Events.{Happens};
 ghost use Rattle.flood.specs.Early.{early_refusal};
 ghost use Rattle.flood.specs.Occurrences.{occurrence_of};
 ghost use Rattle.flood.specs.Offers.{IsStaleNow};
-ghost use Rattle.flood.specs.Refusals.{RefusesByRules, RefusesAnewByRules, IsFull, IsRefusedEarly};
+ghost use Rattle.flood.specs.Refusals.{RefusesByRules, RefusesWithMarksByRules, IsFull, IsRefusedEarly};
 ghost use Rattle.flood.specs.Refusals.{without_event};
-ghost use Rattle.flood.specs.Replay.{IsDue, IsLightened, IsNotedAtLast, IsSameOrAnew};
-ghost use Rattle.flood.specs.Replay.{IsSameOrMarked, IsAfterEvents, Replays, entry, marked_book};
+ghost use Rattle.flood.specs.Replay.{IsDue, IsLightened, IsNotedAtLast, MayBeMarked};
+ghost use Rattle.flood.specs.Replay.{IsMarkedIfDue, IsAfterEvents, Replays, entry, marked_book};
 ghost use Rattle.flood.specs.Replay.{start_of};
 ghost use Rattle.flood.specs.Replay.{started_book};
 
@@ -59,7 +59,7 @@ pub struct Book<L: Origin> {
     journal: Vec<JournalEntry>,
     // The bytes that the journal's events take, without the answers of Installs.
     noted: u64,
-    // The place of the last Install that was taken by `apply_anew` since the start.
+    // The place of the last Install that was taken by `apply_with_marks` since the start.
     installed: Option<usize>,
     taken: u64,
     total: ledger::Book<L>,
@@ -256,12 +256,12 @@ impl<L: Origin> Book<L> {
         ensures ok { IsOk result }
         ensures book { self.new ≡ marked_book self.old }
     {
-        self.start_anew();
+        self.mark_now();
         Ok(())
     }
 
-    // Does what `mark` promises, for `apply_anew` too, which has no error to pass on.
-    fn start_anew(&mut self)
+    // Does what `mark` promises, for `apply_with_marks` too, which has no error to pass on.
+    fn mark_now(&mut self)
         ensures { self.new ≡ marked_book self.old }
     {
         if let Some(start) = replace(&mut self.start, None) {
@@ -283,13 +283,13 @@ impl<L: Origin> Book<L> {
 
     // Marks the book if that is due.
     fn make_room(&mut self)
-        ensures book { IsSameOrMarked self.old self.new }
+        ensures book { IsMarkedIfDue self.old self.new }
         ensures room { length self.new.journal < 65536 }
         ensures current { self.new.current ≡ self.old.current }
         ensures taken { self.new.taken ≡ self.old.taken }
     {
         if self.is_due() {
-            self.start_anew();
+            self.mark_now();
         }
     }
 
@@ -322,7 +322,7 @@ impl<L: Origin> Book<L> {
     ///
     /// # Errors
     /// As [`apply`](Book::apply), but `Journal` only if 2^63 events were taken.
-    pub fn apply_anew(
+    pub fn apply_with_marks(
         &mut self,
         mine: &mut Share<L>,
         moment: Second,
@@ -335,12 +335,12 @@ impl<L: Origin> Book<L> {
         ensures taken { OnOk result (self.new.taken ≡ self.old.taken + 1) }
         ensures share { OnOk result (mine.new.amount ≡ mine.old.amount + 1) }
         ensures parts { mine.new.parts ≡ mine.old.parts }
-        ensures refused { RefusesAnewByRules self.old moment event result }
+        ensures refused { RefusesWithMarksByRules self.old moment event result }
         ensures early { IsRefusedEarly self.old moment event → self.new ≡ self.old }
         ensures short { result ≡ Err (BookError.Core CoreError.Memory)
             → self.new ≡ marked_book self.old }
         ensures err { OnErr result
-            ((IsRefusedEarly self.old moment event ⊎ IsSameOrAnew self.old self.new)
+            ((IsRefusedEarly self.old moment event ⊎ MayBeMarked self.old self.new)
             × (mine.new.amount ≡ mine.old.amount)) }
     {
         if self.taken() == MAX_TAKEN {
@@ -361,7 +361,7 @@ impl<L: Origin> Book<L> {
         if !refused.is_short() {
             return Err(refused.error);
         }
-        self.start_anew();
+        self.mark_now();
         match self.attempt(mine, moment, refused.event) {
             Ok(outs) => {
                 self.lighten();

@@ -90,7 +90,7 @@ pub trait Taker<L: Origin> {
     /// another event came at a later moment meanwhile.
     ///
     /// # Errors
-    /// Why the event is refused, as [`Book::apply_anew`] says. The share is unchanged.
+    /// Why the event is refused, as [`Book::apply_with_marks`] says. The share is unchanged.
     fn take(
         &mut self,
         mine: &mut Share<L>,
@@ -279,7 +279,7 @@ fn known(told: Result<bool, AllocError>) -> Option<bool>
     }
 }
 
-/// A book takes an event by [`Book::apply_anew`], an `Install` at the moment of its last event
+/// A book takes an event by [`Book::apply_with_marks`], an `Install` at the moment of its last event
 /// if this is later. What is sent is what the event makes of its own router, which is then the one
 /// that the event leaves; and all that it says is of a router to which the events that it took lead
 /// from the one that it began with.
@@ -325,7 +325,7 @@ impl<L: Origin> Taker<L> for Book<L> {
         // For the prover alone, by what the call ensures.
         self.audit(mine);
         let at = taken_at(&event, moment, self.now().moment());
-        match self.apply_anew(mine, at, event) {
+        match self.apply_with_marks(mine, at, event) {
             Ok(outs) => {
                 let stale = known(self.is_stale());
                 Ok(TakeOutcome { outs, stale })

@@ -49,7 +49,7 @@ use words::Second;
 ///
 /// # Errors
 /// `Away` if `tag`, `price` or `veto` got no reading; else as the book refuses the event
-/// ([`Book::apply_anew`](flood::Book::apply_anew)). `Memory` may come earlier, while the programs
+/// ([`Book::apply_with_marks`](flood::Book::apply_with_marks)). `Memory` may come earlier, while the programs
 /// are asked. A refused turn adds no event to the book.
 pub fn turn<L: Site, B: Taker<L>, G: Gate, R: Wait>(
     rt: &R,

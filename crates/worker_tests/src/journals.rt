@@ -56,7 +56,7 @@ fn call_book<L: Origin>(book: &mut Book<L>, share: &mut Share<L>, call: Call) ->
     let now = Second::new(0);
     match call {
         Call::Apply => number_of(book.apply(share, now, Event::Tick)),
-        Call::ApplyAnew => number_of(book.apply_anew(share, now, Event::Tick)),
+        Call::ApplyAnew => number_of(book.apply_with_marks(share, now, Event::Tick)),
         Call::Mark if book.mark().is_ok() => 0,
         Call::Mark => MEMORY,
         Call::Candidates => candidates_of(book),

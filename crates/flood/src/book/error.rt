@@ -7,7 +7,8 @@ use event_rules::CoreError;
 use std::alloc::AllocError;
 use thiserror::Error;
 
-/// Why a book refused an event, which then changed nothing.
+/// Why a book refused an event. The router is as it was; `apply_with_marks` may have marked the
+/// book.
 #[derive(Clone, Copy, Debug, PartialEq, Eq, Error)]
 pub enum BookError {
     /// The router refused it, or an allocation was refused (`CoreError::Memory`).
@@ -15,7 +16,7 @@ pub enum BookError {
     Core(CoreError),
     /// The book has taken [`MAX_TAKEN`](crate::MAX_TAKEN) events; or, from `apply` alone, its
     /// journal holds [`MAX_JOURNAL`](crate::MAX_JOURNAL) events. It is tried first.
-    #[error("the journal is full")]
+    #[error("the book takes no more events")]
     Journal,
 }
 

@@ -14,7 +14,7 @@ returns-in-Ok-clause-stale g c =
     let P : BookView → Type 0 =
     λ b. IfSome c.known-stale.result (λ is. IsTrue is ↔ IsStaleNow b.current) in
     subst P (sym c.is_stale.ensures.book)
-    (left_stale c.apply_anew.new.self.current c.is_stale.result c.known-stale.result
+    (left_stale c.apply_with_marks.new.self.current c.is_stale.result c.known-stale.result
     c.is_stale.ensures.stale c.known-stale.ensures)
 
 pub returns-in-Ok-clause-ok : goal.returns-in-Ok-clause-ok
@@ -22,7 +22,7 @@ returns-in-Ok-clause-ok g c =
     let last = c.moment.ensures ∙ ap (λ (r : Router). r.moment) c.now.ensures.router in
     sent_by_some _ c.args.mine.now.amount c.audit.new.self.taken c.args.moment
     c.taken_at-at.result c.args.event
-    c.audit.new.self.current c.apply_anew.new.self.current c.in-Ok.outs.items
+    c.audit.new.self.current c.apply_with_marks.new.self.current c.in-Ok.outs.items
     c.known-stale.result
     (subst (λ (b : BookView). c.args.mine.now.amount ≤ b.taken) (sym c.audit.ensures.book)
     c.audit.ensures.least)
@@ -30,7 +30,7 @@ returns-in-Ok-clause-ok g c =
     (c.taken_at-at.ensures ∙ ap (taken_at c.args.event c.args.moment) last)
     (no_earlier c.audit.new.self c.taken_at-at.result c.args.event c.in-Ok.outs
     c.in-Ok.ensures.refused) c.in-Ok.ensures.ok
-    (left_stale c.apply_anew.new.self.current c.is_stale.result c.known-stale.result
+    (left_stale c.apply_with_marks.new.self.current c.is_stale.result c.known-stale.result
     c.is_stale.ensures.stale c.known-stale.ensures)
 
 pub returns-in-Err-clause-refused : goal.returns-in-Err-clause-refused
@@ -41,9 +41,9 @@ returns-in-Err-clause-refused g c =
     c.args.event error) in
     subst P c.in-Err.is
     (refused_by_some _ c.args.mine.now.amount c.args.moment c.taken_at-at.result c.args.event
-    c.audit.new.self c.apply_anew.result
+    c.audit.new.self c.apply_with_marks.result
     (subst (λ (b : BookView). c.args.mine.now.amount ≤ b.taken) (sym c.audit.ensures.book)
     c.audit.ensures.least)
     c.now.ensures.leads
     (c.taken_at-at.ensures ∙ ap (taken_at c.args.event c.args.moment) last)
-    c.apply_anew.ensures.refused)
+    c.apply_with_marks.ensures.refused)

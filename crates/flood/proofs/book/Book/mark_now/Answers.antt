@@ -2,7 +2,7 @@ use Rattle.std.proofs.Common.{◌≡◌, ◌≤◌, List, [], length, refl, sym,
 use Rattle.flood.specs.declared.book.entry.JournalEntry.{JournalEntry}
 use Rattle.flood.specs.Bytes.{bytes_of}
 use Rattle.flood.specs.Replay.{Replays, start_of}
-use Rattle.flood.proofs.book.Book.start_anew.Goals as goal
+use Rattle.flood.proofs.book.Book.mark_now.Goals as goal
 
 pub invariant_of-self : goal.invariant_of-self
 invariant_of-self g c =

@@ -9,10 +9,10 @@ use Rattle.flood.specs.Early.{early_refusal}
 use Rattle.flood.specs.Occurrences.{occurrence_of}
 use Rattle.flood.specs.declared.event.Event.{Event}
 use Rattle.flood.proofs.Early.{early_answers}
-use Rattle.flood.specs.Replay.{BookView, IsNotedIn, IsSameOrAnew, entry, marked_book}
+use Rattle.flood.specs.Replay.{BookView, IsNotedIn, MayBeMarked, entry, marked_book}
 use Rattle.flood.proofs.Noted.{answered_anew, answered_at, answered_back, happens_at, marked_again}
 use Rattle.flood.proofs.Noted.{never_short, not_early, noted_in, same_or_anew}
-use Rattle.flood.proofs.book.Book.apply_anew.Goals as goal
+use Rattle.flood.proofs.book.Book.apply_with_marks.Goals as goal
 
 -- ---- before any mark
 
@@ -122,7 +122,7 @@ returns-then-not-is_short-clause-short g c is =
 
 pub returns-then-not-is_short-clause-err : goal.returns-then-not-is_short-clause-err
 returns-then-not-is_short-clause-err g c = (
-  inr (subst (λ (b : BookView). IsSameOrAnew c.args.self.now b) (sym c.in-Err.ensures.err.0)
+  inr (subst (λ (b : BookView). MayBeMarked c.args.self.now b) (sym c.in-Err.ensures.err.0)
       (same_or_anew c.args.self.now c.make_room.new.self c.make_room.ensures.book)),
   c.in-Err.ensures.err.1,
 )
@@ -131,14 +131,14 @@ returns-then-not-is_short-clause-err g c = (
 
 pub attempt-requires-2-clause-room : goal.attempt-requires-2-clause-room
 attempt-requires-2-clause-room g c =
-    let none : length c.start_anew.new.self.journal ≡ 0 =
-    ap (λ (b : BookView). length b.journal) c.start_anew.ensures in
+    let none : length c.mark_now.new.self.journal ≡ 0 =
+    ap (λ (b : BookView). length b.journal) c.mark_now.ensures in
     omega (arith, none)
 
 pub attempt-requires-2-clause-few : goal.attempt-requires-2-clause-few
 attempt-requires-2-clause-few g c =
-    let same : c.start_anew.new.self.taken ≡ c.args.self.now.taken =
-    ap (λ (b : BookView). b.taken) (c.start_anew.ensures ∙ ap marked_book c.in-Err.ensures.err.0)
+    let same : c.mark_now.new.self.taken ≡ c.args.self.now.taken =
+    ap (λ (b : BookView). b.taken) (c.mark_now.ensures ∙ ap marked_book c.in-Err.ensures.err.0)
     ∙ c.make_room.ensures.taken in
     omega (arith, same, c.taken.ensures.taken, c.taken.ensures.few)
 
@@ -146,7 +146,7 @@ pub attempt-requires-2-clause-early : goal.attempt-requires-2-clause-early
 attempt-requires-2-clause-early g c =
     let back = occurrence_of c.in-Err.refused.event in
     ap (λ (r : Router). early_refusal r c.args.moment back)
-    (ap (λ (b : BookView). b.current) (c.start_anew.ensures ∙ ap marked_book c.in-Err.ensures.err.0)
+    (ap (λ (b : BookView). b.current) (c.mark_now.ensures ∙ ap marked_book c.in-Err.ensures.err.0)
     ∙ c.make_room.ensures.current ∙ sym c.now.ensures.router)
     ∙ ap (λ (e : Event). early_refusal c.now.result.now c.args.moment (occurrence_of e))
     c.in-Err.ensures.back
@@ -154,53 +154,53 @@ attempt-requires-2-clause-early g c =
 
 pub returns-in-Ok-attempt-clause-ok : goal.returns-in-Ok-attempt-clause-ok
 returns-in-Ok-attempt-clause-ok g c =
-    let marked : c.start_anew.new.self ≡ marked_book c.args.self.now =
-    marked_again c.args.self.now c.make_room.new.self c.attempt.new.self c.start_anew.new.self
-    c.make_room.ensures.book c.in-Err.ensures.err.0 c.start_anew.ensures in
+    let marked : c.mark_now.new.self ≡ marked_book c.args.self.now =
+    marked_again c.args.self.now c.make_room.new.self c.attempt.new.self c.mark_now.new.self
+    c.make_room.ensures.book c.in-Err.ensures.err.0 c.mark_now.ensures in
     let light = c.lighten-in-Ok-attempt in
-    happens_at c.args.self.now.current c.start_anew.new.self.current c.args.moment c.args.event
+    happens_at c.args.self.now.current c.mark_now.new.self.current c.args.moment c.args.event
     c.in-Err.refused.event c.in-Ok-attempt.outs.items light.new.self.current
     c.in-Err.ensures.back (ap (λ (b : BookView). b.current) marked)
-    (subst (λ (r : Router). Happens c.start_anew.new.self.current c.args.moment
+    (subst (λ (r : Router). Happens c.mark_now.new.self.current c.args.moment
     (occurrence_of c.in-Err.refused.event) c.in-Ok-attempt.outs.items r)
     (sym (ap (λ (b : BookView). b.current) light.ensures.book)) c.in-Ok-attempt.ensures.ok)
 
 pub returns-in-Ok-attempt-clause-noted : goal.returns-in-Ok-attempt-clause-noted
 returns-in-Ok-attempt-clause-noted g c =
-    let marked : c.start_anew.new.self ≡ marked_book c.args.self.now =
-    marked_again c.args.self.now c.make_room.new.self c.attempt.new.self c.start_anew.new.self
-    c.make_room.ensures.book c.in-Err.ensures.err.0 c.start_anew.ensures in
+    let marked : c.mark_now.new.self ≡ marked_book c.args.self.now =
+    marked_again c.args.self.now c.make_room.new.self c.attempt.new.self c.mark_now.new.self
+    c.make_room.ensures.book c.in-Err.ensures.err.0 c.mark_now.ensures in
     let light = c.lighten-in-Ok-attempt in (
-      c.start_anew.new.self,
+      c.mark_now.new.self,
       inr marked,
-      subst (λ (e : Event). IsNotedIn c.start_anew.new.self (entry c.args.moment e) light.new.self)
+      subst (λ (e : Event). IsNotedIn c.mark_now.new.self (entry c.args.moment e) light.new.self)
           c.in-Err.ensures.back
-          (noted_in c.start_anew.new.self c.attempt-2.new.self light.new.self
+          (noted_in c.mark_now.new.self c.attempt-2.new.self light.new.self
           (entry c.args.moment c.in-Err.refused.event) c.in-Ok-attempt.ensures.book
           light.ensures.book light.ensures.journal),
     )
 
 pub returns-in-Ok-attempt-clause-taken : goal.returns-in-Ok-attempt-clause-taken
 returns-in-Ok-attempt-clause-taken g c =
-    let marked : c.start_anew.new.self ≡ marked_book c.args.self.now =
-    marked_again c.args.self.now c.make_room.new.self c.attempt.new.self c.start_anew.new.self
-    c.make_room.ensures.book c.in-Err.ensures.err.0 c.start_anew.ensures in
+    let marked : c.mark_now.new.self ≡ marked_book c.args.self.now =
+    marked_again c.args.self.now c.make_room.new.self c.attempt.new.self c.mark_now.new.self
+    c.make_room.ensures.book c.in-Err.ensures.err.0 c.mark_now.ensures in
     ap (λ (b : BookView). b.taken) c.lighten-in-Ok-attempt.ensures.book
     ∙ ap (λ (b : BookView). b.taken) c.in-Ok-attempt.ensures.book
     ∙ ap (λ (b : BookView). b.taken + 1) marked
 
 pub returns-in-Ok-attempt-clause-refused : goal.returns-in-Ok-attempt-clause-refused
 returns-in-Ok-attempt-clause-refused g c =
-    let marked : c.start_anew.new.self ≡ marked_book c.args.self.now =
-    marked_again c.args.self.now c.make_room.new.self c.attempt.new.self c.start_anew.new.self
-    c.make_room.ensures.book c.in-Err.ensures.err.0 c.start_anew.ensures in
-    answered_back c.args.self.now c.start_anew.new.self c.args.moment c.args.event
+    let marked : c.mark_now.new.self ≡ marked_book c.args.self.now =
+    marked_again c.args.self.now c.make_room.new.self c.attempt.new.self c.mark_now.new.self
+    c.make_room.ensures.book c.in-Err.ensures.err.0 c.mark_now.ensures in
+    answered_back c.args.self.now c.mark_now.new.self c.args.moment c.args.event
     c.in-Err.refused.event (Ok c.in-Ok-attempt.outs) c.in-Err.ensures.back
     (ap (λ (b : BookView). b.current) marked) (ap (λ (b : BookView). b.taken) marked)
-    (answered_anew c.start_anew.new.self c.args.moment c.in-Err.refused.event
+    (answered_anew c.mark_now.new.self c.args.moment c.in-Err.refused.event
     (Ok c.in-Ok-attempt.outs)
-    (let none : length c.start_anew.new.self.journal ≡ 0 =
-    ap (λ (b : BookView). length b.journal) c.start_anew.ensures in
+    (let none : length c.mark_now.new.self.journal ≡ 0 =
+    ap (λ (b : BookView). length b.journal) c.mark_now.ensures in
     omega (arith, none))
     c.in-Ok-attempt.ensures.refused)
 
@@ -215,18 +215,18 @@ returns-in-Ok-attempt-clause-early g c refused =
 
 pub returns-in-Err-attempt-clause-refused : goal.returns-in-Err-attempt-clause-refused
 returns-in-Err-attempt-clause-refused g c =
-    let marked : c.start_anew.new.self ≡ marked_book c.args.self.now =
-    marked_again c.args.self.now c.make_room.new.self c.attempt.new.self c.start_anew.new.self
-    c.make_room.ensures.book c.in-Err.ensures.err.0 c.start_anew.ensures in
-    answered_back {X = Vec Out Global} c.args.self.now c.start_anew.new.self c.args.moment
+    let marked : c.mark_now.new.self ≡ marked_book c.args.self.now =
+    marked_again c.args.self.now c.make_room.new.self c.attempt.new.self c.mark_now.new.self
+    c.make_room.ensures.book c.in-Err.ensures.err.0 c.mark_now.ensures in
+    answered_back {X = Vec Out Global} c.args.self.now c.mark_now.new.self c.args.moment
     c.args.event
     c.in-Err.refused.event (Err c.in-Err-attempt.refused.error) c.in-Err.ensures.back
     (ap (λ (b : BookView). b.current) marked) (ap (λ (b : BookView). b.taken) marked)
-    (answered_anew {X = Vec Out Global} c.start_anew.new.self c.args.moment
+    (answered_anew {X = Vec Out Global} c.mark_now.new.self c.args.moment
     c.in-Err.refused.event
     (Err c.in-Err-attempt.refused.error)
-    (let none : length c.start_anew.new.self.journal ≡ 0 =
-    ap (λ (b : BookView). length b.journal) c.start_anew.ensures in
+    (let none : length c.mark_now.new.self.journal ≡ 0 =
+    ap (λ (b : BookView). length b.journal) c.mark_now.ensures in
     omega (arith, none))
     c.in-Err-attempt.ensures.refused)
 
@@ -241,16 +241,16 @@ returns-in-Err-attempt-clause-early g c refused =
 
 pub returns-in-Err-attempt-clause-short : goal.returns-in-Err-attempt-clause-short
 returns-in-Err-attempt-clause-short g c is =
-    let marked : c.start_anew.new.self ≡ marked_book c.args.self.now =
-    marked_again c.args.self.now c.make_room.new.self c.attempt.new.self c.start_anew.new.self
-    c.make_room.ensures.book c.in-Err.ensures.err.0 c.start_anew.ensures in
+    let marked : c.mark_now.new.self ≡ marked_book c.args.self.now =
+    marked_again c.args.self.now c.make_room.new.self c.attempt.new.self c.mark_now.new.self
+    c.make_room.ensures.book c.in-Err.ensures.err.0 c.mark_now.ensures in
     c.in-Err-attempt.ensures.err.0 ∙ marked
 
 pub returns-in-Err-attempt-clause-err : goal.returns-in-Err-attempt-clause-err
 returns-in-Err-attempt-clause-err g c =
-    let marked : c.start_anew.new.self ≡ marked_book c.args.self.now =
-    marked_again c.args.self.now c.make_room.new.self c.attempt.new.self c.start_anew.new.self
-    c.make_room.ensures.book c.in-Err.ensures.err.0 c.start_anew.ensures in (
+    let marked : c.mark_now.new.self ≡ marked_book c.args.self.now =
+    marked_again c.args.self.now c.make_room.new.self c.attempt.new.self c.mark_now.new.self
+    c.make_room.ensures.book c.in-Err.ensures.err.0 c.mark_now.ensures in (
       inr (inr (c.in-Err-attempt.ensures.err.0 ∙ marked)),
       c.in-Err-attempt.ensures.err.1 ∙ c.in-Err.ensures.err.1,
     )
