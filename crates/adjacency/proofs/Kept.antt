@@ -18,7 +18,7 @@ use Rattle.adjacency.specs.Adjacencies.{after_hello, loading_done, has_passed, w
 use Rattle.adjacency.specs.Adjacencies.{mismatch_step, two_way_received, two_way_received_in}
 use Rattle.adjacency.specs.Adjacencies.{requests_nothing, enter_exstart}
 use Rattle.adjacency.specs.Contents.{Requests, Step, Updates, no_sends}
-use Rattle.adjacency.specs.Descriptions.{Verdict, accept, act, after_description, aged_copies}
+use Rattle.adjacency.specs.Descriptions.{Verdict, accept, act, after_description, max_age_copies}
 use Rattle.adjacency.specs.Descriptions.{announced_more, changes_options, exchange_done}
 use Rattle.adjacency.specs.Descriptions.{send_description}
 use Rattle.adjacency.specs.Descriptions.{exchange_over, exchanging, expected_sequence, in_state}
@@ -234,7 +234,7 @@ module _ {Begins : ByKey ListEntry → Type 0} {Adds : Key → ListEntry → Typ
       (λ e. mismatched_kept moment (in_exchange n) h)
 
   -- the step of a verdict, by the state in which it is possible
-  module _ (moment : ℕ) (db : Database) (d : Description) (begun : Begins (aged_copies moment db))
+  module _ (moment : ℕ) (db : Database) (d : Description) (begun : Begins (max_age_copies moment db))
     where
       abbrev Keeps : Neighbor → Verdict → Type 0
       Keeps m v = Of Q (act v moment db d m).neighbor
@@ -275,7 +275,7 @@ module _ {Begins : ByKey ListEntry → Type 0} {Adds : Key → ListEntry → Typ
           let at : Neighbor = record n { state = Full } in
           over_one_of (Keeps at) at d k (repeat_kept moment at k) (mismatched_kept moment at k)
 
-  judge_kept : (own moment : ℕ) (db : Database) (d : Description) → Begins (aged_copies moment db)
+  judge_kept : (own moment : ℕ) (db : Database) (d : Description) → Begins (max_age_copies moment db)
       → (n : Neighbor) → Of Q n → Of Q (process own moment db d n).neighbor
   judge_kept own moment db d begun n h = judged_in moment db d begun n.state own n h
 
@@ -285,7 +285,7 @@ module _ {Begins : ByKey ListEntry → Type 0} {Adds : Key → ListEntry → Typ
   hello_kept moment from false o h = kept.begins
 
   stated_kept : (s : NeighborState) (own moment : ℕ) (db : Database) (d : Description)
-      → Begins (aged_copies moment db) → (n : Neighbor) → Of Q n
+      → Begins (max_age_copies moment db) → (n : Neighbor) → Of Q n
       → Of Q (in_state s own moment db d n).neighbor
   stated_kept Init own moment db d begun n h =
       judge_kept own moment db d begun (two_way_received moment n).neighbor (named_kept moment n h)
@@ -295,7 +295,7 @@ module _ {Begins : ByKey ListEntry → Type 0} {Adds : Key → ListEntry → Typ
   stated_kept Full own moment db d begun n h = judge_kept own moment db d begun n h
 
   pub description_kept : (own moment : ℕ) (db : Database) (d : Description)
-      → Begins (aged_copies moment db) → (n : Neighbor) → Of Q n
+      → Begins (max_age_copies moment db) → (n : Neighbor) → Of Q n
       → Of Q (after_description own moment db d n).neighbor
   description_kept own moment db d begun n h =
       chosen (λ (s : Step). Of Q s.neighbor) (nat_lt 8192 d.mtu) (no_sends n)

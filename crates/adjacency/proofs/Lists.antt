@@ -10,7 +10,7 @@ use Rattle.std.specs.FinMap.Entries.{below_all, is_sorted}
 use Rattle.std.specs.Ordering.{eq_by_cmp}
 use Rattle.words.specs.declared.key.Key.{Key}
 use Rattle.lsdb.specs.Copies.{Database, DatabaseCopy, list_entry_of}
-use Rattle.lsdb.specs.Instances.{ListEntry, aged_header}
+use Rattle.lsdb.specs.Instances.{ListEntry, listed_header_now}
 use Rattle.lsdb.specs.Keys.{ByKey, key_cmp}
 use Rattle.lsdb.proofs.Keys.{absent, equal, first, keys_exact, keys_total, second}
 use Rattle.adjacency.specs.Descriptions.{listed_where}
@@ -84,7 +84,7 @@ module _ (moment : ℕ) (m : ByKey ListEntry) where
   headers_from : (n : ℕ) (es : List (Key × ListEntry))
       → AllByRecursion (OfEntry (λ k x. finite.get m k ≡ Some x)) es
       → filter_map (λ (key : Key). entry_header moment (finite.get m key))
-      (take n (map (λ e. e.0) es)) ≡ map (λ (e : Key × ListEntry). aged_header moment e.1)
+      (take n (map (λ e. e.0) es)) ≡ map (λ (e : Key × ListEntry). listed_header_now moment e.1)
       (take n es)
   headers_from zero es all = refl
   headers_from (suc n) [] all = refl
@@ -92,11 +92,11 @@ module _ (moment : ℕ) (m : ByKey ListEntry) where
       ap (λ o. cons_option (entry_header moment o)
       (filter_map (λ (key : Key). entry_header moment (finite.get m key))
       (take n (map (λ f. f.0) es)))) all.0
-      ∙ ap (λ hs. aged_header moment e.1 ∷ hs) (headers_from n es all.1)
+      ∙ ap (λ hs. listed_header_now moment e.1 ∷ hs) (headers_from n es all.1)
 
   -- the headers of the first keys
   pub headers_first : (n : ℕ) → filter_map (λ (key : Key). entry_header moment (finite.get m key))
-      (take n (finite.keys m)) ≡ map (λ (e : Key × ListEntry). aged_header moment e.1)
+      (take n (finite.keys m)) ≡ map (λ (e : Key × ListEntry). listed_header_now moment e.1)
       (take n (finite.entries m))
   headers_first n = headers_from n (finite.entries m) (found_itself m)
 

@@ -17,7 +17,7 @@ use Rattle.words.specs.declared.key.Key.{Key}
 use Rattle.lsa.specs.Headers.{header_text}
 use Rattle.lsa.specs.Text.{body_text, text}
 use Rattle.lsdb.specs.Copies.{Database, DatabaseCopy, age_now, lsa_now}
-use Rattle.lsdb.specs.Headers.{Header, Lsa, key_of, lsa_aged}
+use Rattle.lsdb.specs.Headers.{Header, Lsa, key_of, lsa_with_age}
 use Rattle.lsdb.specs.Keys.{KeySet, key_cmp}
 use Rattle.lsdb.proofs.Keys.{keys_total}
 use Rattle.packet.specs.declared.model.Description.{Description}
@@ -401,11 +401,11 @@ acknowledgment_roomy moment (x ∷ hs) n h =
 
 -- ---- LSAs at another age
 
-aged_length : (age : ℕ) (lsa : Lsa) → length (text (lsa_aged age lsa)) ≡ length (text lsa)
-aged_length age lsa = length-append (header_text (lsa_aged age lsa).header) (body_text lsa.body)
+aged_length : (age : ℕ) (lsa : Lsa) → length (text (lsa_with_age age lsa)) ≡ length (text lsa)
+aged_length age lsa = length-append (header_text (lsa_with_age age lsa).header) (body_text lsa.body)
     ∙ sym (length-append (header_text lsa.header) (body_text lsa.body))
 
-pub aged_fits : (age : ℕ) (lsa : Lsa) → Fits lsa → Fits (lsa_aged age lsa)
+pub aged_fits : (age : ℕ) (lsa : Lsa) → Fits lsa → Fits (lsa_with_age age lsa)
 aged_fits age lsa h = (aged_length age lsa ∙ h.0, h.1)
 
 pub now_fits : (moment : ℕ) (c : DatabaseCopy) → Fits c.lsa → Fits (lsa_now moment c)

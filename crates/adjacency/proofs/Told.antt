@@ -9,7 +9,7 @@ use Rattle.std.specs.FinSet as set
 use Rattle.std.specs.List.{AllByRecursion, cons_option, filter, filter_map}
 use Rattle.words.specs.declared.key.Key.{Key}
 use Rattle.lsdb.specs.Copies.{Database, DatabaseCopy, age_now, is_aged_out, list_entry_of, lsa_now}
-use Rattle.lsdb.specs.Headers.{Header, Lsa, key_of, lsa_aged, lsa_key}
+use Rattle.lsdb.specs.Headers.{Header, Lsa, key_of, lsa_with_age, lsa_key}
 use Rattle.lsdb.specs.Instances.{ListEntry}
 use Rattle.packet.specs.declared.model.Description.{Description}
 use Rattle.adjacency.specs.declared.state.NeighborState.{NeighborState}
@@ -43,7 +43,7 @@ pub record Telling : Type 1 where
   pub of_lsa : Lsa → Type 0
   pub of_header : Header → Type 0
   pub of_key : Key → Type 0
-  pub aged : (age : ℕ) (l : Lsa) → age ≤ 3600 → of_lsa l → of_lsa (lsa_aged age l)
+  pub aged : (age : ℕ) (l : Lsa) → age ≤ 3600 → of_lsa l → of_lsa (lsa_with_age age l)
   pub header : (l : Lsa) → of_lsa l → of_header l.header
   pub key : (l : Lsa) → of_lsa l → of_key (lsa_key l)
   pub count : ℕ

@@ -4,7 +4,7 @@ use Rattle.std.specs.List.{fold}
 use Rattle.words.specs.Constants.{max_age}
 use Rattle.words.specs.declared.key.Key.{Key}
 use Rattle.lsa.specs.Text.{text}
-use Rattle.lsdb.specs.Headers.{Header, Lsa, lsa_aged, lsa_key}
+use Rattle.lsdb.specs.Headers.{Header, Lsa, lsa_with_age, lsa_key}
 use Rattle.packet.specs.declared.model.Description.{Description}
 use Rattle.packet.specs.declared.model.Hello.{Hello}
 use Rattle.adjacency.specs.Contents.{Content}
@@ -24,7 +24,7 @@ nothing_drafted =
 -- the age of an LSA is incremented by InfTransDelay when it is sent, up to MaxAge (RFC 2328,
 -- section 13.3)
 abbrev pub sent_lsa : ℕ → Lsa → Lsa
-sent_lsa delay lsa = lsa_aged (min max_age (lsa.header.age + delay)) lsa
+sent_lsa delay lsa = lsa_with_age (min max_age (lsa.header.age + delay)) lsa
 
 abbrev pub update_of : ℕ → Lsa → Update
 update_of delay lsa = record { key = lsa_key lsa; text = text (sent_lsa delay lsa) }

@@ -6,7 +6,7 @@ use Rattle.words.specs.Numbers.{Moment, RouterNumber}
 use Rattle.words.specs.declared.key.Key.{Key}
 use Rattle.lsdb.specs.Copies.{Database, DatabaseCopy, is_aged_out, list_entry_of}
 use Rattle.lsdb.specs.Headers.{Header}
-use Rattle.lsdb.specs.Instances.{ListEntry, aged_header}
+use Rattle.lsdb.specs.Instances.{ListEntry, listed_header_now}
 use Rattle.lsdb.specs.Keys.{ByKey}
 use Rattle.packet.specs.declared.model.Description.{Description}
 use Rattle.adjacency.specs.declared.state.NeighborState.{NeighborState}
@@ -136,7 +136,7 @@ any_init (Some n) = is_init n.state
 -- the entry's header with its age at the moment, if there is an entry
 abbrev pub entry_header : Moment → Option ListEntry → Option Header
 entry_header moment None = None
-entry_header moment (Some l) = Some (aged_header moment l)
+entry_header moment (Some l) = Some (listed_header_now moment l)
 
 -- the copy is added to the list, if there is one and it passes the test
 abbrev pub with_copy : (DatabaseCopy → Bool) → Moment → Key → Option DatabaseCopy → ByKey ListEntry

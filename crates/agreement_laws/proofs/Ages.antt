@@ -9,7 +9,7 @@ use Rattle.std.proofs.lemmas.Bool.{eq-eqb, eqb-true, ltb-false, ltb-true}
 use Rattle.lsdb.specs.Copies.{DatabaseCopy, age_now, copy_header, copy_now, has_just_aged_out}
 use Rattle.lsdb.specs.Copies.{is_aged_out}
 use Rattle.lsdb.specs.Headers.{Header}
-use Rattle.lsdb.specs.Instances.{ListEntry, aged_header, instance_of, listed_now}
+use Rattle.lsdb.specs.Instances.{ListEntry, listed_header_now, instance_of, listed_now}
 use Rattle.lsdb.specs.Order.{age_at, is_max_age}
 use Rattle.lsdb.specs.declared.order.Instance.{Instance}
 use Rattle.agreement_laws.specs.Ranks.{is_at_least}
@@ -110,7 +110,7 @@ aged_at_least l c before now later young e =
 -- an entry that is the same as the copy since its moment is at least as new as the copy at any
 -- moment
 pub entry_at_least : (l : ListEntry) (c : DatabaseCopy) (now : ℕ)
-    → ((moment : ℕ) → l.at ≤ moment → aged_header moment l ≡ copy_header moment c)
+    → ((moment : ℕ) → l.at ≤ moment → listed_header_now moment l ≡ copy_header moment c)
     → is_at_least (listed_now now l) (copy_now now c) ≡ true
 entry_at_least l c now same = by_moment (nat_lt now l.at) refl
   where

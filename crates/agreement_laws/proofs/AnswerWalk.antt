@@ -7,7 +7,7 @@ use Rattle.lsdb.specs.Keys.{ByKey}
 use Rattle.packet.specs.declared.model.PacketBody.TheVariants as body
 use Rattle.packet.specs.declared.model.Description.{Description}
 use Rattle.packet.specs.declared.model.Packet.{Packet}
-use Rattle.lsdb.specs.Headers.{lsa_aged}
+use Rattle.lsdb.specs.Headers.{lsa_with_age}
 use Rattle.lsdb.specs.Copies.{age_prematurely, install_originated}
 use Rattle.adjacency.specs.Neighbors.{Neighbor}
 use Rattle.received.specs.Links.{neighbor_at}
@@ -59,7 +59,7 @@ module _ (old : Router) (moment : ℕ) (event : Occurrence) (number : ℕ)
     each_part : IsKeptToo (in_order old.id) X X start moment event
     each_part = record {
       flushes = λ k c o t at young area h.
-          parts.floods old.id Acc Began Was number moment None (lsa_aged 3600 c.lsa)
+          parts.floods old.id Acc Began Was number moment None (lsa_with_age 3600 c.lsa)
           (on_database (age_prematurely moment k) o) h;
       originates = λ k says p of_key goes may wants so h.
           parts.floods old.id Acc Began Was number moment None

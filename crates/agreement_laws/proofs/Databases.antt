@@ -8,7 +8,7 @@ use Rattle.lsa.specs.declared.body.LsaBody.{LsaBody}
 use Rattle.lsdb.specs.Copies.{Database, DatabaseCopy, age_prematurely, has_just_aged_out}
 use Rattle.lsdb.specs.Copies.{install_flooded}
 use Rattle.lsdb.specs.Copies.{install_originated, lsa_now, newer_than_copy}
-use Rattle.lsdb.specs.Headers.{Lsa, lsa_aged, lsa_key}
+use Rattle.lsdb.specs.Headers.{Lsa, lsa_with_age, lsa_key}
 use Rattle.packet.specs.declared.model.Hello.{Hello}
 use Rattle.packet.specs.declared.model.Packet.{Packet}
 use Rattle.adjacency.specs.Adjacencies as adjacencies
@@ -70,10 +70,10 @@ module _ (own moment : ℕ) (P : Database → Type 0) (kept : IsKept own moment 
 
   pub flushed : (k : Key) (c : DatabaseCopy) (o : Outcome) → finite.get o.area.database k ≡ Some c
       → P o.area.database
-      → P (flood_from_nobody moment (lsa_aged 3600 c.lsa)
+      → P (flood_from_nobody moment (lsa_with_age 3600 c.lsa)
       (on_database (age_prematurely moment k) o)).area.database
   flushed k c o at h =
-      each (flood_to moment None (lsa_aged 3600 c.lsa)) (on_database (age_prematurely moment k) o)
+      each (flood_to moment None (lsa_with_age 3600 c.lsa)) (on_database (age_prematurely moment k) o)
       (kept.flushes k c o.area.database at h)
 
   pub originated : (k : Key) (says : LsaBody) (p : EventState) → k.advertising_router ≡ own

@@ -13,7 +13,7 @@ use Rattle.words.specs.declared.key.Key.{Key}
 use Rattle.lsdb.specs.Copies.{Database, DatabaseCopy, copy_header, copy_now, is_aged_out}
 use Rattle.lsdb.specs.Copies.{list_entry_of}
 use Rattle.lsdb.specs.Headers.{Header, key_of, lsa_key}
-use Rattle.lsdb.specs.Instances.{ListEntry, aged_header, listed_now}
+use Rattle.lsdb.specs.Instances.{ListEntry, listed_header_now, listed_now}
 use Rattle.lsdb.specs.Keys.{ByKey, key_cmp, same_key}
 use Rattle.lsdb.specs.declared.order.Instance.{Instance}
 use Rattle.packet.specs.declared.model.Description.{Description}
@@ -22,7 +22,7 @@ use Rattle.adjacency.specs.declared.state.NeighborState.TheVariants.{Init, ExSta
 use Rattle.adjacency.specs.declared.state.NeighborState.TheVariants.{Loading, Full}
 use Rattle.adjacency.specs.Adjacencies.{enter_exstart, mismatch_step}
 use Rattle.adjacency.specs.Contents.{Content, Describes, Step, no_sends}
-use Rattle.adjacency.specs.Descriptions.{Verdict, accept, act, after_description, aged_copies}
+use Rattle.adjacency.specs.Descriptions.{Verdict, accept, act, after_description, max_age_copies}
 use Rattle.adjacency.specs.Descriptions.{announced_more, as_received, changes_options}
 use Rattle.adjacency.specs.Descriptions.{send_description}
 use Rattle.adjacency.specs.Descriptions.{exchange_done, exchange_over, expected_sequence, in_state}
@@ -88,10 +88,10 @@ module _ (key : Key) (now : ℕ) (Of : ℕ → Type 0) (Said : Saying) where
     where
       taken : (l : ListEntry) (i : Instance) → key_of l.header ≡ key
           → is_at_least (listed_now now l) i ≡ true
-          → Contains (next_description now m).headers (aged_header now l)
+          → Contains (next_description now m).headers (listed_header_now now l)
           → Known key now Of (SaidWith (send_description now m).sends) (conversation_with m) i
       taken l i of_key as_new among = (
-        record { header = aged_header now l; at = now },
+        record { header = listed_header_now now l; at = now },
         inr (
           next_description now m,
           named_first (Describes (next_description now m)) []
@@ -106,7 +106,7 @@ module _ (key : Key) (now : ℕ) (Of : ℕ → Type 0) (Said : Saying) where
       by_place : (l : ListEntry) (i : Instance) → key_of l.header ≡ key
           → is_at_least (listed_now now l) i ≡ true
           → (finite.get (send_description now m).neighbor.summary key ≡ Some l)
-          ⊎ Contains (next_description now m).headers (aged_header now l)
+          ⊎ Contains (next_description now m).headers (listed_header_now now l)
           → Has key now Of (SaidWith (send_description now m).sends) m.retransmissions
           (send_description now m).neighbor.summary (conversation_with m) i
       by_place l i of_key as_new (inl there) = inr (inl (l, there, of_key, as_new))
@@ -212,12 +212,12 @@ module _ (key : Key) (now : ℕ) (Of : ℕ → Type 0) (Said : Saying) where
     module _ (db : Database) (own : (c : DatabaseCopy) → finite.get db key ≡ Some c → lsa_key c.lsa
         ≡ key) where
       begun_with : (c : Option DatabaseCopy) → finite.get db key ≡ c → (w : Conversation)
-          → HasAny key now Of Said (instance_at now c) (aged_copies now db) (young_copies now db) w
+          → HasAny key now Of Said (instance_at now c) (max_age_copies now db) (young_copies now db) w
       begun_with None at w = tt
       begun_with (Some c) at w = by_age (is_aged_out now c) refl
         where
           by_age : (b : Bool) → is_aged_out now c ≡ b
-              → Has key now Of Said (aged_copies now db) (young_copies now db) w (copy_now now c)
+              → Has key now Of Said (max_age_copies now db) (young_copies now db) w (copy_now now c)
           by_age true is = inl (ap is_some (is_listed (is_aged_out now) now key c is db at))
           by_age false is =
               inr (inl (

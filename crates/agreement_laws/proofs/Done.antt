@@ -12,7 +12,7 @@ use Rattle.words.specs.declared.key.Key.{Key}
 use Rattle.lsdb.specs.Copies.{Database, DatabaseCopy, age_prematurely, has_just_aged_out}
 use Rattle.lsdb.specs.Copies.{install_flooded}
 use Rattle.lsdb.specs.Copies.{install_originated, lsa_now}
-use Rattle.lsdb.specs.Headers.{Header, Lsa, lsa_aged, lsa_key}
+use Rattle.lsdb.specs.Headers.{Header, Lsa, lsa_with_age, lsa_key}
 use Rattle.lsdb.specs.Instances.{ListEntry}
 use Rattle.lsdb.specs.Keys.{ByKey, key_cmp}
 use Rattle.packet.specs.declared.model.Description.{Description}
@@ -317,7 +317,7 @@ on_neighbors = record {
 parts_keep : IsKeptByParts on_neighbors
 parts_keep = record {
   ages = λ before moment o h. ages_kept before moment (finite.entries o.area.database) o h;
-  flushes = λ moment key c o is young h. flood_kept moment None (lsa_aged 3600 c.lsa)
+  flushes = λ moment key c o is young h. flood_kept moment None (lsa_with_age 3600 c.lsa)
       (on_database (age_prematurely moment key) o) h;
   originates = λ moment key says p own goes wants grows h.
       let lsa : Lsa = new_instance key (finite.get p.router.area.database key) says in

@@ -5,7 +5,7 @@ use Rattle.std.specs.FinMap as finite
 use Rattle.words.specs.declared.key.Key.{Key}
 use Rattle.lsa.specs.declared.body.LsaBody.{LsaBody}
 use Rattle.lsdb.specs.Copies.{DatabaseCopy, age_prematurely, is_aged_out}
-use Rattle.lsdb.specs.Headers.{lsa_aged}
+use Rattle.lsdb.specs.Headers.{lsa_with_age}
 use Rattle.adjacency.proofs.Kept.{chosen}
 use Rattle.received.specs.Links.{Link, any_exchange_or_loading}
 use Rattle.received.specs.Outcomes.{Outcome, on_database, on_links}
@@ -28,7 +28,7 @@ use Rattle.flood_laws.proofs.Retransmitted.{IsItsOwn}
 module _ (own moment : ℕ) (X : Outcome → Type 0) where
   pub record IsKeptToEnd : Type 0 where
     pub flushes : (k : Key) (c : DatabaseCopy) (o : Outcome) → finite.get o.area.database k ≡ Some c
-        → IsItsOwn o.area → X o → X (flood_from_nobody moment (lsa_aged 3600 c.lsa)
+        → IsItsOwn o.area → X o → X (flood_from_nobody moment (lsa_with_age 3600 c.lsa)
         (on_database (age_prematurely moment k) o))
     pub originates : (k : Key) (says : LsaBody) (p : EventState) → k.advertising_router ≡ own
         → wanted_body p.router k ≡ Some says → OfEvent (in_order own) p → X (outcome p)
@@ -48,7 +48,7 @@ module _ (own moment : ℕ) (X : Outcome → Type 0) where
     flushed k None o at its h = (its, h)
     flushed k (Some c) o at its h =
         chosen (λ (q : Outcome). IsItsOwn q.area × X q) (is_aged_out moment c) o
-        (flood_from_nobody moment (lsa_aged 3600 c.lsa) (on_database (age_prematurely moment k) o))
+        (flood_from_nobody moment (lsa_with_age 3600 c.lsa) (on_database (age_prematurely moment k) o))
         (λ aged. (its, h))
         (λ young. ((order_kept own).flushes moment k c o at young its, kept.flushes k c o at its h))
 

@@ -20,7 +20,7 @@ use Rattle.adjacency.specs.declared.state.NeighborState.TheVariants.{Exchange, F
 use Rattle.adjacency.specs.Adjacencies.{enter_exstart, initial_description}
 use Rattle.adjacency.specs.Contents.{Describes, Step, no_sends, then_}
 use Rattle.adjacency.specs.Contents as contents
-use Rattle.adjacency.specs.Descriptions.{aged_copies, as_received, exchange_done, slave_replies}
+use Rattle.adjacency.specs.Descriptions.{max_age_copies, as_received, exchange_done, slave_replies}
 use Rattle.adjacency.specs.Descriptions.{young_copies}
 use Rattle.adjacency.specs.Neighbors.{Neighbor, fresh}
 use Rattle.adjacency.specs.Requests.{next_request, still_outstanding}
@@ -159,7 +159,7 @@ all_listed =
     (map (λ (e : Key × DatabaseCopy). (e.0, list_entry_of 0 e.1))
     (cond (not (young 1 a i)) ((k, copy 1 a) ∷ []) [])))
 
-none_aged : aged_copies 0 (database 1 a) ≡ finite.empty
+none_aged : max_age_copies 0 (database 1 a) ≡ finite.empty
 none_aged =
     (λ i. finite.from_entries {R = key_cmp}
     (map (λ (e : Key × DatabaseCopy). (e.0, list_entry_of 0 e.1))

@@ -2,7 +2,7 @@
 use Rattle.std.proofs.Common.{ℕ, ◌^◌, ◌≤◌, ◌<◌, [], ◌∷◌, length, None, Some, arith, rules}
 use Rattle.lsa.specs.Origination.{sealed_lsa}
 use Rattle.lsdb.specs.Headers.{key_of}
-use Rattle.lsdb.specs.Instances.{aged_header}
+use Rattle.lsdb.specs.Instances.{listed_header_now}
 use Rattle.packet.specs.declared.model.PacketBody.{PacketBody}
 use Rattle.packet.specs.declared.model.PacketBody.TheVariants as body
 use Rattle.packet.specs.declared.model.Description.{Description}
@@ -97,10 +97,10 @@ answering = without_headers 1 answer (omega arith) (omega arith) (omega arith) (
 
 -- ---- a Link State Request
 
-pub requesting : IsSentText 2 (body.Request (key_of (aged_header 0 listed) ∷ []))
+pub requesting : IsSentText 2 (body.Request (key_of (listed_header_now 0 listed) ∷ []))
 unfolding sealed_lsa
 requesting =
-    encoded 2 (body.Request (key_of (aged_header 0 listed) ∷ [])) (omega arith) (
+    encoded 2 (body.Request (key_of (listed_header_now 0 listed) ∷ [])) (omega arith) (
       record {
         ls_type = omega arith;
         link_state_id = omega arith;

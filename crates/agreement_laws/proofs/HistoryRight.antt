@@ -12,7 +12,7 @@ use Rattle.lsa.specs.Origination.{sealed_lsa}
 use Rattle.lsdb.specs.Copies.{Database, DatabaseCopy, is_aged_out, list_entry_of, lsa_now}
 use Rattle.lsdb.specs.Copies.{newer_than_copy}
 use Rattle.lsdb.specs.Headers.{Header, key_of, lsa_key}
-use Rattle.lsdb.specs.Instances.{ListEntry, aged_header}
+use Rattle.lsdb.specs.Instances.{ListEntry, listed_header_now}
 use Rattle.lsdb.specs.Keys.{ByKey, key_cmp}
 use Rattle.lsdb.proofs.Keys.{keys_total}
 use Rattle.packet.specs.declared.model.PacketBody.TheVariants as body
@@ -117,7 +117,7 @@ abbrev pub reply_packet : Packet
 reply_packet = record { router = 1; body = body.Description reply }
 
 abbrev its_header : Header
-its_header = aged_header 0 listed
+its_header = listed_header_now 0 listed
 
 knows : knows_types reply ≡ true
 unfolding sealed_lsa

@@ -12,7 +12,7 @@ use Rattle.lsdb.specs.Copies.{Database, DatabaseCopy, is_aged_out}
 use Rattle.lsdb.specs.Headers.{Lsa, lsa_key}
 use Rattle.lsdb.specs.Keys.{ByKey, key_cmp, same_key}
 use Rattle.lsdb.proofs.Keys.{keys_exact, keys_total}
-use Rattle.lsdb.specs.Instances.{ListEntry, aged_header}
+use Rattle.lsdb.specs.Instances.{ListEntry, listed_header_now}
 use Rattle.packet.specs.declared.model.Description.{Description}
 use Rattle.adjacency.specs.declared.interface.Interface.{Interface}
 use Rattle.adjacency.specs.Neighbors.{Neighbor}
@@ -64,7 +64,7 @@ description_of master sequence at es count = record {
   more = nat_lt 408 count;
   master = master;
   sequence = sequence;
-  headers = map (λ (e : Key × ListEntry). aged_header at e.1) (take 408 es);
+  headers = map (λ (e : Key × ListEntry). listed_header_now at e.1) (take 408 es);
 }
 
 abbrev pub link_with : ℕ → Option Neighbor → Option ℕ → Link

@@ -8,7 +8,7 @@ use Rattle.std.specs.Ordering.{eq_by_cmp}
 use Rattle.words.specs.declared.key.Key.{Key}
 use Rattle.lsdb.specs.Copies.{Database, DatabaseCopy, list_entry_of}
 use Rattle.lsdb.specs.Headers.{Header}
-use Rattle.lsdb.specs.Instances.{ListEntry, aged_header}
+use Rattle.lsdb.specs.Instances.{ListEntry, listed_header_now}
 use Rattle.lsdb.specs.Keys.{ByKey, key_cmp, same_key}
 use Rattle.lsdb.proofs.Keys.{keys_total}
 use Rattle.adjacency.specs.Descriptions.{listed_where}
@@ -46,44 +46,44 @@ put_there m k key y x e = put_by (same_key key k) y (finite.get m key) x
 
 module _ (key : Key) (moment : ℕ) (entry : ListEntry) where
   abbrev headers : List (Key × ListEntry) → List Header
-  headers es = map (λ (e : Key × ListEntry). aged_header moment e.1) es
+  headers es = map (λ (e : Key × ListEntry). listed_header_now moment e.1) es
 
   split : (n : ℕ) (es : List (Key × ListEntry)) → finite.find key_cmp key es ≡ Some entry
       → (finite.find key_cmp key (drop n es) ≡ Some entry)
-      ⊎ Contains (headers (take n es)) (aged_header moment entry)
+      ⊎ Contains (headers (take n es)) (listed_header_now moment entry)
   split zero es at = inl at
   split (suc n) [] at = absurd cc
   split (suc n) (e ∷ es) at = by_key (λ k. split n es k) (eq_by_cmp key_cmp key e.0) at
     where
       later : (finite.find key_cmp key (drop n es) ≡ Some entry)
-          ⊎ Contains (headers (take n es)) (aged_header moment entry)
+          ⊎ Contains (headers (take n es)) (listed_header_now moment entry)
           → (finite.find key_cmp key (drop n es) ≡ Some entry)
-          ⊎ Contains (headers (e ∷ take n es)) (aged_header moment entry)
+          ⊎ Contains (headers (e ∷ take n es)) (listed_header_now moment entry)
       later (inl k) = inl k
-      later (inr c) = inr (later_is (aged_header moment e.1) (headers (take n es))
-          (aged_header moment entry) c)
+      later (inr c) = inr (later_is (listed_header_now moment e.1) (headers (take n es))
+          (listed_header_now moment entry) c)
 
       by_key : (finite.find key_cmp key es ≡ Some entry
           → (finite.find key_cmp key (drop n es) ≡ Some entry)
-          ⊎ Contains (headers (take n es)) (aged_header moment entry)) → (b : Bool)
+          ⊎ Contains (headers (take n es)) (listed_header_now moment entry)) → (b : Bool)
           → cond b (Some e.1) (finite.find key_cmp key es) ≡ Some entry
           → (finite.find key_cmp key (drop n es) ≡ Some entry)
-          ⊎ Contains (headers (e ∷ take n es)) (aged_header moment entry)
-      by_key rest true is = inr (named_first (aged_header moment e.1) (headers (take n es))
-          (aged_header moment entry) (ap (aged_header moment) (some_same is)))
+          ⊎ Contains (headers (e ∷ take n es)) (listed_header_now moment entry)
+      by_key rest true is = inr (named_first (listed_header_now moment e.1) (headers (take n es))
+          (listed_header_now moment entry) (ap (listed_header_now moment) (some_same is)))
       by_key rest false is = later (rest is)
 
   -- an entry of a list is among the rest, or its header is among the first
   pub left_or_taken : (n : ℕ) (m : ByKey ListEntry) → finite.get m key ≡ Some entry
       → (finite.get (finite.from_entries {R = key_cmp} (drop n (finite.entries m))) key
-      ≡ Some entry) ⊎ Contains (headers (take n (finite.entries m))) (aged_header moment entry)
+      ≡ Some entry) ⊎ Contains (headers (take n (finite.entries m))) (listed_header_now moment entry)
   left_or_taken n m at = by_place (split n (finite.entries m) (sym (finite.get-entries m key) ∙ at))
     where
       by_place : (finite.find key_cmp key (drop n (finite.entries m)) ≡ Some entry)
-          ⊎ Contains (headers (take n (finite.entries m))) (aged_header moment entry)
+          ⊎ Contains (headers (take n (finite.entries m))) (listed_header_now moment entry)
           → (finite.get (finite.from_entries {R = key_cmp} (drop n (finite.entries m))) key
           ≡ Some entry) ⊎ Contains (headers (take n (finite.entries m)))
-          (aged_header moment entry)
+          (listed_header_now moment entry)
       by_place (inl k) = inl (finite.get-from_entries keys_total (drop n (finite.entries m)) key
           ∙ k)
       by_place (inr c) = inr c

@@ -8,7 +8,7 @@ use Rattle.std.specs.List.{fold}
 use Rattle.words.specs.declared.key.Key.{Key}
 use Rattle.lsdb.specs.Copies.{DatabaseCopy, age_prematurely, has_just_aged_out, install_flooded}
 use Rattle.lsdb.specs.Copies.{install_originated, lsa_now}
-use Rattle.lsdb.specs.Headers.{Lsa, lsa_aged, lsa_key}
+use Rattle.lsdb.specs.Headers.{Lsa, lsa_with_age, lsa_key}
 use Rattle.lsdb.specs.Keys.{ByKey}
 use Rattle.packet.specs.declared.model.Hello.{Hello}
 use Rattle.packet.specs.declared.model.PacketBody.TheVariants as body
@@ -242,7 +242,7 @@ module _ (old : Router) (moment : ℕ) (event : Occurrence) (number : ℕ) (n : 
 
   each_part : IsKeptToo (in_order old.id) Lately Lately start moment event
   each_part = record {
-    flushes = λ k c o t at young area h. floods None (lsa_aged 3600 c.lsa)
+    flushes = λ k c o t at young area h. floods None (lsa_with_age 3600 c.lsa)
         (on_database (age_prematurely moment k) o) h;
     originates = λ k says p of_key goes may wants so h.
         floods None (new_instance k (finite.get p.router.area.database k) says)

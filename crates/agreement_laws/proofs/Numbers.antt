@@ -5,7 +5,7 @@ use Rattle.std.specs.Prelude.{◌==◌, nat_lt}
 use Rattle.std.specs.FinMap as finite
 use Rattle.std.proofs.lemmas.Bool.{eq-eqb, eqb-true}
 use Rattle.lsdb.specs.Copies.{Database, age_prematurely, install_originated}
-use Rattle.lsdb.specs.Headers.{Lsa, lsa_aged}
+use Rattle.lsdb.specs.Headers.{Lsa, lsa_with_age}
 use Rattle.packet.specs.declared.model.Description.{Description}
 use Rattle.adjacency.specs.declared.state.NeighborState.{NeighborState}
 use Rattle.adjacency.specs.declared.state.NeighborState.TheVariants.{Exchange}
@@ -162,7 +162,7 @@ module _ (own moment number : ℕ) (x : Neighbor) where
 
   kept : IsKeptToEnd own moment StaysSame
   kept = record {
-    flushes = λ k c o at its h. floods (lsa_aged 3600 c.lsa)
+    flushes = λ k c o at its h. floods (lsa_with_age 3600 c.lsa)
         (on_database (age_prematurely moment k) o) h;
     originates = λ k says p its wants so h.
         let lsa : Lsa = new_instance k (finite.get p.router.area.database k) says in

@@ -12,7 +12,7 @@ use Rattle.std.proofs.lemmas.List.Elements.{Contains-append_left, Contains-appen
 use Rattle.words.specs.declared.key.Key.{Key}
 use Rattle.lsdb.specs.Copies.{Database, DatabaseCopy, age_prematurely, copy_now, install_flooded}
 use Rattle.lsdb.specs.Copies.{install_originated, lsa_now, same_as_copy}
-use Rattle.lsdb.specs.Headers.{Header, Lsa, key_of, lsa_aged, lsa_key}
+use Rattle.lsdb.specs.Headers.{Header, Lsa, key_of, lsa_with_age, lsa_key}
 use Rattle.lsdb.specs.Instances.{ListEntry, instance_of, listed_now}
 use Rattle.lsdb.specs.Keys.{ByKey, key_cmp, same_key}
 use Rattle.lsdb.specs.Order.{age_at}
@@ -324,10 +324,10 @@ module _ (key : Key) (moment : ℕ) (number : ℕ) (There : Type 0) (Of : ℕ �
 
     pub flushes : (k : Key) (c : DatabaseCopy) (o : Outcome) → finite.get o.area.database k ≡ Some c
         → lsa_key c.lsa ≡ k → Stands o → Stands
-        (flood_from_nobody moment (lsa_aged 3600 c.lsa) (on_database (age_prematurely moment k) o))
+        (flood_from_nobody moment (lsa_with_age 3600 c.lsa) (on_database (age_prematurely moment k) o))
     flushes k c o at own h =
         subst (λ (x : Option DatabaseCopy). Stands
-        (flood_from_nobody moment (lsa_aged 3600 c.lsa)
+        (flood_from_nobody moment (lsa_with_age 3600 c.lsa)
         (on_database (λ db. changed_by k (flushed_copy moment) o.area.database x) o))) (sym at)
         (by_key (same_key key k) refl)
       where
@@ -338,17 +338,17 @@ module _ (key : Key) (moment : ℕ) (number : ℕ) (There : Type 0) (Of : ℕ �
         max_age = omega arith
 
         by_key : (b : Bool) → same_key key k ≡ b
-            → Stands (flood_from_nobody moment (lsa_aged 3600 c.lsa)
+            → Stands (flood_from_nobody moment (lsa_with_age 3600 c.lsa)
             (on_database (λ db. finite.insert db k (flushed_copy moment c)) o))
         by_key true same =
-            flood_same (lsa_aged 3600 c.lsa)
+            flood_same (lsa_with_age 3600 c.lsa)
             (on_database (λ db. finite.insert db k (flushed_copy moment c)) o)
             (held moment key o.area.database)
             (subst (λ (q : Key). same_key key q ≡ true) (sym own) same)
             (held_put moment key k (flushed_copy moment c) o.area.database same
-            ∙ of_age (lsa_aged 3600 c.lsa) (age_at 3600 moment moment) max_age) h
+            ∙ of_age (lsa_with_age 3600 c.lsa) (age_at 3600 moment moment) max_age) h
         by_key false other =
-            flood_other None (lsa_aged 3600 c.lsa)
+            flood_other None (lsa_with_age 3600 c.lsa)
             (on_database (λ db. finite.insert db k (flushed_copy moment c)) o)
             (subst (λ (q : Key). same_key key q ≡ false) (sym own) other)
             (subst (λ (x : Option Instance). HoldsThere o.sends x (neighbor_at number o.area.links))

@@ -10,7 +10,7 @@ use Rattle.words.specs.declared.key.Key.{Key}
 use Rattle.lsa.specs.declared.body.LsaBody.{LsaBody}
 use Rattle.lsdb.specs.Copies.{DatabaseCopy, age_prematurely, copy_now, install_originated}
 use Rattle.lsdb.specs.Copies.{is_aged_out}
-use Rattle.lsdb.specs.Headers.{Header, Lsa, key_of, lsa_aged, lsa_key}
+use Rattle.lsdb.specs.Headers.{Header, Lsa, key_of, lsa_with_age, lsa_key}
 use Rattle.lsdb.specs.Instances.{instance_of}
 use Rattle.lsdb.specs.Keys.{ByKey, key_cmp}
 use Rattle.packet.specs.declared.model.Packet.{Packet}
@@ -126,8 +126,8 @@ module _ (number : ℕ) where
   flushed_quiet moment key None o is = is
   flushed_quiet moment key (Some c) o is =
       chosen (λ (p : Outcome). IsQuiet (link_at number p.area.links)) (is_aged_out moment c) o
-      (flood_from_nobody moment (lsa_aged 3600 c.lsa) (on_database (age_prematurely moment key) o))
-      (λ e. is) (λ e. flooded_quiet moment (lsa_aged 3600 c.lsa)
+      (flood_from_nobody moment (lsa_with_age 3600 c.lsa) (on_database (age_prematurely moment key) o))
+      (λ e. is) (λ e. flooded_quiet moment (lsa_with_age 3600 c.lsa)
       (on_database (age_prematurely moment key) o) is)
 
   originated_quiet : (may_now : Bool) (moment : ℕ) (key : Key) (says : Option LsaBody)

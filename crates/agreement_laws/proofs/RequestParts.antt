@@ -8,7 +8,7 @@ use Rattle.words.specs.declared.key.Key.{Key}
 use Rattle.lsa.specs.declared.body.LsaBody.{LsaBody}
 use Rattle.lsdb.specs.Copies.{Database, DatabaseCopy, age_prematurely, copy_now, has_just_aged_out}
 use Rattle.lsdb.specs.Copies.{install_flooded, install_originated, lsa_now, newer_than_copy}
-use Rattle.lsdb.specs.Headers.{Header, Lsa, lsa_aged, lsa_key}
+use Rattle.lsdb.specs.Headers.{Header, Lsa, lsa_with_age, lsa_key}
 use Rattle.lsdb.specs.Instances.{ListEntry, instance_of, listed_now}
 use Rattle.lsdb.specs.Keys.{same_key}
 use Rattle.lsdb.specs.declared.order.Instance.{Instance}
@@ -220,13 +220,13 @@ module _ (ranks : RanksFollowTheComparison) (key : Key) (moment : ℕ) (first : 
 
   pub flushes : (k : Key) (c : DatabaseCopy) (o : Outcome) → finite.get o.area.database k ≡ Some c
       → lsa_key c.lsa ≡ k → Stands o → Stands
-      (flood_from_nobody moment (lsa_aged 3600 c.lsa) (on_database (age_prematurely moment k) o))
+      (flood_from_nobody moment (lsa_with_age 3600 c.lsa) (on_database (age_prematurely moment k) o))
   flushes k c o at own h =
-      floods None (lsa_aged 3600 c.lsa) (on_database (age_prematurely moment k) o)
-      (held_by (flushed_copy moment c) (lsa_aged 3600 c.lsa)
+      floods None (lsa_with_age 3600 c.lsa) (on_database (age_prematurely moment k) o)
+      (held_by (flushed_copy moment c) (lsa_with_age 3600 c.lsa)
       (age_prematurely moment k o.area.database)
       there
-      (stored_at_least ranks key moment first (lsa_aged 3600 c.lsa) (flushed_copy moment c) refl))
+      (stored_at_least ranks key moment first (lsa_with_age 3600 c.lsa) (flushed_copy moment c) refl))
       (on_db (age_prematurely moment k) o
       (λ x. held_flushed ranks key moment first k c o.area.database at
       x) h)

@@ -10,7 +10,7 @@ use Rattle.words.specs.declared.key.Key.{Key}
 use Rattle.lsa.specs.declared.body.LsaBody.{LsaBody}
 use Rattle.lsdb.specs.Copies.{DatabaseCopy, age_prematurely, copy_now, install_originated}
 use Rattle.lsdb.specs.Copies.{is_aged_out}
-use Rattle.lsdb.specs.Headers.{Lsa, key_of, lsa_aged}
+use Rattle.lsdb.specs.Headers.{Lsa, key_of, lsa_with_age}
 use Rattle.lsdb.specs.Keys.{ByKey, key_cmp}
 use Rattle.lsdb.specs.Instances.{ListEntry, listed_now}
 use Rattle.lsdb.specs.declared.order.Instance.{Instance}
@@ -69,8 +69,8 @@ module _ (number : ℕ) (at : ℕ) where
   flushed_alone moment key None o is = is
   flushed_alone moment key (Some c) o is =
       chosen (λ (p : Outcome). neighbor_at number p.area.links ≡ None) (is_aged_out moment c) o
-      (flood_from_nobody moment (lsa_aged 3600 c.lsa) (on_database (age_prematurely moment key) o))
-      (λ e. is) (λ e. flooded_alone moment (lsa_aged 3600 c.lsa)
+      (flood_from_nobody moment (lsa_with_age 3600 c.lsa) (on_database (age_prematurely moment key) o))
+      (λ e. is) (λ e. flooded_alone moment (lsa_with_age 3600 c.lsa)
       (on_database (age_prematurely moment key) o) is)
 
   originated_alone : (may_now : Bool) (moment : ℕ) (key : Key) (says : Option LsaBody)

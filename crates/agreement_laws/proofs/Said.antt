@@ -11,7 +11,7 @@ use Rattle.lsa.specs.declared.body.LsaBody.{LsaBody}
 use Rattle.lsdb.specs.Copies.{Database, DatabaseCopy, age_prematurely, copy_now, has_just_aged_out}
 use Rattle.lsdb.specs.Copies.{install_flooded, install_originated, lsa_now}
 use Rattle.lsdb.specs.Copies.{newer_than_copy, same_as_copy}
-use Rattle.lsdb.specs.Headers.{Header, Lsa, key_of, lsa_aged, lsa_key}
+use Rattle.lsdb.specs.Headers.{Header, Lsa, key_of, lsa_with_age, lsa_key}
 use Rattle.lsdb.specs.Instances.{instance_of}
 use Rattle.lsdb.specs.Keys.{same_key}
 use Rattle.lsdb.specs.declared.order.Instance.{Instance}
@@ -371,14 +371,14 @@ module _ (old : Router) (moment : ℕ) where
 
   pub flushes : (key : Key) (c : DatabaseCopy) (o : Outcome) → OwnKeys o.area.database
       → finite.get o.area.database key ≡ Some c → IsSo o
-      → IsSo (flood_from_nobody moment (lsa_aged 3600 c.lsa)
+      → IsSo (flood_from_nobody moment (lsa_with_age 3600 c.lsa)
       (on_database (age_prematurely moment key) o))
   flushes key c o own at h =
-      flooded None (lsa_aged 3600 c.lsa) (on_database (age_prematurely moment key) o)
+      flooded None (lsa_with_age 3600 c.lsa) (on_database (age_prematurely moment key) o)
       (subst (λ (db : Database). AsNew db (lsa_key c.lsa)
-      (instance_of (lsa_aged 3600 c.lsa).header))
+      (instance_of (lsa_with_age 3600 c.lsa).header))
       (sym (aged_out moment key c o.area.database at))
-      (put_so (lsa_aged 3600 c.lsa) c.received c.sent o.area.database key
+      (put_so (lsa_with_age 3600 c.lsa) c.received c.sent o.area.database key
       (own_at o.area.database key c own at)))
       (on_copies o (age_prematurely moment key o.area.database)
       (λ k i so. held_flushed follow k moment i key c o.area.database at so) h)

@@ -10,7 +10,7 @@ use Rattle.words.specs.Constants.{max_headers_described}
 use Rattle.words.specs.declared.key.Key.{Key}
 use Rattle.lsdb.specs.Copies.{Database, DatabaseCopy, is_aged_out, list_entry_of}
 use Rattle.lsdb.specs.Headers.{Header, Lsa, key_of, lsa_key}
-use Rattle.lsdb.specs.Instances.{ListEntry, aged_header, instance_of}
+use Rattle.lsdb.specs.Instances.{ListEntry, listed_header_now, instance_of}
 use Rattle.lsdb.specs.Order.{is_max_age}
 use Rattle.lsdb.specs.declared.order.Instance.{Instance}
 use Rattle.packet.specs.declared.model.Description.{Description}
@@ -226,7 +226,7 @@ module _ (old : Router) where
     headers_so : (moment : ℕ) (es : List (Key × ListEntry))
         → AllByRecursion (OfEntry (OfListed T number)) es
         → AllByRecursion (λ (h : Header). OfNamed T number (instance_of_header h))
-        (map (λ (e : Key × ListEntry). aged_header moment e.1) es)
+        (map (λ (e : Key × ListEntry). listed_header_now moment e.1) es)
     headers_so moment [] h = tt
     headers_so moment (e ∷ es) h = (h.0, headers_so moment es h.1)
 

@@ -5,7 +5,7 @@ use Rattle.std.specs.FinMap as finite
 use Rattle.lsdb.specs.Copies.{DatabaseCopy}
 use Rattle.lsdb.specs.Headers.{Lsa, key_of}
 use Rattle.lsdb.specs.Keys.{key_cmp}
-use Rattle.lsdb.specs.Instances.{aged_header}
+use Rattle.lsdb.specs.Instances.{listed_header_now}
 use Rattle.packet.specs.declared.model.PacketBody.TheVariants as body
 use Rattle.packet.specs.declared.model.Packet.{Packet}
 use Rattle.packet.specs.Text.{canonical}
@@ -77,7 +77,7 @@ abbrev own_opening : Packet
 own_opening = record { router = 1; body = body.Description (initial_description 0) }
 
 abbrev requests : Packet
-requests = record { router = 2; body = body.Request (key_of (aged_header 0 left.listed) ∷ []) }
+requests = record { router = 2; body = body.Request (key_of (listed_header_now 0 left.listed) ∷ []) }
 
 right_greets : TakesEvent 1 (first 1 a).sent (first 2 b) right_1
 right_greets =

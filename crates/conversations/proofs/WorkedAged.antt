@@ -8,7 +8,7 @@ use Rattle.std.proofs.lemmas.List.Elements.{Contains-append_left, Contains-appen
 use Rattle.std.proofs.Math.Bool.{or-true}
 use Rattle.std.proofs.lemmas.Option.{none-some}
 use Rattle.lsdb.specs.Copies.{install_flooded}
-use Rattle.lsdb.specs.Headers.{Header, Lsa, lsa_aged, lsa_key}
+use Rattle.lsdb.specs.Headers.{Header, Lsa, lsa_with_age, lsa_key}
 use Rattle.lsdb.specs.Order.{is_max_age}
 use Rattle.adjacency.specs.Contents.{Content, Step, no_sends}
 use Rattle.adjacency.specs.Neighbors.{Neighbor, is_exchange_or_loading, is_exchange_or_later}
@@ -44,7 +44,7 @@ nothing_to_flush : (moment number : ℕ) (lsa : Lsa) (a : Area) → finite.get a
 nothing_to_flush moment number lsa a none aged nobody =
     let sender : Option Neighbor = neighbor_at number a.links in
     (λ i. case_of_readable moment (none i) sender (nobody i) lsa)
-    ∙ ap (λ age. case_of_readable moment None sender false (lsa_aged age lsa)) aged
+    ∙ ap (λ age. case_of_readable moment None sender false (lsa_with_age age lsa)) aged
 
 is_installed : (b : Bool) → cond (b && true && not true) Case.NothingToFlush Case.Newer ≡ Case.Newer
 is_installed true = refl

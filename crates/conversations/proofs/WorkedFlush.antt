@@ -10,7 +10,7 @@ use Rattle.words.specs.declared.key.Key.{Key}
 use Rattle.lsdb.specs.Copies.{Database, DatabaseCopy, age_prematurely, install_flooded}
 use Rattle.lsdb.specs.Copies.{received_just_now}
 use Rattle.lsdb.specs.Copies.{newer_than_copy}
-use Rattle.lsdb.specs.Headers.{Header, Lsa, header_aged, key_of, lsa_aged, lsa_key}
+use Rattle.lsdb.specs.Headers.{Header, Lsa, header_with_age, key_of, lsa_with_age, lsa_key}
 use Rattle.lsdb.specs.Instances.{ListEntry}
 use Rattle.lsdb.specs.Order.{age_at, compare_ages, is_max_age}
 use Rattle.packet.specs.declared.model.PacketBody.TheVariants as body
@@ -65,7 +65,7 @@ newer_case moment lsa a own there newer settled young =
 
 abbrev flushed : Router → Link → Neighbor → ℕ → Lsa → EventState
 flushed r link n moment lsa =
-    on_area (λ o. flood_from_nobody moment (lsa_aged 3600 lsa)
+    on_area (λ o. flood_from_nobody moment (lsa_with_age 3600 lsa)
     (on_database (age_prematurely moment (router_key r.id)) o))
     (put r link moment lsa (remove_retransmission (lsa_key lsa) (full n)))
 
@@ -102,26 +102,26 @@ settles r link n moment lsa mine last young =
     ∙ (λ i. cond (max i) (flush moment key p) rest)
     ∙ (λ i. on_area (flush_copy moment key (there i)) p)
     ∙ (λ i. on_area (λ q. cond (fresh i) q
-    (flood_from_nobody moment (lsa_aged 3600 lsa) (on_database (age_prematurely moment key) q))) p)
+    (flood_from_nobody moment (lsa_with_age 3600 lsa) (on_database (age_prematurely moment key) q))) p)
 
 pub aged : (db : Database) (key : Key) (c : DatabaseCopy) (moment : ℕ) → finite.get db key ≡ Some c
     → finite.get (age_prematurely moment key db) key ≡ Some (record c {
-      lsa = lsa_aged 3600 c.lsa;
+      lsa = lsa_with_age 3600 c.lsa;
       stored = moment;
     })
 aged db key c moment there =
     ap (λ o. finite.get (changed_by key (λ d. record d {
-      lsa = lsa_aged 3600 d.lsa;
+      lsa = lsa_with_age 3600 d.lsa;
       stored = moment;
     }) db o) key) there
-    ∙ inserted db key (record c { lsa = lsa_aged 3600 c.lsa; stored = moment })
+    ∙ inserted db key (record c { lsa = lsa_with_age 3600 c.lsa; stored = moment })
 
 on_list : (r : Router) (link : Link) (n : Neighbor) (moment : ℕ) (lsa : Lsa) → lsa_key lsa
     ≡ router_key r.id
     → HasOnList (ended moment (flushed r link n moment lsa)).router (router_key r.id)
-    (Some (record { header = header_aged 3600 lsa.header; at = moment }))
+    (Some (record { header = header_with_age 3600 lsa.header; at = moment }))
 on_list r link n moment lsa mine =
-    let h : Header = header_aged 3600 lsa.header in
+    let h : Header = header_with_age 3600 lsa.header in
     let m : Neighbor = add_retransmission moment h (remove_retransmission (lsa_key lsa) (full n))
     in (
       m,
@@ -141,7 +141,7 @@ is_flushed r link n moment lsa mine =
     let db : Database = install_flooded moment lsa r.area.database in
     let there : finite.get db key ≡ Some (brought lsa moment None) = ap (finite.get db) (sym mine)
     ∙ inserted r.area.database (lsa_key lsa) (brought lsa moment None) in
-    let c : DatabaseCopy = record (brought lsa moment None) { lsa = lsa_aged 3600 lsa } in
+    let c : DatabaseCopy = record (brought lsa moment None) { lsa = lsa_with_age 3600 lsa } in
     let still = marked_once moment (lsa_key lsa) key c (age_prematurely moment key db)
     (aged db key (brought lsa moment None) moment there) in
     let listed = on_list r link n moment lsa mine in
@@ -162,10 +162,10 @@ flushes_it : (r new : Router) (link : Link) (n : Neighbor) (moment : ℕ) (bytes
     → IsUpdateWith bytes n.router lsa
     → Happens (beside r link (full n)) moment (Occurrence.Packet 1 bytes) outs new
     → IsFlushed new moment lsa × HasOnList new (router_key r.id) (Some (record {
-      header = header_aged 3600 lsa.header;
+      header = header_with_age 3600 lsa.header;
       at = moment;
     }))
-    × (outs ≡ outs_of r.id (beside r link (full n)).area.links (sends_update (lsa_aged 3600 lsa)))
+    × (outs ≡ outs_of r.id (beside r link (full n)).area.links (sends_update (lsa_with_age 3600 lsa)))
 flushes_it r new link n moment bytes lsa own outs back text event =
     let old : Router = beside r link (full n) in
     let p : EventState = flushed r link n moment lsa in
@@ -180,16 +180,16 @@ flushes_it r new link n moment bytes lsa own outs back text event =
     let end : end_event old moment event.after ≡ ended moment p = ap (end_event old moment) own_is
     ∙ ends old moment p refl refl in
     let is : new ≡ (ended moment p).router = event.router ∙ ap (λ (q : EventState). q.router) end in
-    let sent : outs ≡ outs_of r.id old.area.links (sends_update (lsa_aged 3600 lsa)) = event.sent
+    let sent : outs ≡ outs_of r.id old.area.links (sends_update (lsa_with_age 3600 lsa)) = event.sent
     ∙ ap (λ (q : EventState). outs_of r.id old.area.links q.sends) end in
     let flushed_now : IsFlushed new moment lsa =
     subst (λ s. IsFlushed s moment lsa) (sym is) (is_flushed r link n moment lsa back.is_own) in
     let listed_now : HasOnList new (router_key r.id) (Some (record {
-      header = header_aged 3600 lsa.header;
+      header = header_with_age 3600 lsa.header;
       at = moment;
     })) =
     subst (λ s. HasOnList s (router_key r.id) (Some (record {
-      header = header_aged 3600 lsa.header;
+      header = header_with_age 3600 lsa.header;
       at = moment;
     }))) (sym is)
     (on_list r link n moment lsa back.is_own) in

@@ -5,7 +5,7 @@ use Rattle.std.specs.FinMap as finite
 use Rattle.std.proofs.lemmas.Bool.{or_right}
 use Rattle.words.specs.declared.key.Key.{Key}
 use Rattle.lsdb.specs.Copies.{Database, DatabaseCopy, age_prematurely, install_flooded}
-use Rattle.lsdb.specs.Headers.{Header, Lsa, header_aged, lsa_aged, lsa_key}
+use Rattle.lsdb.specs.Headers.{Header, Lsa, header_with_age, lsa_with_age, lsa_key}
 use Rattle.lsdb.specs.Instances.{ListEntry}
 use Rattle.lsdb.specs.Keys.{same_key}
 use Rattle.lsdb.specs.Order.{age_at, is_max_age}
@@ -33,7 +33,7 @@ use Rattle.conversations.proofs.WorkedUpdates.{own_part, same_age, start, brough
 
 abbrev flushed : Router → Link → Neighbor → ℕ → Lsa → EventState
 flushed r link n moment lsa =
-    on_area (λ o. flood_from_nobody moment (lsa_aged 3600 lsa)
+    on_area (λ o. flood_from_nobody moment (lsa_with_age 3600 lsa)
     (on_database (age_prematurely moment (lsa_key lsa)) o))
     (put r link moment lsa (remove_retransmission (lsa_key lsa) (full n)))
 
@@ -59,15 +59,15 @@ settles r link n moment lsa mine other unknown young =
     ∙ (λ i. originate_or_flush (should_originate (announced_body (unknown i))) moment key p)
     ∙ (λ i. on_area (flush_copy moment key (there i)) p)
     ∙ (λ i. on_area (λ q. cond (fresh i) q
-    (flood_from_nobody moment (lsa_aged 3600 lsa) (on_database (age_prematurely moment key) q))) p)
+    (flood_from_nobody moment (lsa_with_age 3600 lsa) (on_database (age_prematurely moment key) q))) p)
 
 on_list : (r : Router) (link : Link) (n : Neighbor) (moment : ℕ) (lsa : Lsa)
     → HasOnList (ended moment (flushed r link n moment lsa)).router (lsa_key lsa) (Some (record {
-      header = header_aged 3600 lsa.header;
+      header = header_with_age 3600 lsa.header;
       at = moment;
     }))
 on_list r link n moment lsa =
-    let h : Header = header_aged 3600 lsa.header in (
+    let h : Header = header_with_age 3600 lsa.header in (
       add_retransmission moment h (remove_retransmission (lsa_key lsa) (full n)),
       refl,
       inserted (finite.remove (remove_retransmission (lsa_key lsa) (full n)).retransmissions
@@ -84,7 +84,7 @@ is_flushed r link n moment lsa =
     let db : Database = install_flooded moment lsa r.area.database in
     let there : finite.get db key ≡ Some (brought lsa moment None) =
     inserted r.area.database key (brought lsa moment None) in
-    let c : DatabaseCopy = record (brought lsa moment None) { lsa = lsa_aged 3600 lsa } in
+    let c : DatabaseCopy = record (brought lsa moment None) { lsa = lsa_with_age 3600 lsa } in
     let still = marked_once moment key key c (age_prematurely moment key db)
     (aged db key (brought lsa moment None) moment there) in
     let listed = on_list r link n moment lsa in
@@ -117,7 +117,7 @@ unannounced r new link n moment bytes lsa outs here text event =
     ∙ ends old moment p refl refl in
     let is : new ≡ (ended moment p).router = event.router ∙ ap (λ (q : EventState). q.router) end in
     subst (λ s. IsFlushed s moment lsa × WaitsAt s 1 lsa
-    × (outs ≡ outs_of r.id old.area.links (sends_update (lsa_aged 3600 lsa)))) (sym is) (
+    × (outs ≡ outs_of r.id old.area.links (sends_update (lsa_with_age 3600 lsa)))) (sym is) (
       is_flushed r link n moment lsa,
       (_, refl, inserted link.acknowledgments (lsa_key lsa) lsa.header),
       event.sent ∙ ap (λ (q : EventState). outs_of r.id old.area.links q.sends) end,

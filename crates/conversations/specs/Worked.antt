@@ -8,7 +8,7 @@ use Rattle.words.specs.declared.route.ExternalType.TheVariants.{Type2}
 use Rattle.words.specs.declared.route.Route.{Route}
 use Rattle.lsa.specs.declared.body.LsaBody.{LsaBody}
 use Rattle.lsdb.specs.Copies.{DatabaseCopy}
-use Rattle.lsdb.specs.Headers.{Lsa, lsa_aged}
+use Rattle.lsdb.specs.Headers.{Lsa, lsa_with_age}
 use Rattle.event_rules.specs.declared.model.CoreError.TheVariants as error
 use Rattle.event_rules.specs.Commands.{after_install, after_redistribute, after_withdraw}
 use Rattle.event_rules.specs.Commands.{announce_as}
@@ -68,9 +68,9 @@ pub record WorkedEvents : Type 0 where
   -- refreshed at 1800
   pub too_early : interval_is_over 4 (Some 0) ≡ false
   pub in_time : interval_is_over 5 (Some 0) ≡ true
-  pub young : (lsa : Lsa) → refresh_time_is_over 1799 (Some (flooded_copy (lsa_aged 0 lsa) 0))
+  pub young : (lsa : Lsa) → refresh_time_is_over 1799 (Some (flooded_copy (lsa_with_age 0 lsa) 0))
       ≡ false
-  pub renewed : (lsa : Lsa) → refresh_time_is_over 1800 (Some (flooded_copy (lsa_aged 0 lsa) 0))
+  pub renewed : (lsa : Lsa) → refresh_time_is_over 1800 (Some (flooded_copy (lsa_with_age 0 lsa) 0))
       ≡ true
   -- a copy with MaxSequenceNumber is flushed before its LSA is originated again
   pub wraps : (may_now : Bool) (moment : ℕ) (key : Key) (contents : LsaBody) (c : DatabaseCopy)
@@ -78,5 +78,5 @@ pub record WorkedEvents : Type 0 where
       → c.lsa.header.sequence ≡ pos 2147483647 → originate_body may_now moment key (Some contents) p
       ≡ flush moment key p
   -- the age in a packet is incremented up to MaxAge
-  pub grows : (lsa : Lsa) → (sent_lsa 1 (lsa_aged 3598 lsa)).header.age ≡ 3599
-  pub grows_no_more : (lsa : Lsa) → (sent_lsa 5 (lsa_aged 3598 lsa)).header.age ≡ 3600
+  pub grows : (lsa : Lsa) → (sent_lsa 1 (lsa_with_age 3598 lsa)).header.age ≡ 3599
+  pub grows_no_more : (lsa : Lsa) → (sent_lsa 5 (lsa_with_age 3598 lsa)).header.age ≡ 3600

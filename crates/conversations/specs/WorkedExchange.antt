@@ -6,7 +6,7 @@ use Rattle.std.specs.FinSet as set
 use Rattle.words.specs.declared.key.Key.{Key}
 use Rattle.lsa.specs.Reading.{is_known_type}
 use Rattle.lsdb.specs.Headers.{Header, key_of}
-use Rattle.lsdb.specs.Instances.{ListEntry, aged_header}
+use Rattle.lsdb.specs.Instances.{ListEntry, listed_header_now}
 use Rattle.lsdb.specs.Keys.{ByKey}
 use Rattle.packet.specs.declared.model.Description.{Description}
 use Rattle.adjacency.specs.Adjacencies.{initial_description, requests_nothing}
@@ -39,7 +39,7 @@ reply moment sequence summary = record {
   master = false;
   sequence = sequence;
   headers =
-      map (λ (e : Key × ListEntry). aged_header moment e.1) (take 408 (finite.entries summary));
+      map (λ (e : Key × ListEntry). listed_header_now moment e.1) (take 408 (finite.entries summary));
 }
 
 -- the master's last Database Description, with one header

@@ -4,7 +4,7 @@ use Rattle.std.specs.Prelude.{◌≡◌, ◌<◌, ℕ, pos, true, false, List, [
 use Rattle.std.specs.FinMap as finite
 use Rattle.words.specs.declared.key.Key.{Key}
 use Rattle.lsdb.specs.Copies.{DatabaseCopy, received_just_now, is_aged_out, newer_than_copy}
-use Rattle.lsdb.specs.Headers.{Header, Lsa, header_aged, key_of, lsa_aged, lsa_key}
+use Rattle.lsdb.specs.Headers.{Header, Lsa, header_with_age, key_of, lsa_with_age, lsa_key}
 use Rattle.lsdb.specs.Instances.{ListEntry, same_as_listed}
 use Rattle.packet.specs.declared.model.PacketBody.TheVariants as body
 use Rattle.packet.specs.Text.{PacketText}
@@ -40,7 +40,7 @@ pub record ComesBack (r : Router) (n : Neighbor) (moment : ℕ) (lsa : Lsa)
 abbrev pub IsFlushed : Router → ℕ → Lsa → Type 0
 IsFlushed r moment lsa =
     (sent : Option ℕ) × (finite.get r.area.database (router_key r.id) ≡ Some (record {
-      lsa = lsa_aged 3600 lsa;
+      lsa = lsa_with_age 3600 lsa;
       stored = moment;
       received = Some moment;
       sent = sent;
@@ -72,15 +72,15 @@ pub record TheNumbersEnd : Type 0 where
       → Happens (beside r link (full n)) moment (Occurrence.Packet 1 bytes) outs new
       → IsFlushed new moment lsa
       × HasOnList new (router_key r.id)
-      (Some (record { header = header_aged 3600 lsa.header; at = moment }))
-      × (outs ≡ outs_of r.id (beside r link (full n)).area.links (sends_update (lsa_aged 3600 lsa)))
+      (Some (record { header = header_with_age 3600 lsa.header; at = moment }))
+      × (outs ≡ outs_of r.id (beside r link (full n)).area.links (sends_update (lsa_with_age 3600 lsa)))
   -- an entry at MaxAge is the same instance at each later moment, and a copy stays at MaxAge
   pub entry_stays : (h : Header) (at moment : ℕ)
-      → same_as_listed moment (header_aged 3600 h) (record { header = header_aged 3600 h; at = at })
+      → same_as_listed moment (header_with_age 3600 h) (record { header = header_with_age 3600 h; at = at })
       ≡ true
   pub copy_stays : (lsa : Lsa) (at moment : ℕ) (received sent : Option ℕ)
       → is_aged_out moment (record {
-        lsa = lsa_aged 3600 lsa;
+        lsa = lsa_with_age 3600 lsa;
         stored = at;
         received = received;
         sent = sent;

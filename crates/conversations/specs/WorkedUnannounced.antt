@@ -2,7 +2,7 @@
 -- originate (RFC 2328, sections 13.4 and 14.1).
 use Rattle.std.specs.Prelude.{◌≡◌, ◌<◌, ℕ, true, false, List, None, Option, Some}
 use Rattle.std.specs.FinMap as finite
-use Rattle.lsdb.specs.Headers.{Lsa, header_aged, lsa_aged, lsa_key}
+use Rattle.lsdb.specs.Headers.{Lsa, header_with_age, lsa_with_age, lsa_key}
 use Rattle.lsdb.specs.Keys.{same_key}
 use Rattle.adjacency.specs.Neighbors.{Neighbor}
 use Rattle.received.specs.Links.{Link}
@@ -31,13 +31,13 @@ pub record IsUnannounced (r : Router) (n : Neighbor) (moment : ℕ) (lsa : Lsa) 
 pub record IsFlushed (r : Router) (moment : ℕ) (lsa : Lsa) : Type 0 where
   pub sent : Option ℕ
   pub copy : finite.get r.area.database (lsa_key lsa) ≡ Some (record {
-    lsa = lsa_aged 3600 lsa;
+    lsa = lsa_with_age 3600 lsa;
     stored = moment;
     received = Some moment;
     sent = sent;
   })
   pub on_list : HasOnList r (lsa_key lsa)
-      (Some (record { header = header_aged 3600 lsa.header; at = moment }))
+      (Some (record { header = header_with_age 3600 lsa.header; at = moment }))
 
 -- from a Full neighbor: it is flushed, the acknowledgment of it as received is delayed, and only
 -- one Link State Update with it at MaxAge is sent
@@ -48,4 +48,4 @@ WhatIsNotAnnouncedIsFlushed =
     → IsUnannounced r n moment lsa → IsUpdateWith bytes n.router lsa
     → Happens (beside r link (full n)) moment (Occurrence.Packet 1 bytes) outs new
     → IsFlushed new moment lsa × WaitsAt new 1 lsa
-    × (outs ≡ outs_of r.id (beside r link (full n)).area.links (sends_update (lsa_aged 3600 lsa)))
+    × (outs ≡ outs_of r.id (beside r link (full n)).area.links (sends_update (lsa_with_age 3600 lsa)))

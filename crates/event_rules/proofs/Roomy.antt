@@ -18,7 +18,7 @@ use Rattle.lsa.specs.Reading.{lsa_in}
 use Rattle.lsa.specs.declared.body.LsaBody.{LsaBody}
 use Rattle.received.specs.lsdb.Copies.{Database, DatabaseCopy, age_prematurely, has_just_aged_out}
 use Rattle.received.specs.lsdb.Copies.{install_originated, lsa_now}
-use Rattle.received.specs.lsdb.Headers.{Header, Lsa, lsa_aged, lsa_key}
+use Rattle.received.specs.lsdb.Headers.{Header, Lsa, lsa_with_age, lsa_key}
 use Rattle.received.specs.lsdb.Keys.{key_cmp}
 use Rattle.received.proofs.lsdb.Keys.{keys_exact, keys_total}
 use Rattle.packet.specs.declared.model.PacketBody.{PacketBody}
@@ -153,17 +153,17 @@ ages_roomy before moment (e ∷ es) o fits h =
 
 flushed_roomy : (moment : ℕ) (key : Key) (c : DatabaseCopy) (o : Outcome)
     → finite.get o.area.database key ≡ Some c → IsRoomyOutcome o
-    → IsRoomyOutcome (flood_from_nobody moment (lsa_aged 3600 c.lsa)
+    → IsRoomyOutcome (flood_from_nobody moment (lsa_with_age 3600 c.lsa)
     (on_database (age_prematurely moment key) o))
 flushed_roomy moment key c o is h =
     let fits : Fits c.lsa = subst FitsIfThere is (fits_at o.area.database h.fit key) in
     let old : IsRoomyOutcome (on_database (age_prematurely moment key) o) =
     on_database_roomy (age_prematurely moment key) o
     (changed_fit key (λ d. record d {
-      lsa = lsa_aged 3600 d.lsa;
+      lsa = lsa_with_age 3600 d.lsa;
       stored = moment;
     }) (λ d at. aged_fits 3600 d.lsa at) o.area.database h.fit) h in
-    flood_roomy moment None (lsa_aged 3600 c.lsa) (on_database (age_prematurely moment key) o)
+    flood_roomy moment None (lsa_with_age 3600 c.lsa) (on_database (age_prematurely moment key) o)
     (aged_fits 3600 c.lsa fits) old
 
 originated_roomy : (moment : ℕ) (key : Key) (says : LsaBody) (p : EventState)

@@ -13,7 +13,7 @@ use Rattle.words.specs.declared.route.External.{External}
 use Rattle.lsa.specs.Reading.{lsa_in}
 use Rattle.lsa.specs.declared.body.LsaBody.{LsaBody}
 use Rattle.received.specs.lsdb.Copies.{DatabaseCopy, age_prematurely, is_aged_out}
-use Rattle.received.specs.lsdb.Headers.{Header, Lsa, lsa_aged, lsa_key}
+use Rattle.received.specs.lsdb.Headers.{Header, Lsa, lsa_with_age, lsa_key}
 use Rattle.received.specs.lsdb.Keys.{ByKey}
 use Rattle.packet.specs.declared.model.PacketBody.{PacketBody}
 use Rattle.packet.specs.declared.model.PacketBody.TheVariants as body
@@ -115,7 +115,7 @@ pub record IsKeptByParts (i : Invariant) : Type 0 where
   pub ages : (before moment : ℕ) → Keeps i (flood_aged before moment)
   pub flushes : (moment : ℕ) (key : Key) (c : DatabaseCopy) (o : Outcome)
       → finite.get o.area.database key ≡ Some c → is_aged_out moment c ≡ false → OfOutcome i o
-      → OfOutcome i (flood_from_nobody moment (lsa_aged 3600 c.lsa)
+      → OfOutcome i (flood_from_nobody moment (lsa_with_age 3600 c.lsa)
       (on_database (age_prematurely moment key) o))
   pub originates : (moment : ℕ) (key : Key) (says : LsaBody) (p : EventState) → i.of_key key
       → has_max_sequence (finite.get p.router.area.database key) ≡ false
@@ -186,7 +186,7 @@ module _ (i : Invariant) (kept : IsKeptByParts i) where
   copy_flushed moment key None o is h = h
   copy_flushed moment key (Some c) o is h =
       chosen (OfOutcome i) (is_aged_out moment c) o
-      (flood_from_nobody moment (lsa_aged 3600 c.lsa) (on_database (age_prematurely moment key) o))
+      (flood_from_nobody moment (lsa_with_age 3600 c.lsa) (on_database (age_prematurely moment key) o))
       (λ aged. h) (λ young. kept.flushes moment key c o is young h)
 
   flush_kept : (moment : ℕ) (key : Key) (p : EventState) → InProgress p

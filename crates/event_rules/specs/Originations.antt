@@ -21,7 +21,7 @@ use Rattle.lsa.specs.declared.body.LinkKind.TheVariants.{PointToPoint, Stub}
 use Rattle.lsa.specs.Origination.{sealed_lsa}
 use Rattle.received.specs.lsdb.Copies.{DatabaseCopy, age_now, age_prematurely, install_originated}
 use Rattle.received.specs.lsdb.Copies.{is_aged_out}
-use Rattle.received.specs.lsdb.Headers.{Lsa, lsa_aged, lsa_key}
+use Rattle.received.specs.lsdb.Headers.{Lsa, lsa_with_age, lsa_key}
 use Rattle.received.specs.lsdb.Keys.{same_key}
 pub use Rattle.received.specs.lsdb.Limits.{is_own_external, own_externals}
 use Rattle.received.specs.lsdb.Limits.{has_room as has_room_for}
@@ -141,7 +141,7 @@ abbrev pub flush_copy : Moment → Key → Option DatabaseCopy → Outcome → O
 flush_copy moment key None o = o
 flush_copy moment key (Some c) o =
     if is_aged_out moment c then o
-    else flood_from_nobody moment (lsa_aged max_age c.lsa)
+    else flood_from_nobody moment (lsa_with_age max_age c.lsa)
     (on_database (age_prematurely moment key) o)
 
 abbrev pub flush : Moment → Key → EventState → EventState

@@ -36,7 +36,7 @@ pub fn changed_keys(
     if before.count() == moment.count() {
         return Ok(keys);
     }
-    let aged = db.aged_keys(alloc, moment)?;
+    let aged = db.max_age_keys(alloc, moment)?;
     keys.extend_from_slice(&aged)?;
     Ok(keys)
 }

@@ -13,7 +13,7 @@ use Rattle.words.specs.declared.route.External.{External}
 use Rattle.lsa.specs.Reading.{lsa_in}
 use Rattle.lsa.specs.declared.body.LsaBody.{LsaBody}
 use Rattle.lsdb.specs.Copies.{DatabaseCopy, age_prematurely, is_aged_out}
-use Rattle.lsdb.specs.Headers.{Header, Lsa, lsa_aged, lsa_key}
+use Rattle.lsdb.specs.Headers.{Header, Lsa, lsa_with_age, lsa_key}
 use Rattle.lsdb.specs.Keys.{ByKey}
 use Rattle.packet.specs.declared.model.PacketBody.{PacketBody}
 use Rattle.packet.specs.declared.model.PacketBody.TheVariants as body
@@ -93,7 +93,7 @@ pub record IsKeptToo (i : Invariant) (X Y : Lately) (start : EventState) (moment
   -- self-originated LSAs
   pub flushes : (key : Key) (c : DatabaseCopy) (o : Outcome) (t : ByKey ℕ)
       → finite.get o.area.database key ≡ Some c → is_aged_out moment c ≡ false → OfOutcome i o
-      → X o t → X (flood_from_nobody moment (lsa_aged 3600 c.lsa)
+      → X o t → X (flood_from_nobody moment (lsa_with_age 3600 c.lsa)
       (on_database (age_prematurely moment key) o)) t
   pub originates : (key : Key) (says : LsaBody) (p : EventState) → i.of_key key
       → has_max_sequence (finite.get p.router.area.database key) ≡ false
@@ -168,7 +168,7 @@ module _ (i : Invariant) (kept : IsKeptByParts i) (X Y : Lately) (old : Router) 
   copy_flushed key None o is h = h
   copy_flushed key (Some c) o is h =
       chosen (OfOutcome i) (is_aged_out moment c) o
-      (flood_from_nobody moment (lsa_aged 3600 c.lsa) (on_database (age_prematurely moment key) o))
+      (flood_from_nobody moment (lsa_with_age 3600 c.lsa) (on_database (age_prematurely moment key) o))
       (λ aged. h) (λ young. kept.flushes moment key c o is young h)
 
   copy_flushed_too : (key : Key) (c : Option DatabaseCopy) (o : Outcome) (t : ByKey ℕ)
@@ -176,7 +176,7 @@ module _ (i : Invariant) (kept : IsKeptByParts i) (X Y : Lately) (old : Router) 
   copy_flushed_too key None o t is h x = x
   copy_flushed_too key (Some c) o t is h x =
       chosen (λ (q : Outcome). X q t) (is_aged_out moment c) o
-      (flood_from_nobody moment (lsa_aged 3600 c.lsa) (on_database (age_prematurely moment key) o))
+      (flood_from_nobody moment (lsa_with_age 3600 c.lsa) (on_database (age_prematurely moment key) o))
       (λ aged. x) (λ young. too.flushes key c o t is young h x)
 
   flush_kept : (key : Key) (p : EventState) → InProgress p → InProgress (flush moment key p)

@@ -6,7 +6,7 @@ use Rattle.std.specs.FinMap as finite
 use Rattle.words.specs.declared.key.Key.{Key}
 use Rattle.lsdb.specs.Copies.{DatabaseCopy, age_prematurely, has_just_aged_out, install_originated}
 use Rattle.lsdb.specs.Copies.{lsa_now}
-use Rattle.lsdb.specs.Headers.{Lsa, lsa_aged}
+use Rattle.lsdb.specs.Headers.{Lsa, lsa_with_age}
 use Rattle.lsdb.specs.Instances.{ListEntry}
 use Rattle.lsdb.specs.Keys.{ByKey}
 use Rattle.packet.specs.declared.model.Hello.{Hello}
@@ -110,7 +110,7 @@ module _ (Q : Fact) (kept : IsKept Q) where
   parts_keep : IsKeptByParts on_neighbors
   parts_keep = record {
     ages = λ before moment o h. ages_kept before moment (finite.entries o.area.database) o h;
-    flushes = λ moment key c o is young h. flood_kept Q kept moment None (lsa_aged 3600 c.lsa)
+    flushes = λ moment key c o is young h. flood_kept Q kept moment None (lsa_with_age 3600 c.lsa)
         (on_database (age_prematurely moment key) o) h;
     originates = λ moment key says p own goes wants grows h.
         let lsa : Lsa = new_instance key (finite.get p.router.area.database key) says in

@@ -17,7 +17,7 @@ use Rattle.lsdb.specs.Copies.{DatabaseCopy, age_now, age_prematurely, copy_now, 
 use Rattle.lsdb.specs.Copies.{install_flooded, install_originated, in_this_second}
 use Rattle.lsdb.specs.Copies.{received_just_now, is_aged_out, lsa_now, newer_than_copy}
 use Rattle.lsdb.specs.Copies.{same_as_copy, sent_just_now}
-use Rattle.lsdb.specs.Headers.{Header, Lsa, header_aged, key_of, lsa_aged, lsa_key}
+use Rattle.lsdb.specs.Headers.{Header, Lsa, header_with_age, key_of, lsa_with_age, lsa_key}
 use Rattle.lsdb.specs.Instances.{instance_of}
 use Rattle.lsdb.specs.Keys.{ByKey, same_key}
 use Rattle.lsdb.specs.Order.{age_at, compare_ages, is_max_age, is_newer}
@@ -194,7 +194,7 @@ newer_case moment c sender synchronizing lsa is =
 
 -- a copy that is flushed at this moment
 abbrev pub flushed_copy : ℕ → DatabaseCopy → DatabaseCopy
-flushed_copy moment c = record c { lsa = lsa_aged 3600 c.lsa; stored = moment }
+flushed_copy moment c = record c { lsa = lsa_with_age 3600 c.lsa; stored = moment }
 
 pub itself : (k : Key) → same_key k k ≡ true
 itself k = ap (λ (o : Ordering). is_eq o) (tied_itself keys_total k)
@@ -475,9 +475,9 @@ module _ (old : Router) (moment : ℕ) (event : Occurrence) (number : ℕ) (befo
         subst (λ (x : DatabaseCopy). is_aged_out moment x ≡ true) same (aged_at_once moment)
 
     flush_owed : HoldsThere o.area → IsLike c
-        → Became (flood_from_nobody moment (lsa_aged 3600 c.lsa) aged_out).area t
+        → Became (flood_from_nobody moment (lsa_with_age 3600 c.lsa) aged_out).area t
     flush_owed h like =
-        flood_same_became (lsa_aged 3600 c.lsa) aged_out t
+        flood_same_became (lsa_with_age 3600 c.lsa) aged_out t
         (subst (λ (k : Key). same_key key k ≡ true) (sym (named_key c like.name_is))
         (itself key)) (with_key c like.name_is)
         (λ e. never_aged (is_aged_out moment copy) (is_aged_out old.moment copy)
@@ -488,16 +488,16 @@ module _ (old : Router) (moment : ℕ) (event : Occurrence) (number : ℕ) (befo
           age = inr (aged_at_once moment);
         }) h)
 
-    flush_stored : IsStored (flood_from_nobody moment (lsa_aged 3600 c.lsa) aged_out).area
+    flush_stored : IsStored (flood_from_nobody moment (lsa_with_age 3600 c.lsa) aged_out).area
     flush_stored =
-        let s : IsStill (flood_from_nobody moment (lsa_aged 3600 c.lsa) aged_out).area.database key
+        let s : IsStill (flood_from_nobody moment (lsa_with_age 3600 c.lsa) aged_out).area.database key
         (flushed_copy moment c) =
-        mark_all moment (stepping_sends (flood_to moment None (lsa_aged 3600 c.lsa))
+        mark_all moment (stepping_sends (flood_to moment None (lsa_with_age 3600 c.lsa))
         aged_out.area.links) key (flushed_copy moment c) aged_out.area.database put_there in
         (record (flushed_copy moment c) { sent = s.0 }, s.1, eq-eqb moment moment refl)
 
     flush_same : Became o.area t → Became
-        (flood_from_nobody moment (lsa_aged 3600 c.lsa) aged_out).area t
+        (flood_from_nobody moment (lsa_with_age 3600 c.lsa) aged_out).area t
     flush_same (WasTold told) = WasTold told
     flush_same (WasReplaced newer st) = WasReplaced newer flush_stored
     flush_same (WasOriginated own now not_before st) = WasOriginated own now not_before flush_stored
@@ -510,26 +510,26 @@ module _ (old : Router) (moment : ℕ) (event : Occurrence) (number : ℕ) (befo
 
   flush_became : (k : Key) (c : DatabaseCopy) (o : Outcome) (t : ByKey ℕ)
       → finite.get o.area.database k ≡ Some c → is_aged_out moment c ≡ false → IsItsOwn o.area
-      → Became o.area t → Became (flood_from_nobody moment (lsa_aged 3600 c.lsa)
+      → Became o.area t → Became (flood_from_nobody moment (lsa_with_age 3600 c.lsa)
       (on_database (age_prematurely moment k) o)).area t
   flush_became k c o t at young its h =
       subst (λ (x : Option DatabaseCopy). Became
-      (flood_from_nobody moment (lsa_aged 3600 c.lsa)
+      (flood_from_nobody moment (lsa_with_age 3600 c.lsa)
       (on_database (λ db. changed_by k (flushed_copy moment) o.area.database x) o)).area t) (sym at)
       (by_key (same_key key k) refl)
     where
       by_key : (b : Bool) → same_key key k ≡ b
-          → Became (flood_from_nobody moment (lsa_aged 3600 c.lsa)
+          → Became (flood_from_nobody moment (lsa_with_age 3600 c.lsa)
           (on_database (λ db. finite.insert db k (flushed_copy moment c)) o)).area t
       by_key true same =
           let e : key ≡ k = tied_key key k same in
-          subst (λ (q : Key). Became (flood_from_nobody moment (lsa_aged 3600 c.lsa)
+          subst (λ (q : Key). Became (flood_from_nobody moment (lsa_with_age 3600 c.lsa)
           (on_database (λ db. finite.insert db q (flushed_copy moment c)) o)).area t) e
           (flush_same c o t (subst (λ (q : Key). finite.get o.area.database q ≡ Some c) (sym e) at)
           young h)
       by_key false other =
           let its_key : lsa_key c.lsa ≡ k = own_at o.area.database k c its.keys at in
-          flood_other_became None (lsa_aged 3600 c.lsa)
+          flood_other_became None (lsa_with_age 3600 c.lsa)
           (on_database (λ db. finite.insert db k (flushed_copy moment c)) o) t
           (subst (λ (q : Key). same_key key q ≡ false) (sym its_key) other)
           (put_became k (flushed_copy moment c) o t other h)
@@ -636,10 +636,10 @@ module _ (old : Router) (moment : ℕ) (event : Occurrence) (number : ℕ) (befo
           → is_newer (instance_of x) (copy_now moment copy) ≡ true
       by_age (inl same) =
           subst (λ s. is_newer (instance_of x)
-          (instance_of (header_aged (age_at copy.lsa.header.age s moment) copy.lsa.header))
+          (instance_of (header_with_age (age_at copy.lsa.header.age s moment) copy.lsa.header))
           ≡ true) same.1
           (subst (λ (l : Lsa). is_newer (instance_of x)
-          (instance_of (header_aged (age_at l.header.age c.stored moment) l.header)) ≡ true)
+          (instance_of (header_with_age (age_at l.header.age c.stored moment) l.header)) ≡ true)
           same.0 newer)
       by_age (inr aged) = by_numbers aged
 

@@ -16,7 +16,7 @@ use Rattle.lsa.specs.declared.body.LsaBody.{LsaBody}
 use Rattle.packet.specs.declared.model.Hello.{Hello}
 use Rattle.lsdb.specs.Copies.{Database, DatabaseCopy, age_prematurely, has_just_aged_out}
 use Rattle.lsdb.specs.Copies.{install_originated, lsa_now}
-use Rattle.lsdb.specs.Headers.{Lsa, lsa_aged, lsa_key}
+use Rattle.lsdb.specs.Headers.{Lsa, lsa_with_age, lsa_key}
 use Rattle.lsdb.specs.Keys.{ByKey, key_cmp, same_key}
 use Rattle.lsdb.proofs.Keys.{keys_exact, keys_total}
 pub use Rattle.lsdb.proofs.Keys.{tied as tied_key}
@@ -291,9 +291,9 @@ module _ (id : RouterNumber) where
   parts_within = record {
     ages = λ before moment o h. ages_within before moment (finite.entries o.area.database) o h;
     flushes = λ moment key c o is young h.
-        flooded moment (lsa_aged 3600 c.lsa) (on_database (age_prematurely moment key) o)
+        flooded moment (lsa_with_age 3600 c.lsa) (on_database (age_prematurely moment key) o)
         (changed_within key (λ d. record d {
-          lsa = lsa_aged 3600 d.lsa;
+          lsa = lsa_with_age 3600 d.lsa;
           stored = moment;
         }) o.area.database h);
     originates = λ moment key says p so goes wants grows h.

@@ -12,7 +12,7 @@ use Rattle.lsa.specs.declared.body.LsaBody.{LsaBody}
 use Rattle.lsdb.specs.Copies.{Database, DatabaseCopy, age_prematurely, has_just_aged_out}
 use Rattle.lsdb.specs.Copies.{install_flooded}
 use Rattle.lsdb.specs.Copies.{install_originated, lsa_now}
-use Rattle.lsdb.specs.Headers.{Lsa, lsa_aged, lsa_key}
+use Rattle.lsdb.specs.Headers.{Lsa, lsa_with_age, lsa_key}
 use Rattle.lsdb.specs.Keys.{ByKey, same_key}
 use Rattle.lsdb.proofs.Keys.{keys_total}
 use Rattle.packet.specs.declared.model.PacketBody.{PacketBody}
@@ -218,7 +218,7 @@ module _ (old : Router) (moment : ℕ) (event : Occurrence) where
   aged_last : (t : ByKey ℕ) (key : Key) (db : Database) → AllLast t db
       → AllLast t (age_prematurely moment key db)
   aged_last t key db h k = subst (Last t k) (sym (number_changed key (λ c. record c {
-    lsa = lsa_aged 3600 c.lsa;
+    lsa = lsa_with_age 3600 c.lsa;
     stored = moment;
   }) (λ c. refl) db k)) (h k)
 
@@ -433,7 +433,7 @@ module _ (old : Router) (moment : ℕ) (event : Occurrence) where
     each_part = record {
       flushes = λ k c o t at young its h. record {
         area = flushed_told (T t) moment k c o at h.area;
-        last = all_marked t (stepping_sends (flood_to moment None (lsa_aged 3600 c.lsa))
+        last = all_marked t (stepping_sends (flood_to moment None (lsa_with_age 3600 c.lsa))
             o.area.links) (age_prematurely moment k o.area.database)
             (aged_last t k o.area.database h.last);
         remembers = h.remembers;

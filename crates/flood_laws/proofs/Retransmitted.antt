@@ -12,7 +12,7 @@ use Rattle.words.specs.declared.key.Key.{Key}
 use Rattle.lsdb.specs.Copies.{Database, DatabaseCopy, age_prematurely, has_just_aged_out}
 use Rattle.lsdb.specs.Copies.{install_flooded}
 use Rattle.lsdb.specs.Copies.{is_aged_out, list_entry_of, lsa_now}
-use Rattle.lsdb.specs.Headers.{Lsa, header_aged, lsa_aged, lsa_key}
+use Rattle.lsdb.specs.Headers.{Lsa, header_with_age, lsa_with_age, lsa_key}
 use Rattle.lsdb.specs.Instances.{ListEntry}
 use Rattle.lsdb.specs.Keys.{ByKey, key_cmp}
 use Rattle.lsdb.specs.Order.{age_at}
@@ -20,7 +20,7 @@ use Rattle.lsdb.proofs.Keys.{keys_exact, keys_total}
 use Rattle.packet.specs.declared.model.Hello.{Hello}
 use Rattle.adjacency.specs.Adjacencies as adjacencies
 use Rattle.adjacency.specs.Contents.{Content, Step, Updates, no_sends}
-use Rattle.adjacency.specs.Descriptions.{after_description, aged_copies}
+use Rattle.adjacency.specs.Descriptions.{after_description, max_age_copies}
 use Rattle.adjacency.specs.Lists.{HasSoundLists}
 use Rattle.adjacency.specs.Neighbors.{Neighbor, is_exchange_or_later}
 use Rattle.adjacency.specs.declared.interface.Interface.{Interface}
@@ -118,7 +118,7 @@ of_aged : (db : Database) (key : Key) (moment : ℕ) (c : DatabaseCopy) → fini
 of_aged db key moment c there aged = (
   c,
   there,
-  λ now later. ap (λ age. header_aged age c.lsa.header)
+  λ now later. ap (λ age. header_with_age age c.lsa.header)
       (stays_aged c.lsa.header.age c.stored moment now
       (eqb-true (age_at c.lsa.header.age c.stored moment) 3600 aged) later),
 )
@@ -138,7 +138,7 @@ aged_entries db moment (e ∷ es) h =
     (λ is. aged_entries db moment es h.1)
 
 -- the retransmissions at the start of an exchange
-begun : (moment : ℕ) (db : Database) → AllIn (IsOfCopy db) (aged_copies moment db)
+begun : (moment : ℕ) (db : Database) → AllIn (IsOfCopy db) (max_age_copies moment db)
 begun moment db = made_in (IsOfCopy db) _
     (aged_entries db moment (finite.entries db) (all_there db))
 
@@ -415,23 +415,23 @@ ages_kept before moment (e ∷ es) o still h =
     ages_kept before moment es (flood_if_aged before moment o e) so.1 so.0
 
 abbrev aged : ℕ → DatabaseCopy → DatabaseCopy
-aged moment d = record d { lsa = lsa_aged 3600 d.lsa; stored = moment }
+aged moment d = record d { lsa = lsa_with_age 3600 d.lsa; stored = moment }
 
 flushes_kept : (moment : ℕ) (key : Key) (c : DatabaseCopy) (o : Outcome)
     → finite.get o.area.database key ≡ Some c → OfOutcome o
-    → OfOutcome (flood_from_nobody moment (lsa_aged 3600 c.lsa)
+    → OfOutcome (flood_from_nobody moment (lsa_with_age 3600 c.lsa)
     (on_database (age_prematurely moment key) o))
 flushes_kept moment key c o is h =
     subst (λ (k : Key). finite.get o.area.database k ≡ Some c
-    → OfOutcome (flood_from_nobody moment (lsa_aged 3600 c.lsa)
+    → OfOutcome (flood_from_nobody moment (lsa_with_age 3600 c.lsa)
     (on_database (age_prematurely moment k) o)))
     (own_at o.area.database key c h.keys is) flushed is
   where
-    by_copy : OfOutcome (flood_from_nobody moment (lsa_aged 3600 c.lsa)
+    by_copy : OfOutcome (flood_from_nobody moment (lsa_with_age 3600 c.lsa)
         (on_database (λ db. finite.insert db (lsa_key c.lsa) (aged moment c)) o))
     by_copy =
         let db : Database = o.area.database in
-        flood_kept moment None (lsa_aged 3600 c.lsa) db
+        flood_kept moment None (lsa_with_age 3600 c.lsa) db
         (on_database (λ d. finite.insert d (lsa_key c.lsa) (aged moment c)) o)
         (inserted_in IsOwnKey db (lsa_key c.lsa) (aged moment c) h.keys refl)
         (at_once (finite.insert db (lsa_key c.lsa) (aged moment c)) (lsa_key c.lsa) (aged moment c)
@@ -439,11 +439,11 @@ flushes_kept moment key c o is h =
         (others_put db (lsa_key c.lsa) (aged moment c)) h.each
 
     flushed : finite.get o.area.database (lsa_key c.lsa) ≡ Some c
-        → OfOutcome (flood_from_nobody moment (lsa_aged 3600 c.lsa)
+        → OfOutcome (flood_from_nobody moment (lsa_with_age 3600 c.lsa)
         (on_database (age_prematurely moment (lsa_key c.lsa)) o))
     flushed there =
         subst (λ (x : Option DatabaseCopy). OfOutcome
-        (flood_from_nobody moment (lsa_aged 3600 c.lsa)
+        (flood_from_nobody moment (lsa_with_age 3600 c.lsa)
         (on_database (λ db. changed_by (lsa_key c.lsa) (aged moment) o.area.database x) o)))
         (sym there) by_copy
 

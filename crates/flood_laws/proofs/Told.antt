@@ -11,7 +11,7 @@ use Rattle.words.specs.declared.route.External.{External}
 use Rattle.lsa.specs.declared.body.LsaBody.{LsaBody}
 use Rattle.lsdb.specs.Copies.{DatabaseCopy, age_prematurely, has_just_aged_out, install_originated}
 use Rattle.lsdb.specs.Copies.{lsa_now}
-use Rattle.lsdb.specs.Headers.{Header, Lsa, lsa_aged, lsa_key}
+use Rattle.lsdb.specs.Headers.{Header, Lsa, lsa_with_age, lsa_key}
 use Rattle.packet.specs.declared.model.Hello.{Hello}
 use Rattle.adjacency.specs.Adjacencies as adjacencies
 use Rattle.adjacency.specs.Contents.{Content, Step as NeighborStep, no_sends}
@@ -91,17 +91,17 @@ module _ (t : Telling) where
 
   pub flushed_told : (moment : ℕ) (key : Key) (c : DatabaseCopy) (o : Outcome)
       → finite.get o.area.database key ≡ Some c → OfOutcome t o
-      → OfOutcome t (flood_from_nobody moment (lsa_aged 3600 c.lsa)
+      → OfOutcome t (flood_from_nobody moment (lsa_with_age 3600 c.lsa)
       (on_database (age_prematurely moment key) o))
   flushed_told moment key c o is h =
       let so : IfThere (OfCopy t) key (Some c) = subst (IfThere (OfCopy t) key) is (h.copies key) in
       let old : OfOutcome t (on_database (age_prematurely moment key) o) =
       on_database_told t (age_prematurely moment key) o
       (changed_told t key (λ d. record d {
-        lsa = lsa_aged 3600 d.lsa;
+        lsa = lsa_with_age 3600 d.lsa;
         stored = moment;
       }) (λ d at. t.aged 3600 d.lsa (omega arith) at) o.area.database h.copies) h in
-      flood_told t moment None (lsa_aged 3600 c.lsa) (on_database (age_prematurely moment key) o)
+      flood_told t moment None (lsa_with_age 3600 c.lsa) (on_database (age_prematurely moment key) o)
       (t.aged 3600 c.lsa (omega arith) so) old
 
   -- ---- each link

@@ -6,7 +6,7 @@ use Rattle.words.specs.Numbers.{Moment}
 use Rattle.words.specs.declared.key.Key.{Key}
 use Rattle.lsdb.specs.Copies.{Database, DatabaseCopy, copy_header}
 use Rattle.lsdb.specs.Headers.{lsa_key}
-use Rattle.lsdb.specs.Instances.{ListEntry, aged_header}
+use Rattle.lsdb.specs.Instances.{ListEntry, listed_header_now}
 use Rattle.adjacency.specs.Lists.{HasSoundLists}
 use Rattle.adjacency.specs.Neighbors.{Neighbor}
 use Rattle.event_rules.specs.declared.model.Config.{Config}
@@ -21,7 +21,7 @@ abbrev pub IsOfCopy : Database → Key → ListEntry → Type 0
 IsOfCopy db key entry =
     (copy : DatabaseCopy) × (finite.get db key ≡ Some copy)
     × ((moment : Moment) → entry.at ≤ moment
-    → aged_header moment entry ≡ copy_header moment copy)
+    → listed_header_now moment entry ≡ copy_header moment copy)
 
 -- the same for each entry of the neighbor's retransmission list
 abbrev pub AreOfTheDatabase : Database → Neighbor → Type 0

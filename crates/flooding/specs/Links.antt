@@ -6,7 +6,7 @@ use Rattle.words.specs.declared.key.Key.{Key}
 use Rattle.words.specs.Constants.{max_age}
 use Rattle.adjacency.specs.lsdb.Copies.{Database, DatabaseCopy, age_prematurely, has_just_aged_out}
 use Rattle.adjacency.specs.lsdb.Copies.{install_originated, lsa_now}
-use Rattle.adjacency.specs.lsdb.Headers.{Lsa, lsa_aged}
+use Rattle.adjacency.specs.lsdb.Headers.{Lsa, lsa_with_age}
 use Rattle.adjacency.specs.Contents.{Content, Step, sent_on, step_on}
 use Rattle.adjacency.specs.Drafts.{Drafted}
 use Rattle.adjacency.specs.Neighbors.{Neighbor}
@@ -58,13 +58,13 @@ originate_outcome moment lsa a =
     flood moment None lsa (on_database (install_originated moment lsa) (start a))
 
 -- a copy, if there is one, is set to MaxAge and flooded to every neighbor
-abbrev pub aged_copy : Moment → Key → Option DatabaseCopy → Outcome → Outcome
-aged_copy moment key None o = o
-aged_copy moment key (Some c) o =
-    flood moment None (lsa_aged max_age c.lsa) (on_database (age_prematurely moment key) o)
+abbrev pub age_copy : Moment → Key → Option DatabaseCopy → Outcome → Outcome
+age_copy moment key None o = o
+age_copy moment key (Some c) o =
+    flood moment None (lsa_with_age max_age c.lsa) (on_database (age_prematurely moment key) o)
 
 abbrev pub age_outcome : Moment → Key → Area → Outcome
-age_outcome moment key a = aged_copy moment key (finite.get a.database key) (start a)
+age_outcome moment key a = age_copy moment key (finite.get a.database key) (start a)
 
 -- a copy that has reached MaxAge since the moment `before` is flooded to every neighbor (section
 -- 14)

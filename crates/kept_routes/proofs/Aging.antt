@@ -12,7 +12,7 @@ use mathlib.Core.Bool.{false≢true}
 use Rattle.keyed_map.specs.Keys.{key_cmp}
 use Rattle.keyed_map.proofs.Keys.{keys_exact}
 use Rattle.routes.specs.lsdb.Changes.{HaveNoMaxAge, HaveOneAge, IsUpTo, ContentsAgree}
-use Rattle.routes.specs.lsdb.Copies.{Database, DatabaseCopy, aged_keys, is_aged_out}
+use Rattle.routes.specs.lsdb.Copies.{Database, DatabaseCopy, max_age_keys, is_aged_out}
 use Rattle.routes.specs.Contents.{contents_at, contents_of}
 use Rattle.kept_routes.specs.Ages.{AreOld}
 use Rattle.kept_routes.specs.Sameness.{AreLsasUnchanged, HaveSameContents}
@@ -156,7 +156,7 @@ all_same last_type before moment old new order left key of =
 pub all_left : (last_type : Option ℕ) (before moment : ℕ) (old new : Database)
     → ((key : Key) → IsUpTo last_type key
     → ContentsAgree moment (finite.get old key) (finite.get new key))
-    → AreOld last_type before moment new (aged_keys moment new)
+    → AreOld last_type before moment new (max_age_keys moment new)
     → AreLsasUnchanged last_type before moment old new
 all_left last_type before moment old new same old_ones key of = record {
   same = same key of;

@@ -5,7 +5,7 @@ use Rattle.std.specs.FinMap as finite
 use Rattle.lsa.specs.declared.body.LsaBody.{LsaBody}
 use Rattle.words.specs.declared.key.Key.{Key}
 use Rattle.words.specs.declared.route.Route.{Route}
-use Rattle.routes.specs.lsdb.Copies.{Database, DatabaseCopy, aged_keys, contents_of}
+use Rattle.routes.specs.lsdb.Copies.{Database, DatabaseCopy, max_age_keys, contents_of}
 use Rattle.routes.specs.Candidates.{AreCandidates, Offers, OffersExternal}
 use Rattle.routes.specs.Candidates.Offers.{Between, External, Within}
 use Rattle.routes.specs.Paths.{Way}
@@ -136,7 +136,7 @@ module _ (before moment : ℕ) (old new : Database) (walk : KeptWalk) where
   module _ (order : before ≤ moment)
       (says : (key : Key) → Counts key
       → IsContentUnchanged before moment (finite.get old key) (finite.get new key))
-      (aged : AreOldOrLeftOut before moment new walk (aged_keys moment new)) where
+      (aged : AreOldOrLeftOut before moment new walk (max_age_keys moment new)) where
     counted : (key : Key) → Counts key → was key ≡ is key
     counted key counts =
         elim (says key counts) [

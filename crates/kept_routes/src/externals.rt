@@ -132,7 +132,7 @@ fn names_it(router: RouterId, key: &Key) -> bool
 /// say. Those are the router's own, and those of routers that aren't reached as AS boundary routers
 /// (RFC 2328, section 16.4). LSAs that were added or removed at MaxAge may or may not count.
 ///
-/// It takes the time of the event's edits and of `Lsdb::aged_keys`.
+/// It takes the time of the event's edits and of `Lsdb::max_age_keys`.
 ///
 /// # Errors
 /// `AllocError` if an allocation is refused.
@@ -158,7 +158,7 @@ pub fn offering_lsas_are_unchanged(
     if before.count() == moment.count() {
         return Ok(true);
     }
-    let keys = db.aged_keys(alloc, moment)?;
+    let keys = db.max_age_keys(alloc, moment)?;
     are_old_or_left_out(alloc, &rule, before, &keys)
 }
 

@@ -18,7 +18,7 @@ use words::{Key, Second};
 /// committed database said at `before`.
 ///
 /// Another instance below MaxAge with the same contents is no change (RFC 2328, section 13.2), nor
-/// is a transmission. It takes the time of the event's edits and of `Lsdb::aged_keys`.
+/// is a transmission. It takes the time of the event's edits and of `Lsdb::max_age_keys`.
 ///
 /// # Errors
 /// `AllocError` if an allocation is refused.
@@ -43,7 +43,7 @@ pub fn lsas_are_unchanged(
     if before.count() == moment.count() {
         return Ok(true);
     }
-    let keys = db.aged_keys(alloc, moment)?;
+    let keys = db.max_age_keys(alloc, moment)?;
     Ok(are_old(db, last_type, before, moment, &keys))
 }
 

@@ -4,7 +4,7 @@ use Rattle.std.specs.Prelude.{Option, None, Some, is_some, false, refl}
 use Rattle.std.specs.FinMap as finite
 use Rattle.words.specs.declared.key.Key.{Key}
 use Rattle.lsdb.specs.Copies.{Database, DatabaseCopy, age_prematurely, change_copy, mark_sent}
-use Rattle.lsdb.specs.Headers.{lsa_aged}
+use Rattle.lsdb.specs.Headers.{lsa_with_age}
 use Rattle.lsdb.specs.Kept.{RouterDatabase}
 
 pub none_is : {X : Type 0} (o : Option X) → is_some o ≡ false → None ≡ o
@@ -33,17 +33,17 @@ module _ (moment : ℕ) (k : Key) (d : Database) where
   -- the copy has MaxAge from now on
   pub ages : (c : DatabaseCopy) → finite.get d k ≡ Some c
       → finite.insert d k (record c {
-        lsa = lsa_aged 3600 c.lsa;
+        lsa = lsa_with_age 3600 c.lsa;
         stored = moment;
       }) ≡ age_prematurely moment k d
   ages c some = sym (change_is k (λ c. record c {
-    lsa = lsa_aged 3600 c.lsa;
+    lsa = lsa_with_age 3600 c.lsa;
     stored = moment;
   }) d (Some c) some)
 
   pub ages_none : finite.get d k ≡ None → d ≡ age_prematurely moment k d
   ages_none none = sym (change_is k (λ c. record c {
-    lsa = lsa_aged 3600 c.lsa;
+    lsa = lsa_with_age 3600 c.lsa;
     stored = moment;
   }) d None none)
 

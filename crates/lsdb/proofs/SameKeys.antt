@@ -8,7 +8,7 @@ use Rattle.std.specs.FinMap.Entries.{below_all}
 use Rattle.std.specs.Ordering.{eq_by_cmp, is_lt}
 use Rattle.words.specs.declared.key.Key.{Key}
 use Rattle.keyed_map.specs.Slots.{keys_where}
-use Rattle.lsdb.specs.Copies.{Database, DatabaseCopy, aged_keys, is_aged_out}
+use Rattle.lsdb.specs.Copies.{Database, DatabaseCopy, max_age_keys, is_aged_out}
 use Rattle.lsdb.specs.Foresight.{aged_at}
 use Rattle.lsdb.specs.Keys.{ByKey, key_cmp}
 use Rattle.lsdb.proofs.Entries.{entry_found, filter_alike}
@@ -115,7 +115,7 @@ aged_there moment (Some c) is = refl
 -- the copies at MaxAge
 pub keys_aged : {X : Type 0} (moment : ℕ) (m : ByKey X) (d : Database)
     → ((q : Key) → aged_at moment (finite.get d q) ≡ true → finite.contains_key m q ≡ true)
-    → keys_where (λ k x. aged_at moment (finite.get d k)) (finite.entries m) ≡ aged_keys moment d
+    → keys_where (λ k x. aged_at moment (finite.get d k)) (finite.entries m) ≡ max_age_keys moment d
 keys_aged moment m d has =
     keys_passing (λ k. aged_at moment (finite.get d k)) m d has
     (λ q. aged_there moment (finite.get d q))

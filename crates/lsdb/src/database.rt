@@ -3,7 +3,7 @@ ghost use Rattle.std.specs.Prelude.{◌≡◌, ◌≤◌, ◌↔◌, length, tak
 ghost use Rattle.std.specs.FinMap as finite;
 ghost use Rattle.lsdb.specs.Copies.{
   age_prematurely,
-  aged_keys,
+  max_age_keys,
   mark_sent,
   put_copy,
   contents_of,
@@ -295,8 +295,8 @@ impl Lsdb {
     ///
     /// # Errors
     /// `AllocError` if an allocation is refused.
-    pub fn aged_keys(&self, alloc: Global, moment: Second) -> Result<Vec<Key>, AllocError>
-        ensures { IfOk result (λ keys. keys.items ≡ aged_keys moment self.now.present) }
+    pub fn max_age_keys(&self, alloc: Global, moment: Second) -> Result<Vec<Key>, AllocError>
+        ensures { IfOk result (λ keys. keys.items ≡ max_age_keys moment self.now.present) }
     {
         if moment < self.ages.due {
             let there = AgedAndThere {
@@ -416,7 +416,7 @@ impl Lsdb {
     }
 
     /// Makes the edits so far final, and scans all copies if one may have reached MaxAge by this
-    /// moment, so that `aged_keys` needn't before another one can. If more than half of the aged
+    /// moment, so that `max_age_keys` needn't before another one can. If more than half of the aged
     /// keys have lost their copies or got younger ones, it visits the aged keys only and drops
     /// these. If an allocation is refused, it tries again the next time.
     pub fn commit_at(&mut self, alloc: Global, moment: Second)

@@ -3,7 +3,7 @@ ghost use Rattle.std.specs.Prelude.{◌≡◌, ◌≤◌, IfOk};
 ghost use Rattle.words.specs.Constants.{max_age};
 ghost use Rattle.lsa.specs.Text.{text};
 ghost use Rattle.lsdb.specs.Copies.{age_now, copy_header, copy_now, is_aged_out};
-ghost use Rattle.lsdb.specs.Headers.{lsa_aged};
+ghost use Rattle.lsdb.specs.Headers.{lsa_with_age};
 
 use crate::order::{Instance, age_at};
 use crate::times::CopyTimes;
@@ -72,7 +72,7 @@ impl<'a> DatabaseCopy<'a> {
     /// `AllocError` if an allocation is refused.
     pub fn text(&self, alloc: Global, age: u16) -> Result<Sequence<u8>, AllocError>
         requires { age ≤ max_age }
-        ensures { IfOk result (λ bytes. bytes ≡ text (lsa_aged age self.now.lsa)) }
+        ensures { IfOk result (λ bytes. bytes ≡ text (lsa_with_age age self.now.lsa)) }
     {
         let bytes = write_at_age(alloc, self.lsa, age)?;
         Ok(Sequence::from_vec(bytes))

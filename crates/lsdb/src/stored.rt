@@ -4,7 +4,7 @@ ghost use Rattle.words.specs.Constants.{max_age};
 ghost use Rattle.words.specs.Numbers.{Moment};
 ghost use Rattle.lsdb.specs.Changes.{HaveOneAge};
 ghost use Rattle.lsdb.specs.Copies.{copy_of, is_aged_out, contents_of};
-ghost use Rattle.lsdb.specs.Headers.{lsa_aged};
+ghost use Rattle.lsdb.specs.Headers.{lsa_with_age};
 
 use crate::database_copy::DatabaseCopy;
 use crate::order::age_at;
@@ -84,7 +84,7 @@ impl StoredLsa {
     /// `AllocError` if the LSA has as many owners as can be counted.
     pub(crate) fn aged_out(&self, moment: Second) -> Result<Self, AllocError>
         ensures { IfOk result (λ made. made
-            ≡ record self.now { lsa = lsa_aged max_age self.now.lsa; stored = moment }) }
+            ≡ record self.now { lsa = lsa_with_age max_age self.now.lsa; stored = moment }) }
     {
         let lsa = Arc::try_clone(&self.lsa)?;
         let times = CopyTimes {

@@ -7,7 +7,7 @@ use Rattle.std.specs.List.{fold}
 use Rattle.words.specs.declared.key.Key.{Key}
 use Rattle.adjacency.specs.lsdb.Copies.{Database}
 use Rattle.adjacency.specs.lsdb.Headers.{Header}
-use Rattle.adjacency.specs.lsdb.Instances.{ListEntry, aged_header}
+use Rattle.adjacency.specs.lsdb.Instances.{ListEntry, listed_header_now}
 use Rattle.adjacency.specs.lsdb.Keys.{ByKey}
 use Rattle.packet.specs.declared.model.Description.{Description}
 use Rattle.adjacency.specs.declared.standing.Standing.{Standing}
@@ -128,7 +128,7 @@ module _ {X : Type 0} (s : Standing) (des : Option Description) (sum req : ByKey
 
   -- the next Database Description, from its headers
   pub described_next : (moment : ℕ) (headers : List Header)
-      → headers ≡ map (λ (e : Key × ListEntry). aged_header moment e.1)
+      → headers ≡ map (λ (e : Key × ListEntry). listed_header_now moment e.1)
       (take 408 (finite.entries sum))
       → ◌≡◌ {A = Description} (record {
         mtu = 8192;

@@ -15,7 +15,7 @@ use Rattle.words.specs.declared.route.External.{External}
 use Rattle.lsa.specs.Text.{body_text}
 use Rattle.lsa.specs.declared.body.LsaBody.{LsaBody}
 use Rattle.lsdb.specs.Copies.{DatabaseCopy, age_prematurely, is_aged_out}
-use Rattle.lsdb.specs.Headers.{Lsa, lsa_aged}
+use Rattle.lsdb.specs.Headers.{Lsa, lsa_with_age}
 use Rattle.lsdb.specs.Keys.{ByKey, KeySet, same_key}
 use Rattle.lsdb.proofs.Keys.{keys_total}
 use Rattle.packet.specs.declared.model.PacketBody.{PacketBody}
@@ -591,7 +591,7 @@ module _ (moment : ℕ) (p : EventState)
       → has_max_sequence found ≡ true → Q (on_area (flush_copy moment own found) p)
   flushed_settled None is last = absurd cc
   flushed_settled (Some c) is last =
-      let lsa : Lsa = lsa_aged 3600 c.lsa in
+      let lsa : Lsa = lsa_with_age 3600 c.lsa in
       chosen (λ (o : Outcome). Q (with_outcome p o)) (is_aged_out moment c) (outcome p)
       (flood_from_nobody moment lsa (on_database (age_prematurely moment own) (outcome p)))
       (λ aged. inl filled)

@@ -13,7 +13,7 @@ use Rattle.lsa.specs.declared.body.LinkKind.TheVariants.{PointToPoint}
 use Rattle.lsdb.specs.Copies.{Database, DatabaseCopy, age_prematurely, has_just_aged_out}
 use Rattle.lsdb.specs.Copies.{is_aged_out}
 use Rattle.lsdb.specs.Copies.{lsa_now}
-use Rattle.lsdb.specs.Headers.{Lsa, lsa_aged, lsa_key}
+use Rattle.lsdb.specs.Headers.{Lsa, lsa_with_age, lsa_key}
 use Rattle.packet.specs.declared.model.Description.{Description}
 use Rattle.adjacency.specs.declared.interface.Interface.{Interface}
 use Rattle.adjacency.specs.Adjacencies.{has_passed}
@@ -247,8 +247,8 @@ flushed_faces moment key (Some c) p =
     let o : Outcome = record { area = p.router.area; sends = p.sends } in
     let aged : Outcome = on_database (age_prematurely moment key) o in
     chosen (λ (q : Outcome). faces q.area.links ≡ faces p.router.area.links) (is_aged_out moment c)
-    o (flood_from_nobody moment (lsa_aged 3600 c.lsa) aged)
-    (λ is. refl) (λ is. flood_faces moment None (lsa_aged 3600 c.lsa) aged)
+    o (flood_from_nobody moment (lsa_with_age 3600 c.lsa) aged)
+    (λ is. refl) (λ is. flood_faces moment None (lsa_with_age 3600 c.lsa) aged)
 
 pub flush_faces : (moment : ℕ) (key : Key) (p : EventState) → StaysFaced p (flush moment key p)
 flush_faces moment key p = flushed_faces moment key (finite.get p.router.area.database key) p

@@ -16,7 +16,7 @@ use Rattle.lsa.specs.declared.body.LsaBody.{LsaBody}
 use Rattle.lsdb.specs.Copies.{Database, DatabaseCopy, age_prematurely, has_just_aged_out}
 use Rattle.lsdb.specs.Copies.{is_aged_out}
 use Rattle.lsdb.specs.Copies.{lsa_now}
-use Rattle.lsdb.specs.Headers.{Lsa, lsa_aged, lsa_key}
+use Rattle.lsdb.specs.Headers.{Lsa, lsa_with_age, lsa_key}
 use Rattle.lsdb.specs.Keys.{ByKey, KeySet, same_key}
 use Rattle.lsdb.proofs.Keys.{keys_total}
 use Rattle.adjacency.specs.Adjacencies as adjacencies
@@ -171,7 +171,7 @@ flushed moment t key p found is h = by_copy found is
     }
     by_copy (Some c) there =
         let o : Outcome = record { area = p.router.area; sends = p.sends } in
-        let lsa : Lsa = lsa_aged 3600 c.lsa in
+        let lsa : Lsa = lsa_with_age 3600 c.lsa in
         chosen (λ (q : Outcome). InProgress moment (full t) (record {
           router = record p.router { area = q.area };
           sends = q.sends;

@@ -104,8 +104,8 @@ module _ (old : Router) (moment : ℕ) (later : old.moment ≤ moment) (h : Stan
   start_text : text_of start ≡ text
   start_text = ap body_text (same_faces old.area.links start.router.area.links start_faces)
 
-  aged_copies : AllIn (FitsAt old.moment (told text anything) old) start.router.area.database
-  aged_copies = ages_kept old.moment old.moment moment (told text anything) old
+  max_age_copies : AllIn (FitsAt old.moment (told text anything) old) start.router.area.database
+  max_age_copies = ages_kept old.moment old.moment moment (told text anything) old
       (finite.entries old.area.database) (record { area = old.area; sends = [] }) h.copies
 
   earlier_so : (key : Key) (at : ℕ) → finite.get old.originated key ≡ Some at → at ≤ moment
@@ -124,7 +124,7 @@ module _ (old : Router) (moment : ℕ) (later : old.moment ≤ moment) (h : Stan
         start.router.area.database
         (λ q c there fits. begun old.moment moment later text text anything old.id old.announced
         old.waiting old.originated old.originated (λ k at last. last) (λ k wanted waits. tt) q c
-        fits) aged_copies;
+        fits) max_age_copies;
   }
 
   -- ---- a Tick
@@ -161,7 +161,7 @@ module _ (old : Router) (moment : ℕ) (later : old.moment ≤ moment) (h : Stan
         old.originated
         first.router.originated remembered
         (λ k wanted waits. waits_are_due moment first.router k wanted waits) q c fits)
-        aged_copies;
+        max_age_copies;
   }
 
   ticked : InProgress moment (full (among [] of_tick)) (after_tick moment start)

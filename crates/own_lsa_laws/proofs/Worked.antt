@@ -7,7 +7,7 @@ use Rattle.std.proofs.lemmas.Bool.{both_ways}
 use Rattle.words.specs.declared.key.Key.{Key}
 use Rattle.lsa.specs.declared.body.LsaBody.{LsaBody}
 use Rattle.lsdb.specs.Copies.{Database, DatabaseCopy, is_aged_out}
-use Rattle.lsdb.specs.Headers.{Lsa, lsa_aged}
+use Rattle.lsdb.specs.Headers.{Lsa, lsa_with_age}
 use Rattle.lsdb.specs.Keys.{ByKey, key_cmp, same_key}
 use Rattle.lsdb.proofs.Keys.{keys_total}
 use Rattle.event_rules.specs.Endings.{same_body}
@@ -87,7 +87,7 @@ flushed_by o = (on_area (flush_copy 20 unwanted_key o) its).router
 abbrev aged_by : Option DatabaseCopy → ByKey DatabaseCopy
 aged_by None = its.router.area.database
 aged_by (Some c) = finite.insert its.router.area.database unwanted_key (record c {
-  lsa = lsa_aged 3600 c.lsa;
+  lsa = lsa_with_age 3600 c.lsa;
   stored = 20;
 })
 
@@ -100,15 +100,15 @@ found_aged (Some c) is q d there =
     ∙ there)
   where
     aged : DatabaseCopy → DatabaseCopy
-    aged e = record e { lsa = lsa_aged 3600 e.lsa; stored = 20 }
+    aged e = record e { lsa = lsa_with_age 3600 e.lsa; stored = 20 }
 
     by_key : (b : Bool) → same_key q unwanted_key ≡ b → cond b (Some (record c {
-      lsa = lsa_aged 3600 c.lsa;
+      lsa = lsa_with_age 3600 c.lsa;
       stored = 20;
     })) (finite.get its.router.area.database q) ≡ Some d
         → is_aged_out 20 d ≡ true
     by_key true same found = ap (λ (o : Option DatabaseCopy). is_aged_out 20 (copy_or (record c {
-      lsa = lsa_aged 3600 c.lsa;
+      lsa = lsa_with_age 3600 c.lsa;
       stored = 20;
     }) o)) (sym found)
     by_key false other found = is_only

@@ -15,7 +15,7 @@ use Rattle.lsdb.specs.Limits.{is_own_external, own_externals}
 use Rattle.words.specs.Constants.{max_age, max_lsas, max_own_externals}
 use Rattle.lsdb.specs.Copies.{Database, DatabaseCopy, age_prematurely, install_originated}
 use Rattle.lsdb.specs.Copies.{is_aged_out}
-use Rattle.lsdb.specs.Headers.{Lsa, lsa_aged, lsa_key}
+use Rattle.lsdb.specs.Headers.{Lsa, lsa_with_age, lsa_key}
 use Rattle.lsdb.specs.Keys.{KeySet, same_key}
 use Rattle.lsdb.proofs.Keys.{keys_exact, keys_total}
 use Rattle.adjacency.specs.declared.state.NeighborState.{NeighborState}
@@ -220,24 +220,24 @@ module _ (key : Key) where
         sent_twice o.sends,
       )
 
-  aged_copy : (moment : Moment) (k : Key) (c : DatabaseCopy) (b : Bool)
-      → OverlooksIn (λ o. cond b o (flood_from_nobody moment (lsa_aged max_age c.lsa)
+  age_copy : (moment : Moment) (k : Key) (c : DatabaseCopy) (b : Bool)
+      → OverlooksIn (λ o. cond b o (flood_from_nobody moment (lsa_with_age max_age c.lsa)
       (on_database (age_prematurely moment k) o)))
-  aged_copy moment k c true = nothing
-  aged_copy moment k c false =
+  age_copy moment k c true = nothing
+  age_copy moment k c false =
       after (on_database (age_prematurely moment k))
-      (flood_from_nobody moment (lsa_aged max_age c.lsa))
+      (flood_from_nobody moment (lsa_with_age max_age c.lsa))
       (changed_in (age_prematurely moment k) (λ d e agree. apart.copies_agree key k (λ c. record c {
-        lsa = lsa_aged max_age c.lsa;
+        lsa = lsa_with_age max_age c.lsa;
         stored = moment;
       }) d e agree))
-      (floods moment (lsa_aged max_age c.lsa))
+      (floods moment (lsa_with_age max_age c.lsa))
 
   flushed : (moment : Moment) (k : Key) (x : Option DatabaseCopy)
       → Overlooks (on_area (flush_copy moment k x))
   flushed moment k None p = stays p
   flushed moment k (Some c) p = on_outcome (flush_copy moment k (Some c))
-      (aged_copy moment k c (is_aged_out moment c)) p
+      (age_copy moment k c (is_aged_out moment c)) p
 
   installs : (moment : Moment) (lsa : Lsa) → OverlooksIn (install_and_flood moment lsa)
   installs moment lsa =

@@ -15,7 +15,7 @@ use Rattle.lsa.specs.Origination.{sealed_lsa}
 use Rattle.lsa.specs.declared.body.LsaBody.{LsaBody}
 use Rattle.lsdb.specs.Copies.{Database, DatabaseCopy, age_prematurely, has_just_aged_out}
 use Rattle.lsdb.specs.Copies.{install_originated, is_aged_out, lsa_now}
-use Rattle.lsdb.specs.Headers.{Lsa, lsa_aged, lsa_key}
+use Rattle.lsdb.specs.Headers.{Lsa, lsa_with_age, lsa_key}
 use Rattle.lsdb.specs.Instances.{ListEntry}
 use Rattle.lsdb.specs.Keys.{ByKey, KeySet, same_key}
 use Rattle.lsdb.proofs.Keys.{keys_total}
@@ -172,17 +172,17 @@ module _ (key : Key) (is_external : key.ls_type ≡ 5) where
   own_flushed moment (Some c) under o none = by_age (is_aged_out moment c)
     where
       by_age : (b : Bool) → IsKept (cond b o
-          (flood_from_nobody moment (lsa_aged max_age c.lsa)
+          (flood_from_nobody moment (lsa_with_age max_age c.lsa)
           (on_database (age_prematurely moment key) o)))
           o
       by_age true = (refl, refl, refl)
       by_age false =
-          let kept = own_flooded moment (lsa_aged max_age c.lsa) (under c refl)
+          let kept = own_flooded moment (lsa_with_age max_age c.lsa) (under c refl)
           (on_database (age_prematurely moment key) o) none in (
             kept.0,
             kept.1 ∙ apart.same_but key _ _
                 (apart.own_copy_agrees key key refl (λ c. record c {
-                  lsa = lsa_aged max_age c.lsa;
+                  lsa = lsa_with_age max_age c.lsa;
                   stored = moment;
                 }) o.area.database),
             kept.2,

@@ -8,7 +8,7 @@ use Rattle.words.specs.declared.route.Route.{Route}
 use Rattle.words.specs.declared.route.RouteKind.TheVariants.{External1, External2}
 use Rattle.lsa.specs.declared.body.ExternalLsa.{ExternalLsa}
 use Rattle.lsdb.specs.Copies.{DatabaseCopy}
-use Rattle.lsdb.specs.Headers.{lsa_aged}
+use Rattle.lsdb.specs.Headers.{lsa_with_age}
 use Rattle.routes.specs.Candidates.{AreCandidates}
 use Rattle.route_laws.specs.Worked.{Entries, database, ipv4, mask_24, near_router, network_24}
 use Rattle.route_laws.specs.Worked.{next_network, of_external, own_network, two_routers}
@@ -30,7 +30,7 @@ by_other id lsa = of_external id (ipv4 2 2 2 2) lsa
 
 -- the same copy at MaxAge
 abbrev pub at_max_age : Key × DatabaseCopy → Key × DatabaseCopy
-at_max_age e = (e.0, record e.1 { lsa = lsa_aged 3600 e.1.lsa })
+at_max_age e = (e.0, record e.1 { lsa = lsa_with_age 3600 e.1.lsa })
 
 -- one network with both types, distinguished by the host bits of their Link State IDs; a forwarding
 -- address in 10.0.2.0/24, which the other router offers at 15; one in 10.0.1.0/24, which both

@@ -6,7 +6,7 @@ use Rattle.std.specs.FinMap as finite
 use Rattle.std.specs.FinMap.Entries.{below_all, is_sorted}
 use Rattle.std.specs.Ordering.{eq_by_cmp}
 use Rattle.words.specs.declared.key.Key.{Key}
-use Rattle.flooding.specs.lsdb.Copies.{Database, DatabaseCopy, aged_keys, is_aged_out}
+use Rattle.flooding.specs.lsdb.Copies.{Database, DatabaseCopy, max_age_keys, is_aged_out}
 use Rattle.flooding.specs.lsdb.Keys.{key_cmp}
 use Rattle.flooding.proofs.lsdb.Keys.{absent, equal, first, keys_exact, keys_total, second}
 use Rattle.flooding.specs.received.Links.{Area, Link, any_has_retransmission}
@@ -121,11 +121,11 @@ module _ (links : List Link) (q : Key) where
       tests false false = refl
 
 pub aged_leave : (moment : ℕ) (a : Area)
-    → without_each a.links a.database (aged_keys moment a.database)
+    → without_each a.links a.database (max_age_keys moment a.database)
     ≡ finite.retain_keys a.database (stays moment a)
 aged_leave moment a =
     finite.same_map keys_total keys_exact _ _ (λ q.
-    left a.links q (aged_keys moment a.database) a.database
+    left a.links q (max_age_keys moment a.database) a.database
     ∙ ap (λ b. cond (b && not (any_has_retransmission q a.links)) None (finite.get a.database q))
     (among_is (is_aged_out moment) q (finite.entries a.database)
     (finite.entries_sorted a.database)

@@ -8,7 +8,7 @@ use Rattle.std.specs.FinMap as finite
 use mathlib.Core.Bool.{false≢true}
 use Rattle.words.specs.Constants.{max_age}
 use Rattle.words.specs.declared.key.Key.{Key}
-use Rattle.flooding.specs.lsdb.Headers.{Lsa, lsa_aged, lsa_key}
+use Rattle.flooding.specs.lsdb.Headers.{Lsa, lsa_with_age, lsa_key}
 use Rattle.flooding.specs.lsdb.Copies.{DatabaseCopy, age_prematurely, has_just_aged_out}
 use Rattle.flooding.specs.lsdb.Copies.{is_aged_out}
 use Rattle.flooding.specs.lsdb.Copies.{lsa_now}
@@ -31,7 +31,7 @@ use Rattle.event_rules.specs.Ticks.{again, expire_timers, send_acknowledgments, 
 use Rattle.event_rules.specs.Ticks.{send_hellos}
 use Rattle.event_rules.specs.Ticks.{with_hello_sent, without_acknowledgments}
 use Rattle.flooding.specs.Cases.{is_installed}
-use Rattle.flooding.specs.Links.{aged_copy, start}
+use Rattle.flooding.specs.Links.{age_copy, start}
 use Rattle.router_state.specs.Aging.{outcomes_in_turn}
 use Rattle.router_state.specs.Making.{interfaces_of}
 use Rattle.router_state.proofs.Making.{Appends, KeepsInterfaces}
@@ -48,7 +48,7 @@ keeps_install moment lsa a = keeps_neighbors moment (flood_to moment None lsa) a
 
 module _ (moment : ℕ) (key : Key) where
   abbrev pub aged_and_flooded : DatabaseCopy → Outcome → Outcome
-  aged_and_flooded c o = flood_from_nobody moment (lsa_aged max_age c.lsa)
+  aged_and_flooded c o = flood_from_nobody moment (lsa_with_age max_age c.lsa)
       (on_database (age_prematurely moment key) o)
 
   flush_by : (c : DatabaseCopy) (o : Outcome) (b : Bool)
@@ -65,7 +65,7 @@ module _ (moment : ℕ) (key : Key) where
       → interfaces_of (cond b (start a) (aged_and_flooded c (start a))).area.links
       ≡ interfaces_of a.links
   kept_by c a true = refl
-  kept_by c a false = keeps_neighbors moment (flood_to moment None (lsa_aged max_age c.lsa)) a
+  kept_by c a false = keeps_neighbors moment (flood_to moment None (lsa_with_age max_age c.lsa)) a
 
   pub keeps_flush : (copy : Option DatabaseCopy) → KeepsInterfaces (flush_copy moment key copy)
   keeps_flush None a = refl
@@ -74,9 +74,9 @@ module _ (moment : ℕ) (key : Key) where
   -- a copy that is younger than MaxAge
   pub flushed_is : (c : DatabaseCopy) (copy : Option DatabaseCopy) (o : Outcome) → Some c ≡ copy
       → false ≡ is_aged_out moment c
-      → aged_copy moment key copy o ≡ flush_copy moment key copy o
+      → age_copy moment key copy o ≡ flush_copy moment key copy o
   flushed_is c copy o there young =
-      ap (λ (x : Option DatabaseCopy). aged_copy moment key x o) (sym there)
+      ap (λ (x : Option DatabaseCopy). age_copy moment key x o) (sym there)
       ∙ ap (λ b. cond b o (aged_and_flooded c o)) young
       ∙ ap (λ (x : Option DatabaseCopy). flush_copy moment key x o) there
 

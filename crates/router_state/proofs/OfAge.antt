@@ -6,7 +6,7 @@ use Rattle.std.specs.List.{AllByRecursion, filter, fold}
 use Rattle.std.specs.FinMap as finite
 use Rattle.words.specs.declared.key.Key.{Key}
 use Rattle.flooding.specs.lsdb.Headers.{Lsa}
-use Rattle.flooding.specs.lsdb.Copies.{DatabaseCopy, aged_keys, has_just_aged_out}
+use Rattle.flooding.specs.lsdb.Copies.{DatabaseCopy, max_age_keys, has_just_aged_out}
 use Rattle.flooding.specs.lsdb.Copies.{is_aged_out, lsa_now}
 use Rattle.flooding.specs.adjacency.Drafts.{Drafted}
 use Rattle.flooding.specs.received.Flooding.{flood, flood_to}
@@ -83,7 +83,7 @@ module _ (before moment : ℕ) where
       (still_aged e es o (has_just_aged_out before moment e.1) h.1)
       ∙ by_test e es o h.0 (is_aged_out moment e.1) refl
 
-  pub ages_are : (a : Area) → flood_each_new_max_age before moment (aged_keys moment a.database) a
+  pub ages_are : (a : Area) → flood_each_new_max_age before moment (max_age_keys moment a.database) a
       ≡ flood_aged before moment (start a)
   ages_are a = sym (ages_by_keys (finite.entries a.database) (start a)
       (still_all a.database (finite.entries a.database) (all_there a.database)))

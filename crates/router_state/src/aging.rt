@@ -24,7 +24,7 @@ fn remove_each(area: &mut Area, keys: &[Key]) -> Result<(), AllocError>
 /// neighbor is in Exchange or Loading (RFC 2328, section 14).
 ///
 /// It visits all copies only if one may have reached MaxAge since the database last scanned them,
-/// as in `Lsdb::aged_keys`.
+/// as in `Lsdb::max_age_keys`.
 ///
 /// # Errors
 /// `AllocError` if an allocation is refused.
@@ -35,7 +35,7 @@ pub fn remove_aged(area: &mut Area, alloc: Global, moment: Second) -> Result<(),
     if exchanging {
         return Ok(());
     }
-    let keys = area.database().aged_keys(alloc, moment)?;
+    let keys = area.database().max_age_keys(alloc, moment)?;
     remove_each(area, &keys)
 }
 
@@ -59,7 +59,7 @@ fn flood_each_new_max_age(
 /// section 14), in the order of their keys.
 ///
 /// If the moment is the same, it visits no copy, and otherwise all only if one may have reached
-/// MaxAge since the database last scanned them, as in `Lsdb::aged_keys`.
+/// MaxAge since the database last scanned them, as in `Lsdb::max_age_keys`.
 ///
 /// # Errors
 /// `AllocError` if an allocation is refused.
@@ -74,6 +74,6 @@ pub fn flood_aged(
     if before.count() == moment.count() {
         return Ok(());
     }
-    let aged = area.database().aged_keys(alloc, moment)?;
+    let aged = area.database().max_age_keys(alloc, moment)?;
     flood_each_new_max_age(area, alloc, before, moment, &aged)
 }

@@ -3,7 +3,7 @@ ghost use Rattle.std.specs.Prelude.{◌≡◌, ◌+◌, ◌%◌, ◌^◌, false,
 ghost use Rattle.std.specs.Prelude.{◌∷◌, ◌++◌, take, IfOk, OnOk};
 ghost use Rattle.std.specs.FinMap as finite;
 ghost use Rattle.std.specs.List.{filter_map, fold};
-ghost use Rattle.adjacency.specs.lsdb.Instances.{aged_header};
+ghost use Rattle.adjacency.specs.lsdb.Instances.{listed_header_now};
 ghost use Rattle.adjacency.specs.Descriptions.{
   announced_more,
   exchange_done,
@@ -104,8 +104,8 @@ fn list_all_more_recent(
 }
 
 // The entry's header with its age at the moment.
-fn aged_header(moment: Second, entry: &ListEntry) -> Header
-    ensures { result ≡ aged_header moment entry.now }
+fn listed_header_now(moment: Second, entry: &ListEntry) -> Header
+    ensures { result ≡ listed_header_now moment entry.now }
 {
     Header {
         age: age_at(entry.header.age, entry.at, moment),
@@ -127,7 +127,7 @@ fn push_header(
     let Some(entry) = list.get(key) else {
         return Ok(());
     };
-    let header = aged_header(moment, entry);
+    let header = listed_header_now(moment, entry);
     headers.push(header)?;
     Ok(())
 }

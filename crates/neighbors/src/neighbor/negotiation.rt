@@ -3,7 +3,7 @@ ghost use Rattle.std.specs.Prelude.{◌≡◌};
 ghost use Rattle.std.specs.FinMap as finite;
 ghost use Rattle.std.specs.List.{fold};
 ghost use Rattle.adjacency.specs.lsdb.Copies.{is_aged_out};
-ghost use Rattle.adjacency.specs.Descriptions.{aged_copies, negotiated_neighbor, young_copies};
+ghost use Rattle.adjacency.specs.Descriptions.{max_age_copies, negotiated_neighbor, young_copies};
 ghost use Rattle.adjacency.specs.Exchanges.{is_young, with_key};
 ghost use Rattle.neighbors.specs.Doing.{ListDoes, NeighborDoes};
 
@@ -75,7 +75,7 @@ fn list_copies(
     requires aged { aged.old.present ≡ finite.empty }
     ensures young { ListDoes (λ _. young_copies moment database.now.present) young.old young.new
         result }
-    ensures aged { ListDoes (λ _. aged_copies moment database.now.present) aged.old aged.new
+    ensures aged { ListDoes (λ _. max_age_copies moment database.now.present) aged.old aged.new
         result }
 {
     for key in database.keys() {
@@ -94,7 +94,7 @@ impl Neighbor {
     ) -> Result<(), AllocError>
         ensures { NeighborDoes (λ n. record n {
           summary = young_copies moment database.now.present;
-          retransmissions = aged_copies moment database.now.present;
+          retransmissions = max_age_copies moment database.now.present;
         }) self.old self.new result }
     {
         clear(alloc, &mut self.summary)?;

@@ -1,5 +1,5 @@
 use Rattle.std.proofs.Common.{◌≡◌, ap, sym, ◌∙◌}
-use Rattle.flooding.specs.lsdb.Copies.{aged_keys}
+use Rattle.flooding.specs.lsdb.Copies.{max_age_keys}
 use Rattle.flooding.specs.received.Links.{Area}
 use Rattle.flooding.specs.Links.{start}
 use Rattle.flooding.proofs.Doing.{area_rests, area_same}
@@ -15,7 +15,7 @@ returns c =
     let m = c.args.moment in
     let a : Area = c.args.area.now.present in
     let keys = c.deref.ensures.value ∙ c.in_ok-aged.ensures
-    ∙ ap (λ d. aged_keys m d.present) c.database.ensures in
+    ∙ ap (λ d. max_age_keys m d.present) c.database.ensures in
     area_same (flood_each_new_max_age b m c.deref.result.now)
     (λ (x : Area). flood_aged b m (start x))
     c.args.area.now _ c.flood_each_new_max_age.result

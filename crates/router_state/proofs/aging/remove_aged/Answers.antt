@@ -1,6 +1,6 @@
 use Rattle.std.proofs.Common.{cond, sym, ap, ◌∙◌}
 use Rattle.std.specs.FinMap as finite
-use Rattle.flooding.specs.lsdb.Copies.{aged_keys}
+use Rattle.flooding.specs.lsdb.Copies.{max_age_keys}
 use Rattle.flooding.specs.received.Links.{Area, any_exchange_or_loading}
 use Rattle.flooding.specs.Links.{start}
 use Rattle.flooding.specs.received.Outcomes.{Outcome, on_database}
@@ -24,7 +24,7 @@ returns c =
     let a : Area = c.args.area.now.present in
     let o : Outcome = start a in
     let keys = c.deref.ensures.value ∙ c.in_ok-keys.ensures
-    ∙ ap (λ d. aged_keys c.args.moment d.present) c.database.ensures in
+    ∙ ap (λ d. max_age_keys c.args.moment d.present) c.database.ensures in
     area_same (λ (x : Area). start (record x {
       database = without_each x.links x.database c.deref.result.now;
     })) (λ (x : Area). remove_aged c.args.moment (start x)) c.args.area.now _ c.remove_each.result

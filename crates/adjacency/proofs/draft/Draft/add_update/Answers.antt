@@ -1,7 +1,7 @@
 use Rattle.std.proofs.Common.{◌≡◌, ◌+◌, ◌++◌, [], ◌∷◌, min, ap, ◌∙◌, arith}
 use Rattle.lsa.specs.Text.{text}
 use Rattle.lsdb.specs.Copies.{copy_header, lsa_now}
-use Rattle.lsdb.specs.Headers.{key_of, lsa_aged}
+use Rattle.lsdb.specs.Headers.{key_of, lsa_with_age}
 use Rattle.adjacency.specs.Contents.{Updates}
 use Rattle.adjacency.specs.Drafts.{Drafted, adds, update_of}
 use Rattle.adjacency.proofs.Floods.{drafting-one}
@@ -17,7 +17,7 @@ returns c =
     let items = c.in_ok-push.ensures.items
     ∙ (λ i. c.self.inside.updates.items ++ record {
       key = (c.key-key.ensures ∙ ap key_of c.header-header.ensures) i;
-      text = (c.in_ok-text.ensures ∙ ap (λ a. text (lsa_aged a c.args.copy.now.lsa)) age) i;
+      text = (c.in_ok-text.ensures ∙ ap (λ a. text (lsa_with_age a c.args.copy.now.lsa)) age) i;
     } ∷ [])
     ∙ ap (λ d. d.updates ++ update_of c.args.delay (lsa_now c.args.moment c.args.copy.now) ∷ [])
     c.self.view_is in

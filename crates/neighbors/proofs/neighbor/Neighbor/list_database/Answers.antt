@@ -1,5 +1,5 @@
 use Rattle.std.proofs.Common.{ap, ◌∙◌, rules}
-use Rattle.adjacency.specs.Descriptions.{aged_copies, young_copies}
+use Rattle.adjacency.specs.Descriptions.{max_age_copies, young_copies}
 use Rattle.adjacency.specs.Views.{neighbor_of}
 use Rattle.neighbors.proofs.Exchanges.{both_ok, lists_database}
 use Rattle.neighbors.proofs.neighbor.Neighbor.list_database.Goals as goal
@@ -7,7 +7,7 @@ use Rattle.neighbors.proofs.neighbor.Neighbor.list_database.Goals as goal
 pub returns : goal.returns
 returns c =
     let young = young_copies c.args.moment c.args.database.now.present in
-    let aged = aged_copies c.args.moment c.args.database.now.present in
+    let aged = max_age_copies c.args.moment c.args.database.now.present in
     record {
       ok = both_ok c.list_copies.result (λ is_young is_aged.
           (λ i. neighbor_of c.self.inside.standing c.self.inside.described.present (is_young i)

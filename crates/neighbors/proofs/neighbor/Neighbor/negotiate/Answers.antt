@@ -1,6 +1,6 @@
 use Rattle.std.proofs.Common.{ap, ◌∙◌}
 use Rattle.keyed_map.proofs.Helds.{on_ok}
-use Rattle.adjacency.specs.Descriptions.{aged_copies, young_copies}
+use Rattle.adjacency.specs.Descriptions.{max_age_copies, young_copies}
 use Rattle.neighbors.proofs.neighbor.Neighbor.negotiate.Goals as goal
 
 pub returns : goal.returns
@@ -11,7 +11,7 @@ returns c =
             summary =
                 young_copies c.args.moment c.args.database.now.present;
             retransmissions =
-                aged_copies c.args.moment c.args.database.now.present;
+                max_age_copies c.args.moment c.args.database.now.present;
           }) c.enter_exchange.ensures)
           c.list_database.ensures.ok;
       committed = c.list_database.ensures.committed
