@@ -167,7 +167,7 @@ fn with_externals(
         return Ok(networks);
     }
     let by = Inner {
-        routers: &inner.advertised,
+        advertised: &inner.advertised,
         flagged: &inner.flagged,
         networks: &inner.networks,
         lengths: &inner.lengths,

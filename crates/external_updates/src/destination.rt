@@ -46,7 +46,7 @@ fn offer_to(
     ensures { IsJust (SaysTo root.now inner.now prefix (key.now, lsa_body.now)) result }
 {
     let by = Inner {
-        routers: &inner.advertised,
+        advertised: &inner.advertised,
         flagged: &inner.flagged,
         networks: &inner.networks,
         lengths: &inner.lengths,
