@@ -14,9 +14,9 @@ neighbor_is_exchange_or_loading None = false
 neighbor_is_exchange_or_loading (Some n) = is_exchange_or_loading n.state
 
 -- the key is on the neighbor's request list
-abbrev pub was_requested : Key → Option Neighbor → Bool
-was_requested key None = false
-was_requested key (Some n) = finite.contains_key n.requests key
+abbrev pub is_on_request_list : Key → Option Neighbor → Bool
+is_on_request_list key None = false
+is_on_request_list key (Some n) = finite.contains_key n.requests key
 
 -- the key is on the neighbor's retransmission list
 abbrev pub has_retransmission : Key → Option Neighbor → Bool
@@ -24,6 +24,6 @@ has_retransmission key None = false
 has_retransmission key (Some n) = finite.contains_key n.retransmissions key
 
 -- exactly this instance is on the retransmission list
-abbrev pub has_instance : Moment → Header → Option Neighbor → Bool
-has_instance moment h None = false
-has_instance moment h (Some n) = is_entry moment h (finite.get n.retransmissions (key_of h))
+abbrev pub has_retransmission_of : Moment → Header → Option Neighbor → Bool
+has_retransmission_of moment h None = false
+has_retransmission_of moment h (Some n) = is_entry moment h (finite.get n.retransmissions (key_of h))

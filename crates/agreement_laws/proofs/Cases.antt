@@ -5,9 +5,10 @@ use Rattle.std.specs.Prelude.{is_none}
 use Rattle.std.proofs.lemmas.Bool.{and_parts}
 use Rattle.lsdb.specs.Copies.{DatabaseCopy, received_just_now, newer_than_copy, same_as_copy}
 use Rattle.lsdb.specs.Copies.{sent_just_now}
-use Rattle.lsdb.specs.Headers.{Lsa}
+use Rattle.lsdb.specs.Headers.{Lsa, lsa_key}
 use Rattle.lsdb.specs.Order.{is_max_age}
-use Rattle.received.specs.Cases.{Case, first_case, is_on_senders_list, is_wrapping, was_requested}
+use Rattle.received.specs.Cases.{Case, first_case, is_wrapping}
+use Rattle.adjacency.specs.Asked.{is_on_request_list, has_retransmission_of}
 use Rattle.received.specs.Links.{Area, any_exchange_or_loading, neighbor_at}
 use Rattle.received.specs.Updates.{case_at, copy_of}
 
@@ -48,7 +49,7 @@ module _ (moment place : ℕ) (lsa : Lsa) (a : Area) where
       is_max_age lsa.header.age && is_none (copy_of lsa a) && not (any_exchange_or_loading a.links)
 
   abbrev is_listed : Bool
-  is_listed = is_on_senders_list moment (neighbor_at place a.links) lsa
+  is_listed = has_retransmission_of moment lsa.header (neighbor_at place a.links)
 
   abbrev is_newer : Bool
   is_newer = newer_than_copy moment lsa.header (copy_of lsa a)
@@ -64,7 +65,7 @@ module _ (moment place : ℕ) (lsa : Lsa) (a : Area) where
       subst PassedHere is
       (by_tests has_nothing
       (is_some (copy_of lsa a) && is_newer && received_just_now moment (copy_of lsa a)) is_newer
-      (was_requested (neighbor_at place a.links) lsa) (is_same && is_listed) is_same
+      (is_on_request_list (lsa_key lsa) (neighbor_at place a.links)) (is_same && is_listed) is_same
       (is_wrapping moment (copy_of lsa a)) (sent_just_now moment (copy_of lsa a)))
 
   pub is_newer_case : case_at moment place lsa a ≡ Case.Newer → is_newer ≡ true

@@ -39,8 +39,8 @@ use Rattle.adjacency.specs.Retransmissions.{add_retransmission, after_acknowledg
 use Rattle.adjacency.specs.Retransmissions.{remove_retransmission}
 use Rattle.adjacency.proofs.Kept.{chosen}
 use Rattle.adjacency.proofs.Maps.{OfEntry}
-use Rattle.received.specs.Cases.{Case, case_of_readable, first_case, is_on_senders_list}
-use Rattle.received.specs.Cases.{is_wrapping, was_requested}
+use Rattle.received.specs.Cases.{Case, case_of_readable, first_case, is_wrapping}
+use Rattle.adjacency.specs.Asked.{is_on_request_list, has_retransmission_of}
 use Rattle.received.specs.Flooding.{flood, flood_to, is_received_at}
 use Rattle.received.specs.Holds.{Holds}
 use Rattle.received.specs.Links.{Area, Link, any_exchange_or_loading, delay_acknowledgment}
@@ -179,8 +179,8 @@ newer_case moment c sender synchronizing lsa is =
     (is_some (Some c) && newer_than_copy moment lsa.header (Some c) && received_just_now moment
     (Some c))
     (newer_than_copy moment lsa.header (Some c))
-    (was_requested sender lsa)
-    (same_as_copy moment lsa.header (Some c) && is_on_senders_list moment sender lsa)
+    (is_on_request_list (lsa_key lsa) sender)
+    (same_as_copy moment lsa.header (Some c) && has_retransmission_of moment lsa.header sender)
     (same_as_copy moment lsa.header (Some c))
     (is_wrapping moment (Some c))
     (sent_just_now moment (Some c))
@@ -755,7 +755,7 @@ module _ (old : Router) (moment : ℕ) (event : Occurrence) (number : ℕ) (befo
 
     abbrev IsSenders : Lsa → Option Neighbor → Type 0
     IsSenders lsa n = Holds Owes n × ((number == place) ≡ true
-        → is_on_senders_list moment n lsa ≡ true)
+        → has_retransmission_of moment lsa.header n ≡ true)
 
     abbrev IsReleased : Lsa → Option Neighbor → Type 0
     IsReleased lsa n = Holds Owes n ⊎ (((number == place) ≡ true) × (instance_of_lsa lsa ≡ name))
@@ -788,9 +788,9 @@ module _ (old : Router) (moment : ℕ) (event : Occurrence) (number : ℕ) (befo
         o.area.links (k, sender_is))) h)
       where
         sender_is : (number == place) ≡ true
-            → is_on_senders_list moment (neighbor_at number o.area.links) lsa ≡ true
+            → has_retransmission_of moment lsa.header (neighbor_at number o.area.links) ≡ true
         sender_is e =
-            subst (λ n. is_on_senders_list moment (neighbor_at n o.area.links) lsa ≡ true)
+            subst (λ n. has_retransmission_of moment lsa.header (neighbor_at n o.area.links) ≡ true)
             (sym (eqb-true number place e))
             (owed_where_implied moment (copy_of lsa o.area) (neighbor_at place o.area.links)
             (any_exchange_or_loading o.area.links) lsa is)

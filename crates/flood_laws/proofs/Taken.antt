@@ -10,12 +10,12 @@ use Rattle.std.specs.List.{Contains}
 use Rattle.std.specs.Ordering.{int_cmp, is_eq, nat_cmp, ordering_then}
 use Rattle.lsdb.specs.Copies.{DatabaseCopy, received_just_now, newer_than_copy, same_as_copy}
 use Rattle.lsdb.specs.Copies.{sent_just_now}
-use Rattle.lsdb.specs.Headers.{Header, Lsa, key_of}
+use Rattle.lsdb.specs.Headers.{Header, Lsa, key_of, lsa_key}
 use Rattle.lsdb.specs.Instances.{ListEntry, listed_now, same_as_listed}
 use Rattle.lsdb.specs.Order.{compare_ages, is_max_age}
 use Rattle.adjacency.specs.Neighbors.{Neighbor}
 use Rattle.received.specs.Cases.{Case, case_of_readable, first_case, is_wrapping}
-use Rattle.received.specs.Cases.{is_on_senders_list, was_requested}
+use Rattle.adjacency.specs.Asked.{is_on_request_list, has_retransmission_of}
 use Rattle.event_rules.specs.InstanceIdentities.{InstanceIdentity, instance_of_header}
 
 -- ---- one entry
@@ -72,15 +72,15 @@ second false b e = absurd (cc)
 pub owed_where_implied : (moment : ℕ) (copy : Option DatabaseCopy) (sender : Option Neighbor)
     (synchronizing : Bool) (lsa : Lsa)
     → case_of_readable moment copy sender synchronizing lsa ≡ Case.ImpliedAcknowledgment
-    → is_on_senders_list moment sender lsa ≡ true
+    → has_retransmission_of moment lsa.header sender ≡ true
 owed_where_implied moment copy sender synchronizing lsa is =
-    second (same_as_copy moment lsa.header copy) (is_on_senders_list moment sender lsa)
+    second (same_as_copy moment lsa.header copy) (has_retransmission_of moment lsa.header sender)
     (implied
     (is_max_age lsa.header.age && is_none copy && not synchronizing)
     (is_some copy && newer_than_copy moment lsa.header copy && received_just_now moment copy)
     (newer_than_copy moment lsa.header copy)
-    (was_requested sender lsa)
-    (same_as_copy moment lsa.header copy && is_on_senders_list moment sender lsa)
+    (is_on_request_list (lsa_key lsa) sender)
+    (same_as_copy moment lsa.header copy && has_retransmission_of moment lsa.header sender)
     (same_as_copy moment lsa.header copy)
     (is_wrapping moment copy)
     (sent_just_now moment copy)

@@ -175,12 +175,12 @@ impl Tests {
         let newer = newer_than_copy(moment, &header, copy);
         let same = same_as_copy(moment, &header, copy);
         let received = received_just_now(moment, copy);
-        let listed = link.has_instance(moment, &header);
+        let listed = link.has_retransmission_of(moment, &header);
         Tests {
             nothing_to_flush: nothing_to_flush(header.age, missing, synchronizing),
             too_soon: there && newer && received,
             newer,
-            requested: link.was_requested(&header.key()),
+            requested: link.is_on_request_list(&header.key()),
             implied: same && listed,
             same,
             wraps: is_wrapping(moment, copy),

@@ -19,7 +19,7 @@ use Rattle.lsdb.specs.Headers.{Lsa, lsa_with_age, lsa_key}
 use Rattle.lsdb.specs.Instances.{ListEntry}
 use Rattle.lsdb.specs.Keys.{ByKey, KeySet, same_key}
 use Rattle.lsdb.proofs.Keys.{keys_total}
-use Rattle.adjacency.specs.Asked.{was_requested}
+use Rattle.adjacency.specs.Asked.{is_on_request_list}
 use Rattle.adjacency.specs.Contents.{Content}
 use Rattle.adjacency.specs.Contents.Content.{Updates}
 use Rattle.adjacency.specs.Floods.{satisfies_request, exceeds_request, request_of}
@@ -73,14 +73,14 @@ module _ (key : Key) (is_external : key.ls_type ≡ 5) where
       (enumerate_from number links)) ≡ map (link_without key) links
   own_links moment lsa is number [] none = refl
   own_links moment lsa is number (link ∷ links) none =
-      let both = or_parts (was_requested key link.neighbor) (is_requested key links) none in
+      let both = or_parts (is_on_request_list key link.neighbor) (is_requested key links) none in
       let one = ap (λ (o : Option Neighbor). record link {
         neighbor = o;
       }) (on link.neighbor both.0) in
       let others = own_links moment lsa is (number + 1) links both.1 in
       λ i. one i ∷ others i
     where
-      on : (o : Option Neighbor) → was_requested key o ≡ false
+      on : (o : Option Neighbor) → is_on_request_list key o ≡ false
           → neighbor_on_without key (step_on (flood_to moment None lsa number link) o)
           ≡ neighbor_on_without key o
       on None e = refl
@@ -358,13 +358,13 @@ module _ (key : Key) (is_external : key.ls_type ≡ 5) where
       (enumerate_from number links))
   still_not_requested moment lsa number [] none = refl
   still_not_requested moment lsa number (link ∷ links) none =
-      let both = or_parts (was_requested key link.neighbor) (is_requested key links) none in
+      let both = or_parts (is_on_request_list key link.neighbor) (is_requested key links) none in
       let one = on link.neighbor both.0 in
       let others = still_not_requested moment lsa (number + 1) links both.1 in
       λ i. one i || others i
     where
-      on : (o : Option Neighbor) → was_requested key o ≡ false
-          → was_requested key (step_on (flood_to moment None lsa number link) o) ≡ false
+      on : (o : Option Neighbor) → is_on_request_list key o ≡ false
+          → is_on_request_list key (step_on (flood_to moment None lsa number link) o) ≡ false
       on None e = refl
       on (Some n) e = still_none (is_exchange_or_later n.state)
           (exceeds_request moment lsa (request_of n lsa))

@@ -10,7 +10,7 @@ use Rattle.words.specs.declared.route.External.{External}
 use Rattle.lsdb.specs.Copies.{Database, DatabaseCopy}
 use Rattle.lsdb.specs.Headers.{lsa_key}
 use Rattle.lsdb.specs.Keys.{same_key}
-use Rattle.adjacency.specs.Asked.{was_requested}
+use Rattle.adjacency.specs.Asked.{is_on_request_list}
 use Rattle.adjacency.specs.Contents.{Content}
 use Rattle.adjacency.specs.Neighbors.{Neighbor}
 use Rattle.received.specs.Links.{Link}
@@ -67,7 +67,7 @@ sends_without key sends = filter (λ s. not (updates key s.content)) sends
 
 -- the key is on some neighbor's request list
 abbrev pub is_requested : Key → List Link → Bool
-is_requested key links = list_any (λ link. was_requested key link.neighbor) links
+is_requested key links = list_any (λ link. is_on_request_list key link.neighbor) links
 
 -- the copy has the key of its LSA, as all do in any run
 abbrev pub IsUnderItsKey : Key → Database → Type 0

@@ -5,9 +5,10 @@ use Rattle.words.specs.Constants.{max_age, max_sequence_number}
 use Rattle.words.specs.Numbers.{Moment, Seconds}
 use Rattle.lsa.specs.declared.body.LsaBody.{LsaBody}
 use Rattle.adjacency.specs.lsdb.Copies.{DatabaseCopy}
-use Rattle.adjacency.specs.lsdb.Headers.{Lsa}
+use Rattle.adjacency.specs.lsdb.Headers.{Lsa, lsa_key}
 use Rattle.adjacency.specs.Neighbors.{Neighbor}
-use Rattle.received.specs.Cases.{Case, case_of_readable, is_on_senders_list, was_requested}
+use Rattle.received.specs.Cases.{Case, case_of_readable}
+use Rattle.adjacency.specs.Asked.{is_on_request_list, has_retransmission_of}
 
 -- an AS-external-LSA of 9.9.9.9 for 203.0.113.0
 abbrev pub external_lsa : LsaBody → ℤ → Seconds → Lsa
@@ -43,8 +44,8 @@ arrival contents = external_lsa contents (pos 5) 10
 -- retransmission list
 pub record IsSender (contents : LsaBody) (from : Option Neighbor) (asked listed : Bool) : Type
     0 where
-  pub is_asked : was_requested from (arrival contents) ≡ asked
-  pub is_listed : is_on_senders_list 100 from (arrival contents) ≡ listed
+  pub is_asked : is_on_request_list (lsa_key (arrival contents)) from ≡ asked
+  pub is_listed : has_retransmission_of 100 (arrival contents).header from ≡ listed
 
 -- the case of the LSA received at moment 100 from a sender, by whether any neighbor is in Exchange
 -- or Loading

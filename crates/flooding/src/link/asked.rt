@@ -1,8 +1,8 @@
 //! What is asked of the neighbor on a link, which may be Down.
 ghost use Rattle.std.specs.Prelude.{◌≡◌};
-ghost use Rattle.adjacency.specs.Asked.{neighbor_is_exchange_or_loading, has_instance};
+ghost use Rattle.adjacency.specs.Asked.{neighbor_is_exchange_or_loading, has_retransmission_of};
 ghost use Rattle.adjacency.specs.Asked.{has_retransmission};
-ghost use Rattle.adjacency.specs.Asked.{was_requested};
+ghost use Rattle.adjacency.specs.Asked.{is_on_request_list};
 ghost use Rattle.adjacency.specs.Steps.{named_neighbor};
 ghost use Rattle.flooding.specs.Owed.{owed_on};
 
@@ -35,8 +35,8 @@ impl Link {
     }
 
     /// Whether the key is on the neighbor's request list.
-    pub fn was_requested(&self, key: &Key) -> bool
-        ensures { result ≡ was_requested key.now self.now.present.neighbor }
+    pub fn is_on_request_list(&self, key: &Key) -> bool
+        ensures { result ≡ is_on_request_list key.now self.now.present.neighbor }
     {
         match &self.slot.neighbor {
             None => false,
@@ -56,8 +56,8 @@ impl Link {
 
     /// Whether exactly this instance is on the neighbor's retransmission list (RFC 2328, section
     /// 13, step 7a).
-    pub fn has_instance(&self, moment: Second, header: &Header) -> bool
-        ensures { result ≡ has_instance moment header.now self.now.present.neighbor }
+    pub fn has_retransmission_of(&self, moment: Second, header: &Header) -> bool
+        ensures { result ≡ has_retransmission_of moment header.now self.now.present.neighbor }
     {
         let Some(neighbor) = &self.slot.neighbor else {
             return false;

@@ -1,9 +1,9 @@
 use Rattle.std.proofs.Common.{◌≡◌, rules, sym, ap, ◌∙◌}
 use Rattle.std.specs.Prelude.{Some}
 use Rattle.std.specs.FinMap as finite
-use Rattle.adjacency.specs.Asked.{has_instance}
+use Rattle.adjacency.specs.Asked.{has_retransmission_of}
 use Rattle.adjacency.specs.Retransmissions.{is_entry}
-use Rattle.flooding.proofs.link.Link.has_instance.Goals as goal
+use Rattle.flooding.proofs.link.Link.has_retransmission_of.Goals as goal
 
 pub returns : goal.returns
 returns c =
@@ -13,4 +13,4 @@ returns c =
     c.is_entry.ensures
     ∙ ap (is_entry moment h) (c.get-listed.ensures
     ∙ (λ i. finite.get (c.retransmissions.ensures i) (c.key.ensures i)))
-    ∙ ap (has_instance moment h) (sym some)
+    ∙ ap (has_retransmission_of moment h) (sym some)
