@@ -22,7 +22,7 @@ use Rattle.event_rules.specs.EventState.{EventState}
 use Rattle.conversations.specs.WorkedUpdates.{IsAtRest}
 use Rattle.event_rules.specs.Events.{Happens}
 use Rattle.event_rules.specs.declared.model.Out.{Out}
-use Rattle.event_rules.specs.Refusals.{first_refusal}
+use Rattle.event_rules.specs.Refusals.{refusal_before_limits}
 use Rattle.event_rules.specs.Routers.{Occurrence, Router}
 
 -- the network of 10.0.0.0 with the given length, and it as an external destination with metric 20
@@ -41,7 +41,7 @@ pub record WorkedEvents : Type 0 where
   -- changes nothing
   pub clashes : (old : Router) (moment tag price : ℕ) → is_clock_back moment old ≡ false
       → finite.get old.announced (external_key old.id (ten 16)) ≡ Some (destination (ten 8))
-      → first_refusal old moment
+      → refusal_before_limits old moment
       (Occurrence.Redistribute (destination (ten 16)) tag (destination (ten 16)) price) ≡
       Some error.Clash
   pub unknown : (moment : ℕ) (prefix : Network) (p : EventState)

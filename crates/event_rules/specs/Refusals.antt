@@ -56,8 +56,8 @@ of_event old (Occurrence.Install answers) = None
 of_event old (Occurrence.LinkDown interface) = no_interface interface old None
 
 -- the first reason that applies, apart from the limits
-abbrev pub first_refusal : Router → Moment → Occurrence → Option CoreError
-first_refusal old moment event =
+abbrev pub refusal_before_limits : Router → Moment → Occurrence → Option CoreError
+refusal_before_limits old moment event =
     if is_clock_back moment old then Some error.ClockBack else of_event old event
 
 -- ---- limits
@@ -68,7 +68,7 @@ exceeds r = database_exceeds r.id r.area.database
 
 -- nothing else is wrong with the event, and its result would exceed a limit
 pub record WouldExceed (old : Router) (moment : ℕ) (event : Occurrence) : Type 0 where
-  pub lawful : first_refusal old moment event ≡ None
+  pub lawful : refusal_before_limits old moment event ≡ None
   pub outs : List Out
   pub new : Router
   pub happens : Happens old moment event outs new
@@ -85,14 +85,14 @@ MayLackMemory refusal = (refusal ≡ Some error.ClockBack → ⊥)
 -- the clock nor the interface is the reason.
 abbrev pub RefusesByRules : {X : Type 0} → Router → ℕ → Occurrence → Result X CoreError → Type 0
 RefusesByRules old moment event (Ok x) =
-    (first_refusal old moment event ≡ None) × (WouldExceed old moment event → ⊥)
+    (refusal_before_limits old moment event ≡ None) × (WouldExceed old moment event → ⊥)
 RefusesByRules old moment event (Err error.Full) = WouldExceed old moment event
-RefusesByRules old moment event (Err error.Memory) = MayLackMemory (first_refusal old moment event)
+RefusesByRules old moment event (Err error.Memory) = MayLackMemory (refusal_before_limits old moment event)
 RefusesByRules old moment event (Err (error.BadPacket f)) =
-    first_refusal old moment event ≡ Some (error.BadPacket f)
+    refusal_before_limits old moment event ≡ Some (error.BadPacket f)
 RefusesByRules old moment event (Err error.NoInterface) =
-    first_refusal old moment event ≡ Some error.NoInterface
+    refusal_before_limits old moment event ≡ Some error.NoInterface
 RefusesByRules old moment event (Err error.Clash) =
-    first_refusal old moment event ≡ Some error.Clash
+    refusal_before_limits old moment event ≡ Some error.Clash
 RefusesByRules old moment event (Err error.ClockBack) =
-    first_refusal old moment event ≡ Some error.ClockBack
+    refusal_before_limits old moment event ≡ Some error.ClockBack

@@ -44,7 +44,7 @@ use Rattle.event_rules.specs.Packets.{after_parsed, neighbor_is_exchange_or_late
 use Rattle.event_rules.specs.Packets.{from_neighbor}
 use Rattle.event_rules.specs.Packets.{is_heard}
 use Rattle.event_rules.specs.Packets.{receive_request}
-use Rattle.event_rules.specs.Refusals.{first_refusal, of_event}
+use Rattle.event_rules.specs.Refusals.{refusal_before_limits, of_event}
 use Rattle.event_rules.specs.Routers.{Occurrence, Router}
 use Rattle.event_rules.specs.Ticks.{after_tick, expire_timers}
 use Rattle.flood.specs.Occurrences.{brings_answers}
@@ -218,6 +218,6 @@ clock_goes_on true b late is = absurd cc
 clock_goes_on false b late is = refl
 
 pub clock_is_on : (old : Router) (moment : ℕ) (event : Occurrence)
-    → first_refusal old moment event ≡ None → old.moment ≤ moment
+    → refusal_before_limits old moment event ≡ None → old.moment ≤ moment
 clock_is_on old moment event is =
     ltb-false moment old.moment (clock_goes_on (nat_lt moment old.moment) _ (of_event old event) is)

@@ -7,7 +7,7 @@ use Rattle.packet.specs.Reading.{fault_of}
 use Rattle.event_rules.specs.declared.model.CoreError.{CoreError}
 use Rattle.event_rules.specs.declared.model.CoreError.TheVariants as error
 use Rattle.event_rules.specs.Refusals.{MayLackMemory, RefusesByRules, bad_packet, clashes}
-use Rattle.event_rules.specs.Refusals.{first_refusal}
+use Rattle.event_rules.specs.Refusals.{refusal_before_limits}
 use Rattle.event_rules.specs.Refusals.{is_clock_back, is_interface}
 use Rattle.event_rules.specs.Routers.{Occurrence, Router}
 use Rattle.flood.specs.Early.{early_refusal, early_refusal_of}
@@ -28,7 +28,7 @@ there_late true late e = refl
 there_late false late e = absurd cc
 
 pub first_is_late : (old : Router) (moment : ℕ) (o : Occurrence) → early_refusal old moment o ≡ None
-    → first_refusal old moment o ≡ late_refusal old o
+    → refusal_before_limits old moment o ≡ late_refusal old o
 first_is_late old moment (Occurrence.Packet number bytes) =
     clock_late (is_clock_back moment old) _ _ _
     (there_late (is_interface number old) (bad_packet (fault_of bytes)))
@@ -78,7 +78,7 @@ none_is_fine : MayLackMemory None
 none_is_fine = (λ p. absurd cc, λ p. absurd cc)
 
 pub may_lack_memory : (old : Router) (moment : ℕ) (o : Occurrence)
-    → early_refusal old moment o ≡ None → MayLackMemory (first_refusal old moment o)
+    → early_refusal old moment o ≡ None → MayLackMemory (refusal_before_limits old moment o)
 may_lack_memory old moment (Occurrence.Packet number bytes) =
     clock_may (is_clock_back moment old) _ _
     (there_may (is_interface number old) (bad_packet (fault_of bytes))
@@ -109,7 +109,7 @@ there_first true late x e = absurd cc
 there_first false late x e = e
 
 stands_first : (old : Router) (moment : ℕ) (o : Occurrence) (x : CoreError)
-    → early_refusal old moment o ≡ Some x → first_refusal old moment o ≡ Some x
+    → early_refusal old moment o ≡ Some x → refusal_before_limits old moment o ≡ Some x
 stands_first old moment (Occurrence.Packet number bytes) x =
     clock_first (is_clock_back moment old) _ _ x
     (there_first (is_interface number old) (bad_packet (fault_of bytes)) x)

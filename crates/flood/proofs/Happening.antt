@@ -14,7 +14,7 @@ use Rattle.flood_laws.proofs.Acknowledged.{routers_stay_in_order}
 use Rattle.event_rules.specs.Endings.{start_event}
 use Rattle.event_rules.specs.Events.{Happens}
 use Rattle.event_rules.specs.Packing.{outs_of}
-use Rattle.event_rules.specs.Refusals.{WouldExceed, exceeds, first_refusal}
+use Rattle.event_rules.specs.Refusals.{WouldExceed, exceeds, refusal_before_limits}
 use Rattle.event_rules.specs.Routers.{Occurrence, Router}
 use Rattle.event_rules.proofs.Outcomes.{determined}
 use Rattle.flood.specs.declared.part.Part.{Part}
@@ -72,7 +72,7 @@ module _ (old : Router) (moment : ℕ) (event : Occurrence) (p : Part) (is : IsP
   unfolding makes made_happens
   made_has_room roomy = every_packet_has_room.sends old moment event _ _ makes roomy
 
-  pub made_exceeds : first_refusal old moment event ≡ None
+  pub made_exceeds : refusal_before_limits old moment event ≡ None
       → exceeds (made_state old moment p).router ≡ true → WouldExceed old moment event
   made_exceeds lawful too_much = record {
     lawful = lawful;

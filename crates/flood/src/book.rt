@@ -179,7 +179,7 @@ impl<L: Origin> Book<L> {
         if self.is_full() {
             return Err(BookError::Journal);
         }
-        let early = self.now().refuses(moment, &event);
+        let early = self.now().early_refusal(moment, &event);
         if let Some(error) = early {
             return Err(BookError::Core(error));
         }
@@ -347,7 +347,7 @@ impl<L: Origin> Book<L> {
             return Err(BookError::Journal);
         }
         // `ClockBack` and `NoInterface` come before any mark.
-        if let Some(error) = self.now().refuses(moment, &event) {
+        if let Some(error) = self.now().early_refusal(moment, &event) {
             return Err(BookError::Core(error));
         }
         self.make_room();

@@ -38,7 +38,7 @@ fn refuses_interface(router: &Router, interface: u16) -> Option<CoreError>
 
 /// The refusal of an event that is determined before anything is allocated: for its moment, or for
 /// its interface.
-pub fn refuses(router: &Router, moment: Second, event: &Event) -> Option<CoreError>
+pub fn early_refusal(router: &Router, moment: Second, event: &Event) -> Option<CoreError>
     ensures { result ≡ early_refusal router.now.present moment (occurrence_of event.now) }
 {
     if moment.count() < router.moment().count() || !moment.is_in_range() {
@@ -91,7 +91,7 @@ pub fn process_event(
         routes.old routes.new) }
     ensures err { OnErr result (routes.new ≡ routes.old) }
 {
-    if let Some(error) = refuses(router, moment, event) {
+    if let Some(error) = early_refusal(router, moment, event) {
         return Err(error);
     }
     let part = read_part(router, alloc, event)?;

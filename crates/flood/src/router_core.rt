@@ -13,7 +13,7 @@ ghost use Rattle.flood.specs.Occurrences.{occurrence_of};
 ghost use Rattle.flood.specs.Owed.{owed_at};
 
 use crate::event::Event;
-use crate::processing::{process_event, refuses};
+use crate::processing::{process_event, early_refusal};
 use crate::profile::in_profile;
 use crate::start::begin;
 use adjacency::NeighborState;
@@ -153,10 +153,10 @@ impl Core {
 
     /// The refusal of an event that is determined before anything is allocated: `ClockBack` for its
     /// moment, or `NoInterface` for its interface. Only `step` can determine the others.
-    pub fn refuses(&self, moment: Second, event: &Event) -> Option<CoreError>
+    pub fn early_refusal(&self, moment: Second, event: &Event) -> Option<CoreError>
         ensures { result ≡ early_refusal self.now moment (occurrence_of event.now) }
     {
-        refuses(&self.router, moment, event)
+        early_refusal(&self.router, moment, event)
     }
 
     /// A copy of the router, with a walk of its own.

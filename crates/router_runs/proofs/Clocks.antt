@@ -15,7 +15,7 @@ use Rattle.event_rules.specs.Events.{Happens, Run, Step, initial}
 use Rattle.event_rules.specs.Originations.{flush, has_max_sequence, has_room, may_originate}
 use Rattle.event_rules.specs.Originations.{originate}
 use Rattle.event_rules.specs.Originations.{originate_body, postpone, router_key, wanted_body}
-use Rattle.event_rules.specs.Refusals.{first_refusal, is_clock_back, of_event}
+use Rattle.event_rules.specs.Refusals.{refusal_before_limits, is_clock_back, of_event}
 use Rattle.event_rules.specs.Routers.{Occurrence, Router, unannounced_router}
 use Rattle.router_runs.specs.Clocks.{ClockRunsOn, RoutersRefuseClocksThatGoBack, RunOfTaken}
 
@@ -54,7 +54,7 @@ taken_clock true late is = absurd cc
 taken_clock false late is = refl
 
 pub taken_moment : (old : Router) (moment : ℕ) (event : Occurrence)
-    → first_refusal old moment event ≡ None → is_clock_back moment old ≡ false
+    → refusal_before_limits old moment event ≡ None → is_clock_back moment old ≡ false
 taken_moment old moment event is =
     taken_clock (is_clock_back moment old) (of_event old event) is
 

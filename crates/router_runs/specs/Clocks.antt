@@ -4,7 +4,7 @@ use Rattle.words.specs.Numbers.{Moment}
 use Rattle.event_rules.specs.declared.model.Config.{Config}
 use Rattle.event_rules.specs.declared.model.Out.{Out}
 use Rattle.event_rules.specs.Events.{Happens, Run, Step, initial}
-use Rattle.event_rules.specs.Refusals.{first_refusal, is_clock_back}
+use Rattle.event_rules.specs.Refusals.{refusal_before_limits, is_clock_back}
 use Rattle.event_rules.specs.Routers.{Occurrence, Router}
 
 -- no event is earlier than the one before it, and the first is no earlier than this moment
@@ -28,7 +28,7 @@ pub record RoutersRefuseClocksThatGoBack : Type 0 where
   -- an event for which there is no reason to refuse it isn't refused for its moment, and so is no
   -- earlier than the one before
   pub taken : (old : Router) (moment : Moment) (event : Occurrence)
-      → first_refusal old moment event ≡ None → is_clock_back moment old ≡ false
+      → refusal_before_limits old moment event ≡ None → is_clock_back moment old ≡ false
   pub event : (old : Router) (moment : Moment) → is_clock_back moment old ≡ false
       → old.moment ≤ moment
   -- so in every run, and in one with one more event

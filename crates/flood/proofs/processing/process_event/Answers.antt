@@ -83,7 +83,7 @@ pack_and_update_routes-requires-clause-order c =
     let at = made_router old c.end_event.new.router new c.in_ok-drafts.drafts.items c.args.moment
     c.in_ok-part.part whole c.requires.drafted is c.in_ok-drafts.ensures.drafts in
     let none : early_refusal old.present c.args.moment event ≡ None =
-    sym c.refuses.ensures ∙ c.in_default.is in
+    sym c.early_refusal.ensures ∙ c.in_default.is in
     let first : c.moment-before.result ≡ old.present.moment = c.moment-before.ensures in
     let low : old.present.moment ≤ c.args.moment =
     clock_is_on old.present c.args.moment event
@@ -242,7 +242,7 @@ returns-clause-refused c =
     let at = made_router old c.end_event.new.router new c.in_ok-drafts.drafts.items c.args.moment
     c.in_ok-part.part whole c.requires.drafted is c.in_ok-drafts.ensures.drafts in
     let none : early_refusal old.present c.args.moment event ≡ None =
-    sym c.refuses.ensures ∙ c.in_default.is in
+    sym c.early_refusal.ensures ∙ c.in_default.is in
     event_answers _ old.present c.args.moment event none c.in_ok-part.part c.in_ok-part.ensures.part
     c.in_ok-part.ensures.tells c.pack_and_update_routes.result
     (subst (λ (r : Router). RefusesAtLimit r c.pack_and_update_routes.result) at
@@ -282,4 +282,4 @@ returns-clause-err c = c.pack_and_update_routes.ensures.err
 pub read_part-requires : goal.read_part-requires
 read_part-requires c =
     none_of_event c.args.router.now.present c.args.moment (occurrence_of c.args.event.now)
-    (sym c.refuses.ensures ∙ c.in_default.is)
+    (sym c.early_refusal.ensures ∙ c.in_default.is)

@@ -17,7 +17,7 @@ returns-in-Some-clause-refused g c =
           (c.is_full.ensures.few c.if-is_full.false),
       early_answers (Unit {0}) book.current c.args.moment event c.in-Some.error
           (ap (λ (r : Router). early_refusal r c.args.moment event) (sym c.now.ensures.router)
-          ∙ sym c.refuses-early.ensures ∙ c.in-Some.is),
+          ∙ sym c.early_refusal-early.ensures ∙ c.in-Some.is),
     )
 
 pub attempt-requires-clause-room : goal.attempt-requires-clause-room
@@ -30,4 +30,4 @@ pub attempt-requires-clause-early : goal.attempt-requires-clause-early
 attempt-requires-clause-early g c =
     ap (λ (r : Router). early_refusal r c.args.moment (occurrence_of c.args.event))
     (sym c.now.ensures.router)
-    ∙ sym c.refuses-early.ensures ∙ c.in_default.is
+    ∙ sym c.early_refusal-early.ensures ∙ c.in_default.is

@@ -21,7 +21,7 @@ returns-in-Some-clause-refused g c =
     let event = occurrence_of c.args.event in
     let early : early_refusal c.args.self.now.current c.args.moment event ≡ Some c.in-Some.error =
     ap (λ (r : Router). early_refusal r c.args.moment event) (sym c.now.ensures.router)
-    ∙ sym c.refuses.ensures ∙ c.in-Some.is in (
+    ∙ sym c.early_refusal.ensures ∙ c.in-Some.is in (
       (λ spent. omega (arith, spent, c.taken.ensures.taken)),
       early_answers (Unit {0}) c.args.self.now.current c.args.moment event c.in-Some.error early,
     )
@@ -31,7 +31,7 @@ returns-in-Some-clause-short g c is =
     let event = occurrence_of c.args.event in
     let early : early_refusal c.args.self.now.current c.args.moment event ≡ Some c.in-Some.error =
     ap (λ (r : Router). early_refusal r c.args.moment event) (sym c.now.ensures.router)
-    ∙ sym c.refuses.ensures ∙ c.in-Some.is in
+    ∙ sym c.early_refusal.ensures ∙ c.in-Some.is in
     let short : c.in-Some.error ≡ error.Memory = cc in
     absurd (never_short c.args.self.now.current c.args.moment event
     (early ∙ ap (λ (e : CoreError). Some e) short))
@@ -41,7 +41,7 @@ returns-in-Some-clause-err g c =
     let event = occurrence_of c.args.event in
     let early : early_refusal c.args.self.now.current c.args.moment event ≡ Some c.in-Some.error =
     ap (λ (r : Router). early_refusal r c.args.moment event) (sym c.now.ensures.router)
-    ∙ sym c.refuses.ensures ∙ c.in-Some.is in
+    ∙ sym c.early_refusal.ensures ∙ c.in-Some.is in
     (inl (inr (λ none. let no : Some c.in-Some.error ≡ None = sym early ∙ none in absurd cc)), refl)
 
 -- ---- the first try
@@ -54,7 +54,7 @@ pub attempt-requires-clause-early : goal.attempt-requires-clause-early
 attempt-requires-clause-early g c =
     ap (λ (r : Router). early_refusal r c.args.moment (occurrence_of c.args.event))
     (c.make_room.ensures.current ∙ sym c.now.ensures.router)
-    ∙ sym c.refuses.ensures ∙ c.in_default.is
+    ∙ sym c.early_refusal.ensures ∙ c.in_default.is
 
 pub returns-in-Ok-clause-ok : goal.returns-in-Ok-clause-ok
 returns-in-Ok-clause-ok g c =
@@ -94,7 +94,7 @@ returns-in-Ok-clause-early g c refused =
     λ spent. omega (arith, spent, c.taken.ensures.taken) in
     absurd (not_early c.args.self.now c.args.moment c.args.event more
     (ap (λ (r : Router). early_refusal r c.args.moment event) (sym c.now.ensures.router)
-    ∙ sym c.refuses.ensures ∙ c.in_default.is) refused)
+    ∙ sym c.early_refusal.ensures ∙ c.in_default.is) refused)
 
 -- ---- a refusal that isn't for want of memory
 
@@ -114,7 +114,7 @@ returns-then-not-is_short-clause-early g c refused =
     λ spent. omega (arith, spent, c.taken.ensures.taken) in
     absurd (not_early c.args.self.now c.args.moment c.args.event more
     (ap (λ (r : Router). early_refusal r c.args.moment event) (sym c.now.ensures.router)
-    ∙ sym c.refuses.ensures ∙ c.in_default.is) refused)
+    ∙ sym c.early_refusal.ensures ∙ c.in_default.is) refused)
 
 pub returns-then-not-is_short-clause-short : goal.returns-then-not-is_short-clause-short
 returns-then-not-is_short-clause-short g c is =
@@ -150,7 +150,7 @@ attempt-requires-2-clause-early g c =
     ∙ c.make_room.ensures.current ∙ sym c.now.ensures.router)
     ∙ ap (λ (e : Event). early_refusal c.now.result.now c.args.moment (occurrence_of e))
     c.in-Err.ensures.back
-    ∙ sym c.refuses.ensures ∙ c.in_default.is
+    ∙ sym c.early_refusal.ensures ∙ c.in_default.is
 
 pub returns-in-Ok-attempt-clause-ok : goal.returns-in-Ok-attempt-clause-ok
 returns-in-Ok-attempt-clause-ok g c =
@@ -211,7 +211,7 @@ returns-in-Ok-attempt-clause-early g c refused =
     λ spent. omega (arith, spent, c.taken.ensures.taken) in
     absurd (not_early c.args.self.now c.args.moment c.args.event more
     (ap (λ (r : Router). early_refusal r c.args.moment event) (sym c.now.ensures.router)
-    ∙ sym c.refuses.ensures ∙ c.in_default.is) refused)
+    ∙ sym c.early_refusal.ensures ∙ c.in_default.is) refused)
 
 pub returns-in-Err-attempt-clause-refused : goal.returns-in-Err-attempt-clause-refused
 returns-in-Err-attempt-clause-refused g c =
@@ -237,7 +237,7 @@ returns-in-Err-attempt-clause-early g c refused =
     λ spent. omega (arith, spent, c.taken.ensures.taken) in
     absurd (not_early c.args.self.now c.args.moment c.args.event more
     (ap (λ (r : Router). early_refusal r c.args.moment event) (sym c.now.ensures.router)
-    ∙ sym c.refuses.ensures ∙ c.in_default.is) refused)
+    ∙ sym c.early_refusal.ensures ∙ c.in_default.is) refused)
 
 pub returns-in-Err-attempt-clause-short : goal.returns-in-Err-attempt-clause-short
 returns-in-Err-attempt-clause-short g c is =
