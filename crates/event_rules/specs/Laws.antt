@@ -20,8 +20,8 @@ EventsAreDetermined =
 
 -- the answers of the programs, vetoes included, change neither the database nor a link, and send
 -- nothing
-abbrev pub AnswersLeaveTheArea : Type 0
-AnswersLeaveTheArea = (answers : List (Route × ℕ)) (before : EventState)
+abbrev pub VetoesLeaveTheArea : Type 0
+VetoesLeaveTheArea = (answers : List (Route × ℕ)) (before : EventState)
     → ((after_install answers before).router.area ≡ before.router.area)
     × ((after_install answers before).sends ≡ before.sends)
 

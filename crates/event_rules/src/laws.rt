@@ -1,7 +1,7 @@
 //! Laws about events, each the contract of a function with an empty body: about their outcomes, the
 //! order and packing of what is sent, and the sizes of packets. `proofs/Walk` is the induction over
 //! all parts of an event by which a law proves an invariant.
-ghost use Rattle.event_rules.specs.Laws.{AnswersLeaveTheArea, EventsAreDetermined};
+ghost use Rattle.event_rules.specs.Laws.{VetoesLeaveTheArea, EventsAreDetermined};
 ghost use Rattle.event_rules.specs.Laws.{WhatIsNoLsaIsSkipped};
 ghost use Rattle.event_rules.specs.PackingLaws.{OutsAreOrderedAndPacked};
 ghost use Rattle.event_rules.specs.RoomLaws.{EveryPacketHasRoom};
@@ -14,7 +14,7 @@ pub fn events_are_determined()
 /// The answers of the programs, vetoes included, change neither the database nor a link by
 /// themselves, and send nothing.
 pub fn answers_leave_the_area()
-    ensures { AnswersLeaveTheArea }
+    ensures { VetoesLeaveTheArea }
 {}
 
 /// Bytes of a Link State Update that encode no LSA are skipped, and the LSAs after them are
