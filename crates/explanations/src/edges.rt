@@ -169,7 +169,7 @@ impl Ways<'_> {
                         let _is_wrong = self.push_narrowed(
                             out,
                             &operands,
-                            edges.passed,
+                            edges.not_taken,
                             next,
                             state,
                         );

@@ -165,7 +165,7 @@ impl<'a> Passes<'a> {
             narrow(&mut self.here, branch, edges.taken);
             self.enter(branch.to, branch.to <= slot);
             self.here.is_idle = was_idle;
-            narrow(&mut self.here, branch, edges.passed);
+            narrow(&mut self.here, branch, edges.not_taken);
         } else {
             // The verifier refuses the test: both edges get what is known before it.
             self.enter(branch.to, branch.to <= slot);

@@ -156,7 +156,7 @@ module _ {D : Type 0} (contains : D → ℕ → Type 0) (code : List Slot) (hook
       } → EntersNext contains segment_starts segment slot start next)
       → ((start now next : Machine) → SegmentStartHolds contains segment start
       → HoldsBesides contains left right state start now
-      → IsSomeAnd edges.passed (λ values. PairHolds contains values (held now left)
+      → IsSomeAnd edges.not_taken (λ values. PairHolds contains values (held now left)
       (operand now right)) → next ≡ record now {
         slot = slot + 1;
       } → EntersNext contains segment_starts segment slot start next
@@ -189,7 +189,7 @@ module _ {D : Type 0} (contains : D → ℕ → Type 0) (code : List Slot) (hook
             (λ taken there. enters start now next is_known.begins known
             (is_tested.taken start now is_known.holds (does.gives ∙ ap (λ b. Some b) taken)) there)
             (λ passed there. passes start now next is_known.begins known
-            (is_tested.passed start now is_known.holds (does.gives ∙ ap (λ b. Some b) passed))
+            (is_tested.not_taken start now is_known.holds (does.gives ∙ ap (λ b. Some b) passed))
             there);
       }
 

@@ -144,13 +144,13 @@ fn stay<'a, D: Domain>(
     segment: &SegmentStart<'a, D>,
     state: AbstractState<D>,
     operands: &Operands,
-    passed: Option<(D, D)>,
+    not_taken: Option<(D, D)>,
     next_slot: usize,
 ) -> Result<Known<D>, Rule>
     ensures passes { IfOk result (λ after. (start now next : Machine) (slot : ℕ)
         → SegmentStartHolds D.contains segment.now start
         → HoldsBesides D.contains operands.now.left operands.now.right state start now
-        → IsSomeAnd passed (λ values. PairHolds D.contains values (held now operands.now.left)
+        → IsSomeAnd not_taken (λ values. PairHolds D.contains values (held now operands.now.left)
         (operand now operands.now.right))
         → slot < next_slot → next ≡ record now { slot = next_slot }
         → PassesTo D.contains segment_starts.now segment.now slot next_slot after start next) }
@@ -160,7 +160,7 @@ fn stay<'a, D: Domain>(
         → IsOk result }
     ensures keeps { IfOk result (λ after. KeepsNumbers state after.state) }
 {
-    let Some(values) = passed else {
+    let Some(values) = not_taken else {
         return Ok(Known {
             state,
             is_live: false,
@@ -217,7 +217,7 @@ fn branch<'a, D: Domain>(
         segment,
         left,
         operands,
-        edges.passed,
+        edges.not_taken,
         slot + 1,
     )?;
     Ok(after)
