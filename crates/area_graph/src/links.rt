@@ -126,7 +126,7 @@ fn add_router(
     ensures fits { OnOk result (All CostFits links.old.items → All CostFits links.new.items) }
 {
     let far = RouterId::new(advertised.link_id);
-    match neighbor_at(area, far, EntryKind::PointToPoint, router.number()) {
+    match index_if_linking_back(area, far, EntryKind::PointToPoint, router.number()) {
         None => Ok(()),
         Some(to) => add_exits(
             root,
@@ -140,7 +140,7 @@ fn add_router(
 }
 
 // The index of a router, if its LSA has a link of this kind to this ID.
-fn neighbor_at(area: &AreaTopology<'_>, router: RouterId, kind: EntryKind, id: u32) -> Option<usize>
+fn index_if_linking_back(area: &AreaTopology<'_>, router: RouterId, kind: EntryKind, id: u32) -> Option<usize>
     requires ordered { AreOrdered area.now.nodes.now area.now.entries.now }
     requires of_link { rank kind < 2 }
     ensures { IsNeighborAt area.now.nodes.now area.now.entries.now router kind id result }
@@ -343,7 +343,7 @@ fn add_listed(
     ensures fits { OnOk result (All CostFits links.old.items → All CostFits links.new.items) }
 {
     for router in lsa.attached.as_slice() {
-        if let Some(to) = neighbor_at(area, *router, EntryKind::Transit, id.number()) {
+        if let Some(to) = index_if_linking_back(area, *router, EntryKind::Transit, id.number()) {
             links.push(VertexLink {
                 to,
                 cost: 0,

@@ -21,7 +21,7 @@ use std::alloc::{AllocError, Global};
 use words::{LinkStateId, RouterId};
 
 // The index of a router, if its LSA has a link of this kind to this Link ID.
-fn neighbor_at(at: &Surroundings<'_>, far: RouterId, kind: LinkKind, id: u32) -> Option<usize>
+fn index_if_linking_back(at: &Surroundings<'_>, far: RouterId, kind: LinkKind, id: u32) -> Option<usize>
     requires { AreNodes (contents_at at.now.moment at.now.db.now.present) at.now.nodes.now }
     ensures { IsNeighbor (contents_at at.now.moment at.now.db.now.present) at.now.nodes.now far
         kind id
@@ -57,7 +57,7 @@ fn add_neighbor(
     ensures fits { OnOk result (All CostFits links.old.items → All CostFits links.new.items) }
 {
     let far = RouterId::new(advertised.link_id);
-    match neighbor_at(at, far, LinkKind::PointToPoint, router.number()) {
+    match index_if_linking_back(at, far, LinkKind::PointToPoint, router.number()) {
         None => Ok(()),
         Some(to) => add_exits(
             root,
@@ -256,7 +256,7 @@ fn add_attached(
     ensures fits { OnOk result (All CostFits links.old.items → All CostFits links.new.items) }
 {
     for router in lsa.attached.as_slice() {
-        if let Some(to) = neighbor_at(at, *router, LinkKind::Transit, id.number()) {
+        if let Some(to) = index_if_linking_back(at, *router, LinkKind::Transit, id.number()) {
             links.push(VertexLink {
                 to,
                 cost: 0,

@@ -25,11 +25,11 @@ loop-router-preserved c =
     let i = c.loop-router.router-index in
     let first = c.args.links.now.items in
     let old = c.loop-router.links.items in
-    let is = λ (o : Option ℕ) (e : c.neighbor_at.result ≡ o). same_neighbor nodes entries Transit
-    router router c.number.result c.args.id c.neighbor_at.result o refl c.number.ensures e
-    c.neighbor_at.ensures in
+    let is = λ (o : Option ℕ) (e : c.index_if_linking_back.result ≡ o). same_neighbor nodes entries Transit
+    router router c.number.result c.args.id c.index_if_linking_back.result o refl c.number.ensures e
+    c.index_if_linking_back.ensures in
     record {
-      adds = elim c.match-neighbor_at.branch [
+      adds = elim c.match-index_if_linking_back.branch [
         | in-Some+in_ok-push w ↦
             rw (w.links-is, w.in_ok-push.ensures.items)
             (each_more Q items i router first old _ c.loop-router-test.true c.router-item.is
@@ -42,7 +42,7 @@ loop-router-preserved c =
             c.loop-router.invariant.adds
             (not_listed nodes entries c.args.id router old (is None w.in_default.is)))
       ];
-      fits = elim c.match-neighbor_at.branch [
+      fits = elim c.match-index_if_linking_back.branch [
         | in-Some+in_ok-push w ↦ rw (w.links-is, w.in_ok-push.ensures.items)
             (λ all. pushed_fits old (record {
               to = w.in-Some.to;

@@ -12,8 +12,8 @@ returns-in-None-clause-adds c =
     let advertised = c.args.advertised.now in
     let none : IsNeighborAt nodes entries advertised.link_id PointToPoint c.args.router None =
     same_neighbor nodes entries PointToPoint c.new-far.result advertised.link_id c.number.result
-    c.args.router c.neighbor_at.result None c.new-far.ensures c.number.ensures c.in-None.is
-    c.neighbor_at.ensures in
+    c.args.router c.index_if_linking_back.result None c.new-far.ensures c.number.ensures c.in-None.is
+    c.index_if_linking_back.ensures in
     no_neighbor c.args.root.now nodes entries c.args.router advertised c.args.links.now.items none
 
 pub returns-in-Some-clause-adds : goal.returns-in-Some-clause-adds
@@ -29,8 +29,8 @@ returns-in-Some-clause-adds c =
     let at : IsNeighborAt nodes entries advertised.link_id PointToPoint router (Some to) =
     same_neighbor nodes entries PointToPoint c.new-far.result advertised.link_id c.number.result
     router
-    c.neighbor_at.result (Some to) c.new-far.ensures c.number.ensures c.in-Some.is
-    c.neighbor_at.ensures in
+    c.index_if_linking_back.result (Some to) c.new-far.ensures c.number.ensures c.in-Some.is
+    c.index_if_linking_back.ensures in
     on_ok c.add_exits.result (Adds (IsExitTo root router to advertised.metric advertised.link_data)
     old new)
     (Adds (IsToRouter root nodes entries router advertised) old new)

@@ -31,10 +31,10 @@ loop-router-preserved c =
     let first = c.args.links.now.items in
     let old = c.loop-router.links.items in
     let N : ℕ → Option ℕ → Type 0 = λ n o. IsNeighbor contents nodes router Transit n o in
-    let is = λ (o : Option ℕ) (e : c.neighbor_at.result ≡ o). subst (N id) e
-    (subst (λ n. N n c.neighbor_at.result) c.number.ensures c.neighbor_at.ensures) in
+    let is = λ (o : Option ℕ) (e : c.index_if_linking_back.result ≡ o). subst (N id) e
+    (subst (λ n. N n c.index_if_linking_back.result) c.number.ensures c.index_if_linking_back.ensures) in
     record {
-      adds = elim c.match-neighbor_at.branch [
+      adds = elim c.match-index_if_linking_back.branch [
         | in-Some+in_ok-push w ↦
             rw (w.links-is, w.in_ok-push.ensures.items)
             (each_more Q items i router first old _ c.loop-router-test.true c.router-item.is
@@ -47,7 +47,7 @@ loop-router-preserved c =
             c.loop-router.invariant.adds
             (not_attached contents nodes id router old (is None w.in_default.is)))
       ];
-      fits = elim c.match-neighbor_at.branch [
+      fits = elim c.match-index_if_linking_back.branch [
         | in-Some+in_ok-push w ↦ rw (w.links-is, w.in_ok-push.ensures.items)
             (λ all. pushed_fits old (record {
               to = w.in-Some.to;

@@ -23,7 +23,7 @@ returns-in-Some-clause-adds c =
     let at : IsNeighbor contents nodes advertised.link_id PointToPoint router (Some to) =
     subst (λ far. F far router (Some to)) c.new-far.ensures
     (subst (λ id. F c.new-far.result id (Some to)) c.number.ensures
-    (subst (F c.new-far.result c.number.result) c.in-Some.is c.neighbor_at.ensures)) in
+    (subst (F c.new-far.result c.number.result) c.in-Some.is c.index_if_linking_back.ensures)) in
     on_ok c.add_exits.result (Adds (IsExitTo root router to advertised.metric advertised.link_data)
     old new)
     (Adds (IsToNeighbor contents root nodes router advertised) old new)

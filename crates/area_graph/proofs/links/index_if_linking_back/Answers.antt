@@ -1,7 +1,7 @@
 use Rattle.std.proofs.Common.{sym, ◌∙◌}
 use Rattle.std.proofs.lemmas.Bool.{false≢true}
 use Rattle.area_graph.proofs.Steps.{neighbor_is}
-use Rattle.area_graph.proofs.links.neighbor_at.Goals as goal
+use Rattle.area_graph.proofs.links.index_if_linking_back.Goals as goal
 
 pub returns-then-has_entry_near : goal.returns-then-has_entry_near
 returns-then-has_entry_near c =

@@ -9,7 +9,7 @@ use Rattle.routes.specs.declared.node.Node.{Node}
 use Rattle.routes.specs.declared.node.Node.TheVariants.{ARouter}
 use Rattle.area_routes.specs.GraphLinks.{IsNeighbor}
 use Rattle.area_routes.proofs.Neighbors.{back_is, its}
-use Rattle.area_routes.proofs.graph_links.neighbor_at.Goals as goal
+use Rattle.area_routes.proofs.graph_links.index_if_linking_back.Goals as goal
 
 pub returns-then-has_link_to : goal.returns-then-has_link_to
 returns-then-has_link_to c =
