@@ -14,7 +14,7 @@ use Rattle.event_rules.specs.Events.{Step, initial}
 use Rattle.event_rules.specs.Hellos.{is_foreign}
 use Rattle.event_rules.specs.Routers.{Router}
 use Rattle.event_rules.proofs.Walk.{outcome}
-use Rattle.flood_laws.specs.InOrder.{IsInOrder}
+use Rattle.flood_laws.specs.InOrder.{IsConsistent}
 use Rattle.flood_laws.proofs.Acknowledged.{routers_stay_in_order}
 use Rattle.flood_laws.proofs.Known.{router_stays}
 use Rattle.flood_laws.proofs.Lists.{of_empty}
@@ -65,7 +65,7 @@ Stored number Accepts Sends r =
     (Sends (conversation_with n)) n) (neighbor_at number r.area.links)
 
 module _ (number : ℕ) (heard : List (List ℕ)) (p q : Party) (t : TakesEvent number heard p q)
-    (order : IsInOrder p.router) (AccB SentB AccN SentN : Of) where
+    (order : IsConsistent p.router) (AccB SentB AccN SentN : Of) where
   abbrev ended : EventState
   ended = end_event p.router t.moment t.happens.after
 
@@ -283,14 +283,14 @@ stood ends side w Such now (before ∷ earlier) h k = k.0
 
 pub record IsKept (ends : Ends) (side : Side) (now : Pair) (earlier : List Pair)
     (h : IsHistory ends now earlier) : Type 0 where
-  pub order : IsInOrder (party side now).router
+  pub order : IsConsistent (party side now).router
   pub stored : Stored (interface_of side ends) (Taken ends side now earlier h)
       (Sent ends side now earlier h) (party side now).router
 
 begun : (ends : Ends) (side : Side) (now : Pair) (h : IsHistory ends now [])
     → HasBegun (party side now) → IsKept ends side now [] h
 begun ends side now h b = record {
-  order = subst IsInOrder (sym b.router) (routers_stay_in_order.first b.config);
+  order = subst IsConsistent (sym b.router) (routers_stay_in_order.first b.config);
   stored = alone (interface_of side ends) (Taken ends side now [] h) (Sent ends side now [] h)
       b.config (party side now).router b.router;
 }
@@ -333,7 +333,7 @@ module _ (ends : Ends) (side : Side) (now before : Pair) (earlier : List Pair)
   by_start : BeginsAnew (party side before) (party side now)
       → IsKept ends side now (before ∷ earlier) h
   by_start b = record {
-    order = subst IsInOrder (sym b.router) (routers_stay_in_order.first b.config);
+    order = subst IsConsistent (sym b.router) (routers_stay_in_order.first b.config);
     stored = alone number (Taken ends side now (before ∷ earlier) h)
         (Sent ends side now (before ∷ earlier) h) b.config (party side now).router b.router;
   }
@@ -342,7 +342,7 @@ module _ (ends : Ends) (side : Side) (now before : Pair) (earlier : List Pair)
   by_other : sends_of ends side before now h.0 ≡ [] → party side now ≡ party side before
       → IsKept ends side now (before ∷ earlier) h
   by_other silent same = record {
-    order = subst (λ (x : Party). IsInOrder x.router) (sym same) was.order;
+    order = subst (λ (x : Party). IsConsistent x.router) (sym same) was.order;
     stored = by_neighbor (neighbor_at number (party side now).router.area.links) refl
         (subst (λ (x : Party). Stored number (Taken ends side before earlier h.1)
         (Sent ends side before earlier h.1) x.router) (sym same) was.stored);

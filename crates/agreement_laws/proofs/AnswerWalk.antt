@@ -21,7 +21,7 @@ use Rattle.event_rules.specs.Originations.{new_instance}
 use Rattle.event_rules.specs.Packets.{requested_lsas}
 use Rattle.event_rules.specs.Routers.{Occurrence, Router}
 use Rattle.event_rules.proofs.Walk.{outcome}
-use Rattle.flood_laws.specs.InOrder.{IsInOrder}
+use Rattle.flood_laws.specs.InOrder.{IsConsistent}
 use Rattle.flood_laws.proofs.Acknowledged.{in_order, order_begun, order_brings, order_kept}
 use Rattle.flood_laws.proofs.EventWalk.{IsHeard, IsKeptToo, event_kept_too}
 use Rattle.agreement_laws.specs.Exchanged.{Conversation}
@@ -94,7 +94,7 @@ module _ (old : Router) (moment : ℕ) (event : Occurrence) (number : ℕ)
     }
 
   pub at_end : (outs : List Out) (new : Router) (happens : Happens old moment event outs new)
-      → IsInOrder old → IsAged (record { area = old.area; sends = [] })
+      → IsConsistent old → IsAged (record { area = old.area; sends = [] })
       → Stands old.id Acc Began Was number moment (outcome (end_event old moment happens.after))
   at_end outs new happens order h =
       let aged : IsAged (outcome start) =

@@ -12,7 +12,7 @@ use Rattle.event_rules.specs.Endings.{start_event}
 use Rattle.event_rules.specs.Events.{Happens}
 use Rattle.event_rules.specs.Routers.{Occurrence, Router}
 use Rattle.event_rules.proofs.Walk.{outcome}
-use Rattle.flood_laws.specs.InOrder.{IsInOrder}
+use Rattle.flood_laws.specs.InOrder.{IsConsistent}
 use Rattle.flood_laws.proofs.Acknowledged.{in_order, order_begun, order_brings, order_kept}
 use Rattle.flood_laws.proofs.EventWalk.{IsKeptToo, event_kept_too}
 use Rattle.agreement_laws.specs.CopiesClimb.{BecameOf, CopiesClimb, HasHad}
@@ -72,7 +72,7 @@ module _ (key : Key) (old : Router) (moment : ℕ) (event : Occurrence) (copy : 
         sends = [];
       }) (copy, there, itself_at_least first)
 
-  became : (outs : List Out) (new : Router) → Happens old moment event outs new → IsInOrder old
+  became : (outs : List Out) (new : Router) → Happens old moment event outs new → IsConsistent old
       → BecameOf old moment event first key new
   became outs new happens order =
       in_words follow key moment first old event new

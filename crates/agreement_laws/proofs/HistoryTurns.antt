@@ -6,7 +6,7 @@ use Rattle.event_rules.specs.Events.{OwnPart}
 use Rattle.event_rules.specs.EventState.{EventState}
 use Rattle.event_rules.specs.Packing.{outs_of}
 use Rattle.event_rules.specs.Routers.{Occurrence}
-use Rattle.flood_laws.specs.Keeping.{AreTexts, IsInstance}
+use Rattle.flood_laws.specs.Keeping.{AreTexts, IsIdentityInRange}
 use Rattle.flood_laws.specs.Known.{instances_in_sends}
 use Rattle.agreement_laws.specs.NeighborHistories.{Party, TakesEvent, text_at}
 
@@ -22,7 +22,7 @@ pub taken : (heard : List (List ℕ)) (before : Party) (moment : ℕ) (event : O
     (p x : EventState) → OwnPart moment event (start_event moment before.router) p
     → end_event before.router moment p ≡ x → before.router.moment ≤ moment
     → ((bytes : List ℕ) → event ≡ Occurrence.Packet 1 bytes → Contains heard bytes)
-    → AllByRecursion IsInstance (instances_in_sends x.sends)
+    → AllByRecursion IsIdentityInRange (instances_in_sends x.sends)
     → AreTexts before.router.id before.router.area.links x.sends
     → TakesEvent 1 heard before (next before x)
 taken heard before moment event p x own is later not_forged in_range texts = record {
@@ -40,7 +40,7 @@ taken heard before moment event p x own is later not_forged in_range texts = rec
   not_forged = not_forged;
   sent = refl;
   began = refl;
-  in_range = subst (λ (q : EventState). AllByRecursion IsInstance (instances_in_sends q.sends))
+  in_range = subst (λ (q : EventState). AllByRecursion IsIdentityInRange (instances_in_sends q.sends))
       (sym is) in_range;
   texts = subst (λ (q : EventState). AreTexts before.router.id before.router.area.links q.sends)
       (sym is) texts;

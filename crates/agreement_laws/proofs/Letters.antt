@@ -28,7 +28,7 @@ use Rattle.event_rules.specs.InstanceIdentities.{instances_in_update}
 use Rattle.event_rules.specs.Packing.{bodies, out_of, outs_at, outs_of, packet_of}
 use Rattle.event_rules.specs.Packing.{sent_lsa, IsSentText}
 use Rattle.event_rules.proofs.Rooms.{both, mapped_all, paired_all}
-use Rattle.flood_laws.specs.Keeping.{AreTexts, AreTextsAt, IsInstance}
+use Rattle.flood_laws.specs.Keeping.{AreTexts, AreTextsAt, IsIdentityInRange}
 use Rattle.flood_laws.proofs.Known.{of_member}
 use Rattle.flood_laws.proofs.Lists.{later_is, of_cons, of_empty}
 use Rattle.flood_laws.proofs.Taken.{named_first}
@@ -134,7 +134,7 @@ module _ (R : Content → Type 0) where
 -- ---- what the bytes say
 
 module _ (R : Content → Type 0) (ranged : (lsa : Lsa) → R (Content.Updates lsa)
-    → IsInstance (instance_of_lsa lsa)) where
+    → IsIdentityInRange (instance_of_lsa lsa)) where
   -- an LSA that was sent, or a header that was acknowledged
   pub data IsOfSent (b : PacketBody) (name : InstanceIdentity) : Type 0 where
     OfUpdate : (lsa : Lsa) → R (Content.Updates lsa) → instance_of_lsa lsa ≡ name → IsOfSent b name

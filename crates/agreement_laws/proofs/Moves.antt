@@ -41,7 +41,7 @@ use Rattle.event_rules.specs.Events.{Happens}
 use Rattle.event_rules.specs.Routers.{Occurrence, Router}
 use Rattle.event_rules.proofs.Walk.{outcome}
 use Rattle.flood_laws.proofs.Leaving.{each_kept_at, stepped_kept}
-use Rattle.flood_laws.specs.InOrder.{IsInOrder}
+use Rattle.flood_laws.specs.InOrder.{IsConsistent}
 use Rattle.flood_laws.proofs.Acknowledged.{in_order, order_begun, order_brings, order_kept}
 use Rattle.flood_laws.proofs.EventWalk.{IsHeard, IsKeptToo, event_kept_too}
 use Rattle.agreement_laws.specs.Exchanged.{Conversation, conversation_with}
@@ -299,7 +299,7 @@ module _ (old : Router) (moment : ℕ) (event : Occurrence) (number : ℕ) (n : 
   said new (inl told) = BecameOfExchange.Moved told.0 told.1
   said new (inr k) = in_law new (neighbor_at number new.area.links) refl k
 
-  became : (outs : List Out) (new : Router) → Happens old moment event outs new → IsInOrder old
+  became : (outs : List Out) (new : Router) → Happens old moment event outs new → IsConsistent old
       → BecameOfExchange event number n new
   became outs new happens order =
       said new

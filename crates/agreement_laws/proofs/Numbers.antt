@@ -31,7 +31,7 @@ use Rattle.event_rules.specs.Originations.{new_instance}
 use Rattle.event_rules.specs.Packets.{receive_description}
 use Rattle.event_rules.specs.Routers.{Occurrence, Router}
 use Rattle.event_rules.proofs.Walk.{OfEvent, outcome}
-use Rattle.flood_laws.specs.InOrder.{IsInOrder}
+use Rattle.flood_laws.specs.InOrder.{IsConsistent}
 use Rattle.flood_laws.proofs.Acknowledged.{in_order, order_begun, order_kept}
 use Rattle.flood_laws.proofs.Leaving.{each_kept_at, stepped_kept}
 use Rattle.agreement_laws.specs.Exchanged.{conversation_with}
@@ -180,7 +180,7 @@ module _ (own moment number : ℕ) (x : Neighbor) where
 
 -- ---- the event
 
-module _ (old : Router) (moment : ℕ) (event : Occurrence) (order : IsInOrder old) (number : ℕ)
+module _ (old : Router) (moment : ℕ) (event : Occurrence) (order : IsConsistent old) (number : ℕ)
     (n : Neighbor) (d : Description) (a : AcceptsDescription old moment event number n d)
     (is : n.state ≡ Exchange) where
   abbrev begins : EventState

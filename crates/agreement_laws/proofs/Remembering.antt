@@ -34,8 +34,8 @@ use Rattle.event_rules.specs.Originations.{router_key}
 use Rattle.event_rules.specs.Originations.{wanted_body}
 use Rattle.event_rules.specs.Routers.{Router, fresh_link, unannounced_router}
 use Rattle.event_rules.proofs.Walk.{outcome}
-use Rattle.flood_laws.specs.InOrder.{IsInOrder}
-use Rattle.flood_laws.specs.Keeping.{IsInstance}
+use Rattle.flood_laws.specs.InOrder.{IsConsistent}
+use Rattle.flood_laws.specs.Keeping.{IsIdentityInRange}
 use Rattle.flood_laws.specs.Known.{instances_in_content}
 use Rattle.flood_laws.proofs.Acknowledged.{routers_stay_in_order}
 use Rattle.flood_laws.proofs.Known.{named_sends, of_member}
@@ -101,7 +101,7 @@ run_more [] old middle new s same happens =
 run_more (t ∷ steps) old middle new s run happens =
     (run.0, run.1, run_more steps run.0 middle new s run.2 happens)
 
-pub life_order : (r : Router) → Life r → IsInOrder r
+pub life_order : (r : Router) → Life r → IsConsistent r
 life_order r life = routers_stay_in_order.run life.config life.steps r life.run
 
 -- ---- at the start there are no delayed acknowledgments
@@ -199,7 +199,7 @@ module _ (number : ℕ) (Old : InstanceIdentity → ℕ → Type 0) where
     abbrev ended : EventState
     ended = end_event p.router t.moment t.happens.after
 
-    order : IsInOrder p.router
+    order : IsConsistent p.router
     order = life_order p.router h.life
 
     said : SaysWhatIsHeld p.router t.moment t.event ended.sends q.router
@@ -300,25 +300,25 @@ module _ (number : ℕ) (Old : InstanceIdentity → ℕ → Type 0) where
         → IsOfDatabase p.router t.moment t.event q.router number (instance_of_header x)
     OfSent (Content.Requests keys) = Unit {0}
     OfSent (Content.Updates lsa) = BecameOf p.router t.moment t.event (instance_of lsa.header)
-        (lsa_key lsa) q.router × IsInstance (instance_of_lsa lsa)
+        (lsa_key lsa) q.router × IsIdentityInRange (instance_of_lsa lsa)
     OfSent (Content.Acknowledges x) = IsAcknowledged p.router t.moment t.event q.router number x
 
-    ranged : AllByRecursion (λ (s : Send). AllByRecursion IsInstance
+    ranged : AllByRecursion (λ (s : Send). AllByRecursion IsIdentityInRange
         (instances_in_content s.content)) ended.sends
-    ranged = named_sends IsInstance ended.sends t.in_range
+    ranged = named_sends IsIdentityInRange ended.sends t.in_range
 
     all_sent : AllByRecursion (λ (s : Send). s.interface ≡ number → OfSent s.content) ended.sends
     all_sent =
         each_member (λ (s : Send). s.interface ≡ number → OfSent s.content) ended.sends
         (λ s c same. of_content s.interface s.content c same
-        (of_member (λ (s : Send). AllByRecursion IsInstance (instances_in_content s.content))
+        (of_member (λ (s : Send). AllByRecursion IsIdentityInRange (instances_in_content s.content))
         ended.sends ranged s c))
       where
         of_content : (n : ℕ) (says : Content) → Contains ended.sends (record {
           interface = n;
           content = says;
         }) → n ≡ number
-            → AllByRecursion IsInstance (instances_in_content says) → OfSent says
+            → AllByRecursion IsIdentityInRange (instances_in_content says) → OfSent says
         of_content n (Content.SendsHello hello) c same is = tt
         of_content n (Content.Describes d) c same is =
             λ x among. subst (λ m. IsOfDatabase p.router t.moment t.event q.router m

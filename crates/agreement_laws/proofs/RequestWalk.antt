@@ -35,7 +35,7 @@ use Rattle.event_rules.specs.Hellos.{accepts}
 use Rattle.event_rules.specs.Packets.{receive_description, requested_lsas}
 use Rattle.event_rules.specs.Routers.{Occurrence, Router}
 use Rattle.event_rules.proofs.Walk.{OfEvent, outcome}
-use Rattle.flood_laws.specs.InOrder.{IsInOrder}
+use Rattle.flood_laws.specs.InOrder.{IsConsistent}
 use Rattle.flood_laws.specs.NewInstances.{lsas_brought}
 use Rattle.flood_laws.proofs.Acknowledged.{in_order, order_begun, order_brings, order_kept}
 use Rattle.flood_laws.proofs.EventWalk.{IsHeard, IsKeptToo, came, event_kept_too}
@@ -68,7 +68,7 @@ use Rattle.agreement_laws.proofs.Conversing.{is_over, with_nobody}
 -- ---- what becomes of a request
 
 module _ (ranks : RanksFollowTheComparison) (old : Router) (moment : ℕ) (event : Occurrence)
-    (order : IsInOrder old) (number : ℕ) (n : Neighbor)
+    (order : IsConsistent old) (number : ℕ) (n : Neighbor)
     (there : neighbor_at number old.area.links ≡ Some n)
     (key : Key) (entry : ListEntry) (asked : finite.get n.requests key ≡ Some entry) where
   abbrev first : Instance
@@ -478,7 +478,7 @@ module _ (ranks : RanksFollowTheComparison) (was : Router) (event : Occurrence) 
 -- ---- what is accepted
 
 module _ (ranks : RanksFollowTheComparison) (old : Router) (moment : ℕ) (event : Occurrence)
-    (order : IsInOrder old) (number : ℕ) (n : Neighbor) (d : Description)
+    (order : IsConsistent old) (number : ℕ) (n : Neighbor) (d : Description)
     (a : AcceptsDescription old moment event number n d) (h : Header)
     (last_one : IsLastOfItsKey d.headers h) where
   abbrev begins : EventState

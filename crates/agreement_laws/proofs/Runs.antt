@@ -35,7 +35,7 @@ use Rattle.event_rules.specs.Originations.{wanted_body}
 use Rattle.event_rules.specs.Packing.{out_of}
 use Rattle.event_rules.specs.Routers.{Router, fresh_link, unannounced_router}
 use Rattle.event_rules.proofs.Walk.{outcome}
-use Rattle.flood_laws.specs.InOrder.{IsInOrder}
+use Rattle.flood_laws.specs.InOrder.{IsConsistent}
 use Rattle.flood_laws.proofs.Acknowledged.{routers_stay_in_order}
 use Rattle.flood_laws.proofs.Leaving.{stepped_kept}
 use Rattle.router_runs.specs.Clocks.{ClockRunsOn}
@@ -204,7 +204,7 @@ module _ (key : Key) (number : ℕ) where
         m
         (λ its. tt) (λ l k. said_then (conversation_with m) l k) x h
 
-    pub after_event : old.moment ≤ s.moment → IsInOrder old → IsSettled Before old
+    pub after_event : old.moment ≤ s.moment → IsConsistent old → IsSettled Before old
         → IsSettled (Then Before old s) new
     after_event later order was =
         subst (λ (r : Router). IsSettled (Then Before old s) r) (sym happens.router)
@@ -233,7 +233,7 @@ module _ (key : Key) (number : ℕ) where
       )) h
 
   run_kept : (steps : List Step) (old new : Router) (Before : Saying) → Run old steps new
-      → ClockRunsOn old.moment steps → IsInOrder old → IsSettled Before old
+      → ClockRunsOn old.moment steps → IsConsistent old → IsSettled Before old
       → IsSettled (After Before old steps new) new
   run_kept [] old new Before same clock order h =
       subst (λ (r : Router). IsSettled (After Before old [] r) r) (sym same) (at_end Before old h)

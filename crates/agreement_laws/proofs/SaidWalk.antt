@@ -25,7 +25,7 @@ use Rattle.event_rules.specs.Routers.{Occurrence, Router}
 use Rattle.event_rules.proofs.Walk.{outcome}
 use Rattle.flood_laws.proofs.Lists.{later_is}
 use Rattle.flood_laws.proofs.Taken.{named_first}
-use Rattle.flood_laws.specs.InOrder.{IsInOrder}
+use Rattle.flood_laws.specs.InOrder.{IsConsistent}
 use Rattle.flood_laws.proofs.Acknowledged.{in_order, order_begun, order_brings, order_kept}
 use Rattle.flood_laws.proofs.EventWalk.{IsKeptToo, event_kept_too}
 use Rattle.flood_laws.proofs.Known.{of_member}
@@ -156,7 +156,7 @@ module _ (old : Router) (moment : ℕ) (event : Occurrence) where
     };
   }
 
-  begun : IsInOrder old → X (outcome (start_event moment old)) old.originated
+  begun : IsConsistent old → X (outcome (start_event moment old)) old.originated
   begun order =
       said.ages old moment (finite.entries old.area.database) (record {
         area = old.area;
@@ -165,7 +165,7 @@ module _ (old : Router) (moment : ℕ) (event : Occurrence) where
       (all_there old.area.database) starts
 
   module _ (outs : List Out) (new : Router) (happens : Happens old moment event outs new)
-      (order : IsInOrder old) where
+      (order : IsConsistent old) where
     abbrev ended : EventState
     ended = end_event old moment happens.after
 

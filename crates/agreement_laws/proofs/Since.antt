@@ -18,7 +18,7 @@ use Rattle.event_rules.specs.declared.model.Config.{Config}
 use Rattle.event_rules.specs.Events.{Step, initial}
 use Rattle.event_rules.specs.InstanceIdentities.{instance_of_header, instance_of_lsa}
 use Rattle.event_rules.specs.Routers.{Occurrence, Router}
-use Rattle.flood_laws.specs.InOrder.{IsInOrder}
+use Rattle.flood_laws.specs.InOrder.{IsConsistent}
 use Rattle.flood_laws.proofs.Lists.{later_is, of_cons, of_empty}
 use Rattle.flood_laws.proofs.Taken.{named_first}
 use Rattle.flood_laws.proofs.Worlds.{mapped}
@@ -110,7 +110,7 @@ module _ (key : Key) (number : ℕ) where
 
   module _ (Earlier : Conversation → Header → Type 0) (event : Option Step) (p q : Party) where
     eventful : (heard : List (List ℕ)) (t : TakesEvent number heard p q) → event
-        ≡ Some (step_taken t) → IsInOrder p.router → IsSettled key number (SaidIn Earlier) p.router
+        ≡ Some (step_taken t) → IsConsistent p.router → IsSettled key number (SaidIn Earlier) p.router
         → IsSettled key number (SaidIn (Further event p q Earlier)) q.router
     eventful heard t its order was =
         more_said key number q.router (Then key number (SaidIn Earlier) p.router (step_taken t))

@@ -15,7 +15,7 @@ use Rattle.received.specs.Links.{neighbor_at}
 use Rattle.received.proofs.Holding.{one_holds}
 use Rattle.event_rules.specs.Events.{Run, Step}
 use Rattle.event_rules.specs.Routers.{Router}
-use Rattle.flood_laws.specs.InOrder.{IsInOrder}
+use Rattle.flood_laws.specs.InOrder.{IsConsistent}
 use Rattle.flood_laws.proofs.Acknowledged.{routers_stay_in_order}
 use Rattle.flood_laws.proofs.Always.{full_request_nothing}
 use Rattle.agreement_laws.specs.Exchanged.{Conversation, Converses, GoesOn, conversation_with}
@@ -47,7 +47,7 @@ module _ (number : ℕ) (with_it : Conversation) where
     told = instance_of entry.header
 
     -- what is asked now is taken in before the neighbor is Full
-    followed : (steps : List Step) (r : Router) → IsInOrder r → (m : Neighbor)
+    followed : (steps : List Step) (r : Router) → IsConsistent r → (m : Neighbor)
         → neighbor_at number r.area.links ≡ Some m → finite.get m.requests key ≡ Some entry
         → (goes : GoesOn number with_it r steps new)
         → AcceptsNoMore number with_it key r steps new goes
@@ -97,7 +97,7 @@ full_took_in ranks c earlier old middle new run step rest happens number n d a h
     by_state (accepted_is_requested ranks old step.moment step.event step.outs middle happens order
     number n d a h last_one)
   where
-    order : IsInOrder old
+    order : IsConsistent old
     order = routers_stay_in_order.run c earlier old run
 
     all_of : (steps : List Step) (r q : Router) → Run r steps q

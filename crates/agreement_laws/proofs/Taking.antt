@@ -23,7 +23,7 @@ use Rattle.event_rules.specs.Hellos.{is_foreign}
 use Rattle.event_rules.specs.InstanceIdentities.{InstanceIdentity, instance_of_header}
 use Rattle.event_rules.specs.InstanceIdentities.{instance_of_lsa}
 use Rattle.event_rules.specs.Routers.{Router}
-use Rattle.flood_laws.specs.InOrder.{IsInOrder}
+use Rattle.flood_laws.specs.InOrder.{IsConsistent}
 use Rattle.flood_laws.proofs.Always.{full_request_nothing}
 use Rattle.agreement_laws.specs.CopiesClimb.{BecameOf, BringsNone, CopiesClimb, IsForeignAndAbsent}
 use Rattle.agreement_laws.specs.Exchanged.{Conversation, Converses, conversation_with}
@@ -97,7 +97,7 @@ module _ (laws : Laws) (ends : Ends) (side : Side) (name : InstanceIdentity) whe
   module _ (now before : Pair) (earlier : List Pair) (h : IsHistory ends now (before ∷ earlier))
       (t : TakesEvent number (party (other_side side) before).sent (party side before)
       (party side now)) (is : event_of ends side before now h.0 ≡ Some (step_taken t))
-      (order : IsInOrder (party side before).router)
+      (order : IsConsistent (party side before).router)
       (foreign : Holds (λ (n : Neighbor). is_foreign (party side before).router.id n.router ≡ true)
       (neighbor_at number (party side before).router.area.links))
       (was : Holds (Fine before earlier h.1)

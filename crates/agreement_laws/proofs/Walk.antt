@@ -41,7 +41,7 @@ use Rattle.event_rules.specs.Originations.{new_instance}
 use Rattle.event_rules.specs.Packets.{is_from, is_hello, requested_lsas}
 use Rattle.event_rules.specs.Routers.{Occurrence, Router}
 use Rattle.event_rules.proofs.Walk.{outcome}
-use Rattle.flood_laws.specs.InOrder.{IsInOrder}
+use Rattle.flood_laws.specs.InOrder.{IsConsistent}
 use Rattle.flood_laws.specs.NewInstances.{lsas_brought}
 use Rattle.flood_laws.specs.Retransmissions.{AreOfTheDatabase, HasItsRetransmissions}
 use Rattle.flood_laws.proofs.Acknowledged.{in_order, order_begun, order_brings, order_kept}
@@ -584,7 +584,7 @@ module _ (key : Key) (number : ℕ) (Before : Saying) (old : Router) (moment : �
       -- ---- the complete event
 
       pub ends : (outs : List Out) (new : Router) (happens : Happens old moment event outs new)
-          → IsInOrder old → WasSettled → Stands (outcome (end_event old moment happens.after))
+          → IsConsistent old → WasSettled → Stands (outcome (end_event old moment happens.after))
       ends outs new happens order was =
           event_kept_too (in_order old.id) (order_kept old.id) Lately Lately old moment event
           each_part happens.after (order_brings old event) happens.own

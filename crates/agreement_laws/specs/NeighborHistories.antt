@@ -10,7 +10,7 @@ use Rattle.event_rules.specs.declared.model.Out.{Out}
 use Rattle.event_rules.specs.Endings.{end_event}
 use Rattle.event_rules.specs.Events.{Happens, Step, initial}
 use Rattle.event_rules.specs.Routers.{Occurrence, Router}
-use Rattle.flood_laws.specs.Keeping.{AreTexts, IsInstance}
+use Rattle.flood_laws.specs.Keeping.{AreTexts, IsIdentityInRange}
 use Rattle.flood_laws.specs.Known.{instances_in_sends}
 
 -- ---- the two
@@ -67,7 +67,7 @@ pub record TakesEvent (interface : InterfaceNumber) (heard : List (List ℕ)) (b
   pub began : after.began ≡ before.began
   -- the instances that it sends have their numbers in their ranges, and its packets are encoded
   -- correctly
-  pub in_range : AllByRecursion IsInstance
+  pub in_range : AllByRecursion IsIdentityInRange
       (instances_in_sends (end_event before.router moment happens.after).sends)
   pub texts : AreTexts before.router.id before.router.area.links
       (end_event before.router moment happens.after).sends

@@ -21,7 +21,7 @@ use Rattle.event_rules.specs.Endings.{end_event}
 use Rattle.event_rules.specs.Events.{Happens}
 use Rattle.event_rules.specs.InstanceIdentities.{InstanceIdentity, instance_of_header}
 use Rattle.event_rules.specs.Routers.{Occurrence, Router}
-use Rattle.flood_laws.specs.InOrder.{IsInOrder}
+use Rattle.flood_laws.specs.InOrder.{IsConsistent}
 use Rattle.agreement_laws.specs.CopiesClimb.{BecameOf}
 
 -- ---- what is said
@@ -116,5 +116,5 @@ pub record SaysWhatIsHeld (old : Router) (moment : Moment) (event : Occurrence)
 abbrev pub WhatIsSaidIsHeld : Type 0
 WhatIsSaidIsHeld =
     (old : Router) (moment : Moment) (event : Occurrence) (outs : List Out) (new : Router)
-    → (happens : Happens old moment event outs new) → IsInOrder old
+    → (happens : Happens old moment event outs new) → IsConsistent old
     → SaysWhatIsHeld old moment event (end_event old moment happens.after).sends new

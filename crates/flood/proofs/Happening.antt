@@ -6,8 +6,8 @@ use Rattle.event_rules.specs.received.Outcomes.{Send}
 use Rattle.event_rules.specs.RoomLaws.{IsRoomy}
 use Rattle.event_rules.proofs.Roomy.{every_packet_has_room}
 use Rattle.event_rules.specs.declared.model.Out.{Out}
-use Rattle.flood_laws.specs.InOrder.{AnnouncesItsOwn, IsInOrder}
-use Rattle.flood_laws.specs.Keeping.{AnnouncesAddress, AreTexts, HoldsInstances, KeepsWhatIsKnown}
+use Rattle.flood_laws.specs.InOrder.{AnnouncesItsOwn, IsConsistent}
+use Rattle.flood_laws.specs.Keeping.{AnnouncesAddress, AreTexts, HasNumbersInRange, KeepsWhatIsKnown}
 use Rattle.flood_laws.proofs.Keeping.{events_keep_what_is_known, instances_stay_in_range}
 use Rattle.flood_laws.proofs.Known.{router_stays}
 use Rattle.flood_laws.proofs.Acknowledged.{routers_stay_in_order}
@@ -35,7 +35,7 @@ module _ (old : Router) (moment : ℕ) (event : Occurrence) (p : Part) (is : IsP
 
   -- and keeps what is known, if the packets are encoded correctly
   pub made_keeps : (outs : List Out) (new : Router) → PartHappens old moment p outs new
-      → AnnouncesAddress event → IsInOrder old → HoldsInstances old
+      → AnnouncesAddress event → IsConsistent old → HasNumbersInRange old
       → AreTexts old.id old.area.links (made_state old moment p).sends
       → KeepsWhatIsKnown old moment event outs new
   unfolding made_happens
@@ -44,12 +44,12 @@ module _ (old : Router) (moment : ℕ) (event : Occurrence) (p : Part) (is : IsP
       order holds texts
 
   pub made_order : (outs : List Out) (new : Router) → PartHappens old moment p outs new
-      → IsInOrder old → IsInOrder new
+      → IsConsistent old → IsConsistent new
   made_order outs new made_state order =
       routers_stay_in_order.event old moment event outs new (made_happens outs new made_state) order
 
   pub made_holds : (outs : List Out) (new : Router) → PartHappens old moment p outs new
-      → AnnouncesAddress event → IsInOrder old → HoldsInstances old → HoldsInstances new
+      → AnnouncesAddress event → IsConsistent old → HasNumbersInRange old → HasNumbersInRange new
   made_holds outs new made_state address order holds =
       instances_stay_in_range.event old moment event outs new (made_happens outs new made_state)
       address order.own holds

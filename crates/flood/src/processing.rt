@@ -4,8 +4,8 @@ ghost use Rattle.event_rules.specs.RoomLaws.{IsRoomy};
 ghost use Rattle.event_rules.specs.Events.{Happens};
 ghost use Rattle.event_rules.specs.Refusals.{RefusesByRules, exceeds, is_interface, no_interface};
 ghost use Rattle.area_routes.specs.flooding.Drafted.{nothing_at};
-ghost use Rattle.flood_laws.specs.InOrder.{IsInOrder};
-ghost use Rattle.flood_laws.specs.Keeping.{HoldsInstances, KeepsWhatIsKnown};
+ghost use Rattle.flood_laws.specs.InOrder.{IsConsistent};
+ghost use Rattle.flood_laws.specs.Keeping.{HasNumbersInRange, KeepsWhatIsKnown};
 ghost use Rattle.flood.specs.Early.{early_refusal};
 ghost use Rattle.flood.specs.Occurrences.{occurrence_of};
 ghost use Rattle.flood.specs.Offers.{AreKeptNow, WalkStaysUnlessChanged};
@@ -71,15 +71,15 @@ pub fn process_event(
     requires committed { router.old.committed ≡ router.old.present }
     requires drafted { router.old.drafted ≡ nothing_at router.old.present.area.links }
     requires roomy { IsRoomy router.old.present }
-    requires order { IsInOrder router.old.present }
-    requires holds { HoldsInstances router.old.present }
+    requires order { IsConsistent router.old.present }
+    requires holds { HasNumbersInRange router.old.present }
     requires kept { AreKeptNow router.old.present routes.old }
     ensures ok { IfOk result (λ outs. Happens router.old.present moment (occurrence_of event.now)
         outs.items router.new.present) }
     ensures keeps { IfOk result (λ outs. KeepsWhatIsKnown router.old.present moment
         (occurrence_of event.now) outs.items router.new.present) }
-    ensures order { OnOk result (IsInOrder router.new.present) }
-    ensures holds { OnOk result (HoldsInstances router.new.present) }
+    ensures order { OnOk result (IsConsistent router.new.present) }
+    ensures holds { OnOk result (HasNumbersInRange router.new.present) }
     ensures refused { RefusesByRules router.old.present moment (occurrence_of event.now) result }
     ensures limit { OnOk result (exceeds router.new.present ≡ false) }
     ensures committed { router.new.committed ≡ router.old.committed }

@@ -49,8 +49,8 @@ impl Model for Core {
     ghost use Rattle.event_rules.specs.Routers.{Router as Shown};
     ghost use Rattle.area_routes.specs.flooding.Drafted.{nothing_at};
     ghost use Rattle.flood.specs.Offers.{AreKeptNow};
-    ghost use Rattle.flood_laws.specs.InOrder.{IsInOrder};
-    ghost use Rattle.flood_laws.specs.Keeping.{HoldsInstances};
+    ghost use Rattle.flood_laws.specs.InOrder.{IsConsistent};
+    ghost use Rattle.flood_laws.specs.Keeping.{HasNumbersInRange};
 
     ghost Value = { Shown };
 
@@ -75,8 +75,8 @@ impl Model for Core {
         (a.router.committed ≡ a.router.present)
         × IsRoomy a.router.present
         × (exceeds a.router.present ≡ false)
-        × IsInOrder a.router.present
-        × HoldsInstances a.router.present
+        × IsConsistent a.router.present
+        × HasNumbersInRange a.router.present
         × AreKeptNow a.router.present a.routes
         × (a.router.drafted ≡ nothing_at a.router.present.area.links) };
 }

@@ -24,7 +24,7 @@ use Rattle.event_rules.specs.InstanceIdentities.{InstanceIdentity, instance_of_l
 use Rattle.event_rules.specs.Originations.{due_keys, external_key, is_due, wanted_keys}
 use Rattle.event_rules.specs.Routers.{Occurrence, Router}
 use Rattle.flood_laws.specs.Retransmissions.{AreOfTheDatabase, IsOfCopy}
-use Rattle.flood_laws.specs.InOrder.{AnnouncesItsOwn, IsInOrder, RoutersStayInOrder}
+use Rattle.flood_laws.specs.InOrder.{AnnouncesItsOwn, IsConsistent, RoutersStayInOrder}
 use Rattle.flood_laws.specs.Keeping.{WhatIsTakenOffWasTold}
 use Rattle.flood_laws.specs.TakenOff.{IsAsked, IsFlooded, IsTakenOff, IsTold, comes_to_max_age}
 use Rattle.flood_laws.specs.TakenOff.{is_gone_or_stored, listed_instance}
@@ -123,7 +123,7 @@ own_externals r own key = found (finite.get r.announced key) (own key)
     found (Some e) each = each e refl
 
 -- after aging
-pub order_begun : (old : Router) (moment : ℕ) → IsInOrder old
+pub order_begun : (old : Router) (moment : ℕ) → IsConsistent old
     → OfEvent (in_order old.id) (start_event moment old)
 order_begun old moment order = record {
   area = parts_keep.ages old.moment moment (record {
@@ -136,7 +136,7 @@ order_begun old moment order = record {
 -- ---- the law
 
 module _ (old : Router) (moment : ℕ) (event : Occurrence) (new : Router) (number : ℕ)
-    (before : Neighbor) (name : InstanceIdentity) (order : IsInOrder old)
+    (before : Neighbor) (name : InstanceIdentity) (order : IsConsistent old)
     (taken : IsTakenOff old moment event new number before name) where
   -- the copy of the entry
   record HasCopy : Type 0 where
@@ -182,7 +182,7 @@ module _ (old : Router) (moment : ℕ) (event : Occurrence) (new : Router) (numb
       by_entry (Some l) at stood = by_copy l stood (entries name.key l at)
 
 module _ (old : Router) (moment : ℕ) (event : Occurrence) (outs : List Out) (new : Router)
-    (happens : Happens old moment event outs new) (order : IsInOrder old) (number : ℕ)
+    (happens : Happens old moment event outs new) (order : IsConsistent old) (number : ℕ)
     (before : Neighbor)
     (name : InstanceIdentity) (taken : IsTakenOff old moment event new number before name) where
   abbrev p : EventState
@@ -267,7 +267,7 @@ taken_off_was_told old moment event outs new happens order number before name ta
 -- ---- routers keep the invariant
 
 stays_in_order : (old : Router) (moment : ℕ) (event : Occurrence) (outs : List Out) (new : Router)
-    → Happens old moment event outs new → IsInOrder old → IsInOrder new
+    → Happens old moment event outs new → IsConsistent old → IsConsistent new
 stays_in_order old moment event outs new happens order = record {
   own = own_stays old moment event outs new happens order.own;
   externals = others_stay_within_limits.event old moment event outs new happens order.externals;
@@ -275,14 +275,14 @@ stays_in_order old moment event outs new happens order = record {
       order.retransmissions;
 }
 
-run_in_order : (steps : List Step) (old new : Router) → Run old steps new → IsInOrder old
-    → IsInOrder new
-run_in_order [] old new same order = subst IsInOrder (sym same) order
+run_in_order : (steps : List Step) (old new : Router) → Run old steps new → IsConsistent old
+    → IsConsistent new
+run_in_order [] old new same order = subst IsConsistent (sym same) order
 run_in_order (s ∷ steps) old new run order =
     run_in_order steps run.0 new run.2
     (stays_in_order old s.moment s.event s.outs run.0 run.1 order)
 
-first_in_order : (c : Config) → IsInOrder (initial c)
+first_in_order : (c : Config) → IsConsistent (initial c)
 first_in_order c = record {
   own = first_own c;
   externals = others_stay_within_limits.first c;

@@ -49,9 +49,9 @@ use Rattle.event_rules.specs.Packing.{IsSentText, bodies, out_of, outs_at}
 use Rattle.event_rules.specs.Routers.{Occurrence, Router, fresh_link, unannounced_router}
 use Rattle.flood_laws.specs.Worlds.{IsKnown, IsLawfulOut, instances_stored}
 use Rattle.flood_laws.specs.Keeping.{AnnouncesAddress, AreTexts, AreTextsAt, EventsKeepWhatIsKnown}
-use Rattle.flood_laws.specs.Keeping.{HoldsInstances, InstancesStayInRange, IsInstance, IsLsaKey}
+use Rattle.flood_laws.specs.Keeping.{HasNumbersInRange, InstancesStayInRange, IsIdentityInRange, IsLsaKey}
 use Rattle.flood_laws.specs.Keeping.{KeepsWhatIsKnown}
-use Rattle.flood_laws.specs.InOrder.{AnnouncesItsOwn, IsInOrder}
+use Rattle.flood_laws.specs.InOrder.{AnnouncesItsOwn, IsConsistent}
 use Rattle.flood_laws.specs.NewInstances.{IsNewInstance}
 use Rattle.flood_laws.specs.Known.{Bears, EventsHoldOnlyWhatIsKnown, IsOutOf, IsTextOf}
 use Rattle.flood_laws.specs.Known.{instances_in_content, instances_in_sends}
@@ -88,7 +88,7 @@ cut_text h = λ i.
     ++ fields ((1, h.ls_type) ∷ (4, h.link_state_id) ∷ (4, h.advertising_router)
     ∷ (4, cast_unsigned w32 h.sequence) ∷ (2, h.checksum) ∷ []) ++ two_bytes h.length i
 
-cut_is : (h : Header) → IsInstance (instance_of_header h) → IsHeader (cut h)
+cut_is : (h : Header) → IsIdentityInRange (instance_of_header h) → IsHeader (cut h)
 cut_is h is = record {
   age = omega arith;
   options = omega arith;
@@ -100,7 +100,7 @@ cut_is h is = record {
   length = omega arith;
 }
 
-pub name_read : (l : Lsa) → IsInstance (instance_of_lsa l)
+pub name_read : (l : Lsa) → IsIdentityInRange (instance_of_lsa l)
     → instance_of_header (header_at (text l) 0) ≡ instance_of_lsa l
 name_read l is =
     let same : header_text (cut l.header) ++ body_text l.body ≡ text l =
@@ -113,7 +113,7 @@ name_read l is =
 
 module _ (K : InstanceIdentity → Type 0) where
   abbrev Named : InstanceIdentity → Type 0
-  Named name = K name × IsInstance name
+  Named name = K name × IsIdentityInRange name
 
   update_tells : (lsas : List (List ℕ)) → AllByRecursion (IsTextOf Named) lsas
       → AllByRecursion K (instances_in_update lsas)
@@ -175,7 +175,7 @@ module _ (old : Router) (event : Occurrence) (originated : List InstanceIdentity
 
 -- ---- the contents of a Link State Update
 
-header_names : (h : Header) → IsHeader h → IsInstance (instance_of_header h)
+header_names : (h : Header) → IsHeader h → IsIdentityInRange (instance_of_header h)
 header_names h is = record {
   key = record {
     ls_type = is.ls_type;
@@ -187,17 +187,17 @@ header_names h is = record {
 }
 
 update_in_range : (lsas : List (List ℕ)) → AllByRecursion IsUnparsedLsa lsas
-    → AllByRecursion IsInstance (instances_in_update lsas)
+    → AllByRecursion IsIdentityInRange (instances_in_update lsas)
 update_in_range [] h = tt
 update_in_range (bytes ∷ rest) h = with_first (fault_of bytes) (update_in_range rest h.1)
   where
-    with_first : (o : Option LsaFault) → AllByRecursion IsInstance (instances_in_update rest)
-        → AllByRecursion IsInstance (map instance_of_lsa
+    with_first : (o : Option LsaFault) → AllByRecursion IsIdentityInRange (instances_in_update rest)
+        → AllByRecursion IsIdentityInRange (map instance_of_lsa
         (cons_option (read_unless bytes o) (filter_map lsa_in rest)))
     with_first None more = (header_names (header_at bytes 0) (header-fits bytes 0 h.0.bytes), more)
     with_first (Some f) more = more
 
-brought_in_range : (b : PacketBody) → IsBody b → AllByRecursion IsInstance (instances_received b)
+brought_in_range : (b : PacketBody) → IsBody b → AllByRecursion IsIdentityInRange (instances_received b)
 brought_in_range (body.Hello h) is = tt
 brought_in_range (body.Description d) is = tt
 brought_in_range (body.Request keys) is = tt
@@ -242,7 +242,7 @@ next_in_range : (z : ℤ) → FitsSigned w32 z → z ≢ pos 0x7fff_ffff → Fit
 next_in_range z fits not_last = omega (arith, ints)
 
 sequence_in_range : (key : Key) (copy : Option DatabaseCopy)
-    → IfThere (λ k c. IsInstance (instance_of_lsa c.lsa)) key copy → has_max_sequence copy ≡ false
+    → IfThere (λ k c. IsIdentityInRange (instance_of_lsa c.lsa)) key copy → has_max_sequence copy ≡ false
     → FitsSigned w32 (next_sequence copy)
 sequence_in_range key None is goes = record { sfits = omega arith }
 sequence_in_range key (Some c) is goes =
@@ -256,8 +256,8 @@ sequence_in_range key (Some c) is goes =
 -- ---- the ranges of the numbers
 
 new_in_range : (key : Key) (copy : Option DatabaseCopy) (says : LsaBody) → IsLsaKey key
-    → IfThere (λ k c. IsInstance (instance_of_lsa c.lsa)) key copy → has_max_sequence copy ≡ false
-    → IsInstance (instance_of_lsa (new_instance key copy says))
+    → IfThere (λ k c. IsIdentityInRange (instance_of_lsa c.lsa)) key copy → has_max_sequence copy ≡ false
+    → IsIdentityInRange (instance_of_lsa (new_instance key copy says))
 unfolding sealed_lsa
 new_in_range key copy says its there goes = record {
   key = record {
@@ -296,11 +296,11 @@ asked_in_range id is event address tagged tag priced price same =
     let lt : priced.prefix.address < 2 ^ 32 = subst AnnouncesAddress same address in
     record { ls_type = omega arith; link_state_id = lt; advertising_router = is }
 
-enters : (old : Router) (event : Occurrence) → AnnouncesAddress event → HoldsInstances old
-    → Enters IsInstance IsLsaKey (λ name is. is.key) old event
+enters : (old : Router) (event : Occurrence) → AnnouncesAddress event → HasNumbersInRange old
+    → Enters IsIdentityInRange IsLsaKey (λ name is. is.key) old event
 enters old event address holds = record {
   own = own_key_in_range old.id holds.id;
-  held = of_members IsInstance (instances_stored old) holds.held;
+  held = of_members IsIdentityInRange (instances_stored old) holds.held;
   announced = holds.announced;
   brought = λ number bytes packet is text. brought_in_range packet.body text.is_packet.body;
   asked = λ tagged tag priced price is. asked_in_range old.id holds.id event address tagged tag
@@ -312,28 +312,28 @@ enters old event address holds = record {
 
 module _ (old : Router) (moment : ℕ) (event : Occurrence) (outs : List Out) (new : Router)
     (happens : Happens old moment event outs new)
-    (address : AnnouncesAddress event) (own : AnnouncesItsOwn old) (holds : HoldsInstances old)
+    (address : AnnouncesAddress event) (own : AnnouncesItsOwn old) (holds : HasNumbersInRange old)
   where
     abbrev p : EventState
     p = end_event old moment happens.after
 
-    leaves : Leaves IsInstance IsLsaKey (λ name is. is.key) old event p
-    leaves = event_leaves IsInstance IsLsaKey (λ name is. is.key) old moment event outs new happens
+    leaves : Leaves IsIdentityInRange IsLsaKey (λ name is. is.key) old event p
+    leaves = event_leaves IsIdentityInRange IsLsaKey (λ name is. is.key) old moment event outs new happens
         own (enters old event address holds)
 
-    pub stays_in_range : HoldsInstances new
+    pub stays_in_range : HasNumbersInRange new
     stays_in_range =
-        let l : Leaves IsInstance IsLsaKey (λ name is. is.key) old event p = leaves in
-        subst HoldsInstances (sym happens.router)
+        let l : Leaves IsIdentityInRange IsLsaKey (λ name is. is.key) old event p = leaves in
+        subst HasNumbersInRange (sym happens.router)
         (record {
           id = subst (λ id. id < 2 ^ 32) (sym l.same_router) holds.id;
-          held = λ name c. of_member IsInstance (instances_stored p.router)
-              (left_all IsInstance (instances_stored p.router) (instances_in_sends p.sends) l.holds)
+          held = λ name c. of_member IsIdentityInRange (instances_stored p.router)
+              (left_all IsIdentityInRange (instances_stored p.router) (instances_in_sends p.sends) l.holds)
               name c;
           announced = l.announced;
         })
 
-    module _ (order : IsInOrder old) where
+    module _ (order : IsConsistent old) where
       abbrev New : InstanceIdentity → Type 0
       New name = IsNewInstance old moment event new name
 
@@ -348,7 +348,7 @@ module _ (old : Router) (moment : ℕ) (event : Occurrence) (outs : List Out) (n
       keeps_what_is_known taken texts =
           let originated : List InstanceIdentity = new_ones old event New names why in
           let known : AllByRecursion (Known old event originated p.sends) names =
-          paired_all (IsKnown old event originated) IsInstance names
+          paired_all (IsKnown old event originated) IsIdentityInRange names
           (all_known old event New names why) leaves.holds in
           let stored : AllByRecursion (Known old event originated p.sends)
           (instances_stored p.router) =
@@ -380,10 +380,10 @@ module _ (old : Router) (moment : ℕ) (event : Occurrence) (outs : List Out) (n
 -- ---- the start, and every run
 
 abbrev of_instances : Config → Telling
-of_instances c = named_by IsInstance IsLsaKey (λ name is. is.key)
+of_instances c = named_by IsIdentityInRange IsLsaKey (λ name is. is.key)
     (length (map fresh_link c.interfaces))
 
-first_in_ranges : (c : Config) → c.router < 2 ^ 32 → HoldsInstances (initial c)
+first_in_ranges : (c : Config) → c.router < 2 ^ 32 → HasNumbersInRange (initial c)
 first_in_ranges c router =
     let start : EventState = record { router = unannounced_router c; sends = [] } in
     let at : OfEvent (told (of_instances c) c.router) start = record {
@@ -398,7 +398,7 @@ first_in_ranges c router =
     let end = first_told (of_instances c) c.router
     (λ key copy says its wants. new_in_range key copy says its.1 wants.0 wants.1)
     (own_key_in_range c.router router) c.start start at in
-    let all = held_named IsInstance IsLsaKey (λ name is. is.key)
+    let all = held_named IsIdentityInRange IsLsaKey (λ name is. is.key)
     (length (map fresh_link c.interfaces)) (initial c) [] (record {
       copies = end.area.copies;
       links = end.area.links;
@@ -407,8 +407,8 @@ first_in_ranges c router =
     }) in
     record {
       id = subst (λ id. id < 2 ^ 32) (sym end.announced.0) router;
-      held = λ name there. of_member IsInstance (instances_stored (initial c))
-          (left_all IsInstance (instances_stored (initial c)) (instances_in_sends []) all) name
+      held = λ name there. of_member IsIdentityInRange (instances_stored (initial c))
+          (left_all IsIdentityInRange (instances_stored (initial c)) (instances_in_sends []) all) name
           there;
       announced = λ key e is. (subst (IfThere (IsOwn (of_instances c) c.router) key) is
           (end.announced.1 key)).1;
@@ -416,8 +416,8 @@ first_in_ranges c router =
 
 run_in_range : (steps : List Step) (old new : Router)
     → AllByRecursion (λ (s : Step). AnnouncesAddress s.event) steps → Run old steps new
-    → AnnouncesItsOwn old → HoldsInstances old → HoldsInstances new
-run_in_range [] old new addresses same own holds = subst HoldsInstances (sym same) holds
+    → AnnouncesItsOwn old → HasNumbersInRange old → HasNumbersInRange new
+run_in_range [] old new addresses same own holds = subst HasNumbersInRange (sym same) holds
 run_in_range (s ∷ steps) old new addresses run own holds =
     run_in_range steps run.0 new addresses.1 run.2
     (own_stays old s.moment s.event s.outs run.0 run.1 own)

@@ -57,7 +57,7 @@ use Rattle.event_rules.specs.Routers.{Occurrence, Router}
 use Rattle.event_rules.specs.Ticks.{acknowledgments_on, again, expire_timers, hello_sent_on}
 use Rattle.event_rules.specs.Ticks.{with_hello_sent, without_acknowledgments}
 use Rattle.event_rules.proofs.Walk.{outcome}
-use Rattle.flood_laws.specs.InOrder.{IsInOrder}
+use Rattle.flood_laws.specs.InOrder.{IsConsistent}
 use Rattle.flood_laws.specs.Known.{instances_in_sends}
 use Rattle.flood_laws.specs.NewInstances.{BringsLsa, IsLastCopy, IsNewInstance, installed_copy}
 use Rattle.flood_laws.specs.NewInstances.{lsas_brought}
@@ -428,7 +428,7 @@ module _ (old : Router) (moment : ℕ) (event : Occurrence) where
   abbrev start : EventState
   start = start_event moment old
 
-  module _ (order : IsInOrder old) where
+  module _ (order : IsConsistent old) where
     pub each_part : IsKeptToo (in_order old.id) Numbers Told start moment event
     each_part = record {
       flushes = λ k c o t at young its h. record {
@@ -599,7 +599,7 @@ module _ (old : Router) (moment : ℕ) (event : Occurrence) where
         }
 
 pub all_explained : (old : Router) (moment : ℕ) (event : Occurrence) (outs : List Out)
-    (new : Router) (happens : Happens old moment event outs new) → IsInOrder old
+    (new : Router) (happens : Happens old moment event outs new) → IsConsistent old
     → AllByRecursion (IsExplained old event (λ name. IsNewInstance old moment event new name))
     (instances_stored (end_event old moment happens.after).router
     ++ instances_in_sends (end_event old moment happens.after).sends)

@@ -19,17 +19,17 @@ AnnouncesItsOwn r =
 
 -- it announces only external destinations, under its own Router ID, and its retransmission lists
 -- have the database's instances
-pub record IsInOrder (r : Router) : Type 0 where
+pub record IsConsistent (r : Router) : Type 0 where
   pub own : AnnouncesItsOwn r
   pub externals : AnnouncesExternals r
   pub retransmissions : HasItsRetransmissions r
 
 pub record RoutersStayInOrder : Type 0 where
   -- at the start
-  pub first : (c : Config) → IsInOrder (initial c)
+  pub first : (c : Config) → IsConsistent (initial c)
   -- after each event, if it held before
   pub event : (old : Router) (moment : Moment) (event : Occurrence) (outs : List Out)
-      (new : Router) → Happens old moment event outs new → IsInOrder old → IsInOrder new
+      (new : Router) → Happens old moment event outs new → IsConsistent old → IsConsistent new
   -- so after every run from the start
   pub run : (c : Config) (steps : List Step) (new : Router) → Run (initial c) steps new
-      → IsInOrder new
+      → IsConsistent new

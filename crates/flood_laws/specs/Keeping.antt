@@ -17,7 +17,7 @@ use Rattle.event_rules.specs.Events.{Happens, Run, Step, initial}
 use Rattle.event_rules.specs.InstanceIdentities.{InstanceIdentity}
 use Rattle.event_rules.specs.Packing.{IsSentText, bodies}
 use Rattle.event_rules.specs.Routers.{Occurrence, Router}
-use Rattle.flood_laws.specs.InOrder.{AnnouncesItsOwn, IsInOrder}
+use Rattle.flood_laws.specs.InOrder.{AnnouncesItsOwn, IsConsistent}
 use Rattle.flood_laws.specs.TakenOff.{TakesOffWhatIsTold}
 use Rattle.flood_laws.specs.Worlds.{Keeps, instances_stored}
 
@@ -36,15 +36,15 @@ pub record IsLsaKey (key : Key) : Type 0 where
   pub link_state_id : key.link_state_id < 2 ^ 32
   pub advertising_router : key.advertising_router < 2 ^ 32
 
-pub record IsInstance (name : InstanceIdentity) : Type 0 where
+pub record IsIdentityInRange (name : InstanceIdentity) : Type 0 where
   pub key : IsLsaKey name.key
   pub sequence : FitsSigned w32 name.sequence
   pub checksum : name.checksum < 2 ^ 16
 
 -- the numbers of what a router holds and announces
-pub record HoldsInstances (r : Router) : Type 0 where
+pub record HasNumbersInRange (r : Router) : Type 0 where
   pub id : r.id < 2 ^ 32
-  pub held : (name : InstanceIdentity) → Contains (instances_stored r) name → IsInstance name
+  pub held : (name : InstanceIdentity) → Contains (instances_stored r) name → IsIdentityInRange name
   pub announced : (key : Key) (e : External) → finite.get r.announced key ≡ Some e → IsLsaKey key
 
 -- the address that a `Redistribute` announces
@@ -59,15 +59,15 @@ AnnouncesAddress (Occurrence.LinkDown interface) = Unit {0}
 
 pub record InstancesStayInRange : Type 0 where
   -- at the start
-  pub first : (c : Config) → c.router < 2 ^ 32 → HoldsInstances (initial c)
+  pub first : (c : Config) → c.router < 2 ^ 32 → HasNumbersInRange (initial c)
   -- after each event, if it held before
   pub event : (old : Router) (moment : Moment) (event : Occurrence) (outs : List Out)
       (new : Router) → Happens old moment event outs new → AnnouncesAddress event
-      → AnnouncesItsOwn old → HoldsInstances old → HoldsInstances new
+      → AnnouncesItsOwn old → HasNumbersInRange old → HasNumbersInRange new
   -- so after every run from the start
   pub run : (c : Config) (steps : List Step) (new : Router) → c.router < 2 ^ 32
       → AllByRecursion (λ (s : Step). AnnouncesAddress s.event) steps
-      → Run (initial c) steps new → HoldsInstances new
+      → Run (initial c) steps new → HasNumbersInRange new
 
 -- ---- what is removed was acknowledged
 
@@ -76,7 +76,7 @@ pub record InstancesStayInRange : Type 0 where
 abbrev pub WhatIsTakenOffWasTold : Type 0
 WhatIsTakenOffWasTold =
     (old : Router) (moment : Moment) (event : Occurrence) (outs : List Out) (new : Router)
-    → Happens old moment event outs new → IsInOrder old
+    → Happens old moment event outs new → IsConsistent old
     → TakesOffWhatIsTold old moment event new
 
 -- ---- the law
@@ -98,6 +98,6 @@ abbrev pub EventsKeepWhatIsKnown : Type 0
 EventsKeepWhatIsKnown =
     (old : Router) (moment : Moment) (event : Occurrence) (outs : List Out) (new : Router)
     → (happens : Happens old moment event outs new) → AnnouncesAddress event
-    → IsInOrder old → HoldsInstances old
+    → IsConsistent old → HasNumbersInRange old
     → AreTexts old.id old.area.links (end_event old moment happens.after).sends
     → KeepsWhatIsKnown old moment event outs new

@@ -17,7 +17,7 @@ use Rattle.event_rules.specs.InstanceIdentities.{instance_of_header}
 use Rattle.event_rules.specs.InstanceIdentities.{instances_in_update}
 use Rattle.event_rules.specs.Packing.{out_of}
 use Rattle.event_rules.specs.Routers.{Occurrence, Router}
-use Rattle.flood_laws.specs.InOrder.{IsInOrder}
+use Rattle.flood_laws.specs.InOrder.{IsConsistent}
 use Rattle.flood_laws.specs.NewInstances.{IsNewInstance}
 use Rattle.flood_laws.specs.Worlds.{IsKnown, instances_stored}
 
@@ -71,7 +71,7 @@ pub record HoldsWhatIsKnown (old : Router) (moment : Moment) (event : Occurrence
 abbrev pub EventsHoldOnlyWhatIsKnown : Type 0
 EventsHoldOnlyWhatIsKnown =
     (old : Router) (moment : Moment) (event : Occurrence) (outs : List Out) (new : Router)
-    → Happens old moment event outs new → IsInOrder old → HoldsWhatIsKnown old moment event outs new
+    → Happens old moment event outs new → IsConsistent old → HoldsWhatIsKnown old moment event outs new
 
 -- a Link State Update of LSAs whose header fields are in their ranges contains only those LSAs
 abbrev pub UpdatesTellWhatTheyBear : Type 0

@@ -7,8 +7,8 @@ use Rattle.area_routes.specs.flooding.Drafted.{nothing_at}
 use Rattle.area_routes.specs.flooding.Kept.{RouterArea}
 use Rattle.procedures.specs.Kept.{KeptRouter}
 use Rattle.flood.proofs.Kept.{begun}
-use Rattle.flood_laws.specs.InOrder.{IsInOrder}
-use Rattle.flood_laws.specs.Keeping.{HoldsInstances}
+use Rattle.flood_laws.specs.InOrder.{IsConsistent}
+use Rattle.flood_laws.specs.Keeping.{HasNumbersInRange}
 use Rattle.flood.proofs.router_core.Core.copy.Goals as goal
 
 pub invariant_of-result : goal.invariant_of-result
@@ -17,8 +17,8 @@ invariant_of-result c =
       ap (λ k. k.committed) c.in_ok-router.ensures ∙ sym present,
       subst IsRoomy (sym present) c.self.invariant.1,
       ap exceeds present ∙ c.self.invariant.2,
-      subst IsInOrder (sym present) c.self.invariant.3,
-      subst HoldsInstances (sym present) c.self.invariant.4,
+      subst IsConsistent (sym present) c.self.invariant.3,
+      subst HasNumbersInRange (sym present) c.self.invariant.4,
       begun c.in_ok-router.router.present c.id.result c.area.result.now.present c.moment.result
           c.in-Ok.routes
           c.id.ensures (ap (λ (a : RouterArea). a.present) c.area.ensures.parts) c.moment.ensures

@@ -5,8 +5,8 @@ use Rattle.event_rules.specs.RoomLaws.{IsRoomy}
 use Rattle.event_rules.proofs.Roomy.{every_packet_has_room}
 use Rattle.event_rules.specs.Refusals.{exceeds}
 use Rattle.event_rules.specs.Routers.{in_profile}
-use Rattle.flood_laws.specs.InOrder.{IsInOrder}
-use Rattle.flood_laws.specs.Keeping.{HoldsInstances}
+use Rattle.flood_laws.specs.InOrder.{IsConsistent}
+use Rattle.flood_laws.specs.Keeping.{HasNumbersInRange}
 use Rattle.flood_laws.proofs.Keeping.{instances_stay_in_range}
 use Rattle.flood_laws.proofs.Acknowledged.{routers_stay_in_order}
 use Rattle.flood_laws.proofs.Limits.{others_stay_within_limits}
@@ -26,8 +26,8 @@ invariant_of-result c =
       committed,
       subst IsRoomy (sym is) (every_packet_has_room.first c.args.config.now fine),
       ap exceeds is ∙ others_stay_within_limits.start c.args.config.now,
-      subst IsInOrder (sym is) (routers_stay_in_order.first c.args.config.now),
-      subst HoldsInstances (sym is) (instances_stay_in_range.first c.args.config.now router),
+      subst IsConsistent (sym is) (routers_stay_in_order.first c.args.config.now),
+      subst HasNumbersInRange (sym is) (instances_stay_in_range.first c.args.config.now router),
       begun c.commit.new.self.present c.id.result c.area.result.now.present c.moment.result
           c.in-Ok.routes
           c.id.ensures (ap (λ (a : RouterArea). a.present) c.area.ensures.parts) c.moment.ensures

@@ -4,8 +4,8 @@ use Rattle.event_rules.specs.Refusals.{exceeds}
 use Rattle.event_rules.specs.Routers.{Router}
 use Rattle.area_routes.specs.flooding.Drafted.{nothing_at}
 use Rattle.procedures.specs.Kept.{KeptRouter}
-use Rattle.flood_laws.specs.InOrder.{IsInOrder}
-use Rattle.flood_laws.specs.Keeping.{HoldsInstances}
+use Rattle.flood_laws.specs.InOrder.{IsConsistent}
+use Rattle.flood_laws.specs.Keeping.{HasNumbersInRange}
 use Rattle.flood.specs.Occurrences.{occurrence_of}
 use Rattle.flood.specs.Offers.{AreKeptNow}
 use Rattle.flood.proofs.Happening.{stays_roomy}
@@ -20,8 +20,8 @@ invariant_of-self c =
           c.in-Ok.outs.items c.process_event.new.router.present c.in-Ok.ensures.ok
           c.self.invariant.1),
       ap exceeds is ∙ c.in-Ok.ensures.limit,
-      subst IsInOrder (sym is) c.in-Ok.ensures.order,
-      subst HoldsInstances (sym is) c.in-Ok.ensures.holds,
+      subst IsConsistent (sym is) c.in-Ok.ensures.order,
+      subst HasNumbersInRange (sym is) c.in-Ok.ensures.holds,
       subst (λ (s : Router). AreKeptNow s c.process_event.new.routes) (sym is) c.in-Ok.ensures.kept,
       ap (λ k. k.drafted) c.commit_at.ensures
           ∙ sym (ap (λ (k : KeptRouter). nothing_at k.present.area.links) c.commit_at.ensures),
