@@ -4,10 +4,10 @@ use Rattle.isa.specs.declared.instruction.Instruction.{Instruction}
 use Rattle.transfer.specs.declared.rule.Rule.{Rule}
 use Rattle.transfer.specs.declared.rule.Rule.TheVariants as rules
 use Rattle.transfer.specs.Rules.{MayName, IsOfUse, IsOfExit}
-use Rattle.segments.specs.Refusals.{IsOfEdge, MayFollow}
+use Rattle.segments.specs.Refusals.{IsOfEdge, MayRefuseInstruction}
 
 pub edge_follows : (hook : Hook) (i : Instruction) (rule : Rule) → IsOfEdge rule
-    → MayFollow hook i rule
+    → MayRefuseInstruction hook i rule
 edge_follows hook i rules.Target is = is
 edge_follows hook i rules.FallsOff is = is
 edge_follows hook i rules.Unreached is = is
@@ -26,7 +26,7 @@ edge_follows hook i rules.Frame is = absurd is
 edge_follows hook i rules.Memory is = is
 
 pub use_follows : (hook : Hook) (i : Instruction) (rule : Rule) → IsOfUse rule
-    → MayFollow hook i rule
+    → MayRefuseInstruction hook i rule
 use_follows hook i rules.Target is = is
 use_follows hook i rules.FallsOff is = is
 use_follows hook i rules.Unreached is = is
@@ -45,7 +45,7 @@ use_follows hook i rules.Frame is = absurd is
 use_follows hook i rules.Memory is = is
 
 pub named_follows : (hook : Hook) (i : Instruction) (rule : Rule) → MayName hook i rule
-    → MayFollow hook i rule
+    → MayRefuseInstruction hook i rule
 named_follows hook i rules.Target is = is
 named_follows hook i rules.FallsOff is = is
 named_follows hook i rules.Unreached is = is
@@ -64,7 +64,7 @@ named_follows hook i rules.Frame is = is
 named_follows hook i rules.Memory is = is
 
 pub exit_follows : (hook : Hook) (i : Instruction) (rule : Rule) → IsOfExit rule
-    → MayFollow hook i rule
+    → MayRefuseInstruction hook i rule
 exit_follows hook i rules.Target is = is
 exit_follows hook i rules.FallsOff is = is
 exit_follows hook i rules.Unreached is = is

@@ -22,7 +22,7 @@ use Rattle.transfer.specs.declared.rule.Rule.TheVariants as rules
 use Rattle.transfer.specs.Plain.{IsPlainInstruction, IsPlainStep, IsStraight, KeepsFilled}
 use Rattle.transfer.specs.Rules.{MayName}
 use Rattle.segments.specs.Places.{goes_on}
-use Rattle.segments.specs.Plain.{AsksAtMost, IsFilledBehind, IsPlainHere, KeepsNumbers, MayEnter}
+use Rattle.segments.specs.Plain.{AsksAtMost, IsFilledBehind, IsPlainHere, KeepsNumbers, IsPlainEdgeIfStated}
 
 -- ---- what is required of registers
 
@@ -73,8 +73,8 @@ module _ {D : Type 0} (contains : D → ℕ → Type 0) (segment_starts : List (
     (segment : SegmentStart D) where
   -- if more is filled, the edge is plain too
   pub enter_more : (back : Bool) (to : ℕ) (filled more : ℕ → Type 0) → ((r : ℕ) → filled r → more r)
-      → MayEnter contains segment_starts segment back to filled
-      → MayEnter contains segment_starts segment back to more
+      → IsPlainEdgeIfStated contains segment_starts segment back to filled
+      → IsPlainEdgeIfStated contains segment_starts segment back to more
   enter_more back to filled more grows may = λ target stated.
       let edge = may target stated in
       record {
@@ -89,7 +89,7 @@ module _ {D : Type 0} (contains : D → ℕ → Type 0) (segment_starts : List (
   module _ (slot : ℕ) (i : Instruction) (state : AbstractState D)
       (here : IsPlainHere contains segment_starts segment slot i state) where
     pub jump_edge : (to : ℕ) → jump_target slot i ≡ Some to → register_written i ≡ None
-        → MayEnter contains segment_starts segment (nat_le to slot) to (IsFilled state)
+        → IsPlainEdgeIfStated contains segment_starts segment (nat_le to slot) to (IsFilled state)
     jump_edge to jumps none =
         enter_more (nat_le to slot) to (IsFilledBehind i state) (IsFilled state)
         (beside i state none)
@@ -97,11 +97,11 @@ module _ {D : Type 0} (contains : D → ℕ → Type 0) (segment_starts : List (
 
     pub pass_edge : (after : AbstractState D) (next : ℕ) → slot < next → slot_after slot i ≡ next
         → goes_on i ≡ true → ((r : ℕ) → IsFilledBehind i state r → IsFilled after r)
-        → MayEnter contains segment_starts segment false next (IsFilled after)
+        → IsPlainEdgeIfStated contains segment_starts segment false next (IsFilled after)
     pass_edge after next less behind on grows =
         let forward : nat_le next slot ≡ false = grind (arith, nat_tests) in
         enter_more false next (IsFilledBehind i state) (IsFilled after) grows
-        (subst (λ back. MayEnter contains segment_starts segment back next (IsFilledBehind i state))
+        (subst (λ back. IsPlainEdgeIfStated contains segment_starts segment back next (IsFilledBehind i state))
         forward (here.edges next (inr (on, behind))))
 
 -- ---- what remains known

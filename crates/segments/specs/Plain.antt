@@ -44,9 +44,9 @@ pub record IsPlainEdge {D : Type 0} (contains : D → ℕ → Type 0) (back : Bo
       ≤ segment.statement.now.rank.constant
 
 -- if the slot has a statement, the edge to it is plain
-abbrev pub MayEnter : {D : Type 0} → (D → ℕ → Type 0) → List (Option (SegmentStart D))
+abbrev pub IsPlainEdgeIfStated : {D : Type 0} → (D → ℕ → Type 0) → List (Option (SegmentStart D))
     → SegmentStart D → Bool → ℕ → (ℕ → Type 0) → Type 0
-MayEnter {D} contains segment_starts segment back to filled =
+IsPlainEdgeIfStated {D} contains segment_starts segment back to filled =
     (target : SegmentStart D) → segment_start_at segment_starts to ≡ Some target
     → IsPlainEdge contains back segment target filled
 
@@ -60,7 +60,7 @@ pub record IsPlainHere {D : Type 0} (contains : D → ℕ → Type 0)
   pub reads : ReadsFilled i state
   pub ten : length state.kinds.items ≡ 10
   pub edges : (to : ℕ) → LeadsTo slot i to
-      → MayEnter contains segment_starts segment (nat_le to slot) to (IsFilledBehind i state)
+      → IsPlainEdgeIfStated contains segment_starts segment (nat_le to slot) to (IsFilledBehind i state)
 
 -- as many registers as before, and numbers remain numbers
 pub record KeepsNumbers {D : Type 0} (state after : AbstractState D) : Type 0 where

@@ -166,13 +166,13 @@ IsOfEdge other = ⊥
 
 -- An instruction may be refused by the rule if its slot is well made: by those on helpers and on
 -- r10 only if they are broken, and by none on jumps, statements, the bound and memory.
-abbrev pub MayFollow : Hook → Instruction → Rule → Type 0
-MayFollow hook instruction rules.Helper = LacksHelper hook instruction
-MayFollow hook instruction rules.Frame = writes_frame instruction ≡ true
-MayFollow hook instruction rules.Target = ⊥
-MayFollow hook instruction rules.FallsOff = ⊥
-MayFollow hook instruction rules.Unreached = ⊥
-MayFollow hook instruction rules.Unstated = ⊥
-MayFollow hook instruction rules.Budget = ⊥
-MayFollow hook instruction rules.Memory = ⊥
-MayFollow hook instruction other = Unit {0}
+abbrev pub MayRefuseInstruction : Hook → Instruction → Rule → Type 0
+MayRefuseInstruction hook instruction rules.Helper = LacksHelper hook instruction
+MayRefuseInstruction hook instruction rules.Frame = writes_frame instruction ≡ true
+MayRefuseInstruction hook instruction rules.Target = ⊥
+MayRefuseInstruction hook instruction rules.FallsOff = ⊥
+MayRefuseInstruction hook instruction rules.Unreached = ⊥
+MayRefuseInstruction hook instruction rules.Unstated = ⊥
+MayRefuseInstruction hook instruction rules.Budget = ⊥
+MayRefuseInstruction hook instruction rules.Memory = ⊥
+MayRefuseInstruction hook instruction other = Unit {0}

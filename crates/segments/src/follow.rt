@@ -16,9 +16,9 @@ ghost use Rattle.kinds.specs.Plain.{IsFilled};
 ghost use Rattle.transfer.specs.Branches.{HoldsBesides, PairHolds};
 ghost use Rattle.transfer.specs.Plain.{IsStraight, KeepsFilled};
 ghost use Rattle.transfer.specs.Rules.{IsOfExit};
-ghost use Rattle.segments.specs.Plain.{IsPlainHere, KeepsNumbers, MayEnter};
+ghost use Rattle.segments.specs.Plain.{IsPlainHere, KeepsNumbers, IsPlainEdgeIfStated};
 ghost use Rattle.segments.specs.Places.{IsWellPlaced, goes_on, segment_start_at};
-ghost use Rattle.segments.specs.Refusals.{IsOfEdge, MayFollow};
+ghost use Rattle.segments.specs.Refusals.{IsOfEdge, MayRefuseInstruction};
 ghost use Rattle.segments.specs.Segments.{EntersNext, IsFollowed, IsKnown, PassesTo};
 
 use crate::edge::enter;
@@ -59,7 +59,7 @@ pub fn jump_to<'a, D: Domain>(
         → IsKnown D.contains segment.now state.now start next
         → EntersNext D.contains segment_starts.now segment.now slot start next) }
     ensures named { IfErr result IsOfEdge }
-    ensures plain { MayEnter D.contains segment_starts.now segment.now (nat_le to slot) to
+    ensures plain { IsPlainEdgeIfStated D.contains segment_starts.now segment.now (nat_le to slot) to
         (IsFilled state.now) → IsOk result }
 {
     let Some(target) = stated_at(segment_starts, to) else {
@@ -84,7 +84,7 @@ pub fn pass_on<'a, D: Domain>(
         → IsKnown D.contains segment.now state start next
         → PassesTo D.contains segment_starts.now segment.now slot next_slot after start next) }
     ensures named { IfErr result IsOfEdge }
-    ensures plain { MayEnter D.contains segment_starts.now segment.now false next_slot
+    ensures plain { IsPlainEdgeIfStated D.contains segment_starts.now segment.now false next_slot
         (IsFilled state)
         → IsOk result }
     ensures same { IfOk result (λ after. after.state ≡ state) }
@@ -125,7 +125,7 @@ fn take<'a, D: Domain>(
         → next ≡ record now { slot = to }
         → EntersNext D.contains segment_starts.now segment.now slot start next) }
     ensures named { IfErr result IsOfEdge }
-    ensures plain { MayEnter D.contains segment_starts.now segment.now (nat_le to slot) to
+    ensures plain { IsPlainEdgeIfStated D.contains segment_starts.now segment.now (nat_le to slot) to
         (IsFilled state)
         → IsOk result }
     ensures keeps { IfOk result (KeepsNumbers state) }
@@ -155,7 +155,7 @@ fn stay<'a, D: Domain>(
         → slot < next_slot → next ≡ record now { slot = next_slot }
         → PassesTo D.contains segment_starts.now segment.now slot next_slot after start next) }
     ensures named { IfErr result IsOfEdge }
-    ensures plain { MayEnter D.contains segment_starts.now segment.now false next_slot
+    ensures plain { IsPlainEdgeIfStated D.contains segment_starts.now segment.now false next_slot
         (IsFilled state)
         → IsOk result }
     ensures keeps { IfOk result (λ after. KeepsNumbers state after.state) }
@@ -192,7 +192,7 @@ fn branch<'a, D: Domain>(
     ensures followed { IfOk result
         (IsFollowed D.contains code.now hook segment_starts.now segment.now slot
         (Instruction.Branch width test operands.now.left operands.now.right distance) state) }
-    ensures named { IfErr result (MayFollow hook
+    ensures named { IfErr result (MayRefuseInstruction hook
         (Instruction.Branch width test operands.now.left operands.now.right distance)) }
     ensures plain { IsPlainHere D.contains segment_starts.now segment.now slot
         (Instruction.Branch width test operands.now.left operands.now.right distance) state
@@ -237,7 +237,7 @@ fn leave<'a, D: Domain>(
         → IsKnown D.contains segment.now state start now → next ≡ record now { slot = to }
         → EntersNext D.contains segment_starts.now segment.now slot start next) }
     ensures named { IfErr result IsOfEdge }
-    ensures plain { MayEnter D.contains segment_starts.now segment.now (nat_le to slot) to
+    ensures plain { IsPlainEdgeIfStated D.contains segment_starts.now segment.now (nat_le to slot) to
         (IsFilled state)
         → IsOk result }
     ensures same { IfOk result (λ after. after.state ≡ state) }
@@ -286,7 +286,7 @@ fn go_on<'a, D: Domain>(
     ensures followed { IfOk result
         (IsFollowed D.contains code.now hook segment_starts.now segment.now slot instruction
         state) }
-    ensures named { IfErr result (MayFollow hook instruction) }
+    ensures named { IfErr result (MayRefuseInstruction hook instruction) }
     ensures plain { IsPlainHere D.contains segment_starts.now segment.now slot instruction state
         → IsOk result }
     ensures keeps { IsPlainHere D.contains segment_starts.now segment.now slot instruction state
@@ -322,7 +322,7 @@ pub fn follow<'a, D: Domain>(
     ensures followed { IfOk result
         (IsFollowed D.contains code.now hook segment_starts.now segment.now slot instruction
         state) }
-    ensures named { IfErr result (MayFollow hook instruction) }
+    ensures named { IfErr result (MayRefuseInstruction hook instruction) }
     ensures plain { IsPlainHere D.contains segment_starts.now segment.now slot instruction state
         → IsOk result }
     ensures keeps { IsPlainHere D.contains segment_starts.now segment.now slot instruction state

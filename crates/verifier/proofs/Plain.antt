@@ -32,7 +32,7 @@ use Rattle.transfer.specs.declared.rule.Rule.TheVariants as rules
 use Rattle.transfer.specs.Plain.{KeepsFilled}
 use Rattle.segments.specs.declared.known.Known.{Known}
 use Rattle.segments.specs.Places.{segment_of, segment_start_at}
-use Rattle.segments.specs.Plain.{AsksAtMost, IsFilledBehind, IsPlainEdge, MayEnter}
+use Rattle.segments.specs.Plain.{AsksAtMost, IsFilledBehind, IsPlainEdge, IsPlainEdgeIfStated}
 use Rattle.segments.specs.Refusals.{IsPlaceRefusal, IsWellMade}
 use Rattle.segments.specs.Stated.{IsSegmentStartOf, statement_at}
 use Rattle.isa.proofs.Starts.{same_instruction}
@@ -293,7 +293,7 @@ module _ {D : Type 0} (contains : D → ℕ → Type 0) (code : List Slot) (entr
 
   -- the entry leads to the statement at slot 0
   pub entry_edge : (entry : SegmentStart D) → HasRank entry entry_rank
-      → MayEnter contains segment_starts entry false 0 (λ r. ⊥)
+      → IsPlainEdgeIfStated contains segment_starts entry false 0 (λ r. ⊥)
   entry_edge entry has target there =
       let found = statement_of_segment_start contains statements segment_starts 0 target program.are
       there in

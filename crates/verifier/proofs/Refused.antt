@@ -20,7 +20,7 @@ use Rattle.transfer.specs.Rules.{LacksHelper}
 use Rattle.segments.specs.Places.{goes_on, segment_start_at}
 use Rattle.segments.specs.Stated.{statement_at, AreSegmentStarts}
 use Rattle.segments.specs.Refusals.{JumpsNowhere, IsStray, LacksHelperAt, IsWellMade, IsFirst}
-use Rattle.segments.specs.Refusals.{IsFirstHere, IsPassedTo, IsPlaceRefusal, IsOfEdge, MayFollow}
+use Rattle.segments.specs.Refusals.{IsFirstHere, IsPassedTo, IsPlaceRefusal, IsOfEdge, MayRefuseInstruction}
 use Rattle.segments.specs.Refusals.{MayRefuse}
 use Rattle.isa.proofs.Starts.{same_instruction}
 use Rattle.segments.proofs.SegmentStarts.{none_isn't_some, stated_of, unstated_of}
@@ -96,7 +96,7 @@ lacks hook code slot (instructions.LoadMap target map offset) here none = absurd
 
 pub follow_refused : (hook : Hook) (code : List Slot) (entry_rank : ℕ)
     (statements : List StatementParts) (slot : ℕ) (i : Instruction) (rule : Rule)
-    → BeginsAt i code slot → IsWellMade code statements slot → MayFollow hook i rule
+    → BeginsAt i code slot → IsWellMade code statements slot → MayRefuseInstruction hook i rule
     → IsRefusal hook code entry_rank statements slot rule
 follow_refused hook code entry_rank statements slot i rules.Target here made may = absurd may
 follow_refused hook code entry_rank statements slot i rules.FallsOff here made may = absurd may

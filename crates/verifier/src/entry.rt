@@ -7,7 +7,7 @@ ghost use Rattle.kinds.specs.declared.statement.SegmentStart.{SegmentStart as An
 ghost use Rattle.kinds.specs.Meaning.{SegmentStartHolds, StateHolds};
 ghost use Rattle.ranks.specs.Lines.{IsConstant, rank_value};
 ghost use Rattle.segments.specs.Places.{segment_start_at};
-ghost use Rattle.segments.specs.Plain.{MayEnter};
+ghost use Rattle.segments.specs.Plain.{IsPlainEdgeIfStated};
 ghost use Rattle.segments.specs.Refusals.{IsOfEdge};
 ghost use Rattle.segments.specs.Segments.{Enters};
 
@@ -102,7 +102,7 @@ pub fn enter_start<'a, D: Domain>(
         → (machine : Machine) → SegmentStartHolds D.contains entry.now machine
         → Enters D.contains false entry.now target machine machine) }
     ensures named { IfErr result (λ refusal. (refusal.slot ≡ 0) × IsOfEdge refusal.rule) }
-    ensures plain { MayEnter D.contains segment_starts.now entry.now false 0 (λ r. ⊥)
+    ensures plain { IsPlainEdgeIfStated D.contains segment_starts.now entry.now false 0 (λ r. ⊥)
         → IsOk result }
     ensures long { IfOk result (λ known. length known.state.kinds.items ≡ length room.kinds.items) }
 {

@@ -13,7 +13,7 @@ ghost use Rattle.verifier.specs.Kept.{GoesInto, IsKept};
 ghost use Rattle.verifier.specs.Pass.{ComesPlainly, HasRank, IsPlainIfLive, IsPlainProgram};
 ghost use Rattle.verifier.specs.Pass.{KeepsPlain};
 ghost use Rattle.segments.specs.Places.{IsWellPlaced, segment_of, segment_start_at};
-ghost use Rattle.segments.specs.Refusals.{IsFirst, IsFirstHere, IsPassedTo, IsWellMade, MayFollow};
+ghost use Rattle.segments.specs.Refusals.{IsFirst, IsFirstHere, IsPassedTo, IsWellMade, MayRefuseInstruction};
 ghost use Rattle.segments.specs.Refusals.{MayRefuse};
 ghost use Rattle.segments.specs.Segments.{IsCurrentUnlessStated, IsFine, IsFollowed};
 ghost use Rattle.segments.specs.Stated.{AreSegmentStarts};
@@ -80,7 +80,7 @@ fn pass<'a, D: Domain>(
     ensures passed { IfOk result (λ after. known.is_live ≡ true
         → IsFollowed D.contains code.now hook segment_starts.now segment.now slot instruction
         known.state after) }
-    ensures named { IfErr result (MayFollow hook instruction) }
+    ensures named { IfErr result (MayRefuseInstruction hook instruction) }
     ensures plain { IsPlainIfLive D.contains segment_starts.now segment.now slot instruction known
         → IsOk result }
     ensures keeps { IsPlainIfLive D.contains segment_starts.now segment.now slot instruction known
@@ -119,7 +119,7 @@ fn pass_in<'a, D: Domain>(
         → IsFollowed D.contains code.now hook segment_starts.now
         (segment_of segment_starts.now entry.now begun)
         slot instruction.now known.state after) }
-    ensures named { IfErr result (MayFollow hook instruction.now) }
+    ensures named { IfErr result (MayRefuseInstruction hook instruction.now) }
     ensures plain { IsPlainIfLive D.contains segment_starts.now
         (segment_of segment_starts.now entry.now begun)
         slot instruction.now known → IsOk result }

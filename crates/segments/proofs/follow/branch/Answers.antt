@@ -3,7 +3,7 @@ use Rattle.std.proofs.lemmas.Int.{to_z-of_z}
 use Rattle.std.specs.Int.{w16}
 use Rattle.isa.specs.Flow.{slot_at_distance}
 use Rattle.isa.specs.declared.instruction.Instruction.TheVariants.{Branch}
-use Rattle.segments.specs.Refusals.{MayFollow}
+use Rattle.segments.specs.Refusals.{MayRefuseInstruction}
 use Rattle.segments.proofs.Followed.{goes_by_test}
 use Rattle.segments.proofs.Named.{edge_follows}
 use Rattle.segments.proofs.Plain.{beside, hands_on, jump_edge, kept_again, never, pass_edge}
@@ -28,7 +28,7 @@ returns-clause-followed g c =
 pub returns-in_err-left-clause-named : goal.returns-in_err-left-clause-named
 returns-in_err-left-clause-named g c =
     hands_on c.from_residual-in_err-left.result c.in_err-left.field-0.0
-    (MayFollow c.args.hook (Branch c.args.width c.args.test c.args.operands.now.left
+    (MayRefuseInstruction c.args.hook (Branch c.args.width c.args.test c.args.operands.now.left
     c.args.operands.now.right c.args.distance)) c.from_residual-in_err-left.ensures.1
     (edge_follows c.args.hook (Branch c.args.width c.args.test c.args.operands.now.left
     c.args.operands.now.right c.args.distance) c.in_err-left.field-0.0
@@ -46,7 +46,7 @@ returns-in_err-left-clause-plain g c = λ here.
 pub returns-in_err-after-clause-named : goal.returns-in_err-after-clause-named
 returns-in_err-after-clause-named g c =
     hands_on c.from_residual-in_err-after.result c.in_err-after.field-0.0
-    (MayFollow c.args.hook (Branch c.args.width c.args.test c.args.operands.now.left
+    (MayRefuseInstruction c.args.hook (Branch c.args.width c.args.test c.args.operands.now.left
     c.args.operands.now.right c.args.distance)) c.from_residual-in_err-after.ensures.1
     (edge_follows c.args.hook (Branch c.args.width c.args.test c.args.operands.now.left
     c.args.operands.now.right c.args.distance) c.in_err-after.field-0.0

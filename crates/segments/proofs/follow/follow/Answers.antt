@@ -7,7 +7,7 @@ use Rattle.std.proofs.lemmas.Int.{to_z-of_z}
 use Rattle.isa.specs.Code.{IsInstruction}
 use Rattle.isa.specs.Flow.{slot_at_distance}
 use Rattle.segments.specs.Places.{IsWellPlaced}
-use Rattle.segments.specs.Refusals.{MayFollow}
+use Rattle.segments.specs.Refusals.{MayRefuseInstruction}
 use Rattle.segments.proofs.Followed.{goes_by_jump, goes_nowhere}
 use Rattle.segments.proofs.Named.{edge_follows}
 use Rattle.segments.proofs.Plain.{hands_on, jump_edge, never}
@@ -26,7 +26,7 @@ returns-in_ok-end-in-Exit-clause-followed g c =
 pub returns-in_err-leave-in-Jump-clause-named : goal.returns-in_err-leave-in-Jump-clause-named
 returns-in_err-leave-in-Jump-clause-named g c =
     hands_on c.from_residual.result c.in_err-leave-in-Jump.field-0.0
-    (MayFollow c.args.hook c.args.instruction) c.from_residual.ensures.1
+    (MayRefuseInstruction c.args.hook c.args.instruction) c.from_residual.ensures.1
     (edge_follows c.args.hook c.args.instruction c.in_err-leave-in-Jump.field-0.0
     c.in_err-leave-in-Jump.ensures.named)
 
@@ -64,7 +64,7 @@ pub returns-in_err-leave-in-LongJump-clause-named :
     goal.returns-in_err-leave-in-LongJump-clause-named
 returns-in_err-leave-in-LongJump-clause-named g c =
     hands_on c.from_residual-in_err-leave-in-LongJump.result c.in_err-leave-in-LongJump.field-0.0
-    (MayFollow c.args.hook c.args.instruction)
+    (MayRefuseInstruction c.args.hook c.args.instruction)
     c.from_residual-in_err-leave-in-LongJump.ensures.1
     (edge_follows c.args.hook c.args.instruction c.in_err-leave-in-LongJump.field-0.0
     c.in_err-leave-in-LongJump.ensures.named)

@@ -1,6 +1,6 @@
 use Rattle.std.proofs.Common.{◌≡◌, ◌+◌, arith, refl}
 use Rattle.isa.specs.Flow.{slot_after}
-use Rattle.segments.specs.Refusals.{MayFollow}
+use Rattle.segments.specs.Refusals.{MayRefuseInstruction}
 use Rattle.segments.proofs.Followed.{goes_straight}
 use Rattle.segments.proofs.Named.{edge_follows}
 use Rattle.segments.proofs.Plain.{filled_behind, hands_on, never, pass_edge, plain_step}
@@ -19,7 +19,7 @@ returns-clause-followed g c = goes_straight g.D.Domain.contains c.args.code.now 
 pub returns-in_err-after-clause-named : goal.returns-in_err-after-clause-named
 returns-in_err-after-clause-named g c =
     hands_on c.from_residual-in_err-after.result c.in_err-after.field-0.0
-    (MayFollow c.args.hook c.args.instruction) c.from_residual-in_err-after.ensures.1
+    (MayRefuseInstruction c.args.hook c.args.instruction) c.from_residual-in_err-after.ensures.1
     (edge_follows c.args.hook c.args.instruction c.in_err-after.field-0.0
     c.in_err-after.ensures.named)
 
