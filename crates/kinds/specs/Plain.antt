@@ -17,10 +17,10 @@ abbrev pub kind_in : {D : Type 0} → List (Kind D) → ℕ → Kind D
 kind_in known r = slice_index_or known r kinds.Unknown
 
 -- the register is one of r0 to r9 and is known to hold a number
-pub record IsFilled {D : Type 0} (state : AbstractState D) (r : ℕ) : Type 0 where
+pub record HoldsNumber {D : Type 0} (state : AbstractState D) (r : ℕ) : Type 0 where
   pub low : r < 10
   pub number : IsNumber (kind_in state.kinds.items r)
 
 -- the operand is known to be a number: the register, if it is one, is
-abbrev pub IsFilledOperand : {D : Type 0} → AbstractState D → Source → Type 0
-IsFilledOperand state source = AllByRecursion (IsFilled state) (source_registers source)
+abbrev pub OperandHoldsNumber : {D : Type 0} → AbstractState D → Source → Type 0
+OperandHoldsNumber state source = AllByRecursion (HoldsNumber state) (source_registers source)

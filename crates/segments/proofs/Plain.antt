@@ -15,7 +15,7 @@ use Rattle.kinds.specs.declared.state.Kind.{Kind}
 use Rattle.kinds.specs.declared.state.Kind.TheVariants as kinds
 use Rattle.kinds.specs.declared.state.AbstractState.{AbstractState}
 use Rattle.kinds.specs.declared.statement.SegmentStart.{SegmentStart}
-use Rattle.kinds.specs.Plain.{IsFilled, IsNumber, kind_in}
+use Rattle.kinds.specs.Plain.{HoldsNumber, IsNumber, kind_in}
 use Rattle.kinds.specs.Stated.{Admits, HasEveryNumber}
 use Rattle.transfer.specs.declared.rule.Rule.{Rule}
 use Rattle.transfer.specs.declared.rule.Rule.TheVariants as rules
@@ -35,7 +35,7 @@ admits_kind contains (kinds.Number value) (kinds.Pointer place) number every = a
 admits_kind contains (kinds.Pointer place) other number every = absurd number
 
 pub asks_admits : {D : Type 0} (contains : D → ℕ → Type 0) (state : AbstractState D) (r : ℕ)
-    (other : Kind D) → AsksAtMost contains (IsFilled state r) other
+    (other : Kind D) → AsksAtMost contains (HoldsNumber state r) other
     → Admits contains (kind_in state.kinds.items r) other
 asks_admits contains state r kinds.Unknown asks = tt
 asks_admits contains state r (kinds.Number wider) asks =
@@ -64,8 +64,8 @@ hands_on (Err other) error P is broken = subst P (sym is) broken
 
 -- an instruction that writes no register fills none
 pub beside : {D : Type 0} (i : Instruction) (state : AbstractState D) → register_written i ≡ None
-    → (r : ℕ) → IsFilledBehind i state r → IsFilled state r
-beside i state none r = ⊎_elim (λ (filled : IsFilled state r). filled)
+    → (r : ℕ) → IsFilledBehind i state r → HoldsNumber state r
+beside i state none r = ⊎_elim (λ (filled : HoldsNumber state r). filled)
     (λ (written : register_written i ≡ Some r). absurd
     (none-some r (sym none ∙ written)))
 
@@ -89,18 +89,18 @@ module _ {D : Type 0} (contains : D → ℕ → Type 0) (segment_starts : List (
   module _ (slot : ℕ) (i : Instruction) (state : AbstractState D)
       (here : IsPlainHere contains segment_starts segment slot i state) where
     pub jump_edge : (to : ℕ) → jump_target slot i ≡ Some to → register_written i ≡ None
-        → IsPlainEdgeIfStated contains segment_starts segment (nat_le to slot) to (IsFilled state)
+        → IsPlainEdgeIfStated contains segment_starts segment (nat_le to slot) to (HoldsNumber state)
     jump_edge to jumps none =
-        enter_more (nat_le to slot) to (IsFilledBehind i state) (IsFilled state)
+        enter_more (nat_le to slot) to (IsFilledBehind i state) (HoldsNumber state)
         (beside i state none)
         (here.edges to (inl jumps))
 
     pub pass_edge : (after : AbstractState D) (next : ℕ) → slot < next → slot_after slot i ≡ next
-        → goes_on i ≡ true → ((r : ℕ) → IsFilledBehind i state r → IsFilled after r)
-        → IsPlainEdgeIfStated contains segment_starts segment false next (IsFilled after)
+        → goes_on i ≡ true → ((r : ℕ) → IsFilledBehind i state r → HoldsNumber after r)
+        → IsPlainEdgeIfStated contains segment_starts segment false next (HoldsNumber after)
     pass_edge after next less behind on grows =
         let forward : nat_le next slot ≡ false = grind (arith, nat_tests) in
-        enter_more false next (IsFilledBehind i state) (IsFilled after) grows
+        enter_more false next (IsFilledBehind i state) (HoldsNumber after) grows
         (subst (λ back. IsPlainEdgeIfStated contains segment_starts segment back next (IsFilledBehind i state))
         forward (here.edges next (inr (on, behind))))
 
@@ -133,9 +133,9 @@ kept_again state there after first second = record {
 
 -- what was filled or is written
 pub filled_behind : {D : Type 0} (i : Instruction) (state after : AbstractState D)
-    → KeepsFilled i state after → (r : ℕ) → IsFilledBehind i state r → IsFilled after r
+    → KeepsFilled i state after → (r : ℕ) → IsFilledBehind i state r → HoldsNumber after r
 filled_behind i state after kept r =
-    ⊎_elim (λ (filled : IsFilled state r). kept.others r filled)
+    ⊎_elim (λ (filled : HoldsNumber state r). kept.others r filled)
     (λ (written : register_written i ≡ Some r). kept.written r written)
 
 -- ---- rules

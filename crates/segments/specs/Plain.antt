@@ -9,7 +9,7 @@ use Rattle.kinds.specs.declared.state.Kind.{Kind}
 use Rattle.kinds.specs.declared.state.Kind.TheVariants as kinds
 use Rattle.kinds.specs.declared.state.AbstractState.{AbstractState}
 use Rattle.kinds.specs.declared.statement.SegmentStart.{SegmentStart}
-use Rattle.kinds.specs.Plain.{IsFilled, kind_in}
+use Rattle.kinds.specs.Plain.{HoldsNumber, kind_in}
 use Rattle.kinds.specs.Stated.{HasEveryNumber}
 use Rattle.ranks.specs.Lines.{IsConstant}
 use Rattle.transfer.specs.Plain.{IsPlainInstruction, ReadsFilled}
@@ -22,7 +22,7 @@ LeadsTo slot i to =
 
 -- after the instruction the register is known to hold a number: it was before, or is written
 abbrev pub IsFilledBehind : {D : Type 0} → Instruction → AbstractState D → ℕ → Type 0
-IsFilledBehind i state r = IsFilled state r ⊎ (register_written i ≡ Some r)
+IsFilledBehind i state r = HoldsNumber state r ⊎ (register_written i ≡ Some r)
 
 -- Nothing is required of a register, or that it is any number, and then it is filled.
 abbrev pub AsksAtMost : {D : Type 0} → (D → ℕ → Type 0) → Type 0 → Kind D → Type 0
@@ -65,4 +65,4 @@ pub record IsPlainHere {D : Type 0} (contains : D → ℕ → Type 0)
 -- as many registers as before, and numbers remain numbers
 pub record KeepsNumbers {D : Type 0} (state after : AbstractState D) : Type 0 where
   pub long : length after.kinds.items ≡ length state.kinds.items
-  pub others : (r : ℕ) → IsFilled state r → IsFilled after r
+  pub others : (r : ℕ) → HoldsNumber state r → HoldsNumber after r

@@ -1,7 +1,7 @@
 //! What has to hold where control enters a statement.
 ghost use Rattle.std.specs.Prelude.{IfErr, IfOk, IsOk};
 ghost use Rattle.machine.specs.declared.state.State.{State as Machine};
-ghost use Rattle.kinds.specs.Plain.{IsFilled};
+ghost use Rattle.kinds.specs.Plain.{HoldsNumber};
 ghost use Rattle.segments.specs.Plain.{IsPlainEdge};
 ghost use Rattle.segments.specs.Refusals.{IsOfEdge};
 ghost use Rattle.segments.specs.Segments.{Enters, IsKnown};
@@ -28,7 +28,7 @@ pub fn enter<'a, D: Domain>(
         → IsKnown D.contains segment.now state.now start now
         → Enters D.contains back segment.now target.now start now) }
     ensures named { IfErr result IsOfEdge }
-    ensures plain { IsPlainEdge D.contains back segment.now target.now (IsFilled state.now)
+    ensures plain { IsPlainEdge D.contains back segment.now target.now (HoldsNumber state.now)
         → IsOk result }
 {
     if !kinds_within(&state.kinds, &target.kinds) {

@@ -12,7 +12,7 @@ ghost use Rattle.transfer.specs.Given.{Given, setting_of};
 ghost use Rattle.machine.specs.declared.state.State.{State as Machine};
 ghost use Rattle.machine.specs.State.{held, operand};
 ghost use Rattle.kinds.specs.Meaning.{StateHolds, SegmentStartHolds};
-ghost use Rattle.kinds.specs.Plain.{IsFilled};
+ghost use Rattle.kinds.specs.Plain.{HoldsNumber};
 ghost use Rattle.transfer.specs.Branches.{HoldsBesides, PairHolds};
 ghost use Rattle.transfer.specs.Plain.{IsStraight, KeepsFilled};
 ghost use Rattle.transfer.specs.Rules.{IsOfExit};
@@ -60,7 +60,7 @@ pub fn jump_to<'a, D: Domain>(
         → EntersNext D.contains segment_starts.now segment.now slot start next) }
     ensures named { IfErr result IsOfEdge }
     ensures plain { IsPlainEdgeIfStated D.contains segment_starts.now segment.now (nat_le to slot) to
-        (IsFilled state.now) → IsOk result }
+        (HoldsNumber state.now) → IsOk result }
 {
     let Some(target) = stated_at(segment_starts, to) else {
         unreachable!()
@@ -85,7 +85,7 @@ pub fn pass_on<'a, D: Domain>(
         → PassesTo D.contains segment_starts.now segment.now slot next_slot after start next) }
     ensures named { IfErr result IsOfEdge }
     ensures plain { IsPlainEdgeIfStated D.contains segment_starts.now segment.now false next_slot
-        (IsFilled state)
+        (HoldsNumber state)
         → IsOk result }
     ensures same { IfOk result (λ after. after.state ≡ state) }
 {
@@ -126,7 +126,7 @@ fn take<'a, D: Domain>(
         → EntersNext D.contains segment_starts.now segment.now slot start next) }
     ensures named { IfErr result IsOfEdge }
     ensures plain { IsPlainEdgeIfStated D.contains segment_starts.now segment.now (nat_le to slot) to
-        (IsFilled state)
+        (HoldsNumber state)
         → IsOk result }
     ensures keeps { IfOk result (KeepsNumbers state) }
 {
@@ -156,7 +156,7 @@ fn stay<'a, D: Domain>(
         → PassesTo D.contains segment_starts.now segment.now slot next_slot after start next) }
     ensures named { IfErr result IsOfEdge }
     ensures plain { IsPlainEdgeIfStated D.contains segment_starts.now segment.now false next_slot
-        (IsFilled state)
+        (HoldsNumber state)
         → IsOk result }
     ensures keeps { IfOk result (λ after. KeepsNumbers state after.state) }
 {
@@ -238,7 +238,7 @@ fn leave<'a, D: Domain>(
         → EntersNext D.contains segment_starts.now segment.now slot start next) }
     ensures named { IfErr result IsOfEdge }
     ensures plain { IsPlainEdgeIfStated D.contains segment_starts.now segment.now (nat_le to slot) to
-        (IsFilled state)
+        (HoldsNumber state)
         → IsOk result }
     ensures same { IfOk result (λ after. after.state ≡ state) }
 {
@@ -256,7 +256,7 @@ fn end<D: Domain>(state: AbstractState<D>) -> Result<Known<D>, Rule>
         → IsAt (setting_of code hook input) now Exit
         → (fault : Fault) → Stuck (setting_of code hook input) now fault → ⊥) }
     ensures named { IfErr result IsOfExit }
-    ensures plain { IsFilled state 0 → IsOk result }
+    ensures plain { HoldsNumber state 0 → IsOk result }
     ensures same { IfOk result (λ after. after.state ≡ state) }
 {
     // For the prover alone, by what the call ensures.

@@ -12,7 +12,7 @@ use Rattle.isa.specs.declared.instruction.Source.{Source}
 use Rattle.kinds.specs.declared.state.Kind.{Kind}
 use Rattle.kinds.specs.declared.state.Kind.TheVariants.{Unknown}
 use Rattle.kinds.specs.declared.state.AbstractState.{AbstractState}
-use Rattle.kinds.specs.Plain.{IsNumber, IsFilled}
+use Rattle.kinds.specs.Plain.{IsNumber, HoldsNumber}
 use Rattle.isa.specs.Flow.{register_written, operation_registers, source_registers}
 use Rattle.transfer.specs.Plain.{FillsNumber, KeepsFilled}
 
@@ -40,7 +40,7 @@ number_set xs i kind new r old =
 
 pub filled_set : {D : Type 0} (state after : AbstractState D) (i : ℕ) (kind : Kind D)
     → IsNumber kind → after.kinds.items ≡ slice_set state.kinds.items i kind → (r : ℕ)
-    → IsFilled state r → IsFilled after r
+    → HoldsNumber state r → HoldsNumber after r
 filled_set state after i kind new is r filled = record {
   low = filled.low;
   number = rw is (number_set state.kinds.items i kind new r filled.number);
@@ -62,7 +62,7 @@ keeps instruction state after target names fills ten =
       ten = rw fills.items (length-set state.kinds.items target fills.kind ∙ ten);
       written = λ r writes. let same : target ≡ r =
           same_register (register_written instruction) target r names writes in
-          subst (λ k. IsFilled after k) same (record { low = fills.low; number = here });
+          subst (λ k. HoldsNumber after k) same (record { low = fills.low; number = here });
       others = λ r filled. filled_set state after target fills.kind fills.number fills.items r
           filled;
     }

@@ -6,7 +6,7 @@ use Rattle.isa.specs.declared.instruction.Instruction.TheVariants as instruction
 use Rattle.isa.specs.Flow.{registers_read, register_written}
 use Rattle.kinds.specs.declared.state.Kind.{Kind}
 use Rattle.kinds.specs.declared.state.AbstractState.{AbstractState}
-use Rattle.kinds.specs.Plain.{IsNumber, IsFilled}
+use Rattle.kinds.specs.Plain.{IsNumber, HoldsNumber}
 
 -- It always falls through: it is neither a jump nor EXIT.
 abbrev pub IsStraight : Instruction → Type 0
@@ -38,14 +38,14 @@ IsPlainInstruction other = IsPlainStep other
 
 -- each register that it reads is known to hold a number
 abbrev pub ReadsFilled : {D : Type 0} → Instruction → AbstractState D → Type 0
-ReadsFilled instruction state = AllByRecursion (IsFilled state) (registers_read instruction)
+ReadsFilled instruction state = AllByRecursion (HoldsNumber state) (registers_read instruction)
 
 -- What the instruction writes is a number, and numbers remain numbers.
 pub record KeepsFilled {D : Type 0} (instruction : Instruction)
     (state after : AbstractState D) : Type 0 where
   pub ten : length after.kinds.items ≡ 10
-  pub written : (r : ℕ) → register_written instruction ≡ Some r → IsFilled after r
-  pub others : (r : ℕ) → IsFilled state r → IsFilled after r
+  pub written : (r : ℕ) → register_written instruction ≡ Some r → HoldsNumber after r
+  pub others : (r : ℕ) → HoldsNumber state r → HoldsNumber after r
 
 -- the register, which isn't r10, is known to hold a number, and the same is known of the others
 pub record FillsNumber {D : Type 0} (state : AbstractState D) (target : ℕ)

@@ -25,7 +25,7 @@ use Rattle.kinds.specs.declared.state.AbstractState.{AbstractState}
 use Rattle.kinds.specs.declared.statement.SegmentStart.{SegmentStart}
 use Rattle.machine.specs.declared.state.State.{State as Machine}
 use Rattle.kinds.specs.Meaning.{StateHolds, SegmentStartHolds}
-use Rattle.kinds.specs.Plain.{IsFilled, IsNumber, kind_in}
+use Rattle.kinds.specs.Plain.{HoldsNumber, IsNumber, kind_in}
 use Rattle.kinds.specs.Stated.{HasEveryNumber, IsRead, any_number}
 use Rattle.transfer.specs.declared.rule.Rule.{Rule}
 use Rattle.transfer.specs.declared.rule.Rule.TheVariants as rules
@@ -186,7 +186,7 @@ module _ {D : Type 0} (contains : D → ℕ → Type 0) (code : List Slot) (entr
   filled_stated : (slot : ℕ) (segment : SegmentStart D) (state : AbstractState D)
       → segment_start_at segment_starts slot ≡ Some segment
       → ((r : ℕ) → r < 10 → kind_in state.kinds.items r ≡ kind_in segment.kinds.items r)
-      → (r : ℕ) → IsFilledAt code statements slot r → IsFilled state r
+      → (r : ℕ) → IsFilledAt code statements slot r → HoldsNumber state r
   filled_stated slot segment state there same r (is_stated s is number) =
       let found = statement_of_segment_start contains statements segment_starts slot segment
       program.are there in
@@ -241,7 +241,7 @@ module _ {D : Type 0} (contains : D → ℕ → Type 0) (code : List Slot) (entr
       at = here;
       writes = writes;
     }));
-    reads = all_map (IsFilledAt code statements slot) (IsFilled known.state) (knows.filled live)
+    reads = all_map (IsFilledAt code statements slot) (HoldsNumber known.state) (knows.filled live)
         (registers_read i) (program.plain.reads slot i here);
     ten = ten;
     edges = λ to leads target there.

@@ -4,7 +4,7 @@ use Rattle.isa.specs.declared.code.Slot.{Slot}
 use Rattle.isa.specs.declared.instruction.Instruction.{Instruction}
 use Rattle.object.specs.Statements.{StatementParts}
 use Rattle.kinds.specs.declared.statement.SegmentStart.{SegmentStart}
-use Rattle.kinds.specs.Plain.{IsFilled}
+use Rattle.kinds.specs.Plain.{HoldsNumber}
 use Rattle.ranks.specs.Lines.{IsConstant}
 use Rattle.transfer.specs.Plain.{KeepsFilled}
 use Rattle.segments.specs.declared.known.Known.{Known}
@@ -30,7 +30,7 @@ pub record KnowsPlain {D : Type 0} (code : List Slot) (entry_rank : ℕ)
     (statements : List StatementParts) (slot : ℕ) (segment : SegmentStart D)
     (known : Known D) : Type 0 where
   pub filled : known.is_live ≡ true → (r : ℕ) → IsFilledAt code statements slot r
-      → IsFilled known.state r
+      → HoldsNumber known.state r
   pub constant : IsConstant segment.statement.now.rank
   pub rank : IsRankAt code entry_rank statements slot segment.statement.now.rank.constant
 

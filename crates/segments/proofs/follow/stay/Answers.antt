@@ -1,5 +1,5 @@
 use Rattle.std.proofs.Common.{false, refl}
-use Rattle.kinds.specs.Plain.{IsFilled}
+use Rattle.kinds.specs.Plain.{HoldsNumber}
 use Rattle.segments.proofs.Followed.{moved}
 use Rattle.segments.proofs.Plain.{enter_more, kept_on, never}
 use Rattle.segments.proofs.follow.stay.Goals as goal
@@ -17,7 +17,7 @@ returns-in_err-after-clause-plain g c = λ may.
     never (c.in_err-after.ensures.plain
     (enter_more g.D.Domain.contains c.args.segment_starts.now c.args.segment.now false
     c.args.next_slot
-    (IsFilled c.args.state) (IsFilled c.refined-here.result) c.refined-here.ensures.keeps
+    (HoldsNumber c.args.state) (HoldsNumber c.refined-here.result) c.refined-here.ensures.keeps
     may))
 
 pub returns-clause-keeps : goal.returns-clause-keeps

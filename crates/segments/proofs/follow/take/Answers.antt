@@ -1,6 +1,6 @@
 use Rattle.std.proofs.Common.{refl}
 use Rattle.std.specs.Prelude.{nat_le}
-use Rattle.kinds.specs.Plain.{IsFilled}
+use Rattle.kinds.specs.Plain.{HoldsNumber}
 use Rattle.segments.proofs.Followed.{moved}
 use Rattle.segments.proofs.Plain.{enter_more, never}
 use Rattle.segments.proofs.follow.take.Goals as goal
@@ -17,5 +17,5 @@ pub returns-in_err-jump_to-clause-plain : goal.returns-in_err-jump_to-clause-pla
 returns-in_err-jump_to-clause-plain g c = λ may.
     never (c.in_err-jump_to.ensures.plain
     (enter_more g.D.Domain.contains c.args.segment_starts.now c.args.segment.now
-    (nat_le c.args.to c.args.slot) c.args.to (IsFilled c.args.state)
-    (IsFilled c.refined-there.result) c.refined-there.ensures.keeps may))
+    (nat_le c.args.to c.args.slot) c.args.to (HoldsNumber c.args.state)
+    (HoldsNumber c.refined-there.result) c.refined-there.ensures.keeps may))

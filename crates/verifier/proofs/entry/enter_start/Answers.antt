@@ -1,5 +1,5 @@
 use Rattle.verifier.proofs.Entries.{edge_of}
-use Rattle.kinds.specs.Plain.{IsFilled}
+use Rattle.kinds.specs.Plain.{HoldsNumber}
 use Rattle.std.proofs.Common.{false}
 use Rattle.segments.proofs.Plain.{enter_more, never}
 use Rattle.verifier.proofs.entry.enter_start.Goals as goal
@@ -17,5 +17,5 @@ returns-in-Ok-clause-edge g c = λ target stated.
 pub returns-in-Err-clause-plain : goal.returns-in-Err-clause-plain
 returns-in-Err-clause-plain g c = λ may.
     never (c.in-Err.ensures.plain (enter_more g.D.Domain.contains c.args.segment_starts.now
-    c.args.entry.now false 0 (λ r. ⊥) (IsFilled c.reset-state.result) (λ r none. absurd none)
+    c.args.entry.now false 0 (λ r. ⊥) (HoldsNumber c.reset-state.result) (λ r none. absurd none)
     may c.in-Some.target.now c.in-Some.ensures))
