@@ -23,7 +23,7 @@ use Rattle.adjacency.specs.Retransmissions.{repeats_description, that_fit}
 use Rattle.adjacency.specs.Requests.{still_outstanding}
 use Rattle.adjacency.specs.Steps.{neighbor_is_exchange_or_later}
 use Rattle.adjacency.specs.Timers.{description_is_due, full_where, is_any_inactive, request_is_due}
-use Rattle.adjacency.specs.Timers.{expire_timers, retransmission_is_due}
+use Rattle.adjacency.specs.Timers.{expire_neighbor_timers, retransmission_is_due}
 use Rattle.adjacency.specs.Views.{keys_of, neighbor_of}
 use Rattle.adjacency.proofs.Sends.{drafting-append}
 use Rattle.adjacency.proofs.Sets.{empty_keys}
@@ -153,12 +153,12 @@ module _ (moment dead : ℕ) where
   without n = no_sends (without_old_description moment dead n)
 
   pub goes_down : (o : Option Neighbor) → is_any_inactive moment dead o ≡ true
-      → None ≡ expire_timers moment dead o
+      → None ≡ expire_neighbor_timers moment dead o
   goes_down None is = refl
   goes_down (Some n) is = ap (λ b. step_on without (cond b None (Some n))) (sym is)
 
   pub stays_up : (o : Option Neighbor) → is_any_inactive moment dead o ≡ false
-      → step_on without o ≡ expire_timers moment dead o
+      → step_on without o ≡ expire_neighbor_timers moment dead o
   stays_up None is = refl
   stays_up (Some n) is = ap (λ b. step_on without (cond b None (Some n))) (sym is)
 

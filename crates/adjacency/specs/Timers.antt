@@ -24,8 +24,8 @@ is_any_inactive moment dead (Some n) = has_passed n.last_heard dead moment
 
 -- a neighbor whose inactivity timer has expired is Down; another one discards its last Database
 -- Description once RouterDeadInterval has passed since the exchange
-abbrev pub expire_timers : Moment → (dead : Seconds) → Option Neighbor → Option Neighbor
-expire_timers moment dead n =
+abbrev pub expire_neighbor_timers : Moment → (dead : Seconds) → Option Neighbor → Option Neighbor
+expire_neighbor_timers moment dead n =
     step_on (λ m. no_sends (without_old_description moment dead m))
     (after_inactivity_timer moment dead n)
 

@@ -7,8 +7,8 @@ use Rattle.event_rules.specs.EventState.{EventState, on_area, on_router}
 use Rattle.event_rules.specs.Originations.{due_keys, forget_originations, originate_due}
 use Rattle.event_rules.specs.Ticks.{expire_timers}
 
-abbrev pub run_out_all : Moment → EventState → EventState
-run_out_all moment p =
+abbrev pub expire_timers_and_forget : Moment → EventState → EventState
+expire_timers_and_forget moment p =
     on_router (forget_originations moment) (on_area (on_links (map (expire_timers moment))) p)
 
 abbrev pub originate_what_is_due : Moment → EventState → EventState

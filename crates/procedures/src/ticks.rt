@@ -2,7 +2,7 @@
 ghost use Rattle.event_rules.specs.Originations.{due_keys};
 ghost use Rattle.event_rules.specs.Ticks.{after_tick};
 ghost use Rattle.procedures.specs.Making.{RouterDoes};
-ghost use Rattle.procedures.specs.TickParts.{originate_what_is_due, run_out_all};
+ghost use Rattle.procedures.specs.TickParts.{originate_what_is_due, expire_timers_and_forget};
 
 use crate::due::{due_keys, originate_due};
 use router_state::Router;
@@ -11,7 +11,7 @@ use words::Second;
 
 // Expired timers: inactive neighbors go Down, and originations are forgotten after MinLSInterval.
 fn expire_timers(router: &mut Router, alloc: Global, moment: Second) -> Result<(), AllocError>
-    ensures { RouterDoes (run_out_all moment) router.old router.new result }
+    ensures { RouterDoes (expire_timers_and_forget moment) router.old router.new result }
 {
     router.expire_timers(moment);
     router.forget_originations(alloc, moment)

@@ -18,7 +18,7 @@ given_up moment dead None = refl
 given_up moment dead (Some n) = refl
 
 pub expire_timers_is : (moment : ℕ) (l : Link)
-    → with_neighbor (neighbor.expire_timers moment l.interface.dead_interval l.neighbor) l
+    → with_neighbor (neighbor.expire_neighbor_timers moment l.interface.dead_interval l.neighbor) l
     ≡ expire_timers moment l
 expire_timers_is moment l = ap (λ o. with_neighbor o l)
     (given_up moment l.interface.dead_interval

@@ -19,7 +19,7 @@ impl Link {
     }
 }
 
-/// The timers that a Tick finds expired, as in `NeighborSlot::expire_timers`, with the interface's
+/// The timers that a Tick finds expired, as in `NeighborSlot::expire_neighbor_timers`, with the interface's
 /// RouterDeadInterval.
 #[derive(Drop)]
 pub struct ExpireTimers {
@@ -27,15 +27,15 @@ pub struct ExpireTimers {
 }
 
 impl LinkChange for ExpireTimers {
-    ghost use Rattle.adjacency.specs.Timers.{expire_timers};
+    ghost use Rattle.adjacency.specs.Timers.{expire_neighbor_timers};
     ghost use Rattle.flooding.specs.Links.{with_neighbor};
 
     ghost after = { λ a link. with_neighbor
-        (expire_timers a.moment link.interface.dead_interval link.neighbor) link };
+        (expire_neighbor_timers a.moment link.interface.dead_interval link.neighbor) link };
 
     fn change(&self, link: &mut Link) {
         link.slot
-            .expire_timers(self.moment, link.interface.dead_interval);
+            .expire_neighbor_timers(self.moment, link.interface.dead_interval);
     }
 }
 

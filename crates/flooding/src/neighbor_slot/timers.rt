@@ -1,6 +1,6 @@
 //! Timers that a Tick finds expired (RFC 2328, sections 10.3 and 10.8).
 ghost use Rattle.std.specs.Prelude.{◌≡◌};
-ghost use Rattle.adjacency.specs.Timers.{expire_timers};
+ghost use Rattle.adjacency.specs.Timers.{expire_neighbor_timers};
 
 use super::NeighborSlot;
 use neighbors::has_passed;
@@ -11,9 +11,9 @@ impl NeighborSlot {
     /// which no Hello was received for RouterDeadInterval (`dead`, in seconds) goes Down
     /// (InactivityTimer), and the last Database Description is discarded that long after the
     /// exchange was completed. It doesn't allocate.
-    pub fn expire_timers(&mut self, moment: Second, dead: u32)
+    pub fn expire_neighbor_timers(&mut self, moment: Second, dead: u32)
         ensures { self.new ≡ record self.old {
-          present = expire_timers moment dead
+          present = expire_neighbor_timers moment dead
               self.old.present;
         } }
     {
