@@ -12,8 +12,8 @@ use Rattle.lsdb.specs.Keys.{ByKey, key_cmp}
 use Rattle.adjacency.specs.Neighbors.{Neighbor, is_exchange_or_later}
 use Rattle.received.specs.Holds.{Holds}
 use Rattle.event_rules.specs.Events.{Step}
-use Rattle.event_rules.specs.InstanceIdentities.{InstanceIdentity, instance_of_header}
-use Rattle.event_rules.specs.InstanceIdentities.{instance_of_lsa}
+use Rattle.event_rules.specs.InstanceIdentities.{InstanceIdentity, identity_of_header}
+use Rattle.event_rules.specs.InstanceIdentities.{identity_of_lsa}
 use Rattle.event_rules.specs.Routers.{Occurrence, Router}
 use Rattle.agreement_laws.specs.Exchanged.{Conversation, Describes, conversation_with}
 use Rattle.agreement_laws.specs.HeldWasExchanged.{is_exchange_done}
@@ -48,7 +48,7 @@ module _ (ends : Ends) (side : Side) (with_it : Conversation) (header : Header) 
   abbrev InPacket : (bytes : List ℕ) (now : Pair) (earlier : List Pair) → IsHistory ends now earlier
       → Type 0
   InPacket bytes now earlier h = InConversation ends side with_it
-      (λ (own : ℕ) (step : Step). BringsInstance number bytes (instance_of_header header) step) now
+      (λ (own : ℕ) (step : Step). BringsInstance number bytes (identity_of_header header) step) now
       earlier
       h
 
@@ -171,7 +171,7 @@ module _ (ends : Ends) (now : Pair) (earlier : List Pair) (history : IsHistory e
     other = (party (other_side side) now).router
 
     abbrev name : InstanceIdentity
-    name = instance_of_lsa copy.lsa
+    name = identity_of_lsa copy.lsa
 
     abbrev n : Neighbor
     n = at_rest.neighbor
@@ -209,46 +209,46 @@ module _ (ends : Ends) (now : Pair) (earlier : List Pair) (history : IsHistory e
         at_rest.there (ap is_exchange_done at_rest.full)
 
     -- the other one sent it, and holds it unless it has lost it
-    by_told : (header : Header) → key_of header ≡ key → is_as_new (instance_of_header header) name
+    by_told : (header : Header) → key_of header ≡ key → is_as_new (identity_of_header header) name
         ≡ true → (bytes : List ℕ) → InPacket ends side (conversation_with n) header bytes now
         earlier
         history → Result
     by_told header is new bytes told =
         by_copy (finite.get other.area.database (lsa_key copy.lsa)) refl
       where
-        forgotten : (HoldsAsNew other (instance_of_header header) → ⊥) → Result
+        forgotten : (HoldsAsNew other (identity_of_header header) → ⊥) → Result
         forgotten lacks =
-            inr (Exception.Forgotten bytes (instance_of_header header) (is ∙ sym of_key) new told
-            (was_sent ends side (conversation_with n) bytes (instance_of_header header) now earlier
+            inr (Exception.Forgotten bytes (identity_of_header header) (is ∙ sym of_key) new told
+            (was_sent ends side (conversation_with n) bytes (identity_of_header header) now earlier
             history told)
             (λ text at. by_memory text (its.told text bytes at
-            (in_step ends side (conversation_with n) bytes (instance_of_header header) now earlier
+            (in_step ends side (conversation_with n) bytes (identity_of_header header) now earlier
             history told).1.packet
-            (in_step ends side (conversation_with n) bytes (instance_of_header header) now earlier
-            history told).1.text (instance_of_header header)
-            (in_step ends side (conversation_with n) bytes (instance_of_header header) now earlier
+            (in_step ends side (conversation_with n) bytes (identity_of_header header) now earlier
+            history told).1.text (identity_of_header header)
+            (in_step ends side (conversation_with n) bytes (identity_of_header header) now earlier
             history told).1.told)))
           where
-            by_memory : (text : ℕ) → HoldsAsNew other (instance_of_header header)
-                ⊎ HasForgotten ends (other_side side) (instance_of_header header) text now earlier
-                history → HasForgotten ends (other_side side) (instance_of_header header) text now
+            by_memory : (text : ℕ) → HoldsAsNew other (identity_of_header header)
+                ⊎ HasForgotten ends (other_side side) (identity_of_header header) text now earlier
+                history → HasForgotten ends (other_side side) (identity_of_header header) text now
                 earlier history
             by_memory text (inl has) = absurd (lacks has)
             by_memory text (inr old) = old
 
-        same_key : (instance_of_header header).key ≡ lsa_key copy.lsa
+        same_key : (identity_of_header header).key ≡ lsa_key copy.lsa
         same_key = is ∙ sym of_key
 
-        as_name : HoldsAsNew other (instance_of_header header) → HoldsAsNew other name
+        as_name : HoldsAsNew other (identity_of_header header) → HoldsAsNew other name
         as_name has = record {
           copy = has.copy;
           there = ap (λ (k : Key). finite.get other.area.database k) (sym same_key) ∙ has.there;
-          as_new = as_new_on (instance_of_lsa has.copy.lsa) (instance_of_header header) name
+          as_new = as_new_on (identity_of_lsa has.copy.lsa) (identity_of_header header) name
               has.as_new new;
         }
 
         by_test : (d : DatabaseCopy) → finite.get other.area.database (lsa_key copy.lsa) ≡ Some d
-            → (b : Bool) → is_as_new (instance_of_lsa d.lsa) name ≡ b → Result
+            → (b : Bool) → is_as_new (identity_of_lsa d.lsa) name ≡ b → Result
         by_test d at true e = inl (record { copy = d; there = at; as_new = e })
         by_test d at false e =
             forgotten (λ has.
@@ -259,7 +259,7 @@ module _ (ends : Ends) (now : Pair) (earlier : List Pair) (history : IsHistory e
           where
             newness : Option DatabaseCopy → Bool
             newness None = false
-            newness (Some c) = is_as_new (instance_of_lsa c.lsa) name
+            newness (Some c) = is_as_new (identity_of_lsa c.lsa) name
 
         by_copy : (o : Option DatabaseCopy) → finite.get other.area.database (lsa_key copy.lsa) ≡ o
             → Result
@@ -267,10 +267,10 @@ module _ (ends : Ends) (now : Pair) (earlier : List Pair) (history : IsHistory e
             forgotten (λ has.
             let all : HoldsAsNew other name = as_name has in
             let no : None ≡ Some all.copy = sym at ∙ all.there in absurd cc)
-        by_copy (Some d) at = by_test d at (is_as_new (instance_of_lsa d.lsa) name) refl
+        by_copy (Some d) at = by_test d at (is_as_new (identity_of_lsa d.lsa) name) refl
 
     by_exchange : (header : Header) → key_of header ≡ key
-        → is_as_new (instance_of_header header) name
+        → is_as_new (identity_of_header header) name
         ≡ true → InDescription ends side (conversation_with n) header now earlier history
         ⊎ ((bytes : List ℕ) × InPacket ends side (conversation_with n) header bytes now earlier
         history) → Result
@@ -313,10 +313,10 @@ module _ (ends : Ends) (now : Pair) (earlier : List Pair) (history : IsHistory e
     (b_there : finite.get now.right.router.area.database key ≡ Some b) where
   abbrev Same : Type 0
   Same =
-      (instance_of_lsa a.lsa ≡ instance_of_lsa b.lsa)
-      ⊎ (Exception ends Side.Left (conversation_with left.neighbor) (instance_of_lsa a.lsa) now
+      (identity_of_lsa a.lsa ≡ identity_of_lsa b.lsa)
+      ⊎ (Exception ends Side.Left (conversation_with left.neighbor) (identity_of_lsa a.lsa) now
       earlier history ⊎ Exception ends Side.Right (conversation_with right.neighbor)
-      (instance_of_lsa b.lsa) now earlier history)
+      (identity_of_lsa b.lsa) now earlier history)
 
   a_key : lsa_key a.lsa ≡ key
   a_key = (life_order now.left.router
@@ -328,8 +328,8 @@ module _ (ends : Ends) (now : Pair) (earlier : List Pair) (history : IsHistory e
 
   -- the copy that is at least as new is the present one
   its_copy : (r : Router) (x y : DatabaseCopy) → lsa_key x.lsa ≡ key
-      → finite.get r.area.database key ≡ Some y → HoldsAsNew r (instance_of_lsa x.lsa)
-      → is_as_new (instance_of_lsa y.lsa) (instance_of_lsa x.lsa) ≡ true
+      → finite.get r.area.database key ≡ Some y → HoldsAsNew r (identity_of_lsa x.lsa)
+      → is_as_new (identity_of_lsa y.lsa) (identity_of_lsa x.lsa) ≡ true
   its_copy r x y of_key at has =
       let one : Some y ≡ Some has.copy = sym at
       ∙ ap (λ (k : Key). finite.get r.area.database k) (sym of_key) ∙ has.there in
@@ -337,21 +337,21 @@ module _ (ends : Ends) (now : Pair) (earlier : List Pair) (history : IsHistory e
     where
       newness : Option DatabaseCopy → Bool
       newness None = false
-      newness (Some c) = is_as_new (instance_of_lsa c.lsa) (instance_of_lsa x.lsa)
+      newness (Some c) = is_as_new (identity_of_lsa c.lsa) (identity_of_lsa x.lsa)
 
   pub both : Same
   both = by_left (result ends now earlier history Side.Left key left a a_there)
       (result ends now earlier history Side.Right key right b b_there)
     where
-      by_left : HoldsAsNew now.right.router (instance_of_lsa a.lsa)
-          ⊎ Exception ends Side.Left (conversation_with left.neighbor) (instance_of_lsa a.lsa) now
-          earlier history → HoldsAsNew now.left.router (instance_of_lsa b.lsa)
+      by_left : HoldsAsNew now.right.router (identity_of_lsa a.lsa)
+          ⊎ Exception ends Side.Left (conversation_with left.neighbor) (identity_of_lsa a.lsa) now
+          earlier history → HoldsAsNew now.left.router (identity_of_lsa b.lsa)
           ⊎ Exception ends Side.Right (conversation_with right.neighbor)
-          (instance_of_lsa b.lsa) now earlier history → Same
+          (identity_of_lsa b.lsa) now earlier history → Same
       by_left (inr e) back = inr (inl e)
       by_left (inl has) (inr e) = inr (inr e)
       by_left (inl has) (inl back) =
-          inl (same_instance (instance_of_lsa a.lsa) (instance_of_lsa b.lsa) (a_key ∙ sym b_key)
+          inl (same_instance (identity_of_lsa a.lsa) (identity_of_lsa b.lsa) (a_key ∙ sym b_key)
           (its_copy now.left.router b a b_key a_there back)
           (its_copy now.right.router a b a_key b_there has))
 

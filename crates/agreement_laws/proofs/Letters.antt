@@ -22,8 +22,8 @@ use Rattle.adjacency.specs.Contents.{Content}
 use Rattle.received.specs.Links.{Link}
 use Rattle.received.specs.Outcomes.{Send, at_interface}
 use Rattle.event_rules.specs.declared.model.Out.{Out}
-use Rattle.event_rules.specs.InstanceIdentities.{InstanceIdentity, instance_of_header}
-use Rattle.event_rules.specs.InstanceIdentities.{instance_of_lsa}
+use Rattle.event_rules.specs.InstanceIdentities.{InstanceIdentity, identity_of_header}
+use Rattle.event_rules.specs.InstanceIdentities.{identity_of_lsa}
 use Rattle.event_rules.specs.InstanceIdentities.{instances_in_update}
 use Rattle.event_rules.specs.Packing.{bodies, out_of, outs_at, outs_of, packet_of}
 use Rattle.event_rules.specs.Packing.{sent_lsa, IsSentText}
@@ -134,14 +134,14 @@ module _ (R : Content → Type 0) where
 -- ---- what the bytes say
 
 module _ (R : Content → Type 0) (ranged : (lsa : Lsa) → R (Content.Updates lsa)
-    → IsIdentityInRange (instance_of_lsa lsa)) where
+    → IsIdentityInRange (identity_of_lsa lsa)) where
   -- an LSA that was sent, or a header that was acknowledged
   pub data IsOfSent (b : PacketBody) (name : InstanceIdentity) : Type 0 where
-    OfUpdate : (lsa : Lsa) → R (Content.Updates lsa) → instance_of_lsa lsa ≡ name → IsOfSent b name
+    OfUpdate : (lsa : Lsa) → R (Content.Updates lsa) → identity_of_lsa lsa ≡ name → IsOfSent b name
     OfDescription : (d : Description) (header : Header) → Contains d.headers header
-        → R (Content.Describes d) → instance_of_header header ≡ name → IsOfSent b name
+        → R (Content.Describes d) → identity_of_header header ≡ name → IsOfSent b name
     OfAcknowledgment : (headers : List Header) (header : Header) → b ≡ body.Acknowledgment headers
-        → Contains headers header → R (Content.Acknowledges header) → instance_of_header header
+        → Contains headers header → R (Content.Acknowledges header) → identity_of_header header
         ≡ name → IsOfSent b name
 
   in_update : (b : PacketBody) (delay : ℕ) (lsas : List (List ℕ)) (name : InstanceIdentity)
@@ -151,36 +151,36 @@ module _ (R : Content → Type 0) (ranged : (lsa : Lsa) → R (Content.Updates l
   in_update b delay (bytes ∷ rest) name h c =
       by_fault (fault_of bytes) (λ k. in_update b delay rest name h.1 k) c
     where
-      same : instance_of_lsa h.0.0 ≡ instance_of_lsa (lsa_of bytes)
-      same = sym (ap (λ bs. instance_of_header (header_at bs 0)) h.0.1
+      same : identity_of_lsa h.0.0 ≡ identity_of_lsa (lsa_of bytes)
+      same = sym (ap (λ bs. identity_of_header (header_at bs 0)) h.0.1
           ∙ name_read (sent_lsa delay h.0.0) (ranged h.0.0 h.0.2))
 
       by_fault : (o : Option LsaFault)
           → (Contains (instances_in_update rest) name → IsOfSent b name)
-          → Contains (map instance_of_lsa
+          → Contains (map identity_of_lsa
           (cons_option (read_unless bytes o) (filter_map lsa_in rest))) name
           → IsOfSent b name
       by_fault None others k = by_place
-          (of_cons (instance_of_lsa (lsa_of bytes)) (instances_in_update rest) name k)
+          (of_cons (identity_of_lsa (lsa_of bytes)) (instances_in_update rest) name k)
         where
-          by_place : (instance_of_lsa (lsa_of bytes) ≡ name)
+          by_place : (identity_of_lsa (lsa_of bytes) ≡ name)
               ⊎ Contains (instances_in_update rest) name → IsOfSent b name
           by_place (inl is) = IsOfSent.OfUpdate h.0.0 h.0.2 (same ∙ is)
           by_place (inr more) = others more
       by_fault (Some f) others k = others k
 
   header_of : (headers : List Header) (name : InstanceIdentity)
-      → Contains (map instance_of_header headers) name → (h : Header) × Contains headers h
-      × (instance_of_header h ≡ name)
+      → Contains (map identity_of_header headers) name → (h : Header) × Contains headers h
+      × (identity_of_header h ≡ name)
   header_of [] name c = absurd (of_empty name c)
   header_of (header ∷ headers) name c =
       by_place (λ k. header_of headers name k)
-      (of_cons (instance_of_header header) (map instance_of_header headers) name c)
+      (of_cons (identity_of_header header) (map identity_of_header headers) name c)
     where
-      by_place : (Contains (map instance_of_header headers) name → (h : Header) × Contains headers h
-          × (instance_of_header h ≡ name)) → (instance_of_header header ≡ name)
-          ⊎ Contains (map instance_of_header headers) name → (h : Header)
-          × Contains (header ∷ headers) h × (instance_of_header h ≡ name)
+      by_place : (Contains (map identity_of_header headers) name → (h : Header) × Contains headers h
+          × (identity_of_header h ≡ name)) → (identity_of_header header ≡ name)
+          ⊎ Contains (map identity_of_header headers) name → (h : Header)
+          × Contains (header ∷ headers) h × (identity_of_header h ≡ name)
       by_place others (inl is) = (header, named_first header headers header refl, is)
       by_place others (inr k) = let it = others k in (it.0, later_is header headers it.0 it.1, it.2)
 

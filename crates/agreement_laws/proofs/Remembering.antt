@@ -25,8 +25,8 @@ use Rattle.event_rules.specs.declared.model.Config.{Config}
 use Rattle.event_rules.specs.Endings.{end_event}
 use Rattle.event_rules.specs.EventState.{EventState, flood_from_nobody, on_router}
 use Rattle.event_rules.specs.Events.{Happens, Run, Step, initial}
-use Rattle.event_rules.specs.InstanceIdentities.{InstanceIdentity, instance_of_header}
-use Rattle.event_rules.specs.InstanceIdentities.{instance_of_lsa}
+use Rattle.event_rules.specs.InstanceIdentities.{InstanceIdentity, identity_of_header}
+use Rattle.event_rules.specs.InstanceIdentities.{identity_of_lsa}
 use Rattle.event_rules.specs.Originations.{flush, flush_copy, has_max_sequence, has_room}
 use Rattle.event_rules.specs.Originations.{may_originate}
 use Rattle.event_rules.specs.Originations.{new_instance, originate, originate_body, postpone}
@@ -184,7 +184,7 @@ pub record Remembers (number : ℕ) (p : Party) (Old : InstanceIdentity → ℕ 
       → PacketText bytes packet → (name : InstanceIdentity)
       → Contains (instances_told packet.body) name → HoldsAsNew p.router name ⊎ Old name text
   pub waits : (h : Header) → Waits number h p.router.area.links
-      → HoldsAsNew p.router (instance_of_header h) ⊎ ((text : ℕ) → Old (instance_of_header h) text)
+      → HoldsAsNew p.router (identity_of_header h) ⊎ ((text : ℕ) → Old (identity_of_header h) text)
   pub left : (name : InstanceIdentity) → IsToDescribe number name p.router.area.links
       → HoldsAsNew p.router name ⊎ ((text : ℕ) → Old name text)
 
@@ -228,13 +228,13 @@ module _ (number : ℕ) (Old : InstanceIdentity → ℕ → Type 0) where
             inl (record {
               copy = c;
               there = at;
-              as_new = as_new_on (instance_of_lsa c.lsa) (instance_of_lsa has.copy.lsa) name
+              as_new = as_new_on (identity_of_lsa c.lsa) (identity_of_lsa has.copy.lsa) name
                   (at_any_age (copy_now t.moment c) (copy_now t.moment has.copy) new) has.as_new;
             })
         by_copy (BecameOf.IsGone last had new aged none off) = inr none
 
     became : (x : Header) → BecameOf p.router t.moment t.event (instance_of x) (key_of x) q.router
-        → HoldsAsNew q.router (instance_of_header x) ⊎ IsWithout (key_of x) q.router
+        → HoldsAsNew q.router (identity_of_header x) ⊎ IsWithout (key_of x) q.router
     became x (BecameOf.IsHeld c at new) = inl (record {
       copy = c;
       there = at;
@@ -268,15 +268,15 @@ module _ (number : ℕ) (Old : InstanceIdentity → ℕ → Type 0) where
     old_text name text lt (inr old) = inr (inr old)
 
     received : (x : Header) → IsReceived p.router t.moment t.event q.router number x
-        → (HoldsAsNew q.router (instance_of_header x) ⊎ IsWithout (key_of x) q.router)
-        ⊎ ((text : ℕ) → Old (instance_of_header x) text)
+        → (HoldsAsNew q.router (identity_of_header x) ⊎ IsWithout (key_of x) q.router)
+        ⊎ ((text : ℕ) → Old (identity_of_header x) text)
     received x (IsReceived.Waited w) = by_old (h.waits x w)
       where
-        by_old : HoldsAsNew p.router (instance_of_header x)
-            ⊎ ((text : ℕ) → Old (instance_of_header x) text)
-            → (HoldsAsNew q.router (instance_of_header x) ⊎ IsWithout (key_of x) q.router)
-            ⊎ ((text : ℕ) → Old (instance_of_header x) text)
-        by_old (inl has) = inl (still (instance_of_header x) has)
+        by_old : HoldsAsNew p.router (identity_of_header x)
+            ⊎ ((text : ℕ) → Old (identity_of_header x) text)
+            → (HoldsAsNew q.router (identity_of_header x) ⊎ IsWithout (key_of x) q.router)
+            ⊎ ((text : ℕ) → Old (identity_of_header x) text)
+        by_old (inl has) = inl (still (identity_of_header x) has)
         by_old (inr old) = inr old
     received x (IsReceived.Held b) = inl (became x b)
 
@@ -297,10 +297,10 @@ module _ (number : ℕ) (Old : InstanceIdentity → ℕ → Type 0) where
     abbrev OfSent : Content → Type 0
     OfSent (Content.SendsHello hello) = Unit {0}
     OfSent (Content.Describes d) = (x : Header) → Contains d.headers x
-        → IsOfDatabase p.router t.moment t.event q.router number (instance_of_header x)
+        → IsOfDatabase p.router t.moment t.event q.router number (identity_of_header x)
     OfSent (Content.Requests keys) = Unit {0}
     OfSent (Content.Updates lsa) = BecameOf p.router t.moment t.event (instance_of lsa.header)
-        (lsa_key lsa) q.router × IsIdentityInRange (instance_of_lsa lsa)
+        (lsa_key lsa) q.router × IsIdentityInRange (identity_of_lsa lsa)
     OfSent (Content.Acknowledges x) = IsAcknowledged p.router t.moment t.event q.router number x
 
     ranged : AllByRecursion (λ (s : Send). AllByRecursion IsIdentityInRange
@@ -322,7 +322,7 @@ module _ (number : ℕ) (Old : InstanceIdentity → ℕ → Type 0) where
         of_content n (Content.SendsHello hello) c same is = tt
         of_content n (Content.Describes d) c same is =
             λ x among. subst (λ m. IsOfDatabase p.router t.moment t.event q.router m
-            (instance_of_header x)) same (said.described n d x c among)
+            (identity_of_header x)) same (said.described n d x c among)
         of_content n (Content.Requests keys) c same is = tt
         of_content n (Content.Updates lsa) c same is = (said.updates n lsa c, is.0)
         of_content n (Content.Acknowledges x) c same is =
@@ -341,17 +341,17 @@ module _ (number : ℕ) (Old : InstanceIdentity → ℕ → Type 0) where
     module _ (text : ℕ) (bytes : List ℕ) (at : slice_get q.sent text ≡ Some bytes) (packet : Packet)
         (written : PacketText bytes packet) where
       of_update : (lsa : Lsa) → OfSent (Content.Updates lsa) → (name : InstanceIdentity)
-          → instance_of_lsa lsa ≡ name → HoldsAsNew q.router name ⊎ With p q name text
+          → identity_of_lsa lsa ≡ name → HoldsAsNew q.router name ⊎ With p q name text
       of_update lsa so name is =
           subst (λ (n : InstanceIdentity). HoldsAsNew q.router n ⊎ With p q n text) is
-          (or_forgotten (instance_of_lsa lsa) text (within text bytes at)
+          (or_forgotten (identity_of_lsa lsa) text (within text bytes at)
           (became lsa.header so.0))
 
       by_reason : (x : Header)
-          → (HoldsAsNew q.router (instance_of_header x) ⊎ IsWithout (key_of x) q.router)
-          ⊎ ((text : ℕ) → Old (instance_of_header x) text)
-          → HoldsAsNew q.router (instance_of_header x) ⊎ With p q (instance_of_header x) text
-      by_reason x (inl so) = or_forgotten (instance_of_header x) text (within text bytes at) so
+          → (HoldsAsNew q.router (identity_of_header x) ⊎ IsWithout (key_of x) q.router)
+          ⊎ ((text : ℕ) → Old (identity_of_header x) text)
+          → HoldsAsNew q.router (identity_of_header x) ⊎ With p q (identity_of_header x) text
+      by_reason x (inl so) = or_forgotten (identity_of_header x) text (within text bytes at) so
       by_reason x (inr old) = inr (inr (old text))
 
       of_sent : (name : InstanceIdentity) → IsOfSent OfSent (λ lsa so. so.1) packet.body name
@@ -359,7 +359,7 @@ module _ (number : ℕ) (Old : InstanceIdentity → ℕ → Type 0) where
       of_sent name (IsOfSent.OfUpdate lsa so is) = of_update lsa so name is
       of_sent name (IsOfSent.OfDescription d x among so is) =
           subst (λ (n : InstanceIdentity). HoldsAsNew q.router n ⊎ With p q n text) is
-          (by_reason x (of_database (instance_of_header x) (so x among)))
+          (by_reason x (of_database (identity_of_header x) (so x among)))
       of_sent name (IsOfSent.OfAcknowledgment headers x body among (IsAcknowledged.Received r) is) =
           subst (λ (n : InstanceIdentity). HoldsAsNew q.router n ⊎ With p q n text) is
           (by_reason x (received x r))
@@ -390,14 +390,14 @@ module _ (number : ℕ) (Old : InstanceIdentity → ℕ → Type 0) where
           packet written name c)
 
     waits_for : (x : Header) → Waits number x q.router.area.links
-        → HoldsAsNew q.router (instance_of_header x)
-        ⊎ ((text : ℕ) → With p q (instance_of_header x) text)
+        → HoldsAsNew q.router (identity_of_header x)
+        ⊎ ((text : ℕ) → With p q (identity_of_header x) text)
     waits_for x w = by_reason (received x (said.waiting number x w))
       where
-        by_reason : (HoldsAsNew q.router (instance_of_header x) ⊎ IsWithout (key_of x) q.router)
-            ⊎ ((text : ℕ) → Old (instance_of_header x) text)
-            → HoldsAsNew q.router (instance_of_header x)
-            ⊎ ((text : ℕ) → With p q (instance_of_header x) text)
+        by_reason : (HoldsAsNew q.router (identity_of_header x) ⊎ IsWithout (key_of x) q.router)
+            ⊎ ((text : ℕ) → Old (identity_of_header x) text)
+            → HoldsAsNew q.router (identity_of_header x)
+            ⊎ ((text : ℕ) → With p q (identity_of_header x) text)
         by_reason (inl (inl has)) = inl has
         by_reason (inl (inr none)) = inr (λ text. inl (Forgets.WithoutWaiting none x w refl))
         by_reason (inr old) = inr (λ text. inr (old text))
@@ -454,7 +454,7 @@ module _ (number : ℕ) (Old : InstanceIdentity → ℕ → Type 0) where
         life = h.life;
         told = λ text bytes at packet written name c. more name text
             (h.told text bytes at packet written name c);
-        waits = λ x w. more_waits (instance_of_header x) (h.waits x w);
+        waits = λ x w. more_waits (identity_of_header x) (h.waits x w);
         left = λ name l. more_waits name (h.left name l);
       })
     where

@@ -41,7 +41,7 @@ use Rattle.received.proofs.Roomy.{joined}
 use Rattle.event_rules.specs.Commands.{taken_down}
 use Rattle.event_rules.specs.Endings.{flood_if_aged, link_loading_done, stays}
 use Rattle.event_rules.specs.EventState.{flood_from_nobody}
-use Rattle.event_rules.specs.InstanceIdentities.{instance_of_lsa}
+use Rattle.event_rules.specs.InstanceIdentities.{identity_of_lsa}
 use Rattle.event_rules.specs.Hellos.{accepts, hello_is_due, hello_on, names}
 use Rattle.event_rules.specs.Originations.{install_and_flood, new_instance}
 use Rattle.event_rules.specs.Packets.{accept_hello, receive_hello_on, requested_lsas, with_neighbor}
@@ -503,10 +503,10 @@ module _ (old : Router) (moment : ℕ) where
     where
       by_copy : (c : Option DatabaseCopy) → finite.get db key ≡ c
           → IfThere (λ (key : Key) (c : DatabaseCopy). OfNamed old (AsNew db) number
-          (instance_of_lsa c.lsa)) key c
+          (identity_of_lsa c.lsa)) key c
       by_copy None at = tt
       by_copy (Some c) at =
-          inr (subst (λ (k : Key). AsNew db k (young (instance_of_lsa c.lsa)))
+          inr (subst (λ (k : Key). AsNew db k (young (identity_of_lsa c.lsa)))
           (sym (own_at db key c own at))
           (c, at, older_at_least (copy_now moment c)))
 

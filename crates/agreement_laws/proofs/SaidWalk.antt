@@ -16,7 +16,7 @@ use Rattle.adjacency.proofs.Maps.{AllIn, IfThere}
 use Rattle.received.specs.Holds.{Holds}
 use Rattle.received.specs.Links.{Link, link_at, neighbor_at, neighbor_on}
 use Rattle.received.specs.Outcomes.{Outcome}
-use Rattle.event_rules.specs.InstanceIdentities.{InstanceIdentity, instance_of_header}
+use Rattle.event_rules.specs.InstanceIdentities.{InstanceIdentity, identity_of_header}
 use Rattle.event_rules.specs.declared.model.Out.{Out}
 use Rattle.event_rules.specs.Endings.{end_event, start_event}
 use Rattle.event_rules.specs.EventState.{EventState}
@@ -109,13 +109,13 @@ module _ (old : Router) (moment : ℕ) (event : Occurrence) where
 
   each_header : (number : ℕ) (d : Description)
       → ((h : Header) → Contains d.headers h
-      → IsToDescribe number (instance_of_header h) old.area.links)
+      → IsToDescribe number (identity_of_header h) old.area.links)
       → OfDescription old Now number d
   each_header number d each = all d.headers each
     where
       all : (hs : List Header) → ((h : Header) → Contains hs h
-          → IsToDescribe number (instance_of_header h) old.area.links)
-          → AllByRecursion (λ (h : Header). OfNamed old Now number (instance_of_header h)) hs
+          → IsToDescribe number (identity_of_header h) old.area.links)
+          → AllByRecursion (λ (h : Header). OfNamed old Now number (identity_of_header h)) hs
       all [] left = tt
       all (h ∷ hs) left = (
         inl (left h (named_first h hs h refl)),
@@ -213,7 +213,7 @@ module _ (old : Router) (moment : ℕ) (event : Occurrence) where
         ((of_left number n at).summary key)))
     to_describe number name (IsToDescribe.Last n d h at there c is) =
         of_database number name (subst (OfNamed old Held number) is
-        (of_member (λ (x : Header). OfNamed old Held number (instance_of_header x)) d.headers
+        (of_member (λ (x : Header). OfNamed old Held number (identity_of_header x)) d.headers
         (subst (OfLast old Held number) there (of_left number n at).last) h c))
 
     at_end : SaysWhatIsHeld old moment event ended.sends ended.router
@@ -235,8 +235,8 @@ module _ (old : Router) (moment : ℕ) (event : Occurrence) where
           received number h (subst (IfThere (OfWaiting old Held number) w.key) w.waits
           (its.acknowledgments w.key));
       described = λ number d h c among.
-          of_database number (instance_of_header h)
-          (of_member (λ (x : Header). OfNamed old Held number (instance_of_header x)) d.headers
+          of_database number (identity_of_header h)
+          (of_member (λ (x : Header). OfNamed old Held number (identity_of_header x)) d.headers
           (of_member (OfSend old Held) ended.sends so.sends (record {
             interface = number;
             content = Content.Describes d;

@@ -41,8 +41,8 @@ use Rattle.received.specs.Links.{Link}
 use Rattle.received.specs.Outcomes.{Send}
 use Rattle.received.proofs.Roomy.{joined}
 use Rattle.event_rules.specs.Endings.{loading_done_on}
-use Rattle.event_rules.specs.InstanceIdentities.{InstanceIdentity, instance_of_header}
-use Rattle.event_rules.specs.InstanceIdentities.{instance_of_lsa}
+use Rattle.event_rules.specs.InstanceIdentities.{InstanceIdentity, identity_of_header}
+use Rattle.event_rules.specs.InstanceIdentities.{identity_of_lsa}
 use Rattle.event_rules.specs.Routers.{Router}
 use Rattle.event_rules.specs.Ticks.{settled_exchange}
 use Rattle.flood_laws.proofs.Flooding.{flooding_so}
@@ -69,7 +69,7 @@ module _ (old : Router) where
 
   abbrev pub OfDescription : Truth → ℕ → Description → Type 0
   OfDescription T number d = AllByRecursion
-      (λ (h : Header). OfNamed T number (instance_of_header h)) d.headers
+      (λ (h : Header). OfNamed T number (identity_of_header h)) d.headers
 
   abbrev pub OfContent : Truth → ℕ → Content → Type 0
   OfContent T number (Content.SendsHello hello) = Unit {0}
@@ -87,7 +87,7 @@ module _ (old : Router) where
   OfWaiting T number key h = OfReceived T number h
 
   abbrev pub OfListed : Truth → ℕ → Key → ListEntry → Type 0
-  OfListed T number key l = OfNamed T number (instance_of_header l.header)
+  OfListed T number key l = OfNamed T number (identity_of_header l.header)
 
   abbrev pub OfLast : Truth → ℕ → Option Description → Type 0
   OfLast T number None = Unit {0}
@@ -121,9 +121,9 @@ module _ (old : Router) where
     description_more : (number : ℕ) (d : Description) → OfDescription T number d
         → OfDescription U number d
     description_more number d h =
-        each_all (λ (x : Header). OfNamed T number (instance_of_header x))
-        (λ (x : Header). OfNamed U number (instance_of_header x))
-        (λ x so. named_more number (instance_of_header x) so) d.headers h
+        each_all (λ (x : Header). OfNamed T number (identity_of_header x))
+        (λ (x : Header). OfNamed U number (identity_of_header x))
+        (λ x so. named_more number (identity_of_header x) so) d.headers h
 
     pub content_more : (number : ℕ) (c : Content) → OfContent T number c → OfContent U number c
     content_more number (Content.SendsHello hello) h = tt
@@ -141,7 +141,7 @@ module _ (old : Router) where
     neighbor_more number None h = tt
     neighbor_more number (Some n) h = record {
       summary = λ (key : Key). if_so (OfListed T number) (OfListed U number) key
-          (finite.get n.summary key) (λ l so. named_more number (instance_of_header l.header) so)
+          (finite.get n.summary key) (λ l so. named_more number (identity_of_header l.header) so)
           (h.summary key);
       last = last_more number n.described h.last;
     }
@@ -225,7 +225,7 @@ module _ (old : Router) where
 
     headers_so : (moment : ℕ) (es : List (Key × ListEntry))
         → AllByRecursion (OfEntry (OfListed T number)) es
-        → AllByRecursion (λ (h : Header). OfNamed T number (instance_of_header h))
+        → AllByRecursion (λ (h : Header). OfNamed T number (identity_of_header h))
         (map (λ (e : Key × ListEntry). listed_header_now moment e.1) es)
     headers_so moment [] h = tt
     headers_so moment (e ∷ es) h = (h.0, headers_so moment es h.1)
@@ -310,12 +310,12 @@ module _ (old : Router) where
 
     -- all copies have the property
     abbrev pub OfCopies : Database → Type 0
-    OfCopies db = AllIn (λ (key : Key) (c : DatabaseCopy). OfNamed T number (instance_of_lsa c.lsa))
+    OfCopies db = AllIn (λ (key : Key) (c : DatabaseCopy). OfNamed T number (identity_of_lsa c.lsa))
         db
 
     listed_so : (moment : ℕ) (es : List (Key × DatabaseCopy))
         → AllByRecursion (OfEntry (λ (key : Key) (c : DatabaseCopy). OfNamed T number
-        (instance_of_lsa c.lsa))) es → AllByRecursion (OfEntry (OfListed T number))
+        (identity_of_lsa c.lsa))) es → AllByRecursion (OfEntry (OfListed T number))
         (map (λ (e : Key × DatabaseCopy). (e.0, list_entry_of moment e.1))
         (filter (λ e. not (is_aged_out moment e.1)) es))
     listed_so moment [] h = tt
@@ -338,7 +338,7 @@ module _ (old : Router) where
       summary = made_in (OfListed T number) _
           (listed_so moment (finite.entries db)
           (entries_in (λ (key : Key) (c : DatabaseCopy). OfNamed T number
-          (instance_of_lsa c.lsa)) db copies));
+          (identity_of_lsa c.lsa)) db copies));
       last = h.last;
     }
 

@@ -16,7 +16,7 @@ use Rattle.received.specs.Holds.{Holds}
 use Rattle.received.specs.Links.{neighbor_at}
 use Rattle.event_rules.specs.declared.model.Config.{Config}
 use Rattle.event_rules.specs.Events.{Step, initial}
-use Rattle.event_rules.specs.InstanceIdentities.{instance_of_header, instance_of_lsa}
+use Rattle.event_rules.specs.InstanceIdentities.{identity_of_header, identity_of_lsa}
 use Rattle.event_rules.specs.Routers.{Occurrence, Router}
 use Rattle.flood_laws.specs.InOrder.{IsConsistent}
 use Rattle.flood_laws.proofs.Lists.{later_is, of_cons, of_empty}
@@ -38,29 +38,29 @@ use Rattle.agreement_laws.proofs.Walk as walk
 -- the router described it, or the other one's packet has it
 abbrev pub Exchanged : ℕ → Header → ℕ → Step → Type 0
 Exchanged number header own step = Describes own step.outs number header
-    ⊎ ((bytes : List ℕ) × BringsInstance number bytes (instance_of_header header) step)
+    ⊎ ((bytes : List ℕ) × BringsInstance number bytes (identity_of_header header) step)
 
 renamed : (lsas : List Lsa) (header : Header) → Contains (map (λ (l : Lsa). l.header) lsas) header
-    → Contains (map instance_of_lsa lsas) (instance_of_header header)
+    → Contains (map identity_of_lsa lsas) (identity_of_header header)
 renamed [] header c = absurd (of_empty header c)
 renamed (l ∷ lsas) header c = by_place (λ k. renamed lsas header k)
     (of_cons l.header (map (λ (l : Lsa). l.header) lsas) header c)
   where
     by_place : (Contains (map (λ (l : Lsa). l.header) lsas) header
-        → Contains (map instance_of_lsa lsas) (instance_of_header header)) → (l.header ≡ header)
+        → Contains (map identity_of_lsa lsas) (identity_of_header header)) → (l.header ≡ header)
         ⊎ Contains (map (λ (l : Lsa). l.header) lsas) header
-        → Contains (map instance_of_lsa (l ∷ lsas)) (instance_of_header header)
-    by_place rest (inl is) = subst (λ (h : Header). Contains (map instance_of_lsa (l ∷ lsas))
-        (instance_of_header h)) is (named_first (instance_of_lsa l) (map instance_of_lsa lsas)
-        (instance_of_lsa l) refl)
-    by_place rest (inr k) = later_is (instance_of_lsa l) (map instance_of_lsa lsas)
-        (instance_of_header header) (rest k)
+        → Contains (map identity_of_lsa (l ∷ lsas)) (identity_of_header header)
+    by_place rest (inl is) = subst (λ (h : Header). Contains (map identity_of_lsa (l ∷ lsas))
+        (identity_of_header h)) is (named_first (identity_of_lsa l) (map identity_of_lsa lsas)
+        (identity_of_lsa l) refl)
+    by_place rest (inr k) = later_is (identity_of_lsa l) (map identity_of_lsa lsas)
+        (identity_of_header header) (rest k)
 
 module _ (number : ℕ) (own : ℕ) (step : Step) (header : Header) where
   module _ (bytes : List ℕ) (packet : Packet) (is : step.event ≡ Occurrence.Packet number bytes)
       (text : PacketText bytes packet) where
     told : (b : PacketBody) → packet.body ≡ b
-        → Contains (instances_told b) (instance_of_header header) → Exchanged number header own step
+        → Contains (instances_told b) (identity_of_header header) → Exchanged number header own step
     told b same c =
         inr (
           bytes,
@@ -69,7 +69,7 @@ module _ (number : ℕ) (own : ℕ) (step : Step) (header : Header) where
             packet = packet;
             text = text;
             told = subst (λ (x : PacketBody). Contains (instances_told x)
-                (instance_of_header header)) (sym same) c;
+                (identity_of_header header)) (sym same) c;
           },
         )
 
@@ -77,12 +77,12 @@ module _ (number : ℕ) (own : ℕ) (step : Step) (header : Header) where
         → Exchanged number header own step
     heard (body.Hello h) same c = absurd (of_empty header c)
     heard (body.Description d) same c =
-        told (body.Description d) same (mapped instance_of_header d.headers header c)
+        told (body.Description d) same (mapped identity_of_header d.headers header c)
     heard (body.Request keys) same c = absurd (of_empty header c)
     heard (body.Update lsas) same c =
         told (body.Update lsas) same (renamed (filter_map lsa_in lsas) header c)
     heard (body.Acknowledgment headers) same c =
-        told (body.Acknowledgment headers) same (mapped instance_of_header headers header c)
+        told (body.Acknowledgment headers) same (mapped identity_of_header headers header c)
 
   in_turn : (router : ℕ) → IsExchanged own step number router header
       → Exchanged number header own step

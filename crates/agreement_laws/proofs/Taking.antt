@@ -20,8 +20,8 @@ use Rattle.event_rules.specs.declared.model.Config.{Config}
 use Rattle.event_rules.specs.Endings.{start_event}
 use Rattle.event_rules.specs.Events.{Step, initial}
 use Rattle.event_rules.specs.Hellos.{is_foreign}
-use Rattle.event_rules.specs.InstanceIdentities.{InstanceIdentity, instance_of_header}
-use Rattle.event_rules.specs.InstanceIdentities.{instance_of_lsa}
+use Rattle.event_rules.specs.InstanceIdentities.{InstanceIdentity, identity_of_header}
+use Rattle.event_rules.specs.InstanceIdentities.{identity_of_lsa}
 use Rattle.event_rules.specs.Routers.{Router}
 use Rattle.flood_laws.specs.InOrder.{IsConsistent}
 use Rattle.flood_laws.proofs.Always.{full_request_nothing}
@@ -76,7 +76,7 @@ module _ (laws : Laws) (ends : Ends) (side : Side) (name : InstanceIdentity) whe
   abbrev IsAsked : Neighbor → Type 0
   IsAsked m =
       (entry : ListEntry) × (finite.get m.requests key ≡ Some entry)
-      × (is_as_new (instance_of_header entry.header) name ≡ true)
+      × (is_as_new (identity_of_header entry.header) name ≡ true)
 
   abbrev State : (now : Pair) (earlier : List Pair) → IsHistory ends now earlier → Neighbor
       → Type 0
@@ -137,27 +137,27 @@ module _ (laws : Laws) (ends : Ends) (side : Side) (name : InstanceIdentity) whe
 
     -- held as new as what is as new as the name
     held_as : (copy : DatabaseCopy) → finite.get q.area.database key ≡ Some copy
-        → (i : InstanceIdentity) → is_as_new (instance_of_lsa copy.lsa) i ≡ true
+        → (i : InstanceIdentity) → is_as_new (identity_of_lsa copy.lsa) i ≡ true
         → is_as_new i name ≡ true → Result
     held_as copy there i more new =
         inr (inl (record {
           copy = copy;
           there = there;
-          as_new = at_least_on laws.ranks.total (young (instance_of_lsa copy.lsa)) (young i)
+          as_new = at_least_on laws.ranks.total (young (identity_of_lsa copy.lsa)) (young i)
               (young name) more new;
         }))
 
-    became : (g : Header) → is_as_new (instance_of_header g) name ≡ true
+    became : (g : Header) → is_as_new (identity_of_header g) name ≡ true
         → WasThere p t.event key → BecameOf p t.moment t.event (instance_of g) key q → Result
     became g new there (BecameOf.IsHeld c there_now more) =
-        held_as c there_now (instance_of_header g)
+        held_as c there_now (identity_of_header g)
         (at_any_age (copy_now t.moment c) (instance_of g) more) new
     became g new there (BecameOf.IsGone last had more aged none off) = lost there none
 
     -- what stands on the neighbor's list
     asked : (x : Neighbor) → neighbor_at number q.area.links ≡ Some x → (entry : ListEntry)
         → finite.get x.requests key ≡ Some entry
-        → is_as_new (instance_of_header entry.header) name ≡ true → Result
+        → is_as_new (identity_of_header entry.header) name ≡ true → Result
     asked x there entry asks new =
         inl (
           entry,
@@ -173,7 +173,7 @@ module _ (laws : Laws) (ends : Ends) (side : Side) (name : InstanceIdentity) whe
       l : LastOf key d.headers
       l = last_of key d.headers g among its
 
-      its_new : is_as_new (instance_of_header l.header) name ≡ true
+      its_new : is_as_new (identity_of_header l.header) name ≡ true
       its_new = as_new d (here, inl (step_taken t, is, x, a)) l.header l.among l.of_key
 
       abbrev entered : ListEntry
@@ -230,7 +230,7 @@ module _ (laws : Laws) (ends : Ends) (side : Side) (name : InstanceIdentity) whe
           absurd (over (subst (λ (v : Conversation). Converses number v q) (sym same) here))
 
       module _ (entry : ListEntry) (asks : finite.get n.requests key ≡ Some entry)
-          (new : is_as_new (instance_of_header entry.header) name ≡ true) where
+          (new : is_as_new (identity_of_header entry.header) name ≡ true) where
         by_stay : StaysRequested p t.moment t.event number n key entry q → Result
         by_stay (StaysRequested.Stays r) = asked r.neighbor r.there entry r.asked new
         by_stay (StaysRequested.Again k) = again n there k
@@ -245,7 +245,7 @@ module _ (laws : Laws) (ends : Ends) (side : Side) (name : InstanceIdentity) whe
             by_rest (IsRequestedOrHeld.Requested stands) =
                 asked stands.neighbor stands.there entry stands.asked new
             by_rest (IsRequestedOrHeld.Held (BecameOf.IsHeld c at_now more)) =
-                held_as c at_now (instance_of_header entry.header)
+                held_as c at_now (identity_of_header entry.header)
                 (at_any_age (copy_now t.moment c) (listed_now t.moment entry) more) new
             by_rest (IsRequestedOrHeld.Held (BecameOf.IsGone last had more aged none off)) =
                 lost was_there none
@@ -263,10 +263,10 @@ module _ (laws : Laws) (ends : Ends) (side : Side) (name : InstanceIdentity) whe
             asks apart.0 apart.1)
 
       climbed : (c : DatabaseCopy) → finite.get p.area.database key ≡ Some c
-          → is_as_new (instance_of_lsa c.lsa) name ≡ true
+          → is_as_new (identity_of_lsa c.lsa) name ≡ true
           → BecameOf p t.moment t.event (copy_now t.moment c) key q → Result
       climbed c there_before new (BecameOf.IsHeld e at_now more) =
-          held_as e at_now (instance_of_lsa c.lsa)
+          held_as e at_now (identity_of_lsa c.lsa)
           (at_any_age (copy_now t.moment e) (copy_now t.moment c) more) new
       climbed c there_before new (BecameOf.IsGone last had more aged none off) =
           lost (WasThere.Before c there_before) none

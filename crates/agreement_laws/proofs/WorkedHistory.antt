@@ -10,7 +10,7 @@ use Rattle.packet.specs.declared.model.PacketBody.TheVariants as body
 use Rattle.packet.specs.declared.model.Packet.{Packet}
 use Rattle.packet.specs.Text.{canonical}
 use Rattle.adjacency.specs.Adjacencies.{initial_description}
-use Rattle.event_rules.specs.InstanceIdentities.{instance_of_lsa}
+use Rattle.event_rules.specs.InstanceIdentities.{identity_of_lsa}
 use Rattle.event_rules.specs.Originations.{router_key}
 use Rattle.event_rules.specs.Routers.{Occurrence}
 use Rattle.flood_laws.proofs.Taken.{named_first}
@@ -186,10 +186,10 @@ whole = (
 )
 
 nothing_held : (c : DatabaseCopy) (lsa : Lsa)
-    → finite.get (finite.empty {X = DatabaseCopy} {R = key_cmp}) (instance_of_lsa lsa).key ≡ Some c
+    → finite.get (finite.empty {X = DatabaseCopy} {R = key_cmp}) (identity_of_lsa lsa).key ≡ Some c
     → ⊥
 nothing_held c lsa is = let no : None ≡ Some c =
-    sym (finite.get-empty {X = DatabaseCopy} key_cmp (instance_of_lsa lsa).key) ∙ is in absurd cc
+    sym (finite.get-empty {X = DatabaseCopy} key_cmp (identity_of_lsa lsa).key) ∙ is in absurd cc
 
 pub met : AHistoryMeetsThePremises
 met = record {

@@ -6,7 +6,7 @@ use Rattle.std.specs.List.{Contains}
 use Rattle.lsdb.specs.Headers.{Header, key_of}
 use Rattle.packet.specs.declared.model.Description.{Description}
 use Rattle.adjacency.specs.declared.state.NeighborState.TheVariants.{Full}
-use Rattle.event_rules.specs.InstanceIdentities.{InstanceIdentity, instance_of_header}
+use Rattle.event_rules.specs.InstanceIdentities.{InstanceIdentity, identity_of_header}
 use Rattle.agreement_laws.specs.Exchanged.{Conversation, conversation_with}
 use Rattle.agreement_laws.specs.NeighborHistories.{Ends, IsHistory, Pair, Side, other_side, party}
 use Rattle.agreement_laws.specs.NeighborsAgree.{HoldsAsNew, is_as_new}
@@ -20,7 +20,7 @@ abbrev pub AreDescribedAsNew : (ends : Ends) → Side → Conversation → Insta
 AreDescribedAsNew ends side with_it name now earlier h =
     (d : Description) → IsOf ends side with_it d now earlier h
     → (g : Header) → Contains d.headers g → key_of g ≡ name.key
-    → is_as_new (instance_of_header g) name ≡ true
+    → is_as_new (identity_of_header g) name ≡ true
 
 -- the router of this side described the key to the other one, which is Full with it by now
 abbrev pub WhatWasDescribedIsHeld : Type 0

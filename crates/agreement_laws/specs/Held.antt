@@ -12,7 +12,7 @@ use Rattle.adjacency.specs.declared.state.NeighborState.TheVariants.{Full}
 use Rattle.adjacency.specs.Neighbors.{Neighbor}
 use Rattle.received.specs.Links.{neighbor_at}
 use Rattle.event_rules.specs.Events.{Step}
-use Rattle.event_rules.specs.InstanceIdentities.{InstanceIdentity, instance_of_header}
+use Rattle.event_rules.specs.InstanceIdentities.{InstanceIdentity, identity_of_header}
 use Rattle.event_rules.specs.Routers.{Occurrence, Router}
 use Rattle.flood_laws.specs.NewInstances.{BringsLsa}
 use Rattle.agreement_laws.specs.Exchanged.{Conversation, Converses, conversation_with}
@@ -38,7 +38,7 @@ abbrev pub AreAsNew : (ends : Ends) → Side → Conversation → InstanceIdenti
 AreAsNew ends side with_it name now earlier h =
     (d : Description) → IsAccepted ends side with_it d now earlier h
     → (g : Header) → Contains d.headers g → key_of g ≡ name.key
-    → is_as_new (instance_of_header g) name ≡ true
+    → is_as_new (identity_of_header g) name ≡ true
 
 -- ---- what is lost
 

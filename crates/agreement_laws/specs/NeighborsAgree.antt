@@ -20,8 +20,8 @@ use Rattle.adjacency.specs.declared.state.NeighborState.TheVariants.{Full}
 use Rattle.adjacency.specs.Neighbors.{Neighbor}
 use Rattle.received.specs.Links.{neighbor_at}
 use Rattle.event_rules.specs.Events.{Step}
-use Rattle.event_rules.specs.InstanceIdentities.{InstanceIdentity, instance_of_header}
-use Rattle.event_rules.specs.InstanceIdentities.{instance_of_lsa}
+use Rattle.event_rules.specs.InstanceIdentities.{InstanceIdentity, identity_of_header}
+use Rattle.event_rules.specs.InstanceIdentities.{identity_of_lsa}
 use Rattle.event_rules.specs.InstanceIdentities.{instances_in_update}
 use Rattle.event_rules.specs.Routers.{Occurrence, Router}
 use Rattle.agreement_laws.specs.Exchanged.{Conversation, Converses, Describes, conversation_with}
@@ -41,7 +41,7 @@ is_as_new a b = is_at_least (young a) (young b)
 pub record HoldsAsNew (r : Router) (name : InstanceIdentity) : Type 0 where
   pub copy : DatabaseCopy
   pub there : finite.get r.area.database name.key ≡ Some copy
-  pub as_new : is_as_new (instance_of_lsa copy.lsa) name ≡ true
+  pub as_new : is_as_new (identity_of_lsa copy.lsa) name ≡ true
 
 -- ---- what was said
 
@@ -49,10 +49,10 @@ pub record HoldsAsNew (r : Router) (name : InstanceIdentity) : Type 0 where
 -- Acknowledgment
 abbrev pub instances_told : PacketBody → List InstanceIdentity
 instances_told (body.Hello h) = []
-instances_told (body.Description d) = map instance_of_header d.headers
+instances_told (body.Description d) = map identity_of_header d.headers
 instances_told (body.Request keys) = []
 instances_told (body.Update lsas) = instances_in_update lsas
-instances_told (body.Acknowledgment headers) = map instance_of_header headers
+instances_told (body.Acknowledgment headers) = map identity_of_header headers
 
 -- the event is the receipt of these bytes, which have the instance
 pub record BringsInstance (interface : InterfaceNumber) (bytes : List ℕ) (name : InstanceIdentity)
@@ -77,7 +77,7 @@ pub record AcknowledgesMaxAge (bytes : List ℕ) (name : InstanceIdentity) : Typ
   pub acknowledges : packet.body ≡ body.Acknowledgment headers
   pub header : Header
   pub among : Contains headers header
-  pub named : instance_of_header header ≡ name
+  pub named : identity_of_header header ≡ name
   pub flushed : is_max_age header.age ≡ true
 
 -- Why the router may not hold what its packet with this index says: after the turn from `before` to
@@ -90,7 +90,7 @@ pub data Forgets (interface : InterfaceNumber) (name : InstanceIdentity) (text :
       → Forgets interface name text before after
   -- it has no copy, and an acknowledgment of the instance is delayed
   WithoutWaiting : IsWithout name.key after.router → (header : Header)
-      → Waits interface header after.router.area.links → instance_of_header header ≡ name
+      → Waits interface header after.router.area.links → identity_of_header header ≡ name
       → Forgets interface name text before after
   -- it has no copy, and the instance is to be described to the other one
   WithoutDescribed : IsWithout name.key after.router
@@ -130,7 +130,7 @@ pub data Exception (ends : Ends) (side : Side) (with_it : Conversation) (name : 
     (now : Pair) (earlier : List Pair) (h : IsHistory ends now earlier) : Type 0 where
   -- it described one that is at least as new to the other one
   Described : (header : Header) → key_of header ≡ name.key
-      → is_as_new (instance_of_header header) name ≡ true
+      → is_as_new (identity_of_header header) name ≡ true
       → InConversation ends side with_it
       (λ (own : RouterNumber) (step : Step).
       Describes own step.outs (interface_of side ends) header) now earlier h
@@ -164,8 +164,8 @@ pub record NeighborsAgreeOnWhatWasRenewed : Type 0 where
       → (side : Side) (key : Key)
       → (at_rest : IsFullAndAcknowledged (interface_of side ends) key (party side now).router)
       → (copy : DatabaseCopy) → finite.get (party side now).router.area.database key ≡ Some copy
-      → HoldsAsNew (party (other_side side) now).router (instance_of_lsa copy.lsa)
-      ⊎ Exception ends side (conversation_with at_rest.neighbor) (instance_of_lsa copy.lsa)
+      → HoldsAsNew (party (other_side side) now).router (identity_of_lsa copy.lsa)
+      ⊎ Exception ends side (conversation_with at_rest.neighbor) (identity_of_lsa copy.lsa)
       now earlier h
   -- so if this applies to both, they hold the same instance
   pub same : (ends : Ends) (now : Pair) (earlier : List Pair) (h : IsHistory ends now earlier)
@@ -173,8 +173,8 @@ pub record NeighborsAgreeOnWhatWasRenewed : Type 0 where
       → (right : IsFullAndAcknowledged ends.right key now.right.router)
       → (a b : DatabaseCopy) → finite.get now.left.router.area.database key ≡ Some a
       → finite.get now.right.router.area.database key ≡ Some b
-      → (instance_of_lsa a.lsa ≡ instance_of_lsa b.lsa)
-      ⊎ (Exception ends Side.Left (conversation_with left.neighbor) (instance_of_lsa a.lsa)
+      → (identity_of_lsa a.lsa ≡ identity_of_lsa b.lsa)
+      ⊎ (Exception ends Side.Left (conversation_with left.neighbor) (identity_of_lsa a.lsa)
       now earlier h
-      ⊎ Exception ends Side.Right (conversation_with right.neighbor) (instance_of_lsa b.lsa)
+      ⊎ Exception ends Side.Right (conversation_with right.neighbor) (identity_of_lsa b.lsa)
       now earlier h)

@@ -19,7 +19,7 @@ use Rattle.received.specs.Outcomes.{Send}
 use Rattle.event_rules.specs.declared.model.Out.{Out}
 use Rattle.event_rules.specs.Endings.{end_event}
 use Rattle.event_rules.specs.Events.{Happens}
-use Rattle.event_rules.specs.InstanceIdentities.{InstanceIdentity, instance_of_header}
+use Rattle.event_rules.specs.InstanceIdentities.{InstanceIdentity, identity_of_header}
 use Rattle.event_rules.specs.Routers.{Occurrence, Router}
 use Rattle.flood_laws.specs.InOrder.{IsConsistent}
 use Rattle.agreement_laws.specs.CopiesClimb.{BecameOf}
@@ -55,10 +55,10 @@ pub data IsToDescribe (interface : InterfaceNumber) (name : InstanceIdentity) (l
     Type 0
   where
     Listed : (n : Neighbor) (key : Key) (entry : ListEntry) → neighbor_at interface links ≡ Some n
-        → finite.get n.summary key ≡ Some entry → instance_of_header entry.header ≡ name
+        → finite.get n.summary key ≡ Some entry → identity_of_header entry.header ≡ name
         → IsToDescribe interface name links
     Last : (n : Neighbor) (d : Description) (header : Header) → neighbor_at interface links ≡ Some n
-        → n.described ≡ Some d → Contains d.headers header → instance_of_header header ≡ name
+        → n.described ≡ Some d → Contains d.headers header → identity_of_header header ≡ name
         → IsToDescribe interface name links
 
 -- the instance, whatever its age
@@ -107,7 +107,7 @@ pub record SaysWhatIsHeld (old : Router) (moment : Moment) (event : Occurrence)
       → Waits interface header new.area.links → IsReceived old moment event new interface header
   pub described : (interface : InterfaceNumber) (d : Description) (header : Header)
       → Describes sends interface d → Contains d.headers header
-      → IsOfDatabase old moment event new interface (instance_of_header header)
+      → IsOfDatabase old moment event new interface (identity_of_header header)
   pub to_describe : (interface : InterfaceNumber) (name : InstanceIdentity)
       → IsToDescribe interface name new.area.links
       → IsOfDatabase old moment event new interface name

@@ -7,7 +7,7 @@ use Rattle.lsdb.specs.Copies.{DatabaseCopy}
 use Rattle.agreement_laws.specs.NeighborHistories.{Ends, IsHistory, Pair, Side, interface_of}
 use Rattle.agreement_laws.specs.NeighborHistories.{other_side, party}
 use Rattle.agreement_laws.specs.NeighborsAgree.{HoldsAsNew, IsFullAndAcknowledged}
-use Rattle.event_rules.specs.InstanceIdentities.{instance_of_lsa}
+use Rattle.event_rules.specs.InstanceIdentities.{identity_of_lsa}
 
 -- a history after which a router is Full with the other one, holds a copy, and doesn't have it on
 -- the retransmission list
@@ -22,4 +22,4 @@ pub record AHistoryMeetsThePremises : Type 0 where
   pub copy : DatabaseCopy
   pub there : finite.get (party side now).router.area.database key ≡ Some copy
   -- the other one doesn't have it: it was described to it, and is requested now
-  pub lacks : HoldsAsNew (party (other_side side) now).router (instance_of_lsa copy.lsa) → ⊥
+  pub lacks : HoldsAsNew (party (other_side side) now).router (identity_of_lsa copy.lsa) → ⊥

@@ -13,15 +13,15 @@ pub record InstanceIdentity : Type 0 where
   pub sequence : ℤ
   pub checksum : ℕ
 
-abbrev pub instance_of_header : Header → InstanceIdentity
-instance_of_header h = record { key = key_of h; sequence = h.sequence; checksum = h.checksum }
+abbrev pub identity_of_header : Header → InstanceIdentity
+identity_of_header h = record { key = key_of h; sequence = h.sequence; checksum = h.checksum }
 
-abbrev pub instance_of_lsa : Lsa → InstanceIdentity
-instance_of_lsa lsa = instance_of_header lsa.header
+abbrev pub identity_of_lsa : Lsa → InstanceIdentity
+identity_of_lsa lsa = identity_of_header lsa.header
 
 -- the LSAs of a Link State Update that can be parsed
 abbrev pub instances_in_update : List (List ℕ) → List InstanceIdentity
-instances_in_update lsas = map instance_of_lsa (filter_map lsa_in lsas)
+instances_in_update lsas = map identity_of_lsa (filter_map lsa_in lsas)
 
 -- the instances that a Link State Update contains
 abbrev pub instances_received : PacketBody → List InstanceIdentity
@@ -37,4 +37,4 @@ instances_advertised (body.Hello h) = []
 instances_advertised (body.Description d) = []
 instances_advertised (body.Request keys) = []
 instances_advertised (body.Update lsas) = instances_in_update lsas
-instances_advertised (body.Acknowledgment headers) = map instance_of_header headers
+instances_advertised (body.Acknowledgment headers) = map identity_of_header headers

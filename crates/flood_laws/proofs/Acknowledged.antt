@@ -20,7 +20,7 @@ use Rattle.event_rules.specs.declared.model.Out.{Out}
 use Rattle.event_rules.specs.Endings.{end_event, start_event}
 use Rattle.event_rules.specs.EventState.{EventState}
 use Rattle.event_rules.specs.Events.{Happens, Run, Step, initial}
-use Rattle.event_rules.specs.InstanceIdentities.{InstanceIdentity, instance_of_lsa}
+use Rattle.event_rules.specs.InstanceIdentities.{InstanceIdentity, identity_of_lsa}
 use Rattle.event_rules.specs.Originations.{due_keys, external_key, is_due, wanted_keys}
 use Rattle.event_rules.specs.Routers.{Occurrence, Router}
 use Rattle.flood_laws.specs.Retransmissions.{AreOfTheDatabase, IsOfCopy}
@@ -142,7 +142,7 @@ module _ (old : Router) (moment : ℕ) (event : Occurrence) (new : Router) (numb
   record HasCopy : Type 0 where
     copy : DatabaseCopy
     there : finite.get old.area.database name.key ≡ Some copy
-    is : instance_of_lsa copy.lsa ≡ name
+    is : identity_of_lsa copy.lsa ≡ name
 
   entries : AreOfTheDatabase old.area.database before
   entries =

@@ -39,8 +39,8 @@ use Rattle.event_rules.specs.declared.model.Out.{Out}
 use Rattle.event_rules.specs.Endings.{end_event}
 use Rattle.event_rules.specs.Events.{Happens, Run, Step, initial}
 use Rattle.event_rules.specs.EventState.{EventState}
-use Rattle.event_rules.specs.InstanceIdentities.{InstanceIdentity, instance_of_header}
-use Rattle.event_rules.specs.InstanceIdentities.{instance_of_lsa}
+use Rattle.event_rules.specs.InstanceIdentities.{InstanceIdentity, identity_of_header}
+use Rattle.event_rules.specs.InstanceIdentities.{identity_of_lsa}
 use Rattle.event_rules.specs.InstanceIdentities.{instances_advertised, instances_in_update}
 use Rattle.event_rules.specs.InstanceIdentities.{instances_received}
 use Rattle.event_rules.specs.Originations.{external_key, has_max_sequence, new_instance}
@@ -88,7 +88,7 @@ cut_text h = λ i.
     ++ fields ((1, h.ls_type) ∷ (4, h.link_state_id) ∷ (4, h.advertising_router)
     ∷ (4, cast_unsigned w32 h.sequence) ∷ (2, h.checksum) ∷ []) ++ two_bytes h.length i
 
-cut_is : (h : Header) → IsIdentityInRange (instance_of_header h) → IsHeader (cut h)
+cut_is : (h : Header) → IsIdentityInRange (identity_of_header h) → IsHeader (cut h)
 cut_is h is = record {
   age = omega arith;
   options = omega arith;
@@ -100,13 +100,13 @@ cut_is h is = record {
   length = omega arith;
 }
 
-pub name_read : (l : Lsa) → IsIdentityInRange (instance_of_lsa l)
-    → instance_of_header (header_at (text l) 0) ≡ instance_of_lsa l
+pub name_read : (l : Lsa) → IsIdentityInRange (identity_of_lsa l)
+    → identity_of_header (header_at (text l) 0) ≡ identity_of_lsa l
 name_read l is =
     let same : header_text (cut l.header) ++ body_text l.body ≡ text l =
     ap (λ t. t ++ body_text l.body) (cut_text l.header) in
-    ap (λ bytes. instance_of_header (header_at bytes 0)) (sym same)
-    ∙ ap (λ (h : Header). instance_of_header h)
+    ap (λ bytes. identity_of_header (header_at bytes 0)) (sym same)
+    ∙ ap (λ (h : Header). identity_of_header h)
     (header-reads_back (cut l.header) [] (body_text l.body) (cut_is l.header is))
 
 -- ---- what is sent is what is received
@@ -120,12 +120,12 @@ module _ (K : InstanceIdentity → Type 0) where
   update_tells [] h = tt
   update_tells (bytes ∷ rest) h = with_first (fault_of bytes) (update_tells rest h.1)
     where
-      same : instance_of_lsa h.0.lsa ≡ instance_of_lsa (lsa_of bytes)
-      same = sym (ap (λ bs. instance_of_header (header_at bs 0)) h.0.is
+      same : identity_of_lsa h.0.lsa ≡ identity_of_lsa (lsa_of bytes)
+      same = sym (ap (λ bs. identity_of_header (header_at bs 0)) h.0.is
           ∙ name_read h.0.lsa h.0.known.1)
 
       with_first : (o : Option LsaFault) → AllByRecursion K (instances_in_update rest)
-          → AllByRecursion K (map instance_of_lsa
+          → AllByRecursion K (map identity_of_lsa
           (cons_option (read_unless bytes o) (filter_map lsa_in rest)))
       with_first None more = (subst K same h.0.known.0, more)
       with_first (Some f) more = more
@@ -136,7 +136,7 @@ module _ (K : InstanceIdentity → Type 0) where
   body_tells (body.Request keys) bears = tt
   body_tells (body.Update lsas) bears = update_tells lsas bears
   body_tells (body.Acknowledgment headers) bears =
-      mapped_all instance_of_header (λ h. Named (instance_of_header h)) K (λ h k. k.0) headers bears
+      mapped_all identity_of_header (λ h. Named (identity_of_header h)) K (λ h k. k.0) headers bears
 
 -- each packet that is sent is from this router, and each instance in it is known
 module _ (old : Router) (event : Occurrence) (originated : List InstanceIdentity)
@@ -175,7 +175,7 @@ module _ (old : Router) (event : Occurrence) (originated : List InstanceIdentity
 
 -- ---- the contents of a Link State Update
 
-header_names : (h : Header) → IsHeader h → IsIdentityInRange (instance_of_header h)
+header_names : (h : Header) → IsHeader h → IsIdentityInRange (identity_of_header h)
 header_names h is = record {
   key = record {
     ls_type = is.ls_type;
@@ -192,7 +192,7 @@ update_in_range [] h = tt
 update_in_range (bytes ∷ rest) h = with_first (fault_of bytes) (update_in_range rest h.1)
   where
     with_first : (o : Option LsaFault) → AllByRecursion IsIdentityInRange (instances_in_update rest)
-        → AllByRecursion IsIdentityInRange (map instance_of_lsa
+        → AllByRecursion IsIdentityInRange (map identity_of_lsa
         (cons_option (read_unless bytes o) (filter_map lsa_in rest)))
     with_first None more = (header_names (header_at bytes 0) (header-fits bytes 0 h.0.bytes), more)
     with_first (Some f) more = more
@@ -242,7 +242,7 @@ next_in_range : (z : ℤ) → FitsSigned w32 z → z ≢ pos 0x7fff_ffff → Fit
 next_in_range z fits not_last = omega (arith, ints)
 
 sequence_in_range : (key : Key) (copy : Option DatabaseCopy)
-    → IfThere (λ k c. IsIdentityInRange (instance_of_lsa c.lsa)) key copy → has_max_sequence copy ≡ false
+    → IfThere (λ k c. IsIdentityInRange (identity_of_lsa c.lsa)) key copy → has_max_sequence copy ≡ false
     → FitsSigned w32 (next_sequence copy)
 sequence_in_range key None is goes = record { sfits = omega arith }
 sequence_in_range key (Some c) is goes =
@@ -256,8 +256,8 @@ sequence_in_range key (Some c) is goes =
 -- ---- the ranges of the numbers
 
 new_in_range : (key : Key) (copy : Option DatabaseCopy) (says : LsaBody) → IsLsaKey key
-    → IfThere (λ k c. IsIdentityInRange (instance_of_lsa c.lsa)) key copy → has_max_sequence copy ≡ false
-    → IsIdentityInRange (instance_of_lsa (new_instance key copy says))
+    → IfThere (λ k c. IsIdentityInRange (identity_of_lsa c.lsa)) key copy → has_max_sequence copy ≡ false
+    → IsIdentityInRange (identity_of_lsa (new_instance key copy says))
 unfolding sealed_lsa
 new_in_range key copy says its there goes = record {
   key = record {

@@ -30,8 +30,8 @@ use Rattle.event_rules.specs.Endings.{end_event}
 use Rattle.event_rules.specs.Events.{Happens, initial}
 use Rattle.flood_laws.specs.InOrder.{AnnouncesItsOwn}
 use Rattle.flood_laws.specs.Known.{instances_in_content, instances_in_send, instances_in_sends}
-use Rattle.event_rules.specs.InstanceIdentities.{InstanceIdentity, instance_of_lsa}
-use Rattle.event_rules.specs.InstanceIdentities.{instance_of_header}
+use Rattle.event_rules.specs.InstanceIdentities.{InstanceIdentity, identity_of_lsa}
+use Rattle.event_rules.specs.InstanceIdentities.{identity_of_header}
 use Rattle.event_rules.specs.InstanceIdentities.{instances_received, instances_in_update}
 use Rattle.event_rules.specs.Originations.{external_key, has_max_sequence, new_instance, router_key}
 use Rattle.event_rules.specs.EventState.{EventState}
@@ -93,12 +93,12 @@ module _ (K : InstanceIdentity → Type 0) (P : Key → Type 0)
     (so : (name : InstanceIdentity) → K name → P name.key) (count : ℕ) where
   abbrev pub named_by : Telling
   named_by = record {
-    of_lsa = λ lsa. K (instance_of_lsa lsa);
-    of_header = λ h. K (instance_of_header h);
+    of_lsa = λ lsa. K (identity_of_lsa lsa);
+    of_header = λ h. K (identity_of_header h);
     of_key = P;
     aged = λ age l le h. h;
     header = λ l h. h;
-    key = λ l h. so (instance_of_lsa l) h;
+    key = λ l h. so (identity_of_lsa l) h;
     count = count;
   }
 
@@ -115,33 +115,33 @@ module _ (K : InstanceIdentity → Type 0) (P : Key → Type 0)
   owed_named : (o : Option Neighbor) → OfOwedIfAny named_by o
       → AllByRecursion K (instances_on_list o)
   owed_named None h = tt
-  owed_named (Some n) h = values_named (λ (l : ListEntry). instance_of_header l.header)
+  owed_named (Some n) h = values_named (λ (l : ListEntry). identity_of_header l.header)
       (finite.entries n.retransmissions) (entries_in (OfListed named_by) n.retransmissions h)
 
   named_owed : (o : Option Neighbor) → AllByRecursion K (instances_on_list o)
       → OfOwedIfAny named_by o
   named_owed None h = tt
   named_owed (Some n) h = of_entries (OfListed named_by) n.retransmissions
-      (named_values (λ (l : ListEntry). instance_of_header l.header)
+      (named_values (λ (l : ListEntry). identity_of_header l.header)
       (finite.entries n.retransmissions) h)
 
   link_named : (link : Link) → OfLink named_by link → AllByRecursion K (instances_on_link link)
   link_named link h =
       both K (instances_on_list link.neighbor)
-      (map instance_of_header (finite.values link.acknowledgments))
+      (map identity_of_header (finite.values link.acknowledgments))
       (owed_named link.neighbor h.neighbor)
-      (values_named instance_of_header (finite.entries link.acknowledgments)
+      (values_named identity_of_header (finite.entries link.acknowledgments)
       (entries_in (OfWaiting named_by) link.acknowledgments h.acknowledgments))
 
   named_link : (link : Link) → AllByRecursion K (instances_on_link link) → OfLink named_by link
   named_link link h = record {
     neighbor = named_owed link.neighbor
         (left_all K (instances_on_list link.neighbor)
-        (map instance_of_header (finite.values link.acknowledgments)) h);
+        (map identity_of_header (finite.values link.acknowledgments)) h);
     acknowledgments = of_entries (OfWaiting named_by) link.acknowledgments
-        (named_values instance_of_header (finite.entries link.acknowledgments)
+        (named_values identity_of_header (finite.entries link.acknowledgments)
         (right_all K (instances_on_list link.neighbor)
-        (map instance_of_header (finite.values link.acknowledgments)) h));
+        (map identity_of_header (finite.values link.acknowledgments)) h));
   }
 
   links_named : (links : List Link) → OfLinks named_by links
@@ -176,9 +176,9 @@ module _ (K : InstanceIdentity → Type 0) (P : Key → Type 0)
       → AllByRecursion K (instances_stored r ++ instances_in_sends sends)
   held_named r sends h =
       both K (instances_stored r) (instances_in_sends sends)
-      (both K (map (λ c. instance_of_lsa c.lsa) (finite.values r.area.database))
+      (both K (map (λ c. identity_of_lsa c.lsa) (finite.values r.area.database))
       (flat_map instances_on_link r.area.links)
-      (values_named (λ (c : DatabaseCopy). instance_of_lsa c.lsa) (finite.entries r.area.database)
+      (values_named (λ (c : DatabaseCopy). identity_of_lsa c.lsa) (finite.entries r.area.database)
       (entries_in (OfCopy named_by) r.area.database h.copies))
       (links_named r.area.links h.links))
       (sends_named sends h.sent)
@@ -187,11 +187,11 @@ module _ (K : InstanceIdentity → Type 0) (P : Key → Type 0)
       → AllByRecursion K (instances_stored r) → OfArea named_by r.area []
   named_held r few h = record {
     copies = of_entries (OfCopy named_by) r.area.database
-        (named_values (λ (c : DatabaseCopy). instance_of_lsa c.lsa) (finite.entries r.area.database)
-        (left_all K (map (λ c. instance_of_lsa c.lsa) (finite.values r.area.database))
+        (named_values (λ (c : DatabaseCopy). identity_of_lsa c.lsa) (finite.entries r.area.database)
+        (left_all K (map (λ c. identity_of_lsa c.lsa) (finite.values r.area.database))
         (flat_map instances_on_link r.area.links) h));
     links = named_links r.area.links (right_all K
-        (map (λ c. instance_of_lsa c.lsa) (finite.values r.area.database))
+        (map (λ c. identity_of_lsa c.lsa) (finite.values r.area.database))
         (flat_map instances_on_link r.area.links) h);
     few = few;
     sent = tt;
@@ -204,7 +204,7 @@ module _ (K : InstanceIdentity → Type 0) (P : Key → Type 0)
   lsas_brought (bytes ∷ rest) h = one_of (lsa_in bytes) h (λ more. lsas_brought rest more)
     where
       one_of : (o : Option Lsa) → AllByRecursion K
-          (map instance_of_lsa (cons_option o (filter_map lsa_in rest)))
+          (map identity_of_lsa (cons_option o (filter_map lsa_in rest)))
           → (AllByRecursion K (instances_in_update rest)
           → AllByRecursion (OfBytes named_by.of_lsa) rest)
           → IfRead named_by.of_lsa o × AllByRecursion (OfBytes named_by.of_lsa) rest
@@ -316,8 +316,8 @@ module _ (Q : InstanceIdentity → Type 0) (P : Key → Type 0)
         → event ≡ Occurrence.Redistribute tagged tag priced price
         → P (external_key old.id priced.prefix)
     pub new : (key : Key) (copy : Option DatabaseCopy) (says : LsaBody) → P key
-        → IfThere (λ k c. Q (instance_of_lsa c.lsa)) key copy → has_max_sequence copy ≡ false
-        → Q (instance_of_lsa (new_instance key copy says))
+        → IfThere (λ k c. Q (identity_of_lsa c.lsa)) key copy → has_max_sequence copy ≡ false
+        → Q (identity_of_lsa (new_instance key copy says))
 
   -- so it holds of what is held after it, and of what is sent
   pub record Leaves (old : Router) (event : Occurrence) (p : EventState) : Type 0 where

@@ -55,8 +55,8 @@ use Rattle.event_rules.specs.Endings.{link_loading_done, loading_done_on, start_
 use Rattle.event_rules.specs.Endings.{flood_if_aged}
 use Rattle.event_rules.specs.EventState.{EventState, flood_from_nobody}
 use Rattle.event_rules.specs.Hellos.{accepts, names}
-use Rattle.event_rules.specs.InstanceIdentities.{InstanceIdentity, instance_of_header}
-use Rattle.event_rules.specs.InstanceIdentities.{instance_of_lsa}
+use Rattle.event_rules.specs.InstanceIdentities.{InstanceIdentity, identity_of_header}
+use Rattle.event_rules.specs.InstanceIdentities.{identity_of_lsa}
 use Rattle.event_rules.specs.InstanceIdentities.{instances_advertised}
 use Rattle.event_rules.specs.Originations.{forget_originations, install_and_flood, interval_is_over}
 use Rattle.event_rules.specs.Originations.{is_recent, new_instance}
@@ -226,7 +226,7 @@ aged_at_once m = let e : age_at 3600 m m ≡ 3600 = omega arith in ap (λ a. a =
 module _ (old : Router) (moment : ℕ) (event : Occurrence) (number : ℕ) (before : Neighbor)
     (name : InstanceIdentity) (copy : DatabaseCopy)
     (there : finite.get old.area.database name.key ≡ Some copy)
-    (is_it : instance_of_lsa copy.lsa ≡ name) where
+    (is_it : identity_of_lsa copy.lsa ≡ name) where
   abbrev key : Key
   key = name.key
 
@@ -245,7 +245,7 @@ module _ (old : Router) (moment : ℕ) (event : Occurrence) (number : ℕ) (befo
 
   -- a copy with the instance; it is unchanged, or has MaxAge
   record IsLike (c : DatabaseCopy) : Type 0 where
-    name_is : instance_of_lsa c.lsa ≡ name
+    name_is : identity_of_lsa c.lsa ≡ name
     received : c.received ≡ copy.received
     age : ((c.lsa ≡ copy.lsa) × (c.stored ≡ copy.stored)) ⊎ (is_aged_out moment c ≡ true)
 
@@ -432,10 +432,10 @@ module _ (old : Router) (moment : ℕ) (event : Occurrence) (number : ℕ) (befo
   times_became a t u so (IsOwed c at like h) = IsOwed c at like h
   times_became a t u so (HasAged c at like aged young asked) = HasAged c at like aged young asked
 
-  named_key : (c : DatabaseCopy) → instance_of_lsa c.lsa ≡ name → lsa_key c.lsa ≡ key
+  named_key : (c : DatabaseCopy) → identity_of_lsa c.lsa ≡ name → lsa_key c.lsa ≡ key
   named_key c e = ap (λ (m : InstanceIdentity). m.key) e
 
-  with_key : (c : DatabaseCopy) → instance_of_lsa c.lsa ≡ name → record {
+  with_key : (c : DatabaseCopy) → identity_of_lsa c.lsa ≡ name → record {
     key = key;
     sequence = c.lsa.header.sequence;
     checksum = c.lsa.header.checksum;
@@ -670,11 +670,11 @@ module _ (old : Router) (moment : ℕ) (event : Occurrence) (number : ℕ) (befo
     }
 
     brings : (b : PacketBody) (lsa : Lsa) → Contains (lsas_brought b) lsa
-        → Contains (instances_advertised b) (instance_of_lsa lsa)
+        → Contains (instances_advertised b) (identity_of_lsa lsa)
     brings (body.Hello h) lsa c = absurd (of_empty lsa c)
     brings (body.Description d) lsa c = absurd (of_empty lsa c)
     brings (body.Request keys) lsa c = absurd (of_empty lsa c)
-    brings (body.Update lsas) lsa c = mapped instance_of_lsa (filter_map lsa_in lsas) lsa c
+    brings (body.Update lsas) lsa c = mapped identity_of_lsa (filter_map lsa_in lsas) lsa c
     brings (body.Acknowledgment headers) lsa c = absurd (of_empty lsa c)
 
     replaces : (lsa : Lsa) (o : Outcome) (t : ByKey ℕ) → Contains (lsas_brought packet.body) lsa
@@ -758,7 +758,7 @@ module _ (old : Router) (moment : ℕ) (event : Occurrence) (number : ℕ) (befo
         → has_retransmission_of moment lsa.header n ≡ true)
 
     abbrev IsReleased : Lsa → Option Neighbor → Type 0
-    IsReleased lsa n = Holds Owes n ⊎ (((number == place) ≡ true) × (instance_of_lsa lsa ≡ name))
+    IsReleased lsa n = Holds Owes n ⊎ (((number == place) ≡ true) × (identity_of_lsa lsa ≡ name))
 
     released_at : (lsa : Lsa) (link : Link) (n : Option Neighbor) → IsSenders lsa n
         → IsReleased lsa (step_on (only_at place (release lsa) number link) n)
@@ -770,7 +770,7 @@ module _ (old : Router) (moment : ℕ) (event : Occurrence) (number : ℕ) (befo
         (λ e. inl at.0)
       where
         by_entry : (number == place) ≡ true
-            → Owes (remove_retransmission (lsa_key lsa) m) ⊎ (instance_of_header lsa.header ≡ name)
+            → Owes (remove_retransmission (lsa_key lsa) m) ⊎ (identity_of_header lsa.header ≡ name)
             → IsReleased lsa (Some (release lsa m).neighbor)
         by_entry e (inl k) = inl k
         by_entry e (inr is) = inr (e, is)
@@ -909,7 +909,7 @@ module _ (old : Router) (moment : ℕ) (event : Occurrence) (number : ℕ) (befo
       where
         Acked : Option Neighbor → Type 0
         Acked n = Holds Owes n ⊎ (((number == place) ≡ true)
-            × Contains (map instance_of_header headers) name)
+            × Contains (map identity_of_header headers) name)
 
         acked : (link : Link) (n : Option Neighbor) → Holds Owes n
             → Acked (step_on (only_at place (λ n. no_sends (after_acknowledgment moment headers n))
@@ -926,7 +926,7 @@ module _ (old : Router) (moment : ℕ) (event : Occurrence) (number : ℕ) (befo
           where
             by_headers : (number == place) ≡ true
                 → Owes (after_acknowledgment moment headers m)
-                ⊎ Contains (map instance_of_header headers) name
+                ⊎ Contains (map identity_of_header headers) name
                 → Acked (Some (after_acknowledgment moment headers m))
             by_headers e (inl h) = inl h
             by_headers e (inr c) = inr (e, c)

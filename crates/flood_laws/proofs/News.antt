@@ -48,7 +48,7 @@ use Rattle.event_rules.specs.Endings.{stays}
 use Rattle.event_rules.specs.Events.{Happens}
 use Rattle.event_rules.specs.EventState.{EventState, flood_from_nobody}
 use Rattle.event_rules.specs.Hellos.{accepts, names}
-use Rattle.event_rules.specs.InstanceIdentities.{InstanceIdentity, instance_of_lsa}
+use Rattle.event_rules.specs.InstanceIdentities.{InstanceIdentity, identity_of_lsa}
 use Rattle.event_rules.specs.InstanceIdentities.{instances_received}
 use Rattle.event_rules.specs.Originations.{forget_originations, install_and_flood, interval_is_over}
 use Rattle.event_rules.specs.Originations.{new_instance, next_sequence}
@@ -130,7 +130,7 @@ module _ (old : Router) (moment : ℕ) (event : Occurrence) where
     copy : Option DatabaseCopy
     last : IsLastCopy old moment event name.key copy
     says : LsaBody
-    is : instance_of_lsa (new_instance name.key copy says) ≡ name
+    is : identity_of_lsa (new_instance name.key copy says) ≡ name
 
   abbrev Why : ByKey ℕ → InstanceIdentity → Type 0
   Why t name = IsExplained old event (IsNew t) name
@@ -224,9 +224,9 @@ module _ (old : Router) (moment : ℕ) (event : Occurrence) where
 
   numbered_as : (q k : Key) (says : LsaBody) → q ≡ k → (other copy : Option DatabaseCopy)
       → next_sequence other ≡ next_sequence copy
-      → instance_of_lsa (new_instance q other says) ≡ instance_of_lsa (new_instance k copy says)
+      → identity_of_lsa (new_instance q other says) ≡ identity_of_lsa (new_instance k copy says)
   numbered_as q k says is other copy e = λ i.
-      instance_of_lsa (sealed_lsa (record {
+      identity_of_lsa (sealed_lsa (record {
         header = record {
           age = 0;
           options = 2;
@@ -245,7 +245,7 @@ module _ (old : Router) (moment : ℕ) (event : Occurrence) where
       → lsa_key (new_instance k copy says) ≡ k → k.advertising_router ≡ old.id
       → finite.get u k ≡ Some moment → (finite.get old.originated k ≡ Some moment → ⊥)
       → (finite.get t k ≡ Some moment → ⊥) → Last t k (next_sequence copy)
-      → IsNew u (instance_of_lsa (new_instance k copy says))
+      → IsNew u (identity_of_lsa (new_instance k copy says))
   new_one k copy says t u its_key own now not_before not_yet last = record {
     own = subst (λ (q : Key). q.advertising_router ≡ old.id) (sym its_key) own;
     now = subst (λ (q : Key). finite.get u q ≡ Some moment) (sym its_key) now;
@@ -260,8 +260,8 @@ module _ (old : Router) (moment : ℕ) (event : Occurrence) where
       of_last : Last t k (next_sequence copy)
           → (c : Option DatabaseCopy) × IsLastCopy old moment event
           (lsa_key (new_instance k copy says)) c
-          × (instance_of_lsa (new_instance (lsa_key (new_instance k copy says)) c says)
-          ≡ instance_of_lsa (new_instance k copy says))
+          × (identity_of_lsa (new_instance (lsa_key (new_instance k copy says)) c says)
+          ≡ identity_of_lsa (new_instance k copy says))
       of_last (Done at) = absurd (not_yet at)
       of_last (Had is) = (
         finite.get old.area.database (lsa_key (new_instance k copy says)),
@@ -300,7 +300,7 @@ module _ (old : Router) (moment : ℕ) (event : Occurrence) where
       let c : DatabaseCopy = record { lsa = lsa; stored = moment; received = None; sent = None } in
       let p : Outcome = on_database (install_originated moment lsa) o in
       let now : finite.get u k ≡ Some moment = put_same t k k moment (itself k) in
-      let so : Why u (instance_of_lsa lsa) =
+      let so : Why u (identity_of_lsa lsa) =
       IsExplained.New (new_one k copy says t u its_key own now
       (λ before. too_early t k over (h.remembers k before)) (too_early t k over)
       (subst (λ (x : Option DatabaseCopy). Last t k (next_sequence x)) at (h.last k))) in
@@ -352,11 +352,11 @@ module _ (old : Router) (moment : ℕ) (event : Occurrence) where
   module _ (start : EventState) (place : ℕ) (packet : Packet)
       (heard : IsHeard start event place packet) where
     received : (b : PacketBody) (lsa : Lsa) → Contains (lsas_brought b) lsa
-        → Contains (instances_received b) (instance_of_lsa lsa)
+        → Contains (instances_received b) (identity_of_lsa lsa)
     received (body.Hello h) lsa c = absurd (of_empty lsa c)
     received (body.Description d) lsa c = absurd (of_empty lsa c)
     received (body.Request keys) lsa c = absurd (of_empty lsa c)
-    received (body.Update lsas) lsa c = mapped instance_of_lsa (filter_map lsa_in lsas) lsa c
+    received (body.Update lsas) lsa c = mapped identity_of_lsa (filter_map lsa_in lsas) lsa c
     received (body.Acknowledgment headers) lsa c = absurd (of_empty lsa c)
 
     install_last : (lsa : Lsa) (o : Outcome) (t : ByKey ℕ) → Contains (lsas_brought packet.body) lsa

@@ -41,7 +41,7 @@ use Rattle.adjacency.specs.Retransmissions.{repeats_description, request_again, 
 use Rattle.adjacency.specs.Retransmissions.{update_again}
 use Rattle.adjacency.proofs.Kept.{chosen}
 use Rattle.received.specs.Holds.{Holds}
-use Rattle.event_rules.specs.InstanceIdentities.{InstanceIdentity, instance_of_header}
+use Rattle.event_rules.specs.InstanceIdentities.{InstanceIdentity, identity_of_header}
 use Rattle.flood_laws.specs.TakenOff.{listed_instance, owed_instance}
 use Rattle.flood_laws.proofs.Flooding.{flooding_so}
 use Rattle.flood_laws.proofs.Limits.{tied_key}
@@ -418,17 +418,17 @@ module _ (key : Key) (name : InstanceIdentity) (Asked : Type 0) where
   -- the same instance as an entry is this one, or has another key
   pub released_owing : (moment : ℕ) (x : Header) (m : Neighbor)
       → is_entry moment x (finite.get m.retransmissions (key_of x)) ≡ true → Owing m
-      → Owing (remove_retransmission (key_of x) m) ⊎ (instance_of_header x ≡ name)
+      → Owing (remove_retransmission (key_of x) m) ⊎ (identity_of_header x ≡ name)
   released_owing moment x m is (inl before) = inl (inl before)
   released_owing moment x m is (inr h) = by_key (same_key key (key_of x)) refl
     where
       named : (o : Option ListEntry) → is_entry moment x o ≡ true
-          → listed_instance (key_of x) o ≡ Some name → instance_of_header x ≡ name
+          → listed_instance (key_of x) o ≡ Some name → identity_of_header x ≡ name
       named None at e = absurd cc
       named (Some l) at e = same_name moment x l name at cc
 
       by_key : (b : Bool) → same_key key (key_of x) ≡ b
-          → Owing (remove_retransmission (key_of x) m) ⊎ (instance_of_header x ≡ name)
+          → Owing (remove_retransmission (key_of x) m) ⊎ (identity_of_header x ≡ name)
       by_key true same =
           inr (named (finite.get m.retransmissions (key_of x)) is
           (subst (λ (k : Key). listed_instance k (finite.get m.retransmissions k) ≡ Some name)
@@ -436,31 +436,31 @@ module _ (key : Key) (name : InstanceIdentity) (Asked : Type 0) where
       by_key false other = inl (released_other (key_of x) m other (inr h))
 
   pub acknowledgment_owing : (moment : ℕ) (xs : List Header) (m : Neighbor) → Owing m
-      → Owing (after_acknowledgment moment xs m) ⊎ Contains (map instance_of_header xs) name
+      → Owing (after_acknowledgment moment xs m) ⊎ Contains (map identity_of_header xs) name
   acknowledgment_owing moment [] m h = inl h
   acknowledgment_owing moment (x ∷ xs) m h =
       then_rest first (λ k. acknowledgment_owing moment xs (acknowledged_neighbor moment m x) k)
     where
-      first : Owing (acknowledged_neighbor moment m x) ⊎ (instance_of_header x ≡ name)
+      first : Owing (acknowledged_neighbor moment m x) ⊎ (identity_of_header x ≡ name)
       first =
-          chosen (λ (n : Neighbor). Owing n ⊎ (instance_of_header x ≡ name))
+          chosen (λ (n : Neighbor). Owing n ⊎ (identity_of_header x ≡ name))
           (is_entry moment x (finite.get m.retransmissions (key_of x)))
           (remove_retransmission (key_of x) m) m
           (λ e. released_owing moment x m e h) (λ e. inl h)
 
       later : Owing (after_acknowledgment moment xs (acknowledged_neighbor moment m x))
-          ⊎ Contains (map instance_of_header xs) name
+          ⊎ Contains (map identity_of_header xs) name
           → Owing (after_acknowledgment moment (x ∷ xs) m)
-          ⊎ Contains (map instance_of_header (x ∷ xs)) name
+          ⊎ Contains (map identity_of_header (x ∷ xs)) name
       later (inl k) = inl k
-      later (inr c) = inr (later_is (instance_of_header x) (map instance_of_header xs) name c)
+      later (inr c) = inr (later_is (identity_of_header x) (map identity_of_header xs) name c)
 
-      then_rest : Owing (acknowledged_neighbor moment m x) ⊎ (instance_of_header x ≡ name)
+      then_rest : Owing (acknowledged_neighbor moment m x) ⊎ (identity_of_header x ≡ name)
           → (Owing (acknowledged_neighbor moment m x)
           → Owing (after_acknowledgment moment xs (acknowledged_neighbor moment m x))
-          ⊎ Contains (map instance_of_header xs) name)
+          ⊎ Contains (map identity_of_header xs) name)
           → Owing (after_acknowledgment moment (x ∷ xs) m)
-          ⊎ Contains (map instance_of_header (x ∷ xs)) name
+          ⊎ Contains (map identity_of_header (x ∷ xs)) name
       then_rest (inl k) rest = later (rest k)
-      then_rest (inr is) rest = inr (named_first (instance_of_header x) (map instance_of_header xs)
+      then_rest (inr is) rest = inr (named_first (identity_of_header x) (map identity_of_header xs)
           name is)

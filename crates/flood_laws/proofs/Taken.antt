@@ -16,7 +16,7 @@ use Rattle.lsdb.specs.Order.{compare_ages, is_max_age}
 use Rattle.adjacency.specs.Neighbors.{Neighbor}
 use Rattle.received.specs.Cases.{Case, case_of_readable, first_case, is_wrapping}
 use Rattle.adjacency.specs.Asked.{is_on_request_list, has_retransmission_of}
-use Rattle.event_rules.specs.InstanceIdentities.{InstanceIdentity, instance_of_header}
+use Rattle.event_rules.specs.InstanceIdentities.{InstanceIdentity, identity_of_header}
 
 -- ---- one entry
 
@@ -35,7 +35,7 @@ pub same_name : (moment : ℕ) (h : Header) (l : ListEntry) (name : InstanceIden
       key = key_of h;
       sequence = l.header.sequence;
       checksum = l.header.checksum;
-    } ≡ name → instance_of_header h ≡ name
+    } ≡ name → identity_of_header h ≡ name
 same_name moment h l name e is =
     let parts = equal_parts (int_cmp h.sequence l.header.sequence)
     (nat_cmp h.checksum l.header.checksum) (compare_ages h.age (listed_now moment l).age) e in

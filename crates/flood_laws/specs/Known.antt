@@ -12,8 +12,8 @@ use Rattle.adjacency.specs.Contents.{Content}
 use Rattle.received.specs.Outcomes.{Send}
 use Rattle.event_rules.specs.declared.model.Out.{Out}
 use Rattle.event_rules.specs.Events.{Happens}
-use Rattle.event_rules.specs.InstanceIdentities.{InstanceIdentity, instance_of_lsa}
-use Rattle.event_rules.specs.InstanceIdentities.{instance_of_header}
+use Rattle.event_rules.specs.InstanceIdentities.{InstanceIdentity, identity_of_lsa}
+use Rattle.event_rules.specs.InstanceIdentities.{identity_of_header}
 use Rattle.event_rules.specs.InstanceIdentities.{instances_in_update}
 use Rattle.event_rules.specs.Packing.{out_of}
 use Rattle.event_rules.specs.Routers.{Occurrence, Router}
@@ -26,8 +26,8 @@ abbrev pub instances_in_content : Content → List InstanceIdentity
 instances_in_content (Content.SendsHello hello) = []
 instances_in_content (Content.Describes d) = []
 instances_in_content (Content.Requests keys) = []
-instances_in_content (Content.Updates lsa) = instance_of_lsa lsa ∷ []
-instances_in_content (Content.Acknowledges header) = instance_of_header header ∷ []
+instances_in_content (Content.Updates lsa) = identity_of_lsa lsa ∷ []
+instances_in_content (Content.Acknowledges header) = identity_of_header header ∷ []
 
 abbrev pub instances_in_send : Send → List InstanceIdentity
 instances_in_send s = instances_in_content s.content
@@ -39,7 +39,7 @@ instances_in_sends sends = flat_map instances_in_send sends
 pub record IsTextOf (K : InstanceIdentity → Type 0) (bytes : List ℕ) : Type 0 where
   pub lsa : Lsa
   pub is : bytes ≡ text lsa
-  pub known : K (instance_of_lsa lsa)
+  pub known : K (identity_of_lsa lsa)
 
 -- the contents of a Link State Update or Acknowledgment
 abbrev pub Bears : (InstanceIdentity → Type 0) → PacketBody → Type 0
@@ -47,7 +47,7 @@ Bears K (packets.Hello h) = Unit {0}
 Bears K (packets.Description d) = Unit {0}
 Bears K (packets.Request keys) = Unit {0}
 Bears K (packets.Update lsas) = AllByRecursion (IsTextOf K) lsas
-Bears K (packets.Acknowledgment headers) = AllByRecursion (λ h. K (instance_of_header h)) headers
+Bears K (packets.Acknowledgment headers) = AllByRecursion (λ h. K (identity_of_header h)) headers
 
 -- the canonical encoding of a packet from this router
 pub record IsOutOf (K : InstanceIdentity → Type 0) (own : ℕ) (out : Out) : Type 0 where
@@ -77,4 +77,4 @@ EventsHoldOnlyWhatIsKnown =
 abbrev pub UpdatesTellWhatTheyBear : Type 0
 UpdatesTellWhatTheyBear = (lsas : List Lsa) → AllByRecursion (λ l. IsHeader l.header) lsas
     → (name : InstanceIdentity) → Contains (instances_in_update (map (λ l. text l) lsas)) name
-    → Contains (map instance_of_lsa lsas) name
+    → Contains (map identity_of_lsa lsas) name

@@ -13,7 +13,7 @@ use Rattle.packet.specs.declared.model.PacketBody.{PacketBody}
 use Rattle.packet.specs.declared.model.PacketBody.TheVariants as body
 use Rattle.packet.specs.declared.model.Packet.{Packet}
 use Rattle.packet.specs.Text.{PacketText}
-use Rattle.event_rules.specs.InstanceIdentities.{InstanceIdentity, instance_of_lsa}
+use Rattle.event_rules.specs.InstanceIdentities.{InstanceIdentity, identity_of_lsa}
 use Rattle.event_rules.specs.Originations.{new_instance}
 use Rattle.event_rules.specs.Routers.{Occurrence, Router}
 
@@ -70,4 +70,4 @@ pub record IsNewInstance (old : Router) (moment : Moment) (event : Occurrence) (
   pub copy : Option DatabaseCopy
   pub last : IsLastCopy old moment event name.key copy
   pub says : LsaBody
-  pub is : instance_of_lsa (new_instance name.key copy says) ≡ name
+  pub is : identity_of_lsa (new_instance name.key copy says) ≡ name

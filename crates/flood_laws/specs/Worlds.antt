@@ -14,8 +14,8 @@ use Rattle.received.specs.Links.{Link}
 use Rattle.event_rules.specs.declared.model.Config.{Config}
 use Rattle.event_rules.specs.declared.model.Out.{Out}
 use Rattle.event_rules.specs.Events.{initial}
-use Rattle.event_rules.specs.InstanceIdentities.{InstanceIdentity, instance_of_lsa}
-use Rattle.event_rules.specs.InstanceIdentities.{instance_of_header}
+use Rattle.event_rules.specs.InstanceIdentities.{InstanceIdentity, identity_of_lsa}
+use Rattle.event_rules.specs.InstanceIdentities.{identity_of_header}
 use Rattle.event_rules.specs.InstanceIdentities.{instances_received, instances_advertised}
 use Rattle.event_rules.specs.Routers.{Occurrence, Router, in_profile}
 use Rattle.flood_laws.specs.NewInstances.{IsNewInstance}
@@ -26,16 +26,16 @@ use Rattle.flood_laws.specs.TakenOff.{IsTakenOff, IsTold, TakesOffWhatIsTold}
 abbrev pub instances_on_list : Option Neighbor → List InstanceIdentity
 instances_on_list None = []
 instances_on_list (Some n) =
-    map (λ (l : ListEntry). instance_of_header l.header) (finite.values n.retransmissions)
+    map (λ (l : ListEntry). identity_of_header l.header) (finite.values n.retransmissions)
 
 abbrev pub instances_on_link : Link → List InstanceIdentity
 instances_on_link link =
-    instances_on_list link.neighbor ++ map instance_of_header (finite.values link.acknowledgments)
+    instances_on_list link.neighbor ++ map identity_of_header (finite.values link.acknowledgments)
 
 -- in its database, on its retransmission lists and among its delayed acknowledgments
 abbrev pub instances_stored : Router → List InstanceIdentity
 instances_stored r =
-    map (λ c. instance_of_lsa c.lsa) (finite.values r.area.database)
+    map (λ c. identity_of_lsa c.lsa) (finite.values r.area.database)
     ++ flat_map instances_on_link r.area.links
 
 -- ---- what a router's step keeps

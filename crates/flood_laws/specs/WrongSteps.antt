@@ -12,7 +12,7 @@ use Rattle.adjacency.specs.Neighbors.{Neighbor, is_exchange_or_later}
 use Rattle.adjacency.specs.Retransmissions.{remove_retransmission}
 use Rattle.received.specs.Links.{Link, change_link, neighbor_at}
 use Rattle.event_rules.specs.declared.model.Out.{Out}
-use Rattle.event_rules.specs.InstanceIdentities.{InstanceIdentity, instance_of_header}
+use Rattle.event_rules.specs.InstanceIdentities.{InstanceIdentity, identity_of_header}
 use Rattle.event_rules.specs.Routers.{Occurrence, Router}
 use Rattle.flood_laws.specs.TakenOff.{comes_to_max_age, owed_instance}
 use Rattle.flood_laws.specs.Worlds.{Keeps}
@@ -44,7 +44,7 @@ pub record AcknowledgesAnother (old : Router) (moment : Moment) (interface : Int
       (finite.get old.area.database name.key) ≡ false
   pub text : PacketText bytes
       (record { router = n.router; body = body.Acknowledgment headers })
-  pub another : Contains (map instance_of_header headers) name → ⊥
+  pub another : Contains (map identity_of_header headers) name → ⊥
 
 -- a step that removes that entry doesn't have the properties of a router's step, whatever it sends
 abbrev pub AnotherAcknowledgmentTakesNothingOff : Type 0
