@@ -47,7 +47,7 @@ use Rattle.event_rules.specs.Packets.{receive_request}
 use Rattle.event_rules.specs.Refusals.{refusal_before_limits, of_event}
 use Rattle.event_rules.specs.Routers.{Occurrence, Router}
 use Rattle.event_rules.specs.Ticks.{after_tick, expire_timers}
-use Rattle.flood.specs.Occurrences.{brings_answers}
+use Rattle.flood.specs.Occurrences.{is_install}
 
 -- the answers after some part of an event
 abbrev of : EventState → List (Route × ℕ)
@@ -170,7 +170,7 @@ withdrawn_stays moment prefix p =
     either (is_for prefix (finite.get p.router.announced key)) (end_want moment key p) p p refl refl
 
 own_stays : (moment : ℕ) (event : Occurrence) (before after : EventState)
-    → brings_answers event ≡ false → OwnPart moment event before after → of after ≡ of before
+    → is_install event ≡ false → OwnPart moment event before after → of after ≡ of before
 own_stays moment (Occurrence.Packet number bytes) before after none is =
     ap of is.2 ∙ packet_stays moment number is.0 before
 own_stays moment Occurrence.Tick before after none is = ap of is ∙ tick_stays moment before
@@ -201,7 +201,7 @@ ended_stays old moment p =
     ∙ described_stays old.area.links moment (loading_done p)
 
 pub answers_stay : (old : Router) (moment : ℕ) (event : Occurrence) (outs : List Out) (new : Router)
-    → Happens old moment event outs new → brings_answers event ≡ false → new.answers ≡ old.answers
+    → Happens old moment event outs new → is_install event ≡ false → new.answers ≡ old.answers
 answers_stay old moment event outs new happens none =
     ap (λ (r : Router). r.answers) happens.router ∙ ended_stays old moment happens.after
     ∙ own_stays moment event (start_event moment old) happens.after none happens.own

@@ -11,7 +11,7 @@ use Rattle.event_rules.specs.Events.{Happens, Run, Step}
 use Rattle.event_rules.specs.Routers.{Occurrence, Router}
 use Rattle.flood.specs.declared.event.Event.{Event}
 use Rattle.flood.specs.declared.event.Event.TheVariants as event
-use Rattle.flood.specs.Occurrences.{brings_answers, occurrence_of, words_of}
+use Rattle.flood.specs.Occurrences.{is_install, occurrence_of, words_of}
 use Rattle.flood.specs.declared.book.entry.JournalEntry.{JournalEntry}
 use Rattle.flood.specs.Bytes.{bytes_of, with_event}
 use Rattle.flood.specs.Replay.{IsInstalledLast, IsLightened, Replays, entry_occurrence}
@@ -60,7 +60,7 @@ goes_on start e rest now it = (
 
 -- before a journal that ends with an Install the answers make no difference
 with_answers : (answers : List (Route × ℕ)) (journal : List JournalEntry) (e : JournalEntry)
-    (start now : Router) → brings_answers (occurrence_of e.event) ≡ true
+    (start now : Router) → is_install (occurrence_of e.event) ≡ true
     → Replays start (journal ++ e ∷ []) now
     → Replays (told answers start) (journal ++ e ∷ []) now
 with_answers answers [] e start now is run =
@@ -73,10 +73,10 @@ with_answers answers [] e start now is run =
       others = it.others;
     })
 with_answers answers (d ∷ journal) e start now is run =
-    by (brings_answers (occurrence_of d.event)) refl (begun start d (journal ++ e ∷ []) now run)
+    by (is_install (occurrence_of d.event)) refl (begun start d (journal ++ e ∷ []) now run)
     (λ middle more. with_answers answers journal e middle now is more)
   where
-    by : (b : Bool) → brings_answers (occurrence_of d.event) ≡ b
+    by : (b : Bool) → is_install (occurrence_of d.event) ≡ b
         → Begins start d.moment (occurrence_of d.event) (journal ++ e ∷ []) now
         → ((middle : Router) → Replays middle (journal ++ e ∷ []) now
         → Replays (told answers middle) (journal ++ e ∷ []) now)
@@ -100,7 +100,7 @@ with_answers answers (d ∷ journal) e start now is run =
 
 first_forgotten : (moment : Moment) (first : Event) (journal : List JournalEntry) (e : JournalEntry)
     (start now : Router)
-    → brings_answers (occurrence_of e.event) ≡ true
+    → is_install (occurrence_of e.event) ≡ true
     → Begins start moment (occurrence_of first) (journal ++ e ∷ []) now
     → Begins start moment (occurrence_of (without_answers first)) (journal ++ e ∷ []) now
 first_forgotten moment (event.Packet number bytes) journal e start now is it = it
@@ -117,7 +117,7 @@ first_forgotten moment (event.LinkDown number) journal e start now is it = it
 
 -- the journal, which ends with an Install, replays to the same
 forgotten_replays : (journal : List JournalEntry) (place : ℕ) (e : JournalEntry)
-    (start now : Router) → brings_answers (occurrence_of e.event) ≡ true
+    (start now : Router) → is_install (occurrence_of e.event) ≡ true
     → Replays start (journal ++ e ∷ []) now
     → Replays start (forgotten_at journal place ++ e ∷ []) now
 forgotten_replays [] place e start now is run = run

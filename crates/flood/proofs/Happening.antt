@@ -18,7 +18,7 @@ use Rattle.event_rules.specs.Refusals.{WouldExceed, exceeds, refusal_before_limi
 use Rattle.event_rules.specs.Routers.{Occurrence, Router}
 use Rattle.event_rules.proofs.Outcomes.{determined}
 use Rattle.flood.specs.declared.part.Part.{Part}
-use Rattle.flood.specs.Occurrences.{brings_answers}
+use Rattle.flood.specs.Occurrences.{is_install}
 use Rattle.flood.specs.Parts.{PartHappens, IsPartOf, after_part, made_state}
 use Rattle.flood.proofs.Answering.{answers_stay}
 
@@ -62,7 +62,7 @@ module _ (old : Router) (moment : ℕ) (event : Occurrence) (p : Part) (is : IsP
   pub made_id : AnnouncesItsOwn old → (made_state old moment p).router.id ≡ old.id
   made_id own = router_stays old moment event _ _ makes own
 
-  pub made_answers : brings_answers event ≡ false
+  pub made_answers : is_install event ≡ false
       → (made_state old moment p).router.answers ≡ old.answers
   made_answers none = answers_stay old moment event _ _ makes none
 

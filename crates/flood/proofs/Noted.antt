@@ -13,7 +13,7 @@ use Rattle.event_rules.specs.Refusals.{is_clock_back, is_interface}
 use Rattle.event_rules.specs.Routers.{Occurrence, Router}
 use Rattle.flood.specs.Early.{early_refusal}
 use Rattle.flood.specs.declared.event.Event.{Event}
-use Rattle.flood.specs.Occurrences.{brings_answers, occurrence_of}
+use Rattle.flood.specs.Occurrences.{is_install, occurrence_of}
 use Rattle.flood.specs.declared.book.entry.JournalEntry.{JournalEntry}
 use Rattle.flood.specs.declared.book.error.BookError.{BookError}
 use Rattle.flood.specs.declared.book.error.BookError.TheVariants as refusing
@@ -56,7 +56,7 @@ noted_in before grown new e is same light =
         let ends = same_ends front before.journal last e (sym whole ∙ long) in
         inr (
           place,
-          subst (λ (x : JournalEntry). brings_answers (occurrence_of x.event) ≡ true) ends.1 brings,
+          subst (λ (x : JournalEntry). is_install (occurrence_of x.event) ≡ true) ends.1 brings,
           gone ∙ ap (λ (l : List JournalEntry). forgotten_at l place ++ last ∷ []) ends.0
               ∙ ap (λ (x : JournalEntry). forgotten_at before.journal place ++ x ∷ []) ends.1,
         )

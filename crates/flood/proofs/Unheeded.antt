@@ -6,11 +6,11 @@ use Rattle.words.specs.declared.route.Route.{Route}
 use Rattle.event_rules.specs.Events.{Happens}
 use Rattle.event_rules.specs.Routers.{Occurrence, Router}
 use Rattle.event_rules.specs.declared.model.Out.{Out}
-use Rattle.flood.specs.Occurrences.{brings_answers}
+use Rattle.flood.specs.Occurrences.{is_install}
 use Rattle.router_runs.proofs.Unheeded.{answered_alike, bringing, told}
 
 module _ (answers : List (Route × ℕ)) where
-  brings_none : (event : Occurrence) → brings_answers event ≡ false → bringing answers event ≡ event
+  brings_none : (event : Occurrence) → is_install event ≡ false → bringing answers event ≡ event
   brings_none (Occurrence.Packet number bytes) is = refl
   brings_none Occurrence.Tick is = refl
   brings_none (Occurrence.Redistribute tagged tag priced price) is = refl
@@ -21,7 +21,7 @@ module _ (answers : List (Route × ℕ)) where
   -- any other event leads from a router with other answers to one with these
   pub overlooked : (old : Router) (moment : Moment) (event : Occurrence) (outs : List Out)
       (new : Router)
-      → brings_answers event ≡ false → Happens old moment event outs new
+      → is_install event ≡ false → Happens old moment event outs new
       → Happens (told answers old) moment event outs (told answers new)
   overlooked old moment event outs new is it =
       let P : Occurrence → Type 0 = λ o. Happens (told answers old) moment o outs
@@ -31,7 +31,7 @@ module _ (answers : List (Route × ℕ)) where
   -- an Install leads from a router with other answers to the same one
   pub replaced : (old : Router) (moment : Moment) (event : Occurrence) (outs : List Out)
       (new : Router)
-      → brings_answers event ≡ true → Happens old moment event outs new
+      → is_install event ≡ true → Happens old moment event outs new
       → Happens (told answers old) moment event outs new
   replaced old moment (Occurrence.Packet number bytes) outs new is it = absurd cc
   replaced old moment Occurrence.Tick outs new is it = absurd cc

@@ -15,10 +15,10 @@ occurrence_of (event.Install answers) = Occurrence.Install (words_of answers)
 occurrence_of (event.LinkDown interface) = Occurrence.LinkDown interface
 
 -- it replaces the programs' answers about routes
-abbrev pub brings_answers : Occurrence → Bool
-brings_answers (Occurrence.Packet interface bytes) = false
-brings_answers Occurrence.Tick = false
-brings_answers (Occurrence.Redistribute tagged tag priced price) = false
-brings_answers (Occurrence.Withdraw prefix) = false
-brings_answers (Occurrence.Install answers) = true
-brings_answers (Occurrence.LinkDown interface) = false
+abbrev pub is_install : Occurrence → Bool
+is_install (Occurrence.Packet interface bytes) = false
+is_install Occurrence.Tick = false
+is_install (Occurrence.Redistribute tagged tag priced price) = false
+is_install (Occurrence.Withdraw prefix) = false
+is_install (Occurrence.Install answers) = true
+is_install (Occurrence.LinkDown interface) = false

@@ -8,7 +8,7 @@ use Rattle.event_rules.specs.Routers.{Occurrence, Router}
 use Rattle.router_runs.specs.Clocks.{ClockRunsOn}
 use Rattle.flood.specs.declared.event.Event.{Event}
 use Rattle.flood.specs.declared.event.Event.TheVariants as event
-use Rattle.flood.specs.Occurrences.{brings_answers, occurrence_of}
+use Rattle.flood.specs.Occurrences.{is_install, occurrence_of}
 use Rattle.flood.specs.declared.book.entry.JournalEntry.{JournalEntry}
 use Rattle.flood.specs.Bytes.{allowed_for, bytes_of}
 
@@ -74,7 +74,7 @@ abbrev pub IsInstalledLast : List JournalEntry → (last : ℕ) → Type 0
 IsInstalledLast journal last =
     (length journal ≡ suc last)
     × ((e : JournalEntry) × (e ≡ slice_index_or journal last e)
-    × (brings_answers (occurrence_of e.event) ≡ true))
+    × (is_install (occurrence_of e.event) ≡ true))
 
 -- the journal, in which an Install at this place has lost its answers
 abbrev pub forgotten_at : List JournalEntry → (place : ℕ) → List JournalEntry
@@ -87,7 +87,7 @@ forgotten_at (e ∷ rest) (suc place) = e ∷ forgotten_at rest place
 abbrev pub EndsWith : List JournalEntry → JournalEntry → List JournalEntry → Type 0
 EndsWith before e journal =
     (journal ≡ before ++ e ∷ [])
-    ⊎ ((place : ℕ) × (brings_answers (occurrence_of e.event) ≡ true)
+    ⊎ ((place : ℕ) × (is_install (occurrence_of e.event) ≡ true)
     × (journal ≡ forgotten_at before place ++ e ∷ []))
 
 -- the same journal, or one that ends with an Install, to which another one has lost its answers
@@ -95,7 +95,7 @@ abbrev pub IsLightened : (old new : List JournalEntry) → Type 0
 IsLightened old new =
     (new ≡ old)
     ⊎ ((before : List JournalEntry) × (e : JournalEntry) × (place : ℕ) × (old ≡ before ++ e ∷ [])
-    × (brings_answers (occurrence_of e.event) ≡ true)
+    × (is_install (occurrence_of e.event) ≡ true)
     × (new ≡ forgotten_at before place ++ e ∷ []))
 
 -- ---- marks

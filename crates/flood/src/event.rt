@@ -1,6 +1,6 @@
 //! The events of a router.
 ghost use Rattle.std.specs.Prelude.{◌≡◌, ◌<◌, ◌^◌, IfOk};
-ghost use Rattle.flood.specs.Occurrences.{brings_answers, occurrence_of};
+ghost use Rattle.flood.specs.Occurrences.{is_install, occurrence_of};
 
 use hooks::{PriceAnswer, TagAnswer, VetoAnswers};
 use std::alloc::AllocError;
@@ -53,8 +53,8 @@ impl Event {
     }
 
     /// Whether it brings the answers of the program at `veto`.
-    pub fn brings_answers(&self) -> bool
-        ensures { result ≡ brings_answers (occurrence_of self.now) }
+    pub fn is_install(&self) -> bool
+        ensures { result ≡ is_install (occurrence_of self.now) }
     {
         match self {
             Event::Packet(_, _) => false,

@@ -6,7 +6,7 @@ ghost use Rattle.event_rules.specs.received.Outcomes.{Send};
 ghost use Rattle.event_rules.specs.Packing.{outs_of};
 ghost use Rattle.flood_laws.specs.Keeping.{AreTexts};
 ghost use Rattle.flood.specs.Drafts.{AreDrafts};
-ghost use Rattle.flood.specs.Occurrences.{brings_answers, occurrence_of};
+ghost use Rattle.flood.specs.Occurrences.{is_install, occurrence_of};
 ghost use Rattle.flood.specs.Offers.{AreKeptNow};
 ghost use Rattle.flood.specs.Parts.{RefusesAtLimit};
 
@@ -30,7 +30,7 @@ fn keep(
     requires order { before ≤ router.now.present.moment }
     requires kept { AreKept router.now.present.id router.now.committed.area before
         router.now.committed.answers routes.old }
-    requires answers { brings_answers (occurrence_of event.now) ≡ false
+    requires answers { is_install (occurrence_of event.now) ≡ false
         → router.now.present.answers ≡ router.now.committed.answers }
     ensures kept { OnOk result (AreKeptNow router.now.present routes.new) }
     ensures walks { OnOk result (KeepsWalkUnlessChanged before router.now.present.moment
@@ -42,7 +42,7 @@ fn keep(
     let area = router.area();
     let moment = router.moment();
     routes.update(alloc, own, area, before, moment)?;
-    if event.brings_answers() {
+    if event.is_install() {
         routes.take_answers(alloc, own, area, moment, router.answers());
     }
     Ok(())
@@ -71,7 +71,7 @@ pub fn pack_and_update_routes(
     requires order { before ≤ router.now.present.moment }
     requires kept { AreKept router.now.present.id router.now.committed.area before
         router.now.committed.answers routes.old }
-    requires answers { brings_answers (occurrence_of event.now) ≡ false
+    requires answers { is_install (occurrence_of event.now) ≡ false
         → router.now.present.answers ≡ router.now.committed.answers }
     ensures outs { (links : List LinkOfArea) (sends : List Send)
         → AreDrafts links sends drafts.items

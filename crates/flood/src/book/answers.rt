@@ -12,7 +12,7 @@ pub fn last_install(journal: &[JournalEntry]) -> Option<usize>
     ensures { IfSome result (λ last. IsInstalledLast journal.now last) }
 {
     let last = journal.len().checked_sub(1)?;
-    if journal[last].event.brings_answers() {
+    if journal[last].event.is_install() {
         Some(last)
     } else {
         None

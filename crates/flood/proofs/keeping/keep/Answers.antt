@@ -14,15 +14,15 @@ update-requires-clause-routes c =
 pub take_answers-requires : goal.take_answers-requires
 take_answers-requires c = record { routes = c.in_ok-update.ensures.routes }
 
-pub returns-then-brings_answers-clause-kept : goal.returns-then-brings_answers-clause-kept
-returns-then-brings_answers-clause-kept c =
+pub returns-then-is_install-clause-kept : goal.returns-then-is_install-clause-kept
+returns-then-is_install-clause-kept c =
     are_kept c.args.router.now.present c.id-own.result c.area-area.result.now.present
     c.moment-moment.result c.answers.result.now c.take_answers.new.self
     c.id-own.ensures (ap (λ (a : RouterArea). a.present) c.area-area.ensures.parts)
     c.moment-moment.ensures c.answers.ensures c.take_answers.ensures.kept
 
-pub returns-else-brings_answers-clause-kept : goal.returns-else-brings_answers-clause-kept
-returns-else-brings_answers-clause-kept c =
+pub returns-else-is_install-clause-kept : goal.returns-else-is_install-clause-kept
+returns-else-is_install-clause-kept c =
     let r = c.args.router.now.present in
     let area = c.area-area.result.now.present in
     let knew =
@@ -36,10 +36,10 @@ returns-else-brings_answers-clause-kept c =
     c.id-own.ensures (ap (λ (a : RouterArea). a.present) c.area-area.ensures.parts)
     c.moment-moment.ensures refl
     (subst (λ w. AreKept c.id-own.result area c.moment-moment.result w c.update.new.self)
-    (sym (c.requires.answers (sym c.brings_answers.ensures ∙ c.if-brings_answers.false))) knows)
+    (sym (c.requires.answers (sym c.is_install.ensures ∙ c.if-is_install.false))) knows)
 
-pub returns-then-brings_answers-clause-walks : goal.returns-then-brings_answers-clause-walks
-returns-then-brings_answers-clause-walks c =
+pub returns-then-is_install-clause-walks : goal.returns-then-is_install-clause-walks
+returns-then-is_install-clause-walks c =
     let area = c.area-area.result.now in
     walks_then c.args.before c.args.router.now.present c.args.router.now.committed.area
     c.id-own.result c.moment-moment.result area.committed area.present
@@ -49,8 +49,8 @@ returns-then-brings_answers-clause-walks c =
     c.moment-moment.ensures c.take_answers.ensures.walk c.take_answers.ensures.behind
     c.in_ok-update.ensures.walks
 
-pub returns-else-brings_answers-clause-walks : goal.returns-else-brings_answers-clause-walks
-returns-else-brings_answers-clause-walks c =
+pub returns-else-is_install-clause-walks : goal.returns-else-is_install-clause-walks
+returns-else-is_install-clause-walks c =
     let area = c.area-area.result.now in
     walks_then c.args.before c.args.router.now.present c.args.router.now.committed.area
     c.id-own.result c.moment-moment.result area.committed area.present
