@@ -14,7 +14,7 @@ use Rattle.keyed_map.proofs.Keys.{keys_exact}
 use Rattle.routes.specs.lsdb.Changes.{HaveNoMaxAge, HaveOneAge, IsUpTo, ContentsAgree}
 use Rattle.routes.specs.lsdb.Copies.{Database, DatabaseCopy, max_age_keys, is_aged_out}
 use Rattle.routes.specs.Contents.{contents_at, contents_of}
-use Rattle.kept_routes.specs.Ages.{AreOld}
+use Rattle.kept_routes.specs.Ages.{HaveNotJustAgedOut}
 use Rattle.kept_routes.specs.Sameness.{AreLsasUnchanged, HaveSameContents}
 use Rattle.routes.proofs.Listed.{other_default}
 use Rattle.routes.proofs.Lists.{first_is, later_is}
@@ -77,7 +77,7 @@ one_more P keys n last within here holds all key (k, low, is) =
 
 -- each copy that has MaxAge had it
 pub all_old_within : (last_type : Option ℕ) (before moment : ℕ) (db : Database) (keys : List Key)
-    → before ≡ moment → AreOld last_type before moment db keys
+    → before ≡ moment → HaveNotJustAgedOut last_type before moment db keys
 all_old_within last_type before moment db keys same = λ key among copy up_to here aged.
     subst (λ m. is_aged_out m copy ≡ true) (sym same) aged
 
@@ -148,7 +148,7 @@ pub all_same : (last_type : Option ℕ) (before moment : ℕ) (old new : Databas
     → HaveSameContents last_type (contents_at before old) (contents_at moment new)
 all_same last_type before moment old new order left key of =
     says_same before moment order (finite.get old key) (finite.get new key) (left key of).same
-    (left key of).old_copy
+    (left key of).not_just_aged
 
 -- ---- what is unchanged
 
@@ -156,11 +156,11 @@ all_same last_type before moment old new order left key of =
 pub all_left : (last_type : Option ℕ) (before moment : ℕ) (old new : Database)
     → ((key : Key) → IsUpTo last_type key
     → ContentsAgree moment (finite.get old key) (finite.get new key))
-    → AreOld last_type before moment new (max_age_keys moment new)
+    → HaveNotJustAgedOut last_type before moment new (max_age_keys moment new)
     → AreLsasUnchanged last_type before moment old new
 all_left last_type before moment old new same old_ones key of = record {
   same = same key of;
-  old_copy = λ copy is aged. old_ones key
+  not_just_aged = λ copy is aged. old_ones key
       (among_aged moment key copy aged (finite.entries new) (sym (finite.get-entries new key) ∙ is))
       copy of is aged;
 }
@@ -171,6 +171,6 @@ pub keeps_all : (last_type : Option ℕ) (before moment : ℕ) (old new : Databa
 keeps_all last_type before moment old new left key of = (left key of).same
 
 pub olds_all : (last_type : Option ℕ) (before moment : ℕ) (old new : Database) (keys : List Key)
-    → AreLsasUnchanged last_type before moment old new → AreOld last_type before moment new keys
+    → AreLsasUnchanged last_type before moment old new → HaveNotJustAgedOut last_type before moment new keys
 olds_all last_type before moment old new keys left key among copy of is =
-    (left key of).old_copy copy is
+    (left key of).not_just_aged copy is

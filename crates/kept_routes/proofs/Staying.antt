@@ -193,7 +193,7 @@ module _ (before moment : ℕ) (old new : Database) (walk : KeptWalk) where
 
   pub others_are_old : (keys : List Key) → AreOfferingLsasUnchanged before moment old new walk
       → AreOldOrLeftOut before moment new walk keys
-  others_are_old keys left key among counts copy of here = (left key counts).old_copy copy here
+  others_are_old keys left key among counts copy of here = (left key counts).not_just_aged copy here
 
 pub candidates_kept : CandidatesAreKept
 candidates_kept = record {

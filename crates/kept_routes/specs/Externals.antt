@@ -12,7 +12,7 @@ use Rattle.routes.specs.declared.root.Root.{Root}
 use Rattle.candidates.specs.Reached.{way_in}
 use Rattle.words.specs.Numbers.{Moment, RouterNumber}
 use Rattle.words.specs.declared.key.Key.{Key}
-use Rattle.kept_routes.specs.Ages.{IsOld}
+use Rattle.kept_routes.specs.Ages.{HasNotJustAgedOut}
 use Rattle.kept_routes.specs.Kept.{KeptWalk}
 use Rattle.kept_routes.specs.Sameness.{IsLsaUnchanged, HaveSameContents}
 
@@ -58,7 +58,7 @@ AreOfferingLsasUnchanged before moment old new walk =
 abbrev pub IsOldOrLeftOut : (before : Moment) → (moment : Moment) → Database → KeptWalk → Key
     → Type 0
 IsOldOrLeftOut before moment db walk key =
-    (OffersNothing moment db walk key → ⊥) → IsOld None before moment db key
+    (OffersNothing moment db walk key → ⊥) → HasNotJustAgedOut None before moment db key
 
 -- the same for each of these keys
 abbrev pub AreOldOrLeftOut : (before : Moment) → (moment : Moment) → Database → KeptWalk

@@ -18,7 +18,7 @@ HaveSameContents last_type old new = (key : Key) → IsUpTo last_type key → ol
 pub record IsLsaUnchanged (before : Moment) (moment : Moment) (old : Option DatabaseCopy)
     (new : Option DatabaseCopy) : Type 0 where
   pub same : ContentsAgree moment old new
-  pub old_copy : (copy : DatabaseCopy) → new ≡ Some copy
+  pub not_just_aged : (copy : DatabaseCopy) → new ≡ Some copy
       → HasNotJustReachedMaxAge before moment copy
 
 -- the same for the LSAs of the types up to this one, or of all types if there is none

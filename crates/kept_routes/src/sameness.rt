@@ -5,7 +5,7 @@ ghost use Rattle.std.specs.List.{Contains};
 ghost use Rattle.routes.specs.lsdb.Copies.{DatabaseCopy as CopyValue, is_aged_out};
 ghost use Rattle.routes.specs.Contents.{contents_at};
 ghost use Rattle.words.specs.declared.key.Key.{Key as KeyValue};
-ghost use Rattle.kept_routes.specs.Ages.{AreOld, IsOld};
+ghost use Rattle.kept_routes.specs.Ages.{HaveNotJustAgedOut, HasNotJustAgedOut};
 ghost use Rattle.kept_routes.specs.Sameness.{AreLsasUnchanged, HaveSameContents};
 
 use routes::{Lsdb, is_up_to};
@@ -50,7 +50,7 @@ pub fn lsas_are_unchanged(
 // Whether the copies with these keys, of the types up to this one, that have MaxAge had it at the
 // moment `before`.
 fn are_old(db: &Lsdb, last_type: Option<u32>, before: Second, moment: Second, keys: &[Key]) -> bool
-    ensures { IsTrue result ↔ AreOld last_type before moment db.now.present keys.now }
+    ensures { IsTrue result ↔ HaveNotJustAgedOut last_type before moment db.now.present keys.now }
 {
     for key in keys {
         if !is_old(db, last_type, before, moment, key) {
@@ -69,7 +69,7 @@ pub(crate) fn is_old(
     moment: Second,
     key: &Key,
 ) -> bool
-    ensures { IsTrue result ↔ IsOld last_type before moment db.now.present key.now }
+    ensures { IsTrue result ↔ HasNotJustAgedOut last_type before moment db.now.present key.now }
 {
     if !is_up_to(last_type, key) {
         return true;

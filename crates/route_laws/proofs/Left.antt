@@ -33,7 +33,7 @@ neither A B no_a no_b (inr b) = no_b b
 -- there was none and there is none
 pub nowhere : (was is : Option DatabaseCopy) → was ≡ None → is ≡ None
     → IsLsaUnchanged 100 110 was is
-nowhere None None a b = record { same = tt; old_copy = λ c none. absurd (cc) }
+nowhere None None a b = record { same = tt; not_just_aged = λ c none. absurd (cc) }
 nowhere (Some c) is a b = absurd (cc)
 nowhere None (Some c) a b = absurd (cc)
 

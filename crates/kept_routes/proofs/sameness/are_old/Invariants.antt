@@ -1,8 +1,8 @@
 use Rattle.words.specs.declared.key.Key.{Key}
-use Rattle.kept_routes.specs.Ages.{IsOld}
+use Rattle.kept_routes.specs.Ages.{HasNotJustAgedOut}
 use Rattle.kept_routes.proofs.Aging.{IsAmong}
 use Rattle.kept_routes.proofs.sameness.are_old.Given as goal
 
 abbrev pub invariant-loop-key : goal.invariant-loop-key
 invariant-loop-key l = (key : Key) → IsAmong l.keys l.key-index key
-    → IsOld l.last_type l.before l.moment l.db.present key
+    → HasNotJustAgedOut l.last_type l.before l.moment l.db.present key

@@ -1,5 +1,5 @@
 use Rattle.std.proofs.Common.{◌∙◌, refl, subst, sym}
-use Rattle.kept_routes.specs.Ages.{AreOld}
+use Rattle.kept_routes.specs.Ages.{HaveNotJustAgedOut}
 use Rattle.kept_routes.proofs.Aging.{all_left, all_old_within, all_same, keeps_all, olds_all}
 use Rattle.kept_routes.proofs.sameness.lsas_are_unchanged.Goals as goal
 
@@ -11,7 +11,7 @@ returns-clause-same c = λ t.
     all_same c.args.last_type c.args.before c.args.moment old new c.requires
     (all_left c.args.last_type c.args.before c.args.moment old new
     (c.in_ok-is_unchanged.ensures.0 c.if-not-branch.false)
-    (subst (AreOld c.args.last_type c.args.before c.args.moment new) keys (c.are_old.ensures.0 t)))
+    (subst (HaveNotJustAgedOut c.args.last_type c.args.before c.args.moment new) keys (c.are_old.ensures.0 t)))
 
 pub returns-clause-left : goal.returns-clause-left
 returns-clause-left c =
@@ -20,7 +20,7 @@ returns-clause-left c =
     let keys = c.deref.ensures.value ∙ c.in_ok-keys.ensures in (
       (λ t. all_left c.args.last_type c.args.before c.args.moment old new
           (c.in_ok-is_unchanged.ensures.0 c.if-not-branch.false)
-          (subst (AreOld c.args.last_type c.args.before c.args.moment new) keys
+          (subst (HaveNotJustAgedOut c.args.last_type c.args.before c.args.moment new) keys
           (c.are_old.ensures.0 t))),
       (λ left. c.are_old.ensures.1 (olds_all c.args.last_type c.args.before c.args.moment old new
           c.deref.result.now left)),

@@ -6,30 +6,30 @@ use Rattle.route_laws.proofs.kept.worked_copies.Goals as goal
 
 pub returns : goal.returns
 returns c = record {
-  none = record { same = tt; old_copy = λ n is. absurd (cc) };
+  none = record { same = tt; not_just_aged = λ n is. absurd (cc) };
   stays = λ b. record {
     same = (refl, inl (refl, refl));
-    old_copy = young (copy b (pos 4) 10 90) refl;
+    not_just_aged = young (copy b (pos 4) 10 90) refl;
   };
   was_sent = λ b. record {
     same = (refl, inl (refl, refl));
-    old_copy = young (record (copy b (pos 4) 10 90) { sent = Some 105 }) refl;
+    not_just_aged = young (record (copy b (pos 4) 10 90) { sent = Some 105 }) refl;
   };
   refreshed = λ b. record {
     same = (refl, inr (refl, refl));
-    old_copy = young (copy b (pos 5) 0 105) refl;
+    not_just_aged = young (copy b (pos 5) 0 105) refl;
   };
   refreshed_late = λ b. record {
     same = (refl, inr (refl, refl));
-    old_copy = young (copy b (pos 5) 0 105) refl;
+    not_just_aged = young (copy b (pos 5) 0 105) refl;
   };
   was_aged = λ b. record {
     same = (refl, inl (refl, refl));
-    old_copy = old (copy b (pos 4) 3600 90) refl;
+    not_just_aged = old (copy b (pos 4) 3600 90) refl;
   };
   just_aged = λ b. record {
     same = (refl, inl (refl, refl));
-    old_copy = old (copy b (pos 4) 3590 90) refl;
+    not_just_aged = old (copy b (pos 4) 3590 90) refl;
   };
   comes = λ b h. h.same;
   comes_aged = λ b h. h.same;
@@ -37,8 +37,8 @@ returns c = record {
   leaves_aged = λ b h. h.same;
   changes = λ b d other h. other h.same.0;
   changes_aged = λ b d other h. other h.same.0;
-  ages = λ b h. false≢true (h.old_copy (copy b (pos 4) 3589 90) refl refl);
-  ages_now = λ b h. false≢true (h.old_copy (copy b (pos 4) 3580 90) refl refl);
+  ages = λ b h. false≢true (h.not_just_aged (copy b (pos 4) 3589 90) refl refl);
+  ages_now = λ b h. false≢true (h.not_just_aged (copy b (pos 4) 3580 90) refl refl);
   is_flushed = λ b h. neither _ _ (λ one. omega (arith, one.0)) (λ none. false≢true (sym none.1))
       h.same.1;
   is_back = λ b h. neither _ _ (λ one. omega (arith, one.0)) (λ none. false≢true (sym none.0))
