@@ -166,7 +166,7 @@ impl Neighbor {
     }
 
     // The exchange continues with this DD sequence number.
-    fn count_on(&mut self, sequence: u32)
+    fn set_dd_sequence(&mut self, sequence: u32)
         ensures { self.new ≡ record self.old {
           present =
               record self.old.present { sequence = sequence };
@@ -263,7 +263,7 @@ impl Neighbor {
         if more {
             let sequence = self.sequence();
             let next = sequence.wrapping_add(1);
-            self.count_on(next);
+            self.set_dd_sequence(next);
             return self.send_description(alloc, moment, draft);
         }
         self.finish(moment);
@@ -282,7 +282,7 @@ impl Neighbor {
         ensures { NeighborSends (slave_replies moment description.now) self.old self.new draft.old
             draft.new result }
     {
-        self.count_on(description.sequence);
+        self.set_dd_sequence(description.sequence);
         self.send_description(alloc, moment, draft)?;
         let announced = self.announced_more();
         let more = either(announced, description.more);

@@ -29,10 +29,10 @@ fn put_keys(keys_set: &mut KeyedMap<()>, keys: &[Key]) -> Result<(), AllocError>
 }
 
 // Not inlined: the prover would visit all parts of the neighbor in each branch (see `connectives`).
-fn all_hold(synchronizing: bool, unrequested: bool, unasked: bool) -> bool
-    ensures { result ≡ (synchronizing && not unrequested && unasked) }
+fn all_hold(synchronizing: bool, requests_nothing: bool, none_outstanding: bool) -> bool
+    ensures { result ≡ (synchronizing && not requests_nothing && none_outstanding) }
 {
-    synchronizing && !unrequested && unasked
+    synchronizing && !requests_nothing && none_outstanding
 }
 
 impl Neighbor {
@@ -41,9 +41,9 @@ impl Neighbor {
         ensures { result ≡ is_to_request self.now.present }
     {
         let synchronizing = is_exchange_or_loading(self.standing.state);
-        let unrequested = self.requests.is_empty();
-        let unasked = self.outstanding.is_empty();
-        all_hold(synchronizing, unrequested, unasked)
+        let requests_nothing = self.requests.is_empty();
+        let none_outstanding = self.outstanding.is_empty();
+        all_hold(synchronizing, requests_nothing, none_outstanding)
     }
 
     // Requests the first keys that fit into one Link State Request.

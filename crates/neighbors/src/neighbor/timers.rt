@@ -46,15 +46,15 @@ fn is_over_for(moment: Second, dead: u32, exchanged: Option<Second>) -> bool
 }
 
 /// From Loading to Full if the request list is empty: the databases are synchronized then.
-pub fn full_where(state: NeighborState, unrequested: bool) -> NeighborState
-    ensures { result ≡ full_where state unrequested }
+pub fn full_where(state: NeighborState, requests_nothing: bool) -> NeighborState
+    ensures { result ≡ full_where state requests_nothing }
 {
     match state {
         NeighborState::Init => NeighborState::Init,
         NeighborState::ExStart => NeighborState::ExStart,
         NeighborState::Exchange => NeighborState::Exchange,
         NeighborState::Loading => {
-            if unrequested {
+            if requests_nothing {
                 NeighborState::Full
             } else {
                 NeighborState::Loading
@@ -187,8 +187,8 @@ impl Neighbor {
     pub fn end_loading(&mut self)
         ensures { self.new ≡ record self.old { present = loading_done self.old.present } }
     {
-        let unrequested = self.requests.is_empty();
-        self.standing.state = full_where(self.standing.state, unrequested);
+        let requests_nothing = self.requests.is_empty();
+        self.standing.state = full_where(self.standing.state, requests_nothing);
     }
 
     // ---- what is retransmitted

@@ -17,6 +17,6 @@ returns c =
     kept_is (ap (λ t. neighbor_of (record s {
       state = t;
     }) des sum req out retr) (c.full_where-self-inside.ensures
-    ∙ ap (full_where s.state) c.is_empty-unrequested.ensures)
+    ∙ ap (full_where s.state) c.is_empty-requests_nothing.ensures)
     ∙ ends_loading s des sum req out retr ∙ ap (λ h. loading_done h.present) c.self.view_is)
     (ap (λ h. h.committed) c.self.view_is)

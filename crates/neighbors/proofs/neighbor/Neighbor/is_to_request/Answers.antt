@@ -7,7 +7,7 @@ pub returns : goal.returns
 returns c =
     c.all_hold.ensures
     ∙ (λ i. (c.is_exchange_or_loading-synchronizing.ensures i) && not
-    (c.is_empty-unrequested.ensures i) && (c.is_empty-unasked.ensures i))
+    (c.is_empty-requests_nothing.ensures i) && (c.is_empty-none_outstanding.ensures i))
     ∙ may_now c.self.inside.standing c.self.inside.described.present c.self.inside.summary.present
     c.self.inside.requests.present c.self.inside.outstanding.present
     c.self.inside.retransmissions.present

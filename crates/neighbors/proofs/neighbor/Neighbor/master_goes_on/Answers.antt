@@ -12,8 +12,8 @@ returns-then-more c =
     let number = ap (λ q. (q + 1) % 2 ^ 32) c.sequence-sequence.ensures in
     let is = c.either-more.ensures ∙ ap (λ b. b || c.args.description.now.more)
     c.announced_more-announced.ensures in
-    sends_after c.send_description.result (ap (λ h. h.committed) c.count_on.ensures)
-    (ap (λ h. send_description moment h.present) c.count_on.ensures
+    sends_after c.send_description.result (ap (λ h. h.committed) c.set_dd_sequence.ensures)
+    (ap (λ h. send_description moment h.present) c.set_dd_sequence.ensures
     ∙ ap (λ q. send_description moment (record n { sequence = q })) number
     ∙ ap (λ b. cond b goes_on (no_sends (exchange_done moment n))) (sym c.if-more.true ∙ is))
     c.send_description.ensures

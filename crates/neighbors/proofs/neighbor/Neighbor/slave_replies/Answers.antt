@@ -12,11 +12,11 @@ returns-then-more c =
     let d = c.args.description.now in
     let replied = send_description moment (record n { sequence = d.sequence }) in
     let done : Step = record replied { neighbor = exchange_done moment replied.neighbor } in
-    let counted = ap (λ h. send_description moment h.present) c.count_on.ensures in
+    let counted = ap (λ h. send_description moment h.present) c.set_dd_sequence.ensures in
     let now = c.in_ok-send_description.ensures.ok ∙ ap (λ s. s.neighbor) counted in
     let is = c.either-more.ensures ∙ ap (λ b. b || d.more)
     (c.announced_more-announced.ensures ∙ ap (λ m. announced_more m.described) now) in
-    sends_after _ (ap (λ h. h.committed) c.count_on.ensures)
+    sends_after _ (ap (λ h. h.committed) c.set_dd_sequence.ensures)
     (counted ∙ ap (λ b. cond b replied done) (sym c.if-more.true ∙ is))
     c.in_ok-send_description.ensures
 
@@ -27,7 +27,7 @@ returns c =
     let d = c.args.description.now in
     let replied = send_description moment (record n { sequence = d.sequence }) in
     let done : Step = record replied { neighbor = exchange_done moment replied.neighbor } in
-    let counted = ap (λ h. send_description moment h.present) c.count_on.ensures in
+    let counted = ap (λ h. send_description moment h.present) c.set_dd_sequence.ensures in
     let now = c.in_ok-send_description.ensures.ok ∙ ap (λ s. s.neighbor) counted in
     let is = c.either-more.ensures ∙ ap (λ b. b || d.more)
     (c.announced_more-announced.ensures ∙ ap (λ m. announced_more m.described) now) in
@@ -40,5 +40,5 @@ returns c =
           ∙ ap (λ b. drafting delay (cond b replied done).sends c.args.draft.now)
           (sym c.if-more.false ∙ is);
       committed = ap (λ h. h.committed) c.finish.ensures ∙ c.send_description.ensures.committed
-          ∙ ap (λ h. h.committed) c.count_on.ensures;
+          ∙ ap (λ h. h.committed) c.set_dd_sequence.ensures;
     }

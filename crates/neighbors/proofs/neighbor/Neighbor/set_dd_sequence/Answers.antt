@@ -1,7 +1,7 @@
 use Rattle.std.proofs.Common.{ap, ◌∙◌}
 use Rattle.neighbors.proofs.Exchanges.{counts_on}
 use Rattle.adjacency.proofs.Neighbors.{kept_is}
-use Rattle.neighbors.proofs.neighbor.Neighbor.count_on.Goals as goal
+use Rattle.neighbors.proofs.neighbor.Neighbor.set_dd_sequence.Goals as goal
 
 pub returns : goal.returns
 returns c =
