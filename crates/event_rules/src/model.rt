@@ -54,7 +54,7 @@ pub struct Out {
 pub enum ConfigError {
     /// The configuration isn't valid by the rules of [`Config`]: its Router ID, its interfaces or
     /// its start.
-    #[error("the configuration is not in the profile")]
+    #[error("the configuration is outside what this router supports")]
     Interface,
     /// An allocation was refused; nothing is wrong with the configuration.
     #[error("out of memory")]

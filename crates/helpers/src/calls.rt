@@ -19,7 +19,7 @@ use maps::{Seat, Shared};
 const COUNTERS: u64 = 256;
 
 /// The least amount that is too large for one addition.
-const AMOUNTS: u64 = 1 << 24;
+const AMOUNT_LIMIT: u64 = 1 << 24;
 
 fn number_in(content: Content) -> Result<u64, Fault>
     ensures ok { IfOk result (λ n. content ≡ Number n) }
@@ -57,7 +57,7 @@ fn call_counter_add(
     ensures unchanged { OnErr result (seat.new ≡ seat.old) }
 {
     let (counter, amount) = numbers_in(first, second)?;
-    if counter >= COUNTERS || amount >= AMOUNTS {
+    if counter >= COUNTERS || amount >= AMOUNT_LIMIT {
         return Err(Fault::Argument);
     }
     Ok(counter_add(shared, seat, counter, amount))

@@ -11,7 +11,7 @@ use Rattle.hooks.specs.Vacant.{IsAnsweredByNone}
 use Rattle.flood.specs.event_rules.Routers.{Router}
 use Rattle.flood.specs.declared.event.Event.TheVariants as event
 use Rattle.turns.specs.Laws.{AnswersAreBesideATable}
-use Rattle.turns.specs.Turns.{AreAsked, AreBeside, IsOfferedBySome, IsRedistribute, Offers}
+use Rattle.turns.specs.Turns.{AreAnswersAsked, AreBeside, IsOfferedBySome, IsRedistribute, Offers}
 use Rattle.turns.proofs.Vetoes.{is_word}
 
 pub configured : (offers : Offers) (known now : List LoaderOperation) (seat : SeatView)
@@ -37,7 +37,7 @@ configured offers known now seat external moment tag price on_tag on_price tagge
 asked_beside : (origin : Router) (known now : List LoaderOperation) (moment : Moment)
     (external : External) (candidates : List Route) (rows : List TableRow)
     (tag price : ExternalAnswer) → IsOfferedBySome origin candidates rows
-    → AreAsked (IsOfferedBySome origin) known now external moment tag price
+    → AreAnswersAsked (IsOfferedBySome origin) known now external moment tag price
     → (candidates : List Route) × (rows : List TableRow)
     × IsOfferedBySome origin candidates rows
     × AreBeside known now external moment rows tag price

@@ -14,7 +14,7 @@ use Rattle.hooks.specs.declared.operation.LoaderOperation.{LoaderOperation}
 use Rattle.hooks.specs.Questions.{ExternalAnswer, RouteAnswer}
 use Rattle.hooks.proofs.Fronts.{prefix_trans}
 use Rattle.flood.specs.declared.event.Event.{Event}
-use Rattle.turns.specs.Turns.{AreAsked, AreBeside, AreVetoes, IsChangedSince, IsEventOfWork}
+use Rattle.turns.specs.Turns.{AreAnswersAsked, AreBeside, AreVetoes, IsChangedSince, IsEventOfWork}
 use Rattle.turns.specs.Turns.{IsInstall}
 use Rattle.turns.specs.Turns.{IsPriceOn, IsRedistribute, IsTagOn, IsTurned, IsUnchanged}
 use Rattle.turns.specs.Turns.{IsUnrefreshed, IsVetoOn, IsWordOn, Offers, Refuses, RefusesFor}
@@ -70,8 +70,8 @@ module _ (known more now most : List LoaderOperation) (longer : IsPrefix known m
       (tag_longer external moment rows tag h.0, price_longer external moment rows price h.1)
 
   asked_longer : (offers : Offers) (external : External) (moment : Moment)
-      (tag price : ExternalAnswer) → AreAsked offers more now external moment tag price
-      → AreAsked offers known most external moment tag price
+      (tag price : ExternalAnswer) → AreAnswersAsked offers more now external moment tag price
+      → AreAnswersAsked offers known most external moment tag price
   asked_longer offers external moment tag price (inl (candidates, rows, offered, beside)) =
       inl (candidates, rows, offered, beside_longer external moment rows tag price beside)
   asked_longer offers external moment tag price (inr beside) =

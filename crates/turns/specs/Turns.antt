@@ -270,9 +270,9 @@ AreBeside known now external moment rows tag price =
 
 -- They are beside the rows of a table that was offered; or beside whatever rows, as they are if no
 -- program stands at `tag` and none at `price`: then no table was asked for.
-abbrev pub AreAsked : Offers → (known now : List LoaderOperation) → External → Moment
+abbrev pub AreAnswersAsked : Offers → (known now : List LoaderOperation) → External → Moment
     → (tag : ExternalAnswer) → (price : ExternalAnswer) → Type 0
-AreAsked offers known now external moment tag price =
+AreAnswersAsked offers known now external moment tag price =
     ((candidates : List Route) × (rows : List TableRow)
     × offers candidates rows × AreBeside known now external moment rows tag price)
     ⊎ ((rows : List TableRow) → AreBeside known now external moment rows tag price)
@@ -282,7 +282,7 @@ abbrev pub IsRedistribute : Offers → (known now : List LoaderOperation) → Ex
     → Type 0
 IsRedistribute offers known now external moment e =
     (tag : ExternalAnswer) × (price : ExternalAnswer)
-    × AreAsked offers known now external moment tag price × (e ≡ event.Redistribute tag price)
+    × AreAnswersAsked offers known now external moment tag price × (e ≡ event.Redistribute tag price)
 
 -- the event is that of the work, with answers to its questions, by a port that knew the first of
 -- these operations when it began to ask, and knows the others then

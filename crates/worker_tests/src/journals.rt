@@ -155,7 +155,7 @@ fn journals_are_full_or_start_anew(rt: HostRuntime) {
 fn refusals_have_texts(rt: HostRuntime) -> Result<(), Fail> {
     let text = format!(in rt.alloc(); "{}", ConfigError::Interface)?;
     assert!(rt;
-        text.as_str() == "the configuration is not in the profile",
+        text.as_str() == "the configuration is outside what this router supports",
         "{text}"
     );
     Ok(())
