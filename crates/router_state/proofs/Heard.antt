@@ -23,7 +23,7 @@ use Rattle.event_rules.specs.Routers.{Router}
 use Rattle.router_state.specs.Kept.{KeptRouter}
 use Rattle.router_state.specs.Making.{Makes, RouterDoes}
 use Rattle.router_state.proofs.Making.{does_if_true, does_same, makes_nothing, makes_same}
-use Rattle.router_state.specs.Received.{counts_before_exchange, is_exchange_or_later_named}
+use Rattle.router_state.specs.Received.{is_accepted_before_exchange, is_exchange_or_later_named}
 use Rattle.router_state.specs.Received.{is_from_named}
 use Rattle.router_state.specs.Received.{is_processed}
 
@@ -41,7 +41,7 @@ from_named from (Some n) = refl
 
 -- what isn't processed changes nothing
 unprocessed : (heard in_exchange : Bool) (moment number from : ℕ) (b : PacketBody) (p : EventState)
-    → (heard && (in_exchange || counts_before_exchange b)) ≡ false
+    → (heard && (in_exchange || is_accepted_before_exchange b)) ≡ false
     → p ≡ cond heard (from_neighbor moment number from in_exchange b p) p
 unprocessed false in_exchange moment number from b p is = refl
 unprocessed true true moment number from b p is = absurd (false≢true (sym is))
@@ -94,16 +94,16 @@ module _ (moment number : ℕ) (packet : Packet) where
   is_taken {old = old} r b holds exchanges a =
       does_if_true heard discarded r is_heard_at
       (first_holds (is_heard_at old.present)
-      (exchanges_at old.present || counts_before_exchange packet.body) holds)
+      (exchanges_at old.present || is_accepted_before_exchange packet.body) holds)
       (does_same r
       (λ p here. ap (λ c. from_neighbor moment number packet.router c packet.body p)
       (sym (ap exchanges_at here ∙ exchanges)))
       a)
 
   pub came_in_exchange : (r : Router) → is_processed_at r ≡ true
-      → counts_before_exchange packet.body ≡ false → exchanges_at r ≡ true
+      → is_accepted_before_exchange packet.body ≡ false → exchanges_at r ≡ true
   came_in_exchange r holds waits =
-      waited (is_heard_at r) (exchanges_at r) (counts_before_exchange packet.body) waits holds
+      waited (is_heard_at r) (exchanges_at r) (is_accepted_before_exchange packet.body) waits holds
 
   -- ---- by the types of packets
 
@@ -141,7 +141,7 @@ module _ (moment number : ℕ) (packet : Packet) where
       → RouterDoes (on_area (receive_request moment number read)) old new r
       → RouterDoes (after_packet moment number packet) old new r
   requests {old = old} r keys read holds is same a =
-      is_taken r true holds (came_in_exchange old.present holds (ap counts_before_exchange is))
+      is_taken r true holds (came_in_exchange old.present holds (ap is_accepted_before_exchange is))
       (does_same r
       (λ p _.
       ap (λ (ks : List Key). on_area (receive_request moment number ks) p) same
@@ -154,7 +154,7 @@ module _ (moment number : ℕ) (packet : Packet) where
       → RouterDoes (after_lsas moment number read) old new r
       → RouterDoes (after_packet moment number packet) old new r
   updates {old = old} r lsas read holds is same a =
-      is_taken r true holds (came_in_exchange old.present holds (ap counts_before_exchange is))
+      is_taken r true holds (came_in_exchange old.present holds (ap is_accepted_before_exchange is))
       (does_same r
       (λ p _.
       ap (λ (ls : List (List ℕ)). after_lsas moment number ls p) same
@@ -167,7 +167,7 @@ module _ (moment number : ℕ) (packet : Packet) where
       → RouterDoes (on_area (receive_acknowledgment moment number read)) old new r
       → RouterDoes (after_packet moment number packet) old new r
   acknowledges {old = old} r headers read holds is same a =
-      is_taken r true holds (came_in_exchange old.present holds (ap counts_before_exchange is))
+      is_taken r true holds (came_in_exchange old.present holds (ap is_accepted_before_exchange is))
       (does_same r
       (λ p _.
       ap (λ (hs : List Header). on_area (receive_acknowledgment moment number hs) p) same

@@ -24,17 +24,17 @@ is_from_named from (Some named) = named.0 == from
 -- ---- which packets are processed
 
 -- it is processed before Exchange, too
-abbrev pub counts_before_exchange : PacketBody → Bool
-counts_before_exchange (body.Hello h) = true
-counts_before_exchange (body.Description d) = true
-counts_before_exchange (body.Request keys) = false
-counts_before_exchange (body.Update lsas) = false
-counts_before_exchange (body.Acknowledgment headers) = false
+abbrev pub is_accepted_before_exchange : PacketBody → Bool
+is_accepted_before_exchange (body.Hello h) = true
+is_accepted_before_exchange (body.Description d) = true
+is_accepted_before_exchange (body.Request keys) = false
+is_accepted_before_exchange (body.Update lsas) = false
+is_accepted_before_exchange (body.Acknowledgment headers) = false
 
 -- it is heard, and doesn't wait for Exchange before that
 abbrev pub is_processed : RouterNumber → Packet → Option Neighbor → Bool
 is_processed own packet n =
-    is_heard own packet n && (neighbor_is_exchange_or_later n || counts_before_exchange packet.body)
+    is_heard own packet n && (neighbor_is_exchange_or_later n || is_accepted_before_exchange packet.body)
 
 -- ---- LSAs of a Link State Update
 

@@ -6,7 +6,7 @@ ghost use Rattle.event_rules.specs.Packets.{after_packet, neighbor_is_exchange_o
 ghost use Rattle.event_rules.specs.Packets.{is_heard};
 ghost use Rattle.event_rules.specs.Packets.{is_hello};
 ghost use Rattle.router_state.specs.Making.{RouterDoes};
-ghost use Rattle.router_state.specs.Received.{counts_before_exchange, is_from_named};
+ghost use Rattle.router_state.specs.Received.{is_accepted_before_exchange, is_from_named};
 ghost use Rattle.router_state.specs.Received.{is_exchange_or_later_named, is_processed};
 
 use crate::received_hellos::is_foreign;
@@ -31,8 +31,8 @@ fn is_hello(body: &PacketBody) -> bool
 
 // Whether such a packet is processed before Exchange, too: Link State Requests, Updates and
 // Acknowledgments aren't.
-fn counts_before_exchange(body: &PacketBody) -> bool
-    ensures { result ≡ counts_before_exchange body.now }
+fn is_accepted_before_exchange(body: &PacketBody) -> bool
+    ensures { result ≡ is_accepted_before_exchange body.now }
 {
     match body {
         PacketBody::Hello(_hello) => true,
@@ -108,7 +108,8 @@ fn is_heard(packet: &Packet, router: &Router, interface: usize) -> bool
     foreign && (hello || from_neighbor)
 }
 
-// Whether the packet is processed: whether it is heard, and doesn't wait for Exchange before that.
+// Whether the packet is processed: whether it is heard, and isn't discarded because the neighbor is
+// before Exchange.
 fn is_processed(packet: &Packet, router: &Router, interface: usize) -> bool
     requires first { 1 ≤ interface }
     requires last { interface ≤ length router.now.present.area.links }
@@ -117,7 +118,7 @@ fn is_processed(packet: &Packet, router: &Router, interface: usize) -> bool
 {
     let heard = is_heard(packet, router, interface);
     let exchanging = is_exchange_or_later(router, interface);
-    let early = counts_before_exchange(&packet.body);
+    let early = is_accepted_before_exchange(&packet.body);
     heard && (exchanging || early)
 }
 

@@ -1,5 +1,5 @@
 use Rattle.std.proofs.Common.{sym, ap, ◌∙◌}
-use Rattle.router_state.specs.Received.{counts_before_exchange}
+use Rattle.router_state.specs.Received.{is_accepted_before_exchange}
 use Rattle.router_state.proofs.Heard.{acknowledges, came_in_exchange, describes, greets}
 use Rattle.router_state.proofs.Heard.{is_discarded}
 use Rattle.router_state.proofs.Heard.{requests, updates}
@@ -15,7 +15,7 @@ pub receive_request-requires-clause-exchange : goal.receive_request-requires-cla
 receive_request-requires-clause-exchange c =
     came_in_exchange c.args.moment c.args.interface c.args.packet.now c.args.router.now.present
     (sym c.is_processed.ensures ∙ c.if-not-is_processed.false)
-    (ap counts_before_exchange c.in-Request.is)
+    (ap is_accepted_before_exchange c.in-Request.is)
 
 pub returns-in-Hello : goal.returns-in-Hello
 returns-in-Hello c =
