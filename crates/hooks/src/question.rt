@@ -14,7 +14,7 @@ use words::{External, Route, Second};
 
 /// A question never blocks or allocates. `None` if the published programs can't be read: entering
 /// was refused, or they are older than those that the asker knows. Asker and seat are then
-/// unchanged. The seat has to be one of the table.
+/// unchanged. The seat has to be one of `shared`.
 impl Asker {
     /// Asks `count` about a packet that came in on the interface at this moment, before it is
     /// parsed.

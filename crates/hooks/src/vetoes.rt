@@ -105,7 +105,7 @@ impl Asker {
     ///
     /// `None` if the published programs can't be read at one of these times: entering was refused,
     /// or they are older than those that the asker knows. The first routes may have been asked
-    /// about then. Without a route they aren't read. The seat has to be one of the table.
+    /// about then. Without a route they aren't read. The seat has to be one of `shared`.
     ///
     /// # Errors
     /// `AllocError` if an allocation is refused, before any question.

@@ -37,7 +37,7 @@ impl Site for Brand {
     ghost history = { record { number = 0; log_name = 0; cells_name = 0 } };
 }
 
-/// A seat of the table, and an asker of the published programs.
+/// A seat of the counters and cells, and an asker of the published programs.
 #[derive(Drop)]
 pub struct WorkerSeat<L: Site> {
     pub(crate) seat: Seat,

@@ -47,7 +47,7 @@ impl Setup {
         if ports == 0 || ports > MAX_SEATS {
             return Err(HookError::Count);
         }
-        let (shared, seats) = table(alloc, ports)?;
+        let (shared, seats) = shared_words(alloc, ports)?;
         let (loader, askers) = programs(alloc, rt, ports)?;
         let setup = Setup {
             blank: Blank::new(ports as u64),
@@ -59,8 +59,8 @@ impl Setup {
     }
 }
 
-// A table with this number of seats.
-fn table(alloc: Global, count: usize) -> Result<(Shared, Vec<Seat>), AllocError>
+// Counters and cells with this number of seats.
+fn shared_words(alloc: Global, count: usize) -> Result<(Shared, Vec<Seat>), AllocError>
     requires { (0 < count) × (count ≤ 64) }
     ensures every { IfOk result (λ r. r.0.seats ≡ count) }
     ensures count { IfOk result (λ r. vec_len r.1 ≡ count) }

@@ -1,6 +1,6 @@
 use Rattle.std.proofs.Common.{arith}
 use Rattle.worker.proofs.FreshSeats.{are_seated, are_so_many}
-use Rattle.worker.proofs.setup.table.Goals as goal
+use Rattle.worker.proofs.setup.shared_words.Goals as goal
 
 pub returns-in-Ok-clause-count : goal.returns-in-Ok-clause-count
 returns-in-Ok-clause-count c =
