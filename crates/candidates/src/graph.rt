@@ -21,7 +21,7 @@ pub struct AreaGraph {
     pub root: Root,
     /// The nodes, sorted.
     pub nodes: Vec<Node>,
-    /// The expected indices of the routers among the nodes.
+    /// The expected indices of the nodes.
     pub slots: Slots,
     /// The vertex of each node, at the same index.
     pub vertices: Vec<Vertex>,

@@ -18,8 +18,7 @@ EventsAreDetermined =
     → Happens old moment event sent new → Happens old moment event others another
     → (sent ≡ others) × (new ≡ another)
 
--- the answers of the programs, vetoes included, change neither the database nor a link, and send
--- nothing
+-- the answers of `veto` change neither the database nor a link, and send nothing
 abbrev pub VetoesLeaveTheArea : Type 0
 VetoesLeaveTheArea = (answers : List (Route × ℕ)) (before : EventState)
     → ((after_install answers before).router.area ≡ before.router.area)

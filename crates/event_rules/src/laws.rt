@@ -11,8 +11,8 @@ pub fn events_are_determined()
     ensures { EventsAreDetermined }
 {}
 
-/// The answers of the programs, vetoes included, change neither the database nor a link by
-/// themselves, and send nothing.
+/// The answers of `veto` change neither the database nor a link, and send nothing. (Those of `tag`
+/// and `price` may: an LSA is originated or flushed by them.)
 pub fn answers_leave_the_area()
     ensures { VetoesLeaveTheArea }
 {}

@@ -22,8 +22,8 @@ use words::{Key, Prefix, Route, Second};
 // The maximum number of keys of changed LSAs that are followed, unless one for each 32 candidates
 // is more: beyond that, recalculating everything may be cheaper. At 10,000 candidates that costs
 // some 2.8 milliseconds, the route to one destination 6 microseconds, and one that is added or
-// removed up to 17 more, since those after it move. The key of an LSA that was added or removed
-// counts twice.
+// removed up to 17 more, since those after it move. A key is counted
+// twice if its LSA changed and is at MaxAge.
 const FEW_CHANGED: usize = 64;
 
 /// The outcome for candidates that were to follow an event.

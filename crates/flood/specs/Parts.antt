@@ -84,7 +84,7 @@ RefusesAs refusal (Err error.Clash) = refusal ≡ Some error.Clash
 RefusesAs refusal (Err error.ClockBack) = refusal ≡ Some error.ClockBack
 RefusesAs refusal (Err error.Full) = refusal ≡ Some error.Full
 
--- `Full` if and only if the router exceeds a limit; otherwise an allocation was refused
+-- `Ok` only within the limits, `Full` only beyond them; `Memory` in either case
 abbrev pub RefusesAtLimit : {X : Type 0} → Router → Result X CoreError → Type 0
 RefusesAtLimit new (Ok x) = exceeds new ≡ false
 RefusesAtLimit new (Err error.Full) = exceeds new ≡ true

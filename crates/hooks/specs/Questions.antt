@@ -32,7 +32,8 @@ abbrev pub veto_input : Route → Moment → List TableRow → Given
 veto_input route moment rows =
     record { context = veto_context route moment; packet = []; rows = rows }
 
--- the word of a run of an accepted program of the hook, or the default
+-- The word of a run of a safe program of the hook, or the default. So it may be any 64-bit word: by
+-- which program it was answered is said where the operations are known (`IsAnswered`).
 abbrev pub IsAnswer : Hook → Given → (word : ℕ) → Type 0
 IsAnswer hook input word =
     ((program : Program) × (labels : List Label) × (program.hook ≡ hook)

@@ -6,8 +6,8 @@ ghost use Rattle.isa.specs.Hooks.{hook_number, hook_name};
 /// The point in the router at which a program is called.
 #[derive(Clone, Copy, PartialEq, Eq, Debug)]
 pub enum Hook {
-    /// For each datagram, before it is read: at least once, and once more whenever its turn is
-    /// tried again.
+    /// For each datagram, before it is read: once for each try of its turn, unless the published
+    /// programs can't be read then.
     Count,
     /// For the tag of an external destination that is to be announced.
     Tag,

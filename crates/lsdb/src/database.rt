@@ -312,8 +312,9 @@ impl Lsdb {
     /// given, have changed since the database was last committed (RFC 2328, section 13.2): no copy
     /// was added or removed, each has the same body, and neither the earlier copy nor the present
     /// one is at MaxAge at the moment, unless they have the same age. It visits the edits since
-    /// then. Another sequence number, checksum, age below MaxAge or Options field doesn't matter,
-    /// nor whether a copy was sent.
+    /// then. Another sequence number, checksum or age below MaxAge doesn't matter, nor whether a
+    /// copy was sent; nor do other Options, which section 13.2 counts as a difference, but on which
+    /// no route depends.
     ///
     /// # Errors
     /// `AllocError` if an allocation for the bytes of LSAs, which are compared, is refused.

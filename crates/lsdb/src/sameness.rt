@@ -13,7 +13,8 @@ use std::alloc::{AllocError, Global};
 use words::Second;
 
 /// Whether both copies have the same contents at the moment (RFC 2328, section 13.2), or neither
-/// exists: their bodies are equal, and they had one age or neither has MaxAge.
+/// exists: their bodies are equal, and they had one age or neither has MaxAge. Other Options are no
+/// difference here.
 ///
 /// # Errors
 /// `AllocError` if an allocation for their bytes, which are compared, is refused.

@@ -1,4 +1,4 @@
-//! Statements: what holds at a slot of the code whenever execution reaches it.
+//! Statements: what a file claims to hold at a slot of its code whenever execution reaches it.
 ghost use Rattle.std.specs.Prelude.{◌≡◌, ◌↔◌, length, IfSome, IsSome, IsTrue};
 ghost use Rattle.std.specs.List.{All};
 ghost use Rattle.object.specs.Statements.{IsKind, IsRankOver, IsStatement, IsTermOrNone};

@@ -56,7 +56,8 @@ fn are_lsas(count: u32, bytes: &[u8]) -> bool
     rest.is_empty()
 }
 
-// Whether a body of this type has exactly these bytes' length.
+// Whether the bytes are a body of this type: by their length, a Database Description also by its
+// flags (I, M and MS alone), a Link State Update by the lengths of its LSAs.
 fn is_filled(kind: PacketType, body: &[u8]) -> bool
     requires { least_length (Some kind) ≤ 24 + length body.now }
     ensures { result ≡ is_filled kind body.now }

@@ -17,8 +17,8 @@ pub fn exactly_one_case_applies()
     ensures { ExactlyOneCaseApplies }
 {}
 
-/// An LSA at MaxAge without a database copy: only acknowledged if all neighbors are Full, installed
-/// if one is in Loading.
+/// An LSA at MaxAge without a database copy: only acknowledged if no neighbor is in Exchange or
+/// Loading, installed if one is.
 pub fn worked_cases()
     ensures { WorkedCases }
 {}

@@ -71,7 +71,8 @@ pub fn originate_or_postpone(
 
 /// Processes a self-originated LSA with this header that was received and installed (RFC 2328,
 /// section 13.4): a wanted one is originated again with the next sequence number; any other is
-/// flushed. An LSA of another router changes nothing.
+/// flushed. An LSA of another router changes nothing: the second condition of section 13.4, for
+/// network-LSAs of this router's own addresses, isn't tested, since it is on no transit network.
 ///
 /// # Errors
 /// `AllocError` if an allocation is refused.

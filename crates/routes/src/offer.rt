@@ -1,7 +1,7 @@
 //! What reachable routers and networks offer.
 use words::{Hops, Prefix, RouteKind, RouterId};
 
-/// An offer of a path to a network (RFC 2328, sections 16.1 and 16.4). Ordered by prefix, then
+/// An offer of a path to a network (RFC 2328, sections 16.1, 16.2 and 16.4). Ordered by prefix, then
 /// better before worse, then by originator and tag.
 #[derive(Clone, Copy)]
 pub struct Offer {

@@ -112,7 +112,7 @@ fn falls_off(code: &Code, slot: usize, instruction: &Instruction) -> bool
     falls_through(instruction) && !begins(code, slot + slots_of(instruction))
 }
 
-/// Whether nothing leads to the slot: rule 3.
+/// Whether nothing falls through to the slot and it has no statement: rule 3.
 fn is_unreached<'a, D: Domain>(
     segment_starts: &[Option<SegmentStart<'a, D>>],
     is_passed_to: bool,
@@ -130,7 +130,8 @@ fn is_unreached<'a, D: Domain>(
 ///
 /// # Errors
 /// The first of: `Target` if it jumps to where no instruction begins, `FallsOff` if the code ends
-/// after it although it may fall through, `Unreached` if nothing leads to it, `Unstated` if it
+/// after it although it may fall through, `Unreached` if nothing falls through to it and it has no
+/// statement, `Unstated` if it
 /// jumps to a slot without a statement.
 pub fn check_places<'a, D: Domain>(
     code: &Code,

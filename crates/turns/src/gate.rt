@@ -1,4 +1,4 @@
-//! What a turn passes before it takes the lock.
+//! What a turn passes before it takes the lock for its event.
 ghost use Rattle.std.specs.Prelude.{ℕ};
 
 /// A gate that lets each turn pass.
@@ -9,7 +9,8 @@ impl Gate for Open {
     fn pass(&mut self, _port: u16) {}
 }
 
-/// What each turn passes once, after the programs were asked and before the lock is taken. Tests
+/// What each turn passes once, after the programs were asked (for which it may have taken the lock,
+/// to copy what they are asked about) and before it takes the lock to give its event. Tests
 /// stop or watch a turn there; `routerd` has [`Open`] alone.
 ///
 /// `passes` (the gate before, the port, the gate after) is a relation that each implementation

@@ -16,7 +16,7 @@ pub struct TurnOutcome {
     pub refreshed: Option<Vec<Out>>,
 }
 
-/// Why a turn gave the router no event.
+/// Why the book took no event of a turn.
 #[derive(Clone, Copy, Debug, PartialEq, Eq, Error)]
 pub enum TurnError {
     /// The book refused the event, or an allocation was refused (`CoreError::Memory`).

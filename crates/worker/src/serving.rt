@@ -272,7 +272,7 @@ pub fn send_all<K: Transport>(transport: &mut K, turned: &TurnOutcome) -> Result
     }
 }
 
-// Sends what a turn sends; a refused one sends nothing.
+// Sends what a turn sends; a refused one sends nothing, and why it was refused isn't kept.
 fn send_turned<K: Transport>(
     transport: &mut K,
     turned: &Result<TurnOutcome, TurnError>,

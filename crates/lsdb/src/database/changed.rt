@@ -14,8 +14,8 @@ use words::{Key, Second};
 
 impl Lsdb {
     /// The keys whose copies have other contents at the moment than when the database was last
-    /// committed, as `is_unchanged` compares them (RFC 2328, section 13.2). A key may be there
-    /// twice. It visits the edits since then.
+    /// committed, as `is_unchanged` compares them (RFC 2328, section 13.2). It visits
+    /// the edits since then.
     ///
     /// # Errors
     /// `AllocError` if an allocation for the keys, or for the bytes of LSAs, which are compared, is

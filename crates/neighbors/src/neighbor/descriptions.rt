@@ -33,7 +33,7 @@ use packet::Description;
 use std::alloc::{AllocError, Global};
 use words::{E_BIT, Key, LARGEST_PACKET, Second, Sequence};
 
-/// The most headers in one Database Description.
+/// The most headers in one Database Description: (8192 - 32) / 20.
 const MAX_HEADERS_DESCRIBED: usize = 408;
 
 /// A second value of the Database Description, as `Clone::clone` would make one.

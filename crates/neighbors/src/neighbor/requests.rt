@@ -13,7 +13,7 @@ use keyed_map::KeyedMap;
 use std::alloc::{AllocError, Global};
 use words::{Key, Second, Sequence};
 
-/// The most keys in one Link State Request.
+/// The most keys in one Link State Request: (8192 - 24) / 12.
 const MAX_KEYS_REQUESTED: usize = 680;
 
 // Adds the keys to an empty set.

@@ -238,7 +238,7 @@ impl Neighbor {
         Ok(())
     }
 
-    // The outstanding keys that are still on the request list.
+    // The outstanding keys, in their order; all of them are on the request list.
     fn still_outstanding(&self, alloc: Global) -> Result<Vec<Key>, AllocError>
         ensures { IfOk result (λ keys. keys.items ≡ still_outstanding self.now.present) }
     {
