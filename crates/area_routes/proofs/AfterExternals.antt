@@ -6,7 +6,7 @@ use Rattle.words.specs.declared.route.Route.{Route}
 use Rattle.kept_routes.specs.Kept.{IsWalkOf}
 use Rattle.routes.specs.Candidates.{AreCandidates}
 use Rattle.routes.specs.Contents.{Contents}
-use Rattle.routes.specs.Tables.{Answers, IsStale}
+use Rattle.routes.specs.Tables.{RouteWords, IsStale}
 use Rattle.routes.specs.declared.root.Root.{Root}
 use Rattle.area_routes.specs.Kept.{KeptRoutes, KnowsAnswered, KnowsCandidates, KnowsInner}
 use Rattle.area_routes.specs.Kept.{KnowsMatching, KnowsWalk}
@@ -17,12 +17,12 @@ use Rattle.external_updates.specs.Laws.{InnerRoutesAreKept}
 use Rattle.kept_routes.specs.Sameness.{HaveSameContents}
 
 -- nothing is known of answers if none are known to exist
-pub unanswered : (contents : Contents) (root : Root) (answers : Answers) (kept : KeptRoutes)
+pub unanswered : (contents : Contents) (root : Root) (answers : RouteWords) (kept : KeptRoutes)
     → kept.answered ≡ false → KnowsAnswered contents root answers kept
 unanswered contents root answers kept is on = absurd (false≢true (sym is ∙ on))
 
 -- nor of candidates and answers where nothing is known of these
-pub unmatched : (answers : Answers) (kept : KeptRoutes) → kept.matching ≡ Unknown
+pub unmatched : (answers : RouteWords) (kept : KeptRoutes) → kept.matching ≡ Unknown
     → KnowsMatching answers kept.candidates kept.matching
 unmatched answers kept is =
     subst (λ (m : Matching). KnowsMatching answers kept.candidates m) (sym is) tt
@@ -52,7 +52,7 @@ module _ (old new : Contents) (was is : Root) (kept : KeptRoutes) (serves : kept
       (inner_carried law old new was kept.walk same kept.inner knows)
 
   -- answers that are still complete
-  pub still_answered : (answers : Answers) → (IsStale new was answers → IsStale old was answers)
+  pub still_answered : (answers : RouteWords) → (IsStale new was answers → IsStale old was answers)
       → KnowsAnswered old was answers kept → KnowsAnswered new is answers kept
   still_answered answers back knows =
       subst (λ root. KnowsAnswered new root answers kept) same_root

@@ -10,14 +10,14 @@ use Rattle.area_routes.specs.declared.matching.Matching.TheVariants.{Exact, Lack
 use Rattle.external_updates.specs.Placing.{AreAllAmong, HasAnother}
 use Rattle.routes.specs.Candidates.{AreCandidates}
 use Rattle.routes.specs.Contents.{Contents}
-use Rattle.routes.specs.Tables.{Answers, IsStale}
+use Rattle.routes.specs.Tables.{RouteWords, IsStale}
 use Rattle.routes.specs.declared.root.Root.{Root}
 use Rattle.tables.specs.Comparisons.{IsComparison}
 use Rattle.tables.specs.Parts.{LacksAnswers}
 use Rattle.tables.specs.declared.shared.Comparison.{Comparison}
 
 -- if some candidate has no answer, one of a list of just the candidates has none
-pub found_lacking : (contents : Contents) (root : Root) (answers : Answers)
+pub found_lacking : (contents : Contents) (root : Root) (answers : RouteWords)
     (candidates : List Route) (found : Comparison) → AreCandidates contents root candidates
     → IsComparison answers candidates found → IsTrue found.lacks → LacksAnswers answers candidates
 found_lacking contents root answers candidates found are is on =
@@ -25,7 +25,7 @@ found_lacking contents root answers candidates found are is on =
     (stale.0, (are.each stale.0).1 stale.1, stale.2)
 
 -- if each answered route was a candidate, one that wasn't a candidate has no answer
-pub another_lacks : (answers : Answers) (kept : Option (List Route)) (now : List Route)
+pub another_lacks : (answers : RouteWords) (kept : Option (List Route)) (now : List Route)
     → HaveAnother kept now → KnowsMatching answers kept Exact
     → KnowsMatching answers (Some now) Lacking
 another_lacks answers None now another knows = absurd knows

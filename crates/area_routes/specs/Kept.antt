@@ -20,7 +20,7 @@ use Rattle.candidates.specs.Externals.{AreExternals}
 use Rattle.candidates.specs.declared.externals.ExternalAdvertisement.{ExternalAdvertisement}
 use Rattle.routes.specs.Candidates.{AreCandidates}
 use Rattle.routes.specs.Contents.{Contents, contents_at}
-use Rattle.routes.specs.Tables.{Answers, IsStale}
+use Rattle.routes.specs.Tables.{RouteWords, IsStale}
 use Rattle.routes.specs.declared.root.Root.{Root}
 use Rattle.tables.specs.Parts.{AreAnswersAmong, LacksAnswers}
 use Rattle.candidates.specs.AreaGraphs.{IsAreaGraph}
@@ -90,12 +90,12 @@ abbrev pub AreOfOthers : List Key → Type 0
 AreOfOthers keys = (key : Key) → Contains keys key → key.ls_type ≢ 5
 
 -- if each candidate is known to be among the answers, each is
-abbrev pub KnowsAnswered : Contents → Root → Answers → KeptRoutes → Type 0
+abbrev pub KnowsAnswered : Contents → Root → RouteWords → KeptRoutes → Type 0
 KnowsAnswered contents root answers kept = kept.answered ≡ true → IsStale contents root answers → ⊥
 
 -- what is known of the answers and of the candidates that are kept, if any: with `Exact` each
 -- answered route is one of these, with `Lacking` some of these has no answer
-abbrev pub KnowsMatching : Answers → (kept : Option (List Route)) → Matching → Type 0
+abbrev pub KnowsMatching : RouteWords → (kept : Option (List Route)) → Matching → Type 0
 KnowsMatching answers kept Unknown = Unit {0}
 KnowsMatching answers kept Exact = MatchOption kept ⊥ (AreAnswersAmong answers)
 KnowsMatching answers kept Lacking = MatchOption kept ⊥ (LacksAnswers answers)
@@ -103,7 +103,7 @@ KnowsMatching answers kept Lacking = MatchOption kept ⊥ (LacksAnswers answers)
 -- from what the LSAs said to what they say, no candidate appears that may lack an answer
 abbrev pub StayAnswered : (old : Contents) → (new : Contents) → Root → Type 0
 StayAnswered old new root =
-    (answers : Answers) → IsStale new root answers → IsStale old root answers
+    (answers : RouteWords) → IsStale new root answers → IsStale old root answers
 
 -- if candidates were kept, one of these wasn't among them
 abbrev pub HaveAnother : (kept : Option (List Route)) → (now : List Route) → Type 0
@@ -176,7 +176,7 @@ pub record AreRoutesOf (router : RouterNumber) (area : Area) (moment : Moment)
   pub graph : KnowsGraph (contents_at moment area.database) (root_by router area.links) kept
 
 -- and so is what is known of the answers
-pub record AreKept (router : RouterNumber) (area : Area) (moment : Moment) (answers : Answers)
+pub record AreKept (router : RouterNumber) (area : Area) (moment : Moment) (answers : RouteWords)
     (kept : KeptRoutes) : Type 0 where
   pub routes : AreRoutesOf router area moment kept
   pub answered : KnowsAnswered (contents_at moment area.database) (root_by router area.links)

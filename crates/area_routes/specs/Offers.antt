@@ -7,7 +7,7 @@ use Rattle.words.specs.declared.route.TableRow.{TableRow}
 use Rattle.flooding.specs.received.Links.{Area, Link}
 use Rattle.routes.specs.Candidates.{AreCandidates}
 use Rattle.routes.specs.Contents.{Contents, contents_at}
-use Rattle.routes.specs.Tables.{Answers, IsStale, IsTable}
+use Rattle.routes.specs.Tables.{RouteWords, IsStale, IsTable}
 use Rattle.routes.specs.declared.root.Root.{Root}
 use Rattle.tables.specs.Rows.{rows_of}
 
@@ -24,12 +24,12 @@ AreCandidatesOf router area moment candidates =
     AreCandidates (contents_at moment area.database) (root_by router area.links) candidates
 
 -- its table, given these answers
-abbrev pub IsTableOf : RouterNumber → Area → Moment → Answers → List Route → Type 0
+abbrev pub IsTableOf : RouterNumber → Area → Moment → RouteWords → List Route → Type 0
 IsTableOf router area moment answers table =
     IsTable (contents_at moment area.database) (root_by router area.links) answers table
 
 -- candidates, and with them the rows of the table
-pub record AreOfferedBy (contents : Contents) (root : Root) (answers : Answers)
+pub record AreOfferedBy (contents : Contents) (root : Root) (answers : RouteWords)
     (candidates : List Route) (rows : List TableRow) : Type 0 where
   pub are_candidates : AreCandidates contents root candidates
   pub table : List Route
@@ -37,13 +37,13 @@ pub record AreOfferedBy (contents : Contents) (root : Root) (answers : Answers)
   pub are_rows : rows ≡ rows_of table
 
 -- its candidates, and with them the rows of its table
-abbrev pub AreOffered : RouterNumber → Area → Moment → Answers → List Route → List TableRow
+abbrev pub AreOffered : RouterNumber → Area → Moment → RouteWords → List Route → List TableRow
     → Type 0
 AreOffered router area moment answers candidates rows =
     AreOfferedBy (contents_at moment area.database) (root_by router area.links) answers candidates
     rows
 
 -- some candidate isn't among the answers
-abbrev pub IsStaleOf : RouterNumber → Area → Moment → Answers → Type 0
+abbrev pub IsStaleOf : RouterNumber → Area → Moment → RouteWords → Type 0
 IsStaleOf router area moment answers =
     IsStale (contents_at moment area.database) (root_by router area.links) answers

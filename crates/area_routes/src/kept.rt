@@ -14,7 +14,7 @@ ghost use Rattle.area_routes.specs.declared.matching.Matching.TheVariants.{Exact
 ghost use Rattle.kept_routes.specs.Kept.{IsWalkOf};
 ghost use Rattle.kept_routes.specs.Sameness.{HaveSameContents};
 ghost use Rattle.routes.specs.Contents.{contents_at};
-ghost use Rattle.routes.specs.Tables.{Answers};
+ghost use Rattle.routes.specs.Tables.{RouteWords};
 
 use crate::calculating::{Made, calculated, kept_or};
 use crate::following::followed;
@@ -152,7 +152,7 @@ impl AreaRoutes {
         requires routes { AreRoutesOf router area.now.committed before self.old }
         ensures routes { OnOk result (AreRoutesOf router area.now.present moment self.new) }
         // What was known of the answers is still known, or not known any more.
-        ensures answered { OnOk result ((answers : Answers)
+        ensures answered { OnOk result ((answers : RouteWords)
             → AreKept router area.now.committed before answers self.old
             → AreKept router area.now.present moment answers self.new) }
         // It walks again later only if the router's addresses differ, or an LSA of type 1 or 2 was
@@ -242,7 +242,7 @@ impl AreaRoutes {
         requires order { before ≤ moment }
         requires routes { AreOffersOf router area.now.committed before self.old }
         ensures routes { OnOk result (AreOffersOf router area.now.present moment self.new) }
-        ensures answered { OnOk result ((answers : Answers)
+        ensures answered { OnOk result ((answers : RouteWords)
             → KnowsAnswered (contents_at before area.now.committed.database)
             (root_by router area.now.committed.links) answers self.old
             → KnowsAnswered (contents_at moment area.now.present.database)
@@ -255,7 +255,7 @@ impl AreaRoutes {
             → self.new ≡ self.old) }
         ensures none_new { OnOk result (BringsNoneNew self.old self.new
             → self.new.answered ≡ self.old.answered) }
-        ensures matching { OnOk result ((answers : Answers)
+        ensures matching { OnOk result ((answers : RouteWords)
             → KnowsMatching answers self.old.candidates self.old.matching
             → KnowsMatching answers self.new.candidates self.new.matching) }
         ensures lacking { OnOk result (BringsAnother self.old self.new
@@ -311,7 +311,7 @@ impl AreaRoutes {
         ensures inner { KnowsInner (contents_at moment area.now.present.database)
             self.old.walk.root self.new }
         ensures externals { self.new.externals ≡ self.old.externals }
-        ensures answered { (answers : Answers)
+        ensures answered { (answers : RouteWords)
             → KnowsAnswered (contents_at before area.now.committed.database) self.old.walk.root
             answers
             self.old
@@ -320,7 +320,7 @@ impl AreaRoutes {
             self.new }
         ensures none_new { BringsNoneNew self.old self.new
             → self.new.answered ≡ self.old.answered }
-        ensures matching { (answers : Answers)
+        ensures matching { (answers : RouteWords)
             → KnowsMatching answers self.old.candidates self.old.matching
             → KnowsMatching answers self.new.candidates self.new.matching }
         ensures lacking { BringsAnother self.old self.new
@@ -359,7 +359,7 @@ impl AreaRoutes {
         ensures inner { KnowsInner (contents_at moment area.now.present.database)
             self.old.walk.root self.new }
         ensures externals { self.new.externals ≡ self.old.externals }
-        ensures answered { (answers : Answers)
+        ensures answered { (answers : RouteWords)
             → KnowsAnswered (contents_at before area.now.committed.database) self.old.walk.root
             answers
             self.old
@@ -368,7 +368,7 @@ impl AreaRoutes {
             self.new }
         ensures none_new { BringsNoneNew self.old self.new
             → self.new.answered ≡ self.old.answered }
-        ensures matching { (answers : Answers)
+        ensures matching { (answers : RouteWords)
             → KnowsMatching answers self.old.candidates self.old.matching
             → KnowsMatching answers self.new.candidates self.new.matching }
         ensures lacking { BringsAnother self.old self.new

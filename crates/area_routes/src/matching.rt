@@ -2,7 +2,7 @@
 ghost use Rattle.std.specs.Prelude.{◌≡◌, IsTrue, List, Option, Some, false};
 ghost use Rattle.area_routes.specs.Kept.{HaveAnother, KnowsMatching};
 ghost use Rattle.area_routes.specs.declared.matching.Matching.TheVariants.{Exact, Lacking};
-ghost use Rattle.routes.specs.Tables.{Answers};
+ghost use Rattle.routes.specs.Tables.{RouteWords};
 ghost use Rattle.tables.specs.Parts.{AreAnswersAmong, LacksAnswers};
 ghost use Rattle.words.specs.declared.route.Route.{Route as RouteValue};
 
@@ -21,7 +21,7 @@ pub enum Matching {
 
 /// What is known of candidates and answers that were compared.
 pub fn matching_by(found: Comparison) -> Matching
-    ensures matches { (answers : Answers) (candidates : List RouteValue)
+    ensures matches { (answers : RouteWords) (candidates : List RouteValue)
         → (IsTrue found.lacks → LacksAnswers answers candidates)
         → (IsTrue found.exact → AreAnswersAmong answers candidates)
         → KnowsMatching answers (Some candidates) result }
@@ -40,7 +40,7 @@ pub fn matching_by(found: Comparison) -> Matching
 /// What is known after the candidates followed an event. If each answered route was a candidate, a
 /// candidate that wasn't one before has no answer.
 pub fn matching_after(matching: Matching, none_new: bool) -> Matching
-    ensures matches { (answers : Answers) (kept : Option (List RouteValue))
+    ensures matches { (answers : RouteWords) (kept : Option (List RouteValue))
         (now : List RouteValue)
         → (none_new ≡ false → HaveAnother kept now)
         → KnowsMatching answers kept matching

@@ -9,10 +9,10 @@ use Rattle.event_rules.specs.Refusals.{MayLackMemory}
 use Rattle.event_rules.specs.Routers.{Router}
 use Rattle.event_rules.specs.received.Links.{Area}
 use Rattle.area_routes.specs.routes.Contents.{contents_at}
-use Rattle.area_routes.specs.routes.Tables.{Answers}
+use Rattle.area_routes.specs.routes.Tables.{RouteWords}
 use Rattle.flood.specs.Offers.{AreKeptNow}
 
-pub are_kept : (r : Router) (id : ℕ) (area : Area) (moment : ℕ) (answers : Answers)
+pub are_kept : (r : Router) (id : ℕ) (area : Area) (moment : ℕ) (answers : RouteWords)
     (kept : KeptRoutes) → id ≡ r.id → area ≡ r.area → moment ≡ r.moment → answers ≡ r.answers
     → AreKept id area moment answers kept → AreKeptNow r kept
 are_kept r id area moment answers kept a b c d is =

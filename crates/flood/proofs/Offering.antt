@@ -2,10 +2,10 @@
 use Rattle.std.proofs.Common.{◌≡◌, ℕ, subst, sym}
 use Rattle.event_rules.specs.Routers.{Router}
 use Rattle.event_rules.specs.received.Links.{Area}
-use Rattle.area_routes.specs.routes.Tables.{Answers}
+use Rattle.area_routes.specs.routes.Tables.{RouteWords}
 
-module _ (P : ℕ → Area → ℕ → Answers → Type 0) (r : Router) (id : ℕ) (area : Area) (moment : ℕ)
-    (answers : Answers) (a : id ≡ r.id) (b : area ≡ r.area) (c : moment ≡ r.moment)
+module _ (P : ℕ → Area → ℕ → RouteWords → Type 0) (r : Router) (id : ℕ) (area : Area) (moment : ℕ)
+    (answers : RouteWords) (a : id ≡ r.id) (b : area ≡ r.area) (c : moment ≡ r.moment)
     (d : answers ≡ r.answers) where
   pub of_router : P id area moment answers → P r.id r.area r.moment r.answers
   of_router p =

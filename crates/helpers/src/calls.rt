@@ -4,7 +4,7 @@ ghost use Rattle.machine.specs.declared.helper.Helper.TheVariants.{CounterAdd, C
 ghost use Rattle.machine.specs.declared.helper.Helper.TheVariants.{PacketByte, TableCost};
 ghost use Rattle.machine.specs.Given.{Given, given_by};
 ghost use Rattle.machine.specs.declared.state.Content.TheVariants.{Number};
-ghost use Rattle.machine.specs.Helpers.{helper_of, Answers, Answered};
+ghost use Rattle.machine.specs.Helpers.{helper_of, HelperAnswers, Answered};
 ghost use Rattle.machine.specs.Label.{Label, Silent};
 ghost use Rattle.maps.specs.Words.{IsSeatOf};
 ghost use Rattle.helpers.specs.Calls.{fault_of_call, fault_of_arguments};
@@ -51,7 +51,7 @@ fn call_counter_add(
 ) -> Result<u64, Fault>
     requires table { IsSeatOf shared.now seat.old }
     ensures ok { IfOk result (λ answer. (label : Label) × SeatMakes seat.old (label ∷ []) seat.new
-        × ((input : Given) → Answers CounterAdd input (first ∷ second ∷ []) label answer)) }
+        × ((input : Given) → HelperAnswers CounterAdd input (first ∷ second ∷ []) label answer)) }
     ensures err { IfErr result (λ fault. fault_of_call (Some CounterAdd) first second
         ≡ Some fault) }
     ensures unchanged { OnErr result (seat.new ≡ seat.old) }
@@ -71,7 +71,7 @@ fn call_counter_read(
 ) -> Result<u64, Fault>
     requires table { IsSeatOf shared.now seat.old }
     ensures ok { IfOk result (λ answer. (label : Label) × SeatMakes seat.old (label ∷ []) seat.new
-        × ((input : Given) → Answers CounterRead input (first ∷ []) label answer)) }
+        × ((input : Given) → HelperAnswers CounterRead input (first ∷ []) label answer)) }
     ensures err { IfErr result (λ fault. fault_of_call (Some CounterRead) first second
         ≡ Some fault) }
     ensures unchanged { OnErr result (seat.new ≡ seat.old) }
@@ -84,7 +84,7 @@ fn call_counter_read(
 }
 
 fn call_packet_byte(first: Content, second: Content, input: &Input) -> Result<u64, Fault>
-    ensures ok { IfOk result (λ answer. Answers PacketByte (given_by input.now) (first ∷ []) Silent
+    ensures ok { IfOk result (λ answer. HelperAnswers PacketByte (given_by input.now) (first ∷ []) Silent
         answer) }
     ensures err { IfErr result (λ fault. fault_of_call (Some PacketByte) first second
         ≡ Some fault) }
@@ -94,7 +94,7 @@ fn call_packet_byte(first: Content, second: Content, input: &Input) -> Result<u6
 }
 
 fn call_table_cost(first: Content, second: Content, input: &Input) -> Result<u64, Fault>
-    ensures ok { IfOk result (λ answer. Answers TableCost (given_by input.now) (first ∷ second ∷ [])
+    ensures ok { IfOk result (λ answer. HelperAnswers TableCost (given_by input.now) (first ∷ second ∷ [])
         Silent answer) }
     ensures err { IfErr result (λ fault. fault_of_call (Some TableCost) first second ≡ Some fault) }
 {

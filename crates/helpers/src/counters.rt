@@ -3,7 +3,7 @@ ghost use Rattle.std.specs.Prelude.{◌≡◌, ◌<◌, ◌^◌, ℕ, [], ◌∷
 ghost use Rattle.machine.specs.declared.helper.Helper.TheVariants.{CounterAdd, CounterRead};
 ghost use Rattle.machine.specs.Given.{Given};
 ghost use Rattle.machine.specs.declared.state.Content.TheVariants.{Number};
-ghost use Rattle.machine.specs.Helpers.{Answers};
+ghost use Rattle.machine.specs.Helpers.{HelperAnswers};
 ghost use Rattle.machine.specs.Label.{Label, Read, Cell, SetCell};
 ghost use Rattle.maps.specs.Words.{IsSeatOf};
 ghost use Rattle.helpers.specs.Seats.{SeatMakes};
@@ -17,7 +17,7 @@ pub fn counter_add(shared: &Shared, seat: &mut Seat, counter: u64, amount: u64) 
     requires counter { counter < 256 }
     requires amount { amount < 2 ^ 24 }
     ensures { (label : Label) × SeatMakes seat.old (label ∷ []) seat.new
-        × ((input : Given) → Answers CounterAdd input (Number counter ∷ Number amount ∷ []) label
+        × ((input : Given) → HelperAnswers CounterAdd input (Number counter ∷ Number amount ∷ []) label
         result) }
 {
     shared.add(seat, counter as usize, amount)
@@ -28,7 +28,7 @@ pub fn counter_read(shared: &Shared, seat: &mut Seat, counter: u64) -> u64
     requires table { IsSeatOf shared.now seat.old }
     requires counter { counter < 256 }
     ensures made { SeatMakes seat.old (Read counter result ∷ []) seat.new }
-    ensures answers { (input : Given) → Answers CounterRead input (Number counter ∷ [])
+    ensures answers { (input : Given) → HelperAnswers CounterRead input (Number counter ∷ [])
         (Read counter result) result }
 {
     shared.read(seat, counter as usize)

@@ -8,7 +8,7 @@ use Rattle.machine.specs.Label.{Label}
 use Rattle.maps.specs.Words.{SeatView}
 use Rattle.machine.specs.Memory.{number_of}
 use Rattle.hooks.specs.declared.operation.LoaderOperation.{LoaderOperation}
-use Rattle.hooks.specs.Operations.{Program, RunsTo, leaves, default_of, Answers}
+use Rattle.hooks.specs.Operations.{Program, RunsTo, leaves, default_of, OperationsAnswer}
 use Rattle.hooks.specs.Answered.{IsAnswered}
 use Rattle.hooks.specs.Questions.{IsAnswer}
 use Rattle.hooks.proofs.Leaves.{AtHook, at-leaves, number-injective}
@@ -21,7 +21,7 @@ answered_at hook i None labels word at h = inr h.1
 
 pub answered : (hook : Hook) (ops : List LoaderOperation) (i : Given) (labels : List Label)
     (word : ℕ) → number_of (slice_range i.context 0 4) ≡ hook_number hook
-    → Answers ops i labels word → IsAnswer hook i word
+    → OperationsAnswer ops i labels word → IsAnswer hook i word
 answered hook ops i labels word is h =
     let found : IsAnswer h.0 i word =
     answered_at h.0 i (leaves h.0 ops) labels word (at-leaves h.0 ops) h.2 in

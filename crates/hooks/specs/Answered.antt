@@ -9,7 +9,7 @@ use Rattle.words.specs.declared.route.Route.{Route}
 use Rattle.words.specs.declared.route.TableRow.{TableRow}
 use Rattle.helpers.specs.Seats.{SeatMakes}
 use Rattle.hooks.specs.declared.operation.LoaderOperation.{LoaderOperation}
-use Rattle.hooks.specs.Operations.{Answers}
+use Rattle.hooks.specs.Operations.{OperationsAnswer}
 use Rattle.hooks.specs.Questions.{RouteAnswer, veto_input}
 
 -- The operations that the asker knows now answer the input with the word. They begin with all that
@@ -19,7 +19,7 @@ pub record IsAnswered (before now : List LoaderOperation) (old new : SeatView) (
   pub labels : List Label
   pub begins : IsPrefix before now
   pub made : SeatMakes old labels new
-  pub answers : Answers now input labels word
+  pub answers : OperationsAnswer now input labels word
 
 -- the answer of `veto` is on this route, at this moment, beside these rows
 pub record IsVetoAnswered (before now : List LoaderOperation) (old new : SeatView)

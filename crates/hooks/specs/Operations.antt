@@ -76,8 +76,8 @@ pub record RunsTo (program : Program) (input : Given) (labels : List Label)
 
 -- The word of a run, with these labels, of the program that the operations leave at the input's
 -- hook; or the default, if and only if they leave none there.
-abbrev pub Answers : List LoaderOperation → Given → List Label → ℕ → Type 0
-Answers operations input labels word =
+abbrev pub OperationsAnswer : List LoaderOperation → Given → List Label → ℕ → Type 0
+OperationsAnswer operations input labels word =
     (hook : Hook) × IsOfHook hook input
     × MatchOption (leaves hook operations)
     ((labels ≡ []) × (word ≡ default_of hook input))

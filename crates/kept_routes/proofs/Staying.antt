@@ -12,7 +12,7 @@ use Rattle.routes.specs.Paths.{Way}
 use Rattle.routes.specs.Contents.{Contents, contents_at}
 use Rattle.routes.specs.Summaries.{IsBoundaryWay, summary_key}
 use Rattle.routes.specs.Summaries.IsBoundaryWay.{Inside, Outside}
-use Rattle.routes.specs.Tables.{Answers, IsStale}
+use Rattle.routes.specs.Tables.{RouteWords, IsStale}
 use Rattle.routes.specs.declared.offer.Offer.{Offer}
 use Rattle.routes.specs.declared.root.Root.{Root}
 use Rattle.routes.proofs.Listed.{routes_among}
@@ -92,7 +92,7 @@ module _ (old new : Contents) (root : Root) (same : OfferTheSame old new root) w
   candidates_stay routes are = routes_among (Offers old root) (Offers new root) routes forth back
       are
 
-  pub nothing_comes_stale : (answers : Answers) → IsStale new root answers
+  pub nothing_comes_stale : (answers : RouteWords) → IsStale new root answers
       → IsStale old root answers
   nothing_comes_stale answers stale = (
     stale.0,

@@ -5,7 +5,7 @@ use Rattle.kept_routes.specs.Kept.{IsWalkOf, KeptWalk}
 use Rattle.kept_routes.specs.Sameness.{HaveSameContents}
 use Rattle.routes.specs.Candidates.{AreCandidates}
 use Rattle.routes.specs.Contents.{Contents}
-use Rattle.routes.specs.Tables.{Answers, IsStale, IsTable}
+use Rattle.routes.specs.Tables.{RouteWords, IsStale, IsTable}
 use Rattle.routes.specs.declared.root.Root.{Root}
 use Rattle.words.specs.declared.route.Route.{Route}
 
@@ -20,10 +20,10 @@ pub record RoutesAreKept : Type 0 where
   pub candidates : (old new : Contents) (root : Root) (routes : List Route)
       → HaveSameContents None old new
       → AreCandidates old root routes → AreCandidates new root routes
-  pub table : (old new : Contents) (root : Root) (answers : Answers) (table : List Route)
+  pub table : (old new : Contents) (root : Root) (answers : RouteWords) (table : List Route)
       → HaveSameContents None old new → IsTable old root answers table → IsTable new root answers
       table
-  pub stale : (old new : Contents) (root : Root) (answers : Answers) → HaveSameContents None old new
+  pub stale : (old new : Contents) (root : Root) (answers : RouteWords) → HaveSameContents None old new
       → IsStale old root answers ↔ IsStale new root answers
 
 -- and so they are while only AS-external-LSAs of the root or of unreached routers change (section
@@ -31,5 +31,5 @@ pub record RoutesAreKept : Type 0 where
 pub record CandidatesAreKept : Type 0 where
   pub candidates : (old new : Contents) (root : Root) (routes : List Route)
       → OfferTheSame old new root → AreCandidates old root routes → AreCandidates new root routes
-  pub stale : (old new : Contents) (root : Root) (answers : Answers) → OfferTheSame old new root
+  pub stale : (old new : Contents) (root : Root) (answers : RouteWords) → OfferTheSame old new root
       → IsStale old root answers ↔ IsStale new root answers

@@ -17,7 +17,7 @@ use Rattle.machine.specs.declared.state.State.{State}
 use Rattle.machine.specs.Label.{Label}
 use Rattle.machine.specs.Given.{Given}
 use Rattle.machine.specs.Memory.{Loads, Stores, StackGives, is_within, load_length, store_length}
-use Rattle.machine.specs.Helpers.{Answers, arguments}
+use Rattle.machine.specs.Helpers.{HelperAnswers, arguments}
 use Rattle.machine.specs.Faults.{has, is_nothing, is_address, is_nothing_byte, is_word_load}
 use Rattle.machine.specs.Faults.{is_word_store, is_readable, stack_bytes_found, is_misaligned}
 use Rattle.machine.specs.Faults.{is_misplaced, passes_too_much, exceeds}
@@ -103,7 +103,7 @@ pub record Callable (helper : Helper) (first second : Content) : Type 0 where
   pub small : passes_too_much (Some helper) first second ≡ false
 
 module _ (input : Given) (label : Label) (n : ℕ) where
-  add_clean : (a b : Content) → Answers helpers.CounterAdd input (a ∷ b ∷ []) label n
+  add_clean : (a b : Content) → HelperAnswers helpers.CounterAdd input (a ∷ b ∷ []) label n
       → (has is_nothing (a ∷ b ∷ []) ≡ false) × (has is_address (a ∷ b ∷ []) ≡ false)
       × ((exceeds 255 a || exceeds 16777215 b) ≡ false)
   add_clean (Number a) (Number b) h = (
@@ -117,20 +117,20 @@ module _ (input : Given) (label : Label) (n : ℕ) where
   add_clean (Number a) Nothing h = elim h [ ]
   add_clean (Number a) (Address p) h = elim h [ ]
 
-  read_clean : (a : Content) → Answers helpers.CounterRead input (a ∷ []) label n
+  read_clean : (a : Content) → HelperAnswers helpers.CounterRead input (a ∷ []) label n
       → (has is_nothing (a ∷ []) ≡ false) × (has is_address (a ∷ []) ≡ false)
       × (exceeds 255 a ≡ false)
   read_clean (Number a) h = (refl, refl, rw (le-leb a 255 (omega (arith, h.0))) refl)
   read_clean Nothing h = elim h [ ]
   read_clean (Address p) h = elim h [ ]
 
-  packet_clean : (a : Content) → Answers helpers.PacketByte input (a ∷ []) label n
+  packet_clean : (a : Content) → HelperAnswers helpers.PacketByte input (a ∷ []) label n
       → (has is_nothing (a ∷ []) ≡ false) × (has is_address (a ∷ []) ≡ false)
   packet_clean (Number a) h = (refl, refl)
   packet_clean Nothing h = elim h [ ]
   packet_clean (Address p) h = elim h [ ]
 
-  cost_clean : (a b : Content) → Answers helpers.TableCost input (a ∷ b ∷ []) label n
+  cost_clean : (a b : Content) → HelperAnswers helpers.TableCost input (a ∷ b ∷ []) label n
       → (has is_nothing (a ∷ b ∷ []) ≡ false) × (has is_address (a ∷ b ∷ []) ≡ false)
   cost_clean (Number a) (Number b) h = (refl, refl)
   cost_clean Nothing b h = elim h [ ]
@@ -139,7 +139,7 @@ module _ (input : Given) (label : Label) (n : ℕ) where
   cost_clean (Number a) (Address p) h = elim h [ ]
 
 pub answers_clean : (helper : Helper) (input : Given) (first second : Content) (label : Label)
-    (n : ℕ) → Answers helper input (arguments helper first second) label n
+    (n : ℕ) → HelperAnswers helper input (arguments helper first second) label n
     → Callable helper first second
 answers_clean helpers.CounterAdd input a b label n h = let c = add_clean input label n a b h in
     record { full = c.0; numbers = c.1; small = c.2 }

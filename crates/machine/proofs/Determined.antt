@@ -18,7 +18,7 @@ use Rattle.machine.specs.declared.state.State.{State}
 use Rattle.machine.specs.Label.{Label}
 use Rattle.machine.specs.State.{Setting, held, operand, with_register}
 use Rattle.machine.specs.Memory.{Loads, Stores, StackGives, pieces}
-use Rattle.machine.specs.Helpers.{Answers, arguments, state_after_call}
+use Rattle.machine.specs.Helpers.{HelperAnswers, arguments, state_after_call}
 use Rattle.machine.specs.Steps.{Does, Step, Fills}
 
 same_bytes : (xs ys : List ℕ) → map stack_bytes.Byte xs ≡ map stack_bytes.Byte ys → xs ≡ ys
@@ -66,8 +66,8 @@ stores_one size (pointers.Map Cells o) Nothing s label a b h k = elim h [ ]
 stores_one size (pointers.Map Cells o) (Address p) s label a b h k = elim h [ ]
 
 module _ (input : Given) (label : Label) (m n : ℕ) where
-  add_one_answer : (a b : Content) → Answers helpers.CounterAdd input (a ∷ b ∷ []) label m
-      → Answers helpers.CounterAdd input (a ∷ b ∷ []) label n → m ≡ n
+  add_one_answer : (a b : Content) → HelperAnswers helpers.CounterAdd input (a ∷ b ∷ []) label m
+      → HelperAnswers helpers.CounterAdd input (a ∷ b ∷ []) label n → m ≡ n
   add_one_answer (Number a) (Number b) (_, _, inl (e, f)) (_, _, inl (g, h)) = f ∙ sym h
   add_one_answer (Number a) (Number b) (_, _, inr (e, f)) (_, _, inr (g, h)) = f ∙ sym h
   add_one_answer (Number a) (Number b) (_, _, inl (e, f)) (_, _, inr (g, h)) = cc
@@ -77,20 +77,20 @@ module _ (input : Given) (label : Label) (m n : ℕ) where
   add_one_answer (Number a) Nothing h k = elim h [ ]
   add_one_answer (Number a) (Address p) h k = elim h [ ]
 
-  read_one_answer : (a : Content) → Answers helpers.CounterRead input (a ∷ []) label m
-      → Answers helpers.CounterRead input (a ∷ []) label n → m ≡ n
+  read_one_answer : (a : Content) → HelperAnswers helpers.CounterRead input (a ∷ []) label m
+      → HelperAnswers helpers.CounterRead input (a ∷ []) label n → m ≡ n
   read_one_answer (Number a) (_, _, e) (_, _, f) = cc
   read_one_answer Nothing h k = elim h [ ]
   read_one_answer (Address p) h k = elim h [ ]
 
-  packet_one_answer : (a : Content) → Answers helpers.PacketByte input (a ∷ []) label m
-      → Answers helpers.PacketByte input (a ∷ []) label n → m ≡ n
+  packet_one_answer : (a : Content) → HelperAnswers helpers.PacketByte input (a ∷ []) label m
+      → HelperAnswers helpers.PacketByte input (a ∷ []) label n → m ≡ n
   packet_one_answer (Number a) (_, e, _) (_, f, _) = e ∙ sym f
   packet_one_answer Nothing h k = elim h [ ]
   packet_one_answer (Address p) h k = elim h [ ]
 
-  cost_one_answer : (a b : Content) → Answers helpers.TableCost input (a ∷ b ∷ []) label m
-      → Answers helpers.TableCost input (a ∷ b ∷ []) label n → m ≡ n
+  cost_one_answer : (a b : Content) → HelperAnswers helpers.TableCost input (a ∷ b ∷ []) label m
+      → HelperAnswers helpers.TableCost input (a ∷ b ∷ []) label n → m ≡ n
   cost_one_answer (Number a) (Number b) (_, e, _) (_, f, _) = e ∙ sym f
   cost_one_answer Nothing b h k = elim h [ ]
   cost_one_answer (Address p) b h k = elim h [ ]
@@ -98,8 +98,8 @@ module _ (input : Given) (label : Label) (m n : ℕ) where
   cost_one_answer (Number a) (Address p) h k = elim h [ ]
 
 one_answer : (helper : Helper) (input : Given) (a b : Content) (label : Label) (m n : ℕ)
-    → Answers helper input (arguments helper a b) label m
-    → Answers helper input (arguments helper a b) label n → m ≡ n
+    → HelperAnswers helper input (arguments helper a b) label m
+    → HelperAnswers helper input (arguments helper a b) label n → m ≡ n
 one_answer helpers.CounterAdd input a b label m n h k = add_one_answer input label m n a b h k
 one_answer helpers.CounterRead input a b label m n h k = read_one_answer input label m n a h k
 one_answer helpers.PacketByte input a b label m n h k = packet_one_answer input label m n a h k

@@ -5,16 +5,16 @@ use Rattle.std.specs.List.{Contains}
 use Rattle.words.specs.declared.route.Route.{Route}
 use Rattle.routes.specs.Candidates.{IsCandidate}
 use Rattle.routes.specs.Contents.{Contents}
-use Rattle.routes.specs.Tables.{Answers, IsTable}
+use Rattle.routes.specs.Tables.{RouteWords, IsTable}
 use Rattle.routes.specs.declared.root.Root.{Root}
 
 -- whatever the answers are
 pub record VetoesOnlyKeepRoutesOut : Type 0 where
   -- each route of the table is a candidate
-  pub candidates : (contents : Contents) (root : Root) (answers : Answers) (table : List Route)
+  pub candidates : (contents : Contents) (root : Root) (answers : RouteWords) (table : List Route)
       → IsTable contents root answers table → (route : Route) → Contains table route
       → IsCandidate contents root route
   -- and a candidate that isn't in the table wasn't answered with 0
-  pub kept_out : (contents : Contents) (root : Root) (answers : Answers) (table : List Route)
+  pub kept_out : (contents : Contents) (root : Root) (answers : RouteWords) (table : List Route)
       → IsTable contents root answers table → (route : Route) → IsCandidate contents root route
       → (Contains table route → ⊥) → Contains answers (route, 0) → ⊥

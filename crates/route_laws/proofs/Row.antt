@@ -31,7 +31,7 @@ use Rattle.routes.specs.Routes.IsBefore.{ByAddress, ByLength}
 use Rattle.routes.specs.Routes.IsNoWorse.{ByCost}
 use Rattle.routes.specs.Summaries.{IsBoundaryWay, summary_key}
 use Rattle.routes.specs.Summaries.IsBoundaryWay.{Inside}
-use Rattle.routes.specs.Tables.{Answers, IsLetIn}
+use Rattle.routes.specs.Tables.{RouteWords, IsLetIn}
 use Rattle.routes.specs.declared.node.Node.TheVariants.{ANetwork, ARouter}
 use Rattle.routes.specs.declared.offer.Offer.{Offer}
 use Rattle.routes.specs.declared.root.Root.{Root}
@@ -919,10 +919,10 @@ back_to_originator = record {
 
 -- ---- the veto
 
-abbrev left_answers : Answers
+abbrev left_answers : RouteWords
 left_answers = (wide 10 1, 0) ∷ (narrow 20 2, 0) ∷ (abroad 30 2, 0) ∷ []
 
-abbrev middle_answers : Answers
+abbrev middle_answers : RouteWords
 middle_answers = (wide 15 2, 0) ∷ (narrow 15 4, 1) ∷ (abroad 15 2, 0) ∷ []
 
 left_let_in : (r : Route) → Contains left_routes r → IsLetIn left_answers r

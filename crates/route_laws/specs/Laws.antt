@@ -4,7 +4,7 @@ use Rattle.std.specs.List.{Contains}
 use Rattle.words.specs.declared.route.Route.{Route}
 use Rattle.routes.specs.Candidates.{AreCandidates, IsCandidate}
 use Rattle.routes.specs.Paths.{Way}
-use Rattle.routes.specs.Tables.{Answers, HasAnswer, IsLetIn, IsStale, IsTable}
+use Rattle.routes.specs.Tables.{RouteWords, HasAnswer, IsLetIn, IsStale, IsTable}
 use Rattle.routes.specs.declared.root.Root.{Root}
 use Rattle.routes.specs.Contents.{Contents}
 use Rattle.routes.specs.Routes.{IsForwarded}
@@ -30,29 +30,29 @@ BoundaryWaysAreDetermined =
 
 abbrev pub TablesAreDetermined : Type 0
 TablesAreDetermined =
-    (contents : Contents) (root : Root) (answers : Answers) (left right : List Route)
+    (contents : Contents) (root : Root) (answers : RouteWords) (left right : List Route)
     → IsTable contents root answers left → IsTable contents root answers right → left ≡ right
 
 -- each candidate was asked about, and let in
-abbrev pub LetsAllIn : Contents → Root → Answers → Type 0
+abbrev pub LetsAllIn : Contents → Root → RouteWords → Type 0
 LetsAllIn contents root answers = (r : Route) → IsCandidate contents root r → IsLetIn answers r
 
 -- the table has a route if and only if it is among the candidates and is let in, so it has none
 -- before the first answers, and all if all are let in
 pub record TablesArePartsOfCandidates : Type 0 where
-  pub part : (contents : Contents) (root : Root) (answers : Answers) (routes table : List Route)
+  pub part : (contents : Contents) (root : Root) (answers : RouteWords) (routes table : List Route)
       → AreCandidates contents root routes → IsTable contents root answers table
       → (r : Route) → Contains table r ↔ (Contains routes r × IsLetIn answers r)
   pub empty : (contents : Contents) (root : Root) (table : List Route)
       → IsTable contents root [] table
       → table ≡ []
-  pub whole : (contents : Contents) (root : Root) (answers : Answers) (routes table : List Route)
+  pub whole : (contents : Contents) (root : Root) (answers : RouteWords) (routes table : List Route)
       → AreCandidates contents root routes → IsTable contents root answers table
       → LetsAllIn contents root answers → table ≡ routes
 
 -- right after answers to all candidates the table isn't stale
 abbrev pub AnswersToAllAreNotStale : Type 0
 AnswersToAllAreNotStale =
-    (contents : Contents) (root : Root) (answers : Answers) (routes : List Route)
+    (contents : Contents) (root : Root) (answers : RouteWords) (routes : List Route)
     → AreCandidates contents root routes
     → ((r : Route) → Contains routes r → HasAnswer answers r) → IsStale contents root answers → ⊥

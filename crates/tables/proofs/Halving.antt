@@ -12,7 +12,7 @@ use Rattle.std.proofs.lemmas.Bool.{cases_lt}
 use Rattle.std.proofs.lemmas.Cmp.{tied_itself}
 use Rattle.std.proofs.lemmas.List.Sorted.{searchable_from_sorted}
 use Rattle.words.specs.declared.route.Route.{Route}
-use Rattle.routes.specs.Tables.{Answers, HasAnswer, IsLetIn}
+use Rattle.routes.specs.Tables.{RouteWords, HasAnswer, IsLetIn}
 use Rattle.routes.proofs.Listed.{other_default}
 use Rattle.tables.specs.Orders.{answer_cmp, route_cmp}
 use Rattle.tables.proofs.Ordered.{answers_exact, answers_total, by_route, routes_exact}
@@ -45,7 +45,7 @@ module _ {X K : Type 0} {R : K → K → Ordering} (total : IsTotalOrder R) (key
 
 -- ---- answers
 
-pub lets_in : (answers : Answers) (route : Route) → IsSorted answer_cmp answers → (r : Result ℕ ℕ)
+pub lets_in : (answers : RouteWords) (route : Route) → IsSorted answer_cmp answers → (r : Result ℕ ℕ)
     → IsSearchInRange r (length answers)
     → IsBinarySearchResult (λ (y : Route × ℕ). answer_cmp y (route, 0)) answers r
     → IsTrue (is_ok r) ↔ IsLetIn answers route
@@ -62,7 +62,7 @@ lets_in answers route up (Err at) range result = (
       ((route, 0), among, tied_itself answers_total (route, 0))),
 )
 
-pub tells_answered : (answers : Answers) (route : Route) → IsSorted answer_cmp answers
+pub tells_answered : (answers : RouteWords) (route : Route) → IsSorted answer_cmp answers
     → (r : Result ℕ ℕ) → IsSearchInRange r (length answers)
     → IsBinarySearchResult (λ (y : Route × ℕ). route_cmp y.0 route) answers r
     → IsTrue (is_ok r) ↔ HasAnswer answers route

@@ -8,18 +8,18 @@ use Rattle.std.proofs.lemmas.Option.{get_or_from_slice_get, same_Some, slice_get
 use Rattle.std.proofs.lemmas.Option.{slice_get_within}
 use Rattle.words.specs.declared.route.Route.{Route}
 use Rattle.routes.specs.Routes.{IsBefore}
-use Rattle.routes.specs.Tables.{Answers, HasAnswer}
+use Rattle.routes.specs.Tables.{RouteWords, HasAnswer}
 use Rattle.routes.proofs.OneMore.{never_itself}
 use Rattle.pages.specs.Places.{IsPartFrom}
 use Rattle.tables.specs.Parts.{AreAnswersAmong, Ascend, LacksAnswers, StandsAt}
 
 -- the first `met` routes have
-abbrev pub AreMet : Answers → List Route → ℕ → Type 0
+abbrev pub AreMet : RouteWords → List Route → ℕ → Type 0
 AreMet answers routes met =
     (k : ℕ) (r : Route) → k < met → slice_get routes k ≡ Some r → StandsAt answers k r
 
 -- if all have, none lacks an answer
-pub none_lacks : (answers : Answers) (routes : List Route) (met : ℕ) → length routes ≤ met
+pub none_lacks : (answers : RouteWords) (routes : List Route) (met : ℕ) → length routes ≤ met
     → AreMet answers routes met → LacksAnswers answers routes → ⊥
 none_lacks answers routes met all each (r, (k, within, is), none) =
     let there : slice_get routes k ≡ Some r =
@@ -36,7 +36,7 @@ none_lacks answers routes met all each (r, (k, within, is), none) =
     )
 
 -- and otherwise the next one does, unless its answer is after those
-module _ (answers : Answers) (routes : List Route) (met : ℕ) (route : Route)
+module _ (answers : RouteWords) (routes : List Route) (met : ℕ) (route : Route)
     (within : met < length routes) (here : route ≡ get_or routes met route) (up : Ascend routes)
     (each : AreMet answers routes met)
     (behind : (k : ℕ) → met ≤ k → StandsAt answers k route → ⊥) where
@@ -63,7 +63,7 @@ module _ (answers : Answers) (routes : List Route) (met : ℕ) (route : Route)
   one_lacks = (route, (met, within, sym here), unanswered)
 
 -- if there are no more answers than candidates that all have theirs, each is one of a candidate
-pub all_answered : (answers : Answers) (routes : List Route) (met : ℕ)
+pub all_answered : (answers : RouteWords) (routes : List Route) (met : ℕ)
     → length answers ≤ length routes → length routes ≤ met → AreMet answers routes met
     → AreAnswersAmong answers routes
 all_answered answers routes met few whole each r (word, (k, within, is)) =
@@ -78,7 +78,7 @@ all_answered answers routes met few whole each r (word, (k, within, is)) =
     (k, low, ap (λ (x : Route × ℕ). x.0) same)
 
 -- an answer behind the first ones
-stands_behind : (answers : Answers) (met k : ℕ) (r : Route) → StandsAt (drop met answers) k r
+stands_behind : (answers : RouteWords) (met k : ℕ) (r : Route) → StandsAt (drop met answers) k r
     → StandsAt answers (met + k) r
 stands_behind answers met k r (word, is) =
     let answer : Route × ℕ = (r, word) in
@@ -92,7 +92,7 @@ stands_behind answers met k r (word, is) =
     )
 
 -- so many more, of a part
-pub more_met : (answers : Answers) (routes : List Route) (met same : ℕ) (part : List Route)
+pub more_met : (answers : RouteWords) (routes : List Route) (met same : ℕ) (part : List Route)
     → IsPartFrom routes met part → same ≤ length part → AreMet (drop met answers) part same
     → AreMet answers routes met → AreMet answers routes (met + same)
 more_met answers routes met same part is fits each before k r low there =

@@ -11,7 +11,7 @@ use Rattle.words.specs.declared.route.Route.{Route}
 use Rattle.routes.specs.Candidates.{AreCandidates}
 use Rattle.routes.specs.Routes.{IsBefore}
 use Rattle.routes.specs.Contents.{Contents}
-use Rattle.routes.specs.Tables.{Answers, HasAnswer, IsLetIn, IsStale, IsTable}
+use Rattle.routes.specs.Tables.{RouteWords, HasAnswer, IsLetIn, IsStale, IsTable}
 use Rattle.routes.specs.declared.root.Root.{Root}
 use Rattle.routes.proofs.Listed.{other_default}
 use Rattle.tables.specs.Parts.{AreLetIn, Ascend, LacksAnswers}
@@ -20,18 +20,18 @@ use Rattle.tables.specs.Parts.{AreLetIn, Ascend, LacksAnswers}
 abbrev pub IsAmong : List Route → ℕ → Route → Type 0
 IsAmong routes n r = (k : ℕ) × (k < n) × (get_or routes k r ≡ r)
 
-pub record AreLetInOf (answers : Answers) (routes : List Route) (n : ℕ) (part : List Route) : Type 0
+pub record AreLetInOf (answers : RouteWords) (routes : List Route) (n : ℕ) (part : List Route) : Type 0
   where
     pub each : (r : Route) → Contains part r ↔ (IsAmong routes n r × IsLetIn answers r)
     pub ascending : Ascend routes → Ascend part
 
-pub none_yet : (answers : Answers) (routes : List Route) → AreLetInOf answers routes 0 []
+pub none_yet : (answers : RouteWords) (routes : List Route) → AreLetInOf answers routes 0 []
 none_yet answers routes = record {
   each = λ r. ((λ t. absurd (omega (arith, t.1))), (λ h. absurd (omega (arith, h.0.1))));
   ascending = λ up i j d before within. absurd (omega (arith, within));
 }
 
-module _ (answers : Answers) (routes : List Route) (n : ℕ) (route : Route)
+module _ (answers : RouteWords) (routes : List Route) (n : ℕ) (route : Route)
     (within : n < length routes) (here : route ≡ get_or routes n route) where
   pub split : (r : Route) → IsAmong routes (n + 1) r → IsAmong routes n r ⊎ (route ≡ r)
   split r (k, low, is) =
@@ -100,7 +100,7 @@ module _ (answers : Answers) (routes : List Route) (n : ℕ) (route : Route)
 
 -- ---- of all routes, and of candidates
 
-pub whole : (answers : Answers) (routes : List Route) (n : ℕ) (part : List Route)
+pub whole : (answers : RouteWords) (routes : List Route) (n : ℕ) (part : List Route)
     → n ≡ length routes → AreLetInOf answers routes n part → AreLetIn answers routes part
 whole answers routes n part is of =
     let all : AreLetInOf answers routes (length routes) part =
@@ -108,11 +108,11 @@ whole answers routes n part is of =
     record { each = all.each; ascending = all.ascending }
 
 -- the same answers in another order
-abbrev pub AreTheSame : Answers → Answers → Type 0
+abbrev pub AreTheSame : RouteWords → RouteWords → Type 0
 AreTheSame made answers = (r : Route) (word : ℕ)
     → Contains made (r, word) ↔ Contains answers (r, word)
 
-pub let_in_by : (made answers : Answers) (routes part : List Route) → AreTheSame made answers
+pub let_in_by : (made answers : RouteWords) (routes part : List Route) → AreTheSame made answers
     → AreLetIn made routes part → AreLetIn answers routes part
 let_in_by made answers routes part same of = record {
   each = λ r. (
@@ -122,7 +122,7 @@ let_in_by made answers routes part same of = record {
   ascending = of.ascending;
 }
 
-pub lack_by : (made answers : Answers) (routes : List Route) (b : Bool) → AreTheSame made answers
+pub lack_by : (made answers : RouteWords) (routes : List Route) (b : Bool) → AreTheSame made answers
     → (IsTrue b ↔ LacksAnswers made routes) → (IsTrue b ↔ LacksAnswers answers routes)
 lack_by made answers routes b same lacks = (
   λ t. let h = lacks.0 t in (
@@ -133,7 +133,7 @@ lack_by made answers routes b same lacks = (
   λ h. lacks.1 (h.0, h.1, λ answered. h.2 (answered.0, (same h.0 answered.0).0 answered.1)),
 )
 
-pub are_table : (answers : Answers) (candidates table : List Route)
+pub are_table : (answers : RouteWords) (candidates table : List Route)
     → AreLetIn answers candidates table → (contents : Contents) (root : Root)
     → AreCandidates contents root candidates → IsTable contents root answers table
 are_table answers candidates table of contents root are = record {
@@ -144,7 +144,7 @@ are_table answers candidates table of contents root are = record {
   ascending = of.ascending are.ascending;
 }
 
-pub tells_stale : (answers : Answers) (candidates : List Route) (b : Bool)
+pub tells_stale : (answers : RouteWords) (candidates : List Route) (b : Bool)
     → (IsTrue b ↔ LacksAnswers answers candidates) → (contents : Contents) (root : Root)
     → AreCandidates contents root candidates → (IsTrue b ↔ IsStale contents root answers)
 tells_stale answers candidates b lacks contents root are = (

@@ -3,14 +3,14 @@ use Rattle.std.specs.Prelude.{◌↔◌, IsTrue, List}
 use Rattle.words.specs.declared.route.Route.{Route}
 use Rattle.routes.specs.Candidates.{AreCandidates}
 use Rattle.routes.specs.Contents.{Contents}
-use Rattle.routes.specs.Tables.{Answers, IsStale}
+use Rattle.routes.specs.Tables.{RouteWords, IsStale}
 use Rattle.routes.specs.declared.root.Root.{Root}
 use Rattle.tables.specs.Parts.{AreAnswersAmong}
 use Rattle.tables.specs.declared.shared.Comparison.{Comparison}
 
 -- whether some candidate has no answer, both ways; and if it says so, each answered route is a
 -- candidate
-pub record IsComparison (answers : Answers) (candidates : List Route) (found : Comparison) : Type 0
+pub record IsComparison (answers : RouteWords) (candidates : List Route) (found : Comparison) : Type 0
   where
     pub lacks : (contents : Contents) (root : Root) → AreCandidates contents root candidates
         → IsTrue found.lacks ↔ IsStale contents root answers

@@ -9,7 +9,7 @@ use Rattle.words.specs.declared.route.RouteKind.TheVariants.{Intra}
 use Rattle.words.specs.declared.route.TableRow.{TableRow}
 use Rattle.tables.proofs.routes.Listed.{other_default}
 use Rattle.tables.proofs.routes.Lists.{first_is, later_is, of_cons, of_empty}
-use Rattle.tables.specs.routes.Tables.{Answers}
+use Rattle.tables.specs.routes.Tables.{RouteWords}
 use Rattle.tables.proofs.LetIn.{AreLetInOf, are_table, left_out, let_in_more, none_yet, whole}
 use Rattle.tables.proofs.Ordered.{answers_exact, answers_total}
 use Rattle.tables.specs.Orders.{answer_cmp}
@@ -30,7 +30,7 @@ same_or_not a b =
       | Greater ↦ λ is. inr (λ same. absurd (let no : Greater ≡ Equal = sym is ∙ tied same in cc))
     ] refl
 
-among_or_not : (answers : Answers) (a : Route × ℕ) → Contains answers a ⊎ (Contains answers a → ⊥)
+among_or_not : (answers : RouteWords) (a : Route × ℕ) → Contains answers a ⊎ (Contains answers a → ⊥)
 among_or_not [] a = inr (of_empty a)
 among_or_not (first ∷ rest) a =
     elim (same_or_not first a) [
@@ -59,7 +59,7 @@ some_route = record {
 }
 
 -- those of the first `n` routes that are let in
-first_let_in : (answers : Answers) (routes : List Route) (n : ℕ) → n ≤ length routes
+first_let_in : (answers : RouteWords) (routes : List Route) (n : ℕ) → n ≤ length routes
     → (part : List Route) × AreLetInOf answers routes n part
 first_let_in answers routes zero low = ([], none_yet answers routes)
 first_let_in answers routes (suc n) low =
@@ -82,7 +82,7 @@ first_let_in answers routes (suc n) low =
       )
     ]
 
-all_let_in : (answers : Answers) (routes : List Route)
+all_let_in : (answers : RouteWords) (routes : List Route)
     → (part : List Route) × AreLetIn answers routes part
 all_let_in answers routes =
     let all = first_let_in answers routes (length routes) (omega arith) in

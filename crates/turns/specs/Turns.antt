@@ -22,7 +22,7 @@ use Rattle.flood.specs.event_rules.Originations.{external_key}
 use Rattle.flood.specs.event_rules.Routers.{Router}
 use Rattle.hooks.specs.declared.operation.LoaderOperation.{LoaderOperation}
 use Rattle.hooks.specs.Answered.{IsAnswered}
-use Rattle.hooks.specs.Operations.{Answers}
+use Rattle.hooks.specs.Operations.{OperationsAnswer}
 use Rattle.hooks.specs.Questions.{ExternalAnswer, RouteAnswer}
 use Rattle.hooks.specs.Questions.{count_input, price_input, tag_input, veto_input}
 use Rattle.flood.specs.declared.book.error.BookError.{BookError}
@@ -188,7 +188,7 @@ IsListed {B = B} began at interfaces neighbors =
 abbrev pub IsWordOn : (known now : List LoaderOperation) → Given → (word : ℕ) → Type 0
 IsWordOn known now input word =
     (operations : List LoaderOperation) × (labels : List Label)
-    × IsPrefix known operations × IsPrefix operations now × Answers operations input labels word
+    × IsPrefix known operations × IsPrefix operations now × OperationsAnswer operations input labels word
 
 -- the answer is on this destination, at this moment, beside these rows
 pub record IsTagOn (known now : List LoaderOperation) (external : External) (moment : Moment)

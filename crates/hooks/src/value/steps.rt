@@ -9,7 +9,7 @@ ghost use Rattle.maps.specs.Words.{IsSeatOf, SeatView};
 ghost use Rattle.helpers.specs.Seats.{SeatMakes};
 ghost use Rattle.hooks.specs.Answered.{AreAnswered, IsVetoAnswered};
 ghost use Rattle.hooks.specs.declared.operation.LoaderOperation.{LoaderOperation};
-ghost use Rattle.hooks.specs.Operations.{leaves, Answers, HasHookNumber};
+ghost use Rattle.hooks.specs.Operations.{leaves, OperationsAnswer, HasHookNumber};
 ghost use Rattle.hooks.specs.Shown.{published_operations, Stands, after_operation, vacant};
 ghost use Rattle.hooks.specs.Vacant.{AreVacancies};
 
@@ -78,7 +78,7 @@ impl Programs {
         requires stands { Stands self.now }
         requires table { IsSeatOf shared.now seat.old }
         ensures answered { (labels : List Label) × SeatMakes seat.old labels seat.new
-            × Answers (published_operations self.now) (given_by input.now) labels result }
+            × OperationsAnswer (published_operations self.now) (given_by input.now) labels result }
         ensures table { IsSeatOf shared.now seat.new }
     {
         let hook = hook_of(input);
@@ -106,7 +106,7 @@ impl Programs {
         requires stands { Stands self.now }
         requires table { IsSeatOf shared.now seat.old }
         ensures answered { (labels : List Label) × SeatMakes seat.old labels seat.new
-            × Answers (published_operations self.now) (given_by input.now) labels result }
+            × OperationsAnswer (published_operations self.now) (given_by input.now) labels result }
         ensures table { IsSeatOf shared.now seat.new }
     {
         match self.veto.program() {

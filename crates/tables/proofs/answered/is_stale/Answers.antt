@@ -3,7 +3,7 @@ use Rattle.std.specs.Prelude.{◌↔◌, IsTrue}
 use Rattle.tables.proofs.InTurn.{none_lacks, one_lacks}
 use Rattle.tables.proofs.LetIn.{lack_by, tells_stale}
 use Rattle.tables.specs.Parts.{LacksAnswers}
-use Rattle.routes.specs.Tables.{Answers}
+use Rattle.routes.specs.Tables.{RouteWords}
 use Rattle.tables.proofs.answered.is_stale.Goals as goal
 
 pub returns-then-met-candidates : goal.returns-then-met-candidates
@@ -33,7 +33,7 @@ returns-then-are_in_order c = tells_stale c.args.answers.now c.args.candidates.n
 pub returns : goal.returns
 returns c =
     let b = c.lack_answers-2.result in
-    let lacks = subst (λ (made : Answers). IsTrue b ↔ LacksAnswers made c.args.candidates.now)
+    let lacks = subst (λ (made : RouteWords). IsTrue b ↔ LacksAnswers made c.args.candidates.now)
     c.deref.ensures.value c.lack_answers-2.ensures in
     tells_stale c.args.answers.now c.args.candidates.now b
     (lack_by c.in_ok-ordered.ordered.items c.args.answers.now c.args.candidates.now b

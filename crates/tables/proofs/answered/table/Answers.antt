@@ -1,7 +1,7 @@
 use Rattle.std.proofs.Common.{subst}
 use Rattle.tables.proofs.LetIn.{are_table, let_in_by}
 use Rattle.tables.specs.Parts.{AreLetIn}
-use Rattle.routes.specs.Tables.{Answers}
+use Rattle.routes.specs.Tables.{RouteWords}
 use Rattle.tables.proofs.answered.table.Goals as goal
 
 pub returns-then-are_in_order : goal.returns-then-are_in_order
@@ -11,7 +11,7 @@ returns-then-are_in_order c = are_table c.args.answers.now c.args.candidates.now
 pub returns : goal.returns
 returns c =
     let table = c.in_ok-table-2.table.items in
-    let of = subst (λ (made : Answers). AreLetIn made c.args.candidates.now table)
+    let of = subst (λ (made : RouteWords). AreLetIn made c.args.candidates.now table)
     c.deref.ensures.value c.in_ok-table-2.ensures in
     are_table c.args.answers.now c.args.candidates.now table
     (let_in_by c.in_ok-ordered.ordered.items c.args.answers.now c.args.candidates.now table

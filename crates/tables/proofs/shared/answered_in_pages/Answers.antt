@@ -1,6 +1,6 @@
 use Rattle.std.proofs.Common.{◌-◌, arith, drop, length, length-drop, subst}
 use Rattle.std.proofs.lemmas.List.{take_all}
-use Rattle.routes.specs.Tables.{Answers}
+use Rattle.routes.specs.Tables.{RouteWords}
 use Rattle.tables.proofs.InTurn.{AreMet, more_met}
 use Rattle.tables.proofs.shared.answered_in_pages.Goals as goal
 
@@ -17,6 +17,6 @@ loop-met-preserved c =
     (omega (arith, length-drop met answers)) in
     more_met answers c.args.candidates.now met same part c.part_from.ensures
     c.answered_in_turn-same.ensures.within
-    (subst (λ (behind : Answers). AreMet behind part same) rest
+    (subst (λ (behind : RouteWords). AreMet behind part same) rest
     c.answered_in_turn-same.ensures.each)
     c.loop-met.invariant

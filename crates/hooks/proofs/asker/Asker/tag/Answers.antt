@@ -2,7 +2,7 @@ use Rattle.std.proofs.Common.{[], refl, ap, sym, subst}
 use Rattle.isa.specs.declared.hook.Hook.TheVariants.{Tag}
 use Rattle.machine.specs.Given.{Given}
 use Rattle.hooks.specs.Known.{known_to}
-use Rattle.hooks.specs.Operations.{Answers}
+use Rattle.hooks.specs.Operations.{OperationsAnswer}
 use Rattle.hooks.specs.Questions.{ExternalAnswer, tag_input}
 use Rattle.hooks.proofs.Answered.{answered, same_answer}
 use Rattle.hooks.proofs.asker.Asker.tag.Goals as goal
@@ -20,7 +20,7 @@ new-requires c =
     } in i) c.tag_context.ensures in (
       rows,
       answered Tag all given a.labels _ refl
-          (subst (λ (i : Given). Answers all i a.labels c.in_ok-answer.answer.word) same a.answers),
+          (subst (λ (i : Given). OperationsAnswer all i a.labels c.in_ok-answer.answer.word) same a.answers),
     )
 
 pub returns-clause-answered : goal.returns-clause-answered

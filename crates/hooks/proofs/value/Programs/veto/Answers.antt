@@ -2,7 +2,7 @@ use Rattle.std.proofs.Common.{[], refl, ap, sym, subst, slice_range}
 use Rattle.isa.specs.declared.hook.Hook.TheVariants.{Veto}
 use Rattle.machine.specs.Given.{Given}
 use Rattle.machine.specs.Memory.{number_of}
-use Rattle.hooks.specs.Operations.{Answers}
+use Rattle.hooks.specs.Operations.{OperationsAnswer}
 use Rattle.hooks.specs.Questions.{RouteAnswer, veto_input}
 use Rattle.hooks.specs.Shown.{published_operations}
 use Rattle.hooks.proofs.Answered.{answered}
@@ -26,7 +26,7 @@ new-requires c =
     } in i) c.veto_context.ensures in (
       rows,
       answered Veto all given a.0 _ refl
-          (subst (λ (i : Given). Answers all i a.0 c.at_veto-word.result) same a.2),
+          (subst (λ (i : Given). OperationsAnswer all i a.0 c.at_veto-word.result) same a.2),
     )
 
 pub returns-clause-answered : goal.returns-clause-answered
@@ -49,7 +49,7 @@ returns-clause-answered c =
         begins = prefix_self all;
         made = a.1;
         answers =
-            subst (λ w. Answers all given a.0 w) word
-            (subst (λ (i : Given). Answers all i a.0 c.at_veto-word.result) same a.2);
+            subst (λ w. OperationsAnswer all given a.0 w) word
+            (subst (λ (i : Given). OperationsAnswer all i a.0 c.at_veto-word.result) same a.2);
       };
     }
