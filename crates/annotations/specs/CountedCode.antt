@@ -19,7 +19,7 @@ use Rattle.isa.specs.declared.code.Slot.{Slot}
 use Rattle.isa.specs.declared.code.Slot.TheVariants.{Start, SecondHalf}
 use Rattle.isa.specs.Code.{slots_of}
 use Rattle.isa.specs.Flow.{jump_target, size, Begins, BeginsAt}
-use Rattle.segments.specs.Places.{goes_on}
+use Rattle.segments.specs.Places.{falls_through}
 use Rattle.annotations.specs.declared.count_error.CountError.{CountError}
 use Rattle.annotations.specs.declared.count_error.CountError.TheVariants as errors
 
@@ -56,7 +56,7 @@ IsUnnamed code register = (slot : ℕ) (i : Instruction) → BeginsAt i code slo
 -- the instruction leads to others of the code: the one behind it, if it goes on, and the one that
 -- it jumps to, if it jumps
 abbrev pub LeadsInside : List Slot → ℕ → Instruction → Type 0
-LeadsInside code slot i = (goes_on i ≡ true → Begins code (slot + size i))
+LeadsInside code slot i = (falls_through i ≡ true → Begins code (slot + size i))
     × IfSome (jump_target slot i) (Begins code)
 
 abbrev pub StaysInside : List Slot → Type 0

@@ -15,7 +15,7 @@ use Rattle.machine.specs.Helpers.{helper_of}
 use Rattle.transfer.specs.declared.rule.Rule.{Rule}
 use Rattle.transfer.specs.declared.rule.Rule.TheVariants as rules
 use Rattle.kinds.specs.Stated.{any_number}
-use Rattle.segments.specs.Places.{goes_on}
+use Rattle.segments.specs.Places.{falls_through}
 use Rattle.segments.specs.Stated.{statement_at}
 use Rattle.segments.specs.Refusals.{FallsOff, IsBadTarget, IsStray, IsUnreached}
 use Rattle.segments.specs.Refusals.{IsUnstated, IsWellMade, JumpsNowhere, LacksHelperAt, MayRefuse}
@@ -56,7 +56,7 @@ target_is_well slot =
 
 end_is_well : (slot : ℕ) → FallsOff (then_exit seven) slot → ⊥
 end_is_well slot off =
-    each (λ at i. slot_after at i ≡ 2 → goes_on i ≡ true → ⊥) (λ last on. omega (arith, last))
+    each (λ at i. slot_after at i ≡ 2 → falls_through i ≡ true → ⊥) (λ last on. omega (arith, last))
     (λ last on. never on) slot off.instruction off.at off.last off.on
 
 third_is_none : Begins (then_exit seven) 2 → ⊥
@@ -65,7 +65,7 @@ third_is_none begins = none_is_some begins.1
 reached_is_well : (slot : ℕ) → IsUnreached (then_exit seven) [] slot → ⊥
 reached_is_well slot unreached =
     let cut = unreached.cut_off in
-    each (λ before i. (to : ℕ) → slot_after before i ≡ to → goes_on i ≡ false
+    each (λ before i. (to : ℕ) → slot_after before i ≡ to → falls_through i ≡ false
     → Begins (then_exit seven) to → ⊥)
     (λ to behind leaves begins. never (sym leaves))
     (λ to behind leaves begins. third_is_none
@@ -149,7 +149,7 @@ jumping_targets slot =
 
 jumping_ends : (slot : ℕ) → FallsOff jumping_code slot → ⊥
 jumping_ends slot off =
-    of_jumping (λ at i. slot_after at i ≡ 4 → goes_on i ≡ true → ⊥)
+    of_jumping (λ at i. slot_after at i ≡ 4 → falls_through i ≡ true → ⊥)
     (λ last on. omega (arith, last)) (λ last on. omega (arith, last)) (λ last on. never on)
     (λ last on. never on)
     slot off.instruction off.at off.last off.on
@@ -166,7 +166,7 @@ third_is_stated none = some_is_no_none none
 jumping_reached : (slot : ℕ) → IsUnreached jumping_code jumping_statements slot → ⊥
 jumping_reached slot unreached =
     let cut = unreached.cut_off in
-    of_jumping (λ before i. (to : ℕ) → slot_after before i ≡ to → goes_on i ≡ false
+    of_jumping (λ before i. (to : ℕ) → slot_after before i ≡ to → falls_through i ≡ false
     → Begins jumping_code to → statement_at jumping_statements to ≡ None → ⊥)
     (λ to behind leaves begins none. never (sym leaves))
     (λ to behind leaves begins none. never (sym leaves))
@@ -283,7 +283,7 @@ second_targets slot =
 
 second_ends : (slot : ℕ) → FallsOff unstated_code slot → ⊥
 second_ends slot off =
-    of_three test_on (λ at i. slot_after at i ≡ 3 → goes_on i ≡ true → ⊥)
+    of_three test_on (λ at i. slot_after at i ≡ 3 → falls_through i ≡ true → ⊥)
     (λ last on. omega (arith, last))
     (λ last on. omega (arith, last)) (λ last on. never on)
     slot off.instruction off.at off.last off.on
@@ -294,7 +294,7 @@ fourth_is_none begins = none_is_some begins.1
 second_reached : (slot : ℕ) → IsUnreached unstated_code [] slot → ⊥
 second_reached slot unreached =
     let cut = unreached.cut_off in
-    of_three test_on (λ before i. (to : ℕ) → slot_after before i ≡ to → goes_on i ≡ false
+    of_three test_on (λ before i. (to : ℕ) → slot_after before i ≡ to → falls_through i ≡ false
     → Begins unstated_code to → ⊥)
     (λ to behind leaves begins. never (sym leaves)) (λ to behind leaves begins. never (sym leaves))
     (λ to behind leaves begins. fourth_is_none
@@ -425,7 +425,7 @@ cut_targets slot =
 
 cut_ends : (slot : ℕ) → FallsOff cut_code slot → ⊥
 cut_ends slot off =
-    of_cut (λ at i. goes_on i ≡ true → ⊥) (λ on. never on) (λ on. never on) slot off.instruction
+    of_cut (λ at i. falls_through i ≡ true → ⊥) (λ on. never on) (λ on. never on) slot off.instruction
     off.at off.on
 
 none_before_cut : (slot : ℕ) (i : Instruction) → BeginsAt i cut_code slot → slot_after slot i ≡ 0

@@ -27,8 +27,8 @@ use Rattle.transfer.specs.Branches.{IsTested, HoldsBesides, PairHolds}
 use Rattle.transfer.specs.Laws.{CanStepIsFree}
 use Rattle.segments.specs.declared.known.Known.{Known}
 use Rattle.isa.specs.Flow.{Begins, size, slot_at_distance}
-use Rattle.segments.specs.Places.{IsWellPlaced, goes_on, segment_start_at}
-use Rattle.segments.specs.Segments.{Enters, EntersNext, GoesOn, IsFollowed, IsKnown, Knows}
+use Rattle.segments.specs.Places.{IsWellPlaced, falls_through, segment_start_at}
+use Rattle.segments.specs.Segments.{Enters, EntersNext, StepLeads, IsFollowed, IsKnown, Knows}
 
 -- what is known says nothing of the slot
 pub moved : {D : Type 0} (contains : D → ℕ → Type 0) (state : AbstractState D)
@@ -82,7 +82,7 @@ module _ {D : Type 0} (contains : D → ℕ → Type 0) (code : List Slot) (hook
       → next.slot ≡ slot + size i → EntersNext contains segment_starts segment slot start next
       ⊎ ((segment_start_at segment_starts (slot + size i) ≡ None)
       × Knows contains segment after start next)
-      → GoesOn contains code segment_starts segment slot i after start next
+      → StepLeads contains code segment_starts segment slot i after start next
   behind i start next begins at passes = record {
     begins = rw at begins;
     goes = ⊎_elim
@@ -99,7 +99,7 @@ module _ {D : Type 0} (contains : D → ℕ → Type 0) (code : List Slot) (hook
   -- an instruction that is neither a jump nor EXIT
   pub goes_straight : (i : Instruction) (state known : AbstractState D) → CanStepIsFree
       → slice_get code slot ≡ Some (Start i) → IsWellPlaced code segment_starts slot i
-      → goes_on i ≡ true → IsSound contains hook i state known
+      → falls_through i ≡ true → IsSound contains hook i state known
       → ((start next : Machine) → next.slot ≡ slot + size i
       → IsKnown contains segment known start next
       → EntersNext contains segment_starts segment slot start next
@@ -132,7 +132,7 @@ module _ {D : Type 0} (contains : D → ℕ → Type 0) (code : List Slot) (hook
       } → EntersNext contains segment_starts segment slot start next
       ⊎ ((segment_start_at segment_starts (slot + 1) ≡ None)
       × Knows contains segment after start next))
-      → GoesOn contains code segment_starts segment slot (Branch width test left right distance)
+      → StepLeads contains code segment_starts segment slot (Branch width test left right distance)
       after
       start next
   branch_goes width test left right distance start now next at placed true same enters passes =

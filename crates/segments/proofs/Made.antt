@@ -10,7 +10,7 @@ use Rattle.isa.specs.declared.instruction.Instruction.{Instruction}
 use Rattle.isa.specs.Flow.{Begins, BeginsAt, size, jump_target, slot_after}
 use Rattle.isa.proofs.Starts.{same_instruction}
 use Rattle.kinds.specs.declared.statement.SegmentStart.{SegmentStart}
-use Rattle.segments.specs.Places.{goes_on, segment_start_at}
+use Rattle.segments.specs.Places.{falls_through, segment_start_at}
 use Rattle.segments.specs.Stated.{statement_at, AreSegmentStarts}
 use Rattle.segments.specs.Refusals.{JumpsNowhere, IsStray, IsBadTarget, FallsOff, IsCutOff}
 use Rattle.segments.specs.Refusals.{IsUnreached, IsUnstated}
@@ -55,15 +55,15 @@ module _ (code : List Slot) (slot : ℕ) (i : Instruction) (here : BeginsAt i co
       let found = some_and (jump_target slot i) nowhere in
       inl (record { instruction = i; at = here; to = found.0; jumps = found.1; nowhere = found.2 })
 
-  pub met_ends : (goes_on i ≡ true → Begins code (slot + size i)) → FallsOff code slot → ⊥
+  pub met_ends : (falls_through i ≡ true → Begins code (slot + size i)) → FallsOff code slot → ⊥
   met_ends on off =
       let same = same_instruction off.instruction i off.at here in
       let last : slot_after slot i ≡ length code =
       subst (λ k. slot_after slot k ≡ length code) same off.last in
-      let goes : goes_on i ≡ true = subst (λ k. goes_on k ≡ true) same off.on in
+      let goes : falls_through i ≡ true = subst (λ k. falls_through k ≡ true) same off.on in
       absurd (omega (arith, inside_code code (slot + size i) (on goes), last))
 
-  pub falls_off : (slot + size i ≡ length code) ⊎ Begins code (slot + size i) → goes_on i ≡ true
+  pub falls_off : (slot + size i ≡ length code) ⊎ Begins code (slot + size i) → falls_through i ≡ true
       → (Begins code (slot + size i) → ⊥) → FallsOff code slot
   falls_off followed goes nowhere =
       ⊎_elim

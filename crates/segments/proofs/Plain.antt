@@ -21,7 +21,7 @@ use Rattle.transfer.specs.declared.rule.Rule.{Rule}
 use Rattle.transfer.specs.declared.rule.Rule.TheVariants as rules
 use Rattle.transfer.specs.Plain.{IsPlainInstruction, IsPlainStep, IsStraight, KeepsFilled}
 use Rattle.transfer.specs.Rules.{MayName}
-use Rattle.segments.specs.Places.{goes_on}
+use Rattle.segments.specs.Places.{falls_through}
 use Rattle.segments.specs.Plain.{AsksAtMost, IsFilledBehind, IsPlainHere, KeepsNumbers, IsPlainEdgeIfStated}
 
 -- ---- what is required of registers
@@ -96,7 +96,7 @@ module _ {D : Type 0} (contains : D → ℕ → Type 0) (segment_starts : List (
         (here.edges to (inl jumps))
 
     pub pass_edge : (after : AbstractState D) (next : ℕ) → slot < next → slot_after slot i ≡ next
-        → goes_on i ≡ true → ((r : ℕ) → IsFilledBehind i state r → HoldsNumber after r)
+        → falls_through i ≡ true → ((r : ℕ) → IsFilledBehind i state r → HoldsNumber after r)
         → IsPlainEdgeIfStated contains segment_starts segment false next (HoldsNumber after)
     pass_edge after next less behind on grows =
         let forward : nat_le next slot ≡ false = grind (arith, nat_tests) in

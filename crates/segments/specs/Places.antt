@@ -8,11 +8,11 @@ use Rattle.isa.specs.Flow.{Begins, size, jump_target}
 use Rattle.kinds.specs.declared.statement.SegmentStart.{SegmentStart}
 
 -- whether the instruction may fall through: all but EXIT and the unconditional jumps
-abbrev pub goes_on : Instruction → Bool
-goes_on (instructions.Jump distance) = false
-goes_on (instructions.LongJump distance) = false
-goes_on instructions.Exit = false
-goes_on other = true
+abbrev pub falls_through : Instruction → Bool
+falls_through (instructions.Jump distance) = false
+falls_through (instructions.LongJump distance) = false
+falls_through instructions.Exit = false
+falls_through other = true
 
 -- what is stated at a slot; the list has an element for each slot of the code
 abbrev pub segment_start_at : {D : Type 0} → List (Option (SegmentStart D)) → ℕ
@@ -37,4 +37,4 @@ pub record IsWellPlaced {D : Type 0} (code : List Slot)
     (segment_starts : List (Option (SegmentStart D)))
     (slot : ℕ) (i : Instruction) : Type 0 where
   pub jump : IfSome (jump_target slot i) (IsEntry code segment_starts)
-  pub on : goes_on i ≡ true → Begins code (slot + size i)
+  pub on : falls_through i ≡ true → Begins code (slot + size i)

@@ -13,12 +13,12 @@ use Rattle.kinds.specs.Plain.{HoldsNumber, kind_in}
 use Rattle.kinds.specs.Stated.{HasEveryNumber}
 use Rattle.ranks.specs.Lines.{IsConstant}
 use Rattle.transfer.specs.Plain.{IsPlainInstruction, ReadsFilled}
-use Rattle.segments.specs.Places.{goes_on, segment_start_at}
+use Rattle.segments.specs.Places.{falls_through, segment_start_at}
 
 -- the instruction at the slot may lead there, by its jump or by falling through
 abbrev pub LeadsTo : ℕ → Instruction → ℕ → Type 0
 LeadsTo slot i to =
-    (jump_target slot i ≡ Some to) ⊎ ((goes_on i ≡ true) × (slot_after slot i ≡ to))
+    (jump_target slot i ≡ Some to) ⊎ ((falls_through i ≡ true) × (slot_after slot i ≡ to))
 
 -- after the instruction the register is known to hold a number: it was before, or is written
 abbrev pub IsFilledBehind : {D : Type 0} → Instruction → AbstractState D → ℕ → Type 0

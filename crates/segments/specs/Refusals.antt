@@ -12,7 +12,7 @@ use Rattle.machine.specs.Faults.{writes_frame}
 use Rattle.transfer.specs.declared.rule.Rule.{Rule}
 use Rattle.transfer.specs.declared.rule.Rule.TheVariants as rules
 use Rattle.transfer.specs.Rules.{LacksHelper}
-use Rattle.segments.specs.Places.{goes_on}
+use Rattle.segments.specs.Places.{falls_through}
 use Rattle.segments.specs.Stated.{statement_at}
 
 -- the maximum number of instructions that a run may execute
@@ -43,7 +43,7 @@ pub record FallsOff (code : List Slot) (slot : ℕ) : Type 0 where
   pub instruction : Instruction
   pub at : BeginsAt instruction code slot
   pub last : slot_after slot instruction ≡ length code
-  pub on : goes_on instruction ≡ true
+  pub on : falls_through instruction ≡ true
 
 -- ---- rule 3: an unstated slot after EXIT or an unconditional jump
 
@@ -53,7 +53,7 @@ pub record IsCutOff (code : List Slot) (slot : ℕ) : Type 0 where
   pub instruction : Instruction
   pub at : BeginsAt instruction code before
   pub behind : slot_after before instruction ≡ slot
-  pub leaves : goes_on instruction ≡ false
+  pub leaves : falls_through instruction ≡ false
 
 pub record IsUnreached (code : List Slot) (statements : List StatementParts)
     (slot : ℕ) : Type 0 where

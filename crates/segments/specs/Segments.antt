@@ -116,7 +116,7 @@ PassesTo contains segment_starts segment slot next_slot after start next =
     ⊎ ((segment_start_at segment_starts next_slot ≡ None) × Knows contains segment after start next)
 
 -- where a step from what is known leads
-pub record GoesOn {D : Type 0} (contains : D → ℕ → Type 0) (code : List Slot)
+pub record StepLeads {D : Type 0} (contains : D → ℕ → Type 0) (code : List Slot)
     (segment_starts : List (Option (SegmentStart D))) (segment : SegmentStart D) (slot : ℕ)
     (i : Instruction)
     (after : Known D) (start next : Machine) : Type 0 where
@@ -136,7 +136,7 @@ pub record IsFollowed {D : Type 0} (contains : D → ℕ → Type 0) (code : Lis
   pub goes_on : (input : Given) (start now next : Machine) (label : Label) → now.slot ≡ slot
       → IsKnown contains segment state start now
       → Does i (setting_of code hook input) now label next
-      → GoesOn contains code segment_starts segment slot i after start next
+      → StepLeads contains code segment_starts segment slot i after start next
 
 -- Every visit of the slot, on any input, is in this segment and known.
 pub record IsCurrent {D : Type 0} (contains : D → ℕ → Type 0) (code : List Slot) (hook : Hook)

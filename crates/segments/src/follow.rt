@@ -17,7 +17,7 @@ ghost use Rattle.transfer.specs.Branches.{HoldsBesides, PairHolds};
 ghost use Rattle.transfer.specs.Plain.{IsStraight, KeepsFilled};
 ghost use Rattle.transfer.specs.Rules.{IsOfExit};
 ghost use Rattle.segments.specs.Plain.{IsPlainHere, KeepsNumbers, IsPlainEdgeIfStated};
-ghost use Rattle.segments.specs.Places.{IsWellPlaced, goes_on, segment_start_at};
+ghost use Rattle.segments.specs.Places.{IsWellPlaced, falls_through, segment_start_at};
 ghost use Rattle.segments.specs.Refusals.{IsOfEdge, MayRefuseInstruction};
 ghost use Rattle.segments.specs.Segments.{EntersNext, IsFollowed, IsKnown, PassesTo};
 
@@ -281,7 +281,7 @@ fn go_on<'a, D: Domain>(
     requires small { slot < 4096 }
     requires here { slice_get code.now slot ≡ Some (Start instruction) }
     requires placed { IsWellPlaced code.now segment_starts.now slot instruction }
-    requires goes_on { goes_on instruction ≡ true }
+    requires goes_on { falls_through instruction ≡ true }
     requires straight { IsStraight instruction }
     ensures followed { IfOk result
         (IsFollowed D.contains code.now hook segment_starts.now segment.now slot instruction

@@ -5,7 +5,7 @@ ghost use Rattle.std.specs.Prelude.{length, slice_get, true};
 ghost use Rattle.object.specs.Statements.{StatementParts};
 ghost use Rattle.isa.specs.declared.code.Slot.TheVariants.{Start};
 ghost use Rattle.isa.specs.Flow.{Begins, size, jump_target, slot_at_distance};
-ghost use Rattle.segments.specs.Places.{IsWellPlaced, goes_on, segment_start_at};
+ghost use Rattle.segments.specs.Places.{IsWellPlaced, falls_through, segment_start_at};
 ghost use Rattle.segments.specs.Stated.{AreSegmentStarts};
 ghost use Rattle.segments.specs.Refusals.{IsPassedTo, IsPlaceRefusal, IsWellMade};
 
@@ -27,7 +27,7 @@ pub fn slots_of(instruction: &Instruction) -> usize
 
 /// Whether the instruction may fall through.
 pub fn falls_through(instruction: &Instruction) -> bool
-    ensures { result ≡ goes_on instruction.now }
+    ensures { result ≡ falls_through instruction.now }
 {
     !matches!(
         instruction,
@@ -104,9 +104,9 @@ fn jumps_unstated<'a, D: Domain>(
 /// Whether the code ends after an instruction that may fall through: rule 2.
 fn falls_off(code: &Code, slot: usize, instruction: &Instruction) -> bool
     requires { slot < 4096 }
-    ensures off { result ≡ true → (goes_on instruction.now ≡ true)
+    ensures off { result ≡ true → (falls_through instruction.now ≡ true)
         × (Begins code.now (slot + size instruction.now) → ⊥) }
-    ensures on { result ≡ false → goes_on instruction.now ≡ true
+    ensures on { result ≡ false → falls_through instruction.now ≡ true
         → Begins code.now (slot + size instruction.now) }
 {
     falls_through(instruction) && !begins(code, slot + slots_of(instruction))

@@ -20,7 +20,7 @@ use Rattle.object.specs.declared.kind.StatedKind.{StatedKind}
 use Rattle.object.specs.declared.kind.StatedKind.TheVariants as kinds
 use Rattle.kinds.specs.Stated.{any_number}
 use Rattle.transfer.specs.Plain.{IsPlainInstruction}
-use Rattle.segments.specs.Places.{goes_on}
+use Rattle.segments.specs.Places.{falls_through}
 use Rattle.segments.specs.Plain.{LeadsTo}
 use Rattle.segments.specs.Refusals.{IsStray, IsWellMade, JumpsNowhere}
 use Rattle.segments.specs.Stated.{statement_at}
@@ -120,10 +120,10 @@ well_made slot = record {
       (λ (other : slot ≢ 2). let none = unstated_elsewhere slot other in
       never (rw none at stray.stated))
       (cases_eq slot 2));
-  ends = λ off. each (λ at i. slot_after at i ≡ 3 → goes_on i ≡ true → ⊥)
+  ends = λ off. each (λ at i. slot_after at i ≡ 3 → falls_through i ≡ true → ⊥)
       (λ last on. omega (arith, last)) (λ last on. omega (arith, last)) (λ last on. never on)
       slot off.instruction off.at off.last off.on;
-  reached = λ unreached. each (λ before i. (to : ℕ) → slot_after before i ≡ to → goes_on i ≡ false
+  reached = λ unreached. each (λ before i. (to : ℕ) → slot_after before i ≡ to → falls_through i ≡ false
       → Begins tested_code to → ⊥)
       (λ to behind leaves begins. never (sym leaves))
       (λ to behind leaves begins. never (sym leaves))

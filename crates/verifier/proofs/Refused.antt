@@ -17,7 +17,7 @@ use Rattle.kinds.specs.declared.statement.SegmentStart.{SegmentStart}
 use Rattle.transfer.specs.declared.rule.Rule.{Rule}
 use Rattle.transfer.specs.declared.rule.Rule.TheVariants as rules
 use Rattle.transfer.specs.Rules.{LacksHelper}
-use Rattle.segments.specs.Places.{goes_on, segment_start_at}
+use Rattle.segments.specs.Places.{falls_through, segment_start_at}
 use Rattle.segments.specs.Stated.{statement_at, AreSegmentStarts}
 use Rattle.segments.specs.Refusals.{JumpsNowhere, IsStray, LacksHelperAt, IsWellMade, IsFirst}
 use Rattle.segments.specs.Refusals.{IsFirstHere, IsPassedTo, IsPlaceRefusal, IsOfEdge, MayRefuseInstruction}
@@ -174,14 +174,14 @@ passed_to_start code cut = let some = size_some cut.instruction in
     absurd (omega (arith, cut.behind, some))
 
 pub passed_behind : OneEndsAtASlot → (code : List Slot) → IsCode code → (slot : ℕ) (i : Instruction)
-    → BeginsAt i code slot → (on : Bool) → goes_on i ≡ on → IsPassedTo on code (slot + size i)
+    → BeginsAt i code slot → (on : Bool) → falls_through i ≡ on → IsPassedTo on code (slot + size i)
 passed_behind one code is_code slot i here true is = λ cut.
     let at : cut.before ≡ slot = one code cut.before slot cut.instruction i is_code cut.at here
     cut.behind in
     let there : slice_get code slot ≡ Some (Start cut.instruction) =
     subst (λ k. slice_get code k ≡ Some (Start cut.instruction)) at cut.at in
     let same : cut.instruction ≡ i = same_instruction cut.instruction i there here in
-    false≢true (sym (subst (λ j. goes_on j ≡ false) same cut.leaves) ∙ is)
+    false≢true (sym (subst (λ j. falls_through j ≡ false) same cut.leaves) ∙ is)
 passed_behind one code is_code slot i here false is = record {
   before = slot;
   instruction = i;
