@@ -21,8 +21,8 @@ abbrev pub vacant : HistoryPrefix → Programs
 vacant front = record { count = None; tag = None; price = None; veto = None; front = front }
 
 -- each slot shows what the operations leave at its hook
-abbrev pub Stands : Programs → Type 0
-Stands p =
+abbrev pub ShowsOperations : Programs → Type 0
+ShowsOperations p =
     (p.count ≡ leaves Count (published_operations p))
     × (p.tag ≡ leaves Tag (published_operations p))
     × (p.price ≡ leaves Price (published_operations p))
@@ -42,5 +42,5 @@ after_operation p e =
 -- the value with these entries remains valid, with the same history
 abbrev pub Fits : Programs → List HistoryEntry → Type 0
 Fits p entries =
-    Stands p → Stands (fold after_operation p entries)
+    ShowsOperations p → ShowsOperations (fold after_operation p entries)
     × (history (fold after_operation p entries) ≡ history p)

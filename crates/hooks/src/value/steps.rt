@@ -10,7 +10,7 @@ ghost use Rattle.helpers.specs.Seats.{SeatMakes};
 ghost use Rattle.hooks.specs.Answered.{AreAnswered, IsVetoAnswered};
 ghost use Rattle.hooks.specs.declared.operation.LoaderOperation.{LoaderOperation};
 ghost use Rattle.hooks.specs.Operations.{leaves, OperationsAnswer, HasHookNumber};
-ghost use Rattle.hooks.specs.Shown.{published_operations, Stands, after_operation, vacant};
+ghost use Rattle.hooks.specs.Shown.{published_operations, ShowsOperations, after_operation, vacant};
 ghost use Rattle.hooks.specs.Vacant.{AreVacancies};
 
 use super::{HistoryEntry, Programs, Vacancies};
@@ -49,7 +49,7 @@ impl Programs {
     }
 
     fn slot(&self, hook: Hook) -> &ProgramSlot
-        requires { Stands self.now }
+        requires { ShowsOperations self.now }
         ensures { result.now ≡ leaves hook (published_operations self.now) }
     {
         match hook {
@@ -62,7 +62,7 @@ impl Programs {
 
     /// Which hooks have no program.
     pub fn vacancies(&self) -> Vacancies
-        requires { Stands self.now }
+        requires { ShowsOperations self.now }
         ensures { AreVacancies (published_operations self.now) result }
     {
         Vacancies {
@@ -75,7 +75,7 @@ impl Programs {
     /// Runs the program at the input's hook. Never blocks or allocates.
     pub fn answer(&self, input: &Input, shared: &Shared, seat: &mut Seat) -> u64
         requires asked { HasHookNumber (given_by input.now) }
-        requires stands { Stands self.now }
+        requires stands { ShowsOperations self.now }
         requires table { IsSeatOf shared.now seat.old }
         ensures answered { (labels : List Label) × SeatMakes seat.old labels seat.new
             × OperationsAnswer (published_operations self.now) (given_by input.now) labels result }
@@ -103,7 +103,7 @@ impl Programs {
         seat: &mut Seat,
     ) -> u64
         requires asked { IsOfHook VetoHook (given_by input.now) }
-        requires stands { Stands self.now }
+        requires stands { ShowsOperations self.now }
         requires table { IsSeatOf shared.now seat.old }
         ensures answered { (labels : List Label) × SeatMakes seat.old labels seat.new
             × OperationsAnswer (published_operations self.now) (given_by input.now) labels result }
@@ -131,7 +131,7 @@ impl Programs {
         shared: &Shared,
         seat: &mut Seat,
     ) -> VetoAnswer
-        requires stands { Stands self.now }
+        requires stands { ShowsOperations self.now }
         requires table { IsSeatOf shared.now seat.old }
         ensures answered { IsVetoAnswered (published_operations self.now)
             (published_operations self.now) seat.old seat.new moment rows.now route.now result }
@@ -157,7 +157,7 @@ impl Programs {
         seat: &mut Seat,
         answers: &mut Vec<VetoAnswer>,
     )
-        requires stands { Stands self.now }
+        requires stands { ShowsOperations self.now }
         requires table { IsSeatOf shared.now seat.old }
         requires left { vec_len answers.old < length routes.now }
         requires room { length routes.now ≤ vec_capacity answers.old }
