@@ -125,7 +125,7 @@ abbrev pub IsNotedAtLast : (old : BookView) → JournalEntry → (new : BookView
 IsNotedAtLast old e new = (before : BookView) × MayBeMarked old before × IsNotedIn before e new
 
 -- what holds of the fields of every book that began with this router; `total` is its ledger's
-pub record IsKept (origin : Router) (start : Router) (journal : List JournalEntry) (now : Router)
+pub record IsBook (origin : Router) (start : Router) (journal : List JournalEntry) (now : Router)
     (noted taken total : ℕ) : Type 0 where
   pub replays : Replays start journal now
   pub leads : IsAfterEvents origin taken now

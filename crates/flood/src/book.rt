@@ -73,7 +73,7 @@ impl<L: Origin> Model for Book<L> {
     ghost use Rattle.lsdb.specs.Copies.{DatabaseCopy};
     ghost use Rattle.lsdb.specs.Keys.{coded_key, key_cmp};
     ghost use Rattle.adjacency.specs.Codes.{coded_headers, coded_keys, coded_lists};
-    ghost use Rattle.flood.specs.Replay.{BookView, IsKept, start_of};
+    ghost use Rattle.flood.specs.Replay.{BookView, IsBook, start_of};
 
     ghost Value = { BookView };
 
@@ -94,7 +94,7 @@ impl<L: Origin> Model for Book<L> {
       taken = b.taken;
     } };
 
-    ghost invariant = { λ b. IsKept L.origin (start_of b.start b.current) b.journal.items b.current
+    ghost invariant = { λ b. IsBook L.origin (start_of b.start b.current) b.journal.items b.current
         b.noted b.taken b.total.total };
 }
 

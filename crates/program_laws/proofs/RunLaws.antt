@@ -24,7 +24,7 @@ use Rattle.object.specs.Sets.{no_bytes, with_range}
 use Rattle.kinds.specs.Stated.{GivesStated, any_number}
 use Rattle.regions.specs.declared.Region.{Region}
 use Rattle.regions.specs.declared.Region.TheVariants as regions
-use Rattle.regions.specs.Regions.{AreKeptRegions}
+use Rattle.regions.specs.Regions.{AreRecordedRegions}
 use Rattle.verifier.specs.Examples.{then_exit, says, seven}
 use Rattle.program_laws.specs.Runs.{LaterSlotsAreAsStated, LoadsAreOfTheirMap, StartsAsStated}
 use Rattle.program_laws.specs.Runs.{loads_context, loads_of_map, says_first, stores_on_stack}
@@ -33,13 +33,13 @@ use Rattle.program_laws.specs.Runs.{loads_context, loads_of_map, says_first, sto
 no_steps : (hook : Hook) → Run (setting_of loads_context hook blank) 0 [] start
 no_steps hook = record { steps = refl; leads = refl }
 
-pub loads_of_context : (hook : Hook) (kept : List Region) → AreKeptRegions loads_context hook kept
+pub loads_of_context : (hook : Hook) (kept : List Region) → AreRecordedRegions loads_context hook kept
     → slice_get kept 0 ≡ Some regions.Context
 loads_of_context hook kept are = are blank 0 [] start (no_steps hook) (Load Unsigned64 0 1 (pos 0))
     1 (pointers.Context 0) refl refl refl
 
 pub stores_on_its_stack : (hook : Hook) (kept : List Region)
-    → AreKeptRegions stores_on_stack hook kept → slice_get kept 0 ≡ Some regions.Stack
+    → AreRecordedRegions stores_on_stack hook kept → slice_get kept 0 ≡ Some regions.Stack
 stores_on_its_stack hook kept are =
     are blank 0 [] start (record {
       steps = refl;

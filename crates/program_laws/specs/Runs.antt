@@ -14,7 +14,7 @@ use Rattle.object.specs.Statements.{StatementParts}
 use Rattle.kinds.specs.Stated.{GivesStated, any_number}
 use Rattle.regions.specs.declared.Region.{Region}
 use Rattle.regions.specs.declared.Region.TheVariants as regions
-use Rattle.regions.specs.Regions.{AreKeptRegions}
+use Rattle.regions.specs.Regions.{AreRecordedRegions}
 use Rattle.verifier.specs.Examples.{constant_rank, then_exit, says, seven}
 use Rattle.verifier.specs.Stated.{RunsMeetStatements}
 
@@ -25,7 +25,7 @@ loads_context = then_exit (Load Unsigned64 0 1 (pos 0))
 -- its load is from the context
 abbrev pub LoadsAreOfTheContext : Type 0
 LoadsAreOfTheContext =
-    (hook : Hook) (kept : List Region) → AreKeptRegions loads_context hook kept
+    (hook : Hook) (kept : List Region) → AreRecordedRegions loads_context hook kept
     → slice_get kept 0 ≡ Some regions.Context
 
 -- `*u64 r10 -8 = r1; exit`
@@ -35,7 +35,7 @@ stores_on_stack = then_exit (Store stored.Bits64 10 (negsuc 7) (Register 1))
 -- its store is to the stack
 abbrev pub StoresAreOfTheStack : Type 0
 StoresAreOfTheStack =
-    (hook : Hook) (kept : List Region) → AreKeptRegions stores_on_stack hook kept
+    (hook : Hook) (kept : List Region) → AreRecordedRegions stores_on_stack hook kept
     → slice_get kept 0 ≡ Some regions.Stack
 
 -- `r1 = map; r0 = *u64 r1 0; exit`, the map by its number
@@ -45,9 +45,9 @@ loads_of_map number =
 
 -- its load, which comes after a step, is from that map
 pub record LoadsAreOfTheirMap : Type 0 where
-  pub counters : (hook : Hook) (kept : List Region) → AreKeptRegions (loads_of_map 0) hook kept
+  pub counters : (hook : Hook) (kept : List Region) → AreRecordedRegions (loads_of_map 0) hook kept
       → slice_get kept 2 ≡ Some regions.Counters
-  pub cells : (hook : Hook) (kept : List Region) → AreKeptRegions (loads_of_map 1) hook kept
+  pub cells : (hook : Hook) (kept : List Region) → AreRecordedRegions (loads_of_map 1) hook kept
       → slice_get kept 2 ≡ Some regions.Cells
 
 -- the statement at the first slot about r0 and r1; nothing is said of r2 to r9 and the stack

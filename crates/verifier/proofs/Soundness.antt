@@ -22,7 +22,7 @@ use Rattle.kinds.specs.Stated.{GivesStated, MeetsStatement}
 use Rattle.object.specs.Statements.{StatementParts}
 use Rattle.ranks.specs.Lines.{rank_value}
 use Rattle.regions.specs.declared.Region.{Region}
-use Rattle.regions.specs.Regions.{AreKeptRegions, IsKeptAt}
+use Rattle.regions.specs.Regions.{AreRecordedRegions, IsRecordedAt}
 use Rattle.transfer.specs.Given.{Given, setting_of}
 use Rattle.segments.specs.Places.{segment_start_at}
 use Rattle.segments.specs.Segments.{Visits, at_entry, at_statement, falls, Enters, EntersNext}
@@ -30,7 +30,7 @@ use Rattle.segments.specs.Segments.{IsFine}
 use Rattle.segments.specs.Stated.{AreSegmentStarts, MeetStatements}
 use Rattle.segments.proofs.SegmentStarts.{segment_start_of_stated}
 use Rattle.segments.proofs.Made.{inside_code, some_and}
-use Rattle.verifier.specs.Kept.{IsKept}
+use Rattle.verifier.specs.Kept.{HasRecordedRegion}
 use Rattle.verifier.specs.Stated.{RunsMeetStatements}
 use Rattle.verifier.proofs.SegmentLemmas.{size_some}
 
@@ -232,10 +232,10 @@ module _ {D : Type 0} (contains : D → ℕ → Type 0) (code : List Slot) (hook
         → Enters contains false entry target start start)
         → (rank_value entry.statement.now.rank start + 1) * length code ≤ limit
         → (kept : List Region) → ((slot : ℕ) → Begins code slot
-        → IsKept contains code hook segment_starts entry kept slot)
+        → HasRecordedRegion contains code hook segment_starts entry kept slot)
         → (m : ℕ) (labels : List Label) (s : Machine)
         → Run (setting_of code hook input) m labels s
-        → IsKeptAt (setting_of code hook input) kept s
+        → IsRecordedAt (setting_of code hook input) kept s
     met_kept fine begins holds edge room kept keeps m labels s run =
         let reached = reached_along fine labels 0 start s
         (first_reached begins holds edge room (segment_start_at segment_starts 0) refl) run.leads in
@@ -264,8 +264,8 @@ pub kept_regions : {D : Type 0} (contains : D → ℕ → Type 0) (code : List S
     → Enters contains false entry target start start)
     → ((slot : ℕ) → Begins code slot → IsFine contains code hook segment_starts entry slot)
     → (kept : List Region) → ((slot : ℕ) → Begins code slot
-    → IsKept contains code hook segment_starts entry kept slot)
-    → AreKeptRegions code hook kept
+    → HasRecordedRegion contains code hook segment_starts entry kept slot)
+    → AreRecordedRegions code hook kept
 kept_regions contains code hook segment_starts entry begins holds edge fine kept keeps =
     λ input m labels s run. met_kept contains code hook segment_starts entry
     ((rank_value entry.statement.now.rank start + 1) * length code) input fine begins holds edge

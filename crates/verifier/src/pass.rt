@@ -9,7 +9,7 @@ ghost use Rattle.kinds.specs.Meaning.{StateHolds, SegmentStartHolds};
 ghost use Rattle.object.specs.Statements.{StatementParts};
 ghost use Rattle.kinds.specs.Plain.{kind_in};
 ghost use Rattle.kinds.specs.declared.statement.SegmentStart.{SegmentStart as AnySegmentStart};
-ghost use Rattle.verifier.specs.Kept.{GoesInto, IsKept};
+ghost use Rattle.verifier.specs.Kept.{GoesInto, HasRecordedRegion};
 ghost use Rattle.verifier.specs.Pass.{ComesPlainly, HasRank, IsPlainIfLive, IsPlainProgram};
 ghost use Rattle.verifier.specs.Pass.{KeepsPlain};
 ghost use Rattle.segments.specs.Places.{IsWellPlaced, segment_of, segment_start_at};
@@ -252,7 +252,7 @@ pub fn pass_all<'a, D: Domain>(
     ensures fine { IfOk result (λ _. (slot : ℕ) → Begins code.now slot
         → IsFine D.contains code.now hook segment_starts.now entry.now slot) }
     ensures kept { IfOk result (λ kept. (slot : ℕ) → Begins code.now slot
-        → IsKept D.contains code.now hook segment_starts.now entry.now kept.items slot) }
+        → HasRecordedRegion D.contains code.now hook segment_starts.now entry.now kept.items slot) }
     ensures long { IfOk result (λ kept. length kept.items ≡ length code.now) }
     ensures named { (statements : List StatementParts) (entry_rank : ℕ)
         → AreSegmentStarts D.contains statements segment_starts.now

@@ -5,7 +5,7 @@ use Rattle.segments.specs.Refusals.{IsPassedTo, IsWellMade}
 use Rattle.segments.specs.Stated.{AreSegmentStarts}
 use Rattle.segments.specs.Places.{segment_of}
 use Rattle.segments.specs.Segments.{IsFine, IsCurrentUnlessStated}
-use Rattle.verifier.specs.Kept.{IsKept}
+use Rattle.verifier.specs.Kept.{HasRecordedRegion}
 use Rattle.verifier.specs.Pass.{ComesPlainly, HasRank, IsPlainProgram}
 use Rattle.verifier.proofs.pass.pass_all.Given as goal
 
@@ -17,7 +17,7 @@ invariant-loop-slot g l = record {
   fine : (k : ℕ) → k < l.slot → Begins l.code k
       → IsFine g.D.Domain.contains l.code l.hook l.segment_starts l.entry k;
   kept : (k : ℕ) → k < l.slot → Begins l.code k
-      → IsKept g.D.Domain.contains l.code l.hook l.segment_starts l.entry l.regions.items k;
+      → HasRecordedRegion g.D.Domain.contains l.code l.hook l.segment_starts l.entry l.regions.items k;
   long : length l.regions.items ≡ length l.code;
   current : IsCurrentUnlessStated g.D.Domain.contains l.code l.hook l.segment_starts l.entry l.slot
       (segment_of l.segment_starts l.entry l.begun) l.known;
