@@ -10,7 +10,7 @@ use Rattle.own_lsa_laws.specs.OwnCopies.{EndsWithTick, NobodySpeaksForThisRouter
 use Rattle.flood.specs.declared.event.Event.{Event}
 use Rattle.flood.specs.declared.event.Event.TheVariants as event
 use Rattle.worker.specs.Replay.{IsAfterEvents}
-use Rattle.worker.specs.Turns.{Sends}
+use Rattle.worker.specs.Turns.{IsTakenBySome}
 use Rattle.own_lsa_laws.specs.RunningRouter.{IsTicked, NobodySpeaksForTheRunningRouter}
 
 from_start : RoutersRefuseClocksThatGoBack → (c : Config) (steps : List Step)
@@ -37,7 +37,7 @@ ends clocks c taken moment old new outs (steps, run, many, clock) later happens 
 
 ticked : NobodySpeaksForThisRouter → RoutersRefuseClocksThatGoBack → (c : Config) (events : ℕ)
     (moment : Moment) (outs : List Out) (stale : Option Bool)
-    → Sends (initial c) events moment event.Tick outs stale → IsTicked c moment outs
+    → IsTakenBySome (initial c) events moment event.Tick outs stale → IsTicked c moment outs
 ticked law clocks c events moment outs stale (taken, old, new, least, leads, later, happens, left) =
     let its_end = ends clocks c taken moment old new outs leads later happens in record {
       taken = taken;
@@ -55,5 +55,5 @@ nobody_speaks law clocks = record {
   always = always law clocks;
   tick = λ c known now events moment outs stale given.
       ticked law clocks c events moment outs stale
-      (subst (λ (e : Event). Sends (initial c) events moment e outs stale) given.1 given.2);
+      (subst (λ (e : Event). IsTakenBySome (initial c) events moment e outs stale) given.1 given.2);
 }

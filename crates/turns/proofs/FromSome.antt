@@ -15,7 +15,7 @@ use Rattle.flood.specs.Replay.{BookView, IsAfterEvents}
 use Rattle.flood.specs.declared.book.error.BookError.{BookError}
 use Rattle.flood.specs.declared.book.error.BookError.TheVariants as refusing
 use Rattle.flood.specs.Offers.{AreCandidatesNow, IsOffered, IsStaleNow}
-use Rattle.turns.specs.Turns.{IsOfferedBySome, IsRefusedBySome, RefusesAt, Sends, taken_at}
+use Rattle.turns.specs.Turns.{IsOfferedBySome, IsRefusedBySome, RefusesAt, IsTakenBySome, taken_at}
 use Rattle.turns.proofs.Tables.{rows_beside}
 
 pub sent_by_some : (origin : Router) (events taken : ℕ) (moment at : Moment) (e : Event)
@@ -23,7 +23,7 @@ pub sent_by_some : (origin : Router) (events taken : ℕ) (moment at : Moment) (
     → IsAfterEvents origin taken old → at ≡ taken_at e moment old.moment → old.moment ≤ at
     → Happens old at (occurrence_of e) outs new
     → IfSome stale (λ is. IsTrue is ↔ IsStaleNow new)
-    → Sends origin events moment e outs stale
+    → IsTakenBySome origin events moment e outs stale
 sent_by_some origin events taken moment at e old new outs stale least leads is late h left = (
   taken,
   old,

@@ -144,7 +144,7 @@ module _ (known more now most : List LoaderOperation) (longer : IsPrefix known m
   }
 
   unrefreshed_since : (offers : Offers) (refuses : Refuses) (moment : Moment)
-      (before between changes : ℕ) → between ≡ before + 1 → refuses.counted before changes
+      (before between changes : ℕ) → between ≡ before + 1 → refuses.changes_read before changes
       → IsChangedSince refuses between changes
       ⊎ ((error : TurnError)
       × RefusesFor offers refuses more now between moment work.Refresh error)
@@ -161,14 +161,14 @@ module _ (known more now most : List LoaderOperation) (longer : IsPrefix known m
   -- what follows an event that counts once
   pub follows : {X : Type 0} (items : X → List Out) (offers : Offers) (took : Took)
       (refuses : Refuses) (moment : Moment) (before between after changes : ℕ) (due : Type 0)
-      (o : Option X) → between ≡ before + 1 → refuses.counted before changes
+      (o : Option X) → between ≡ before + 1 → refuses.changes_read before changes
       → IfNone o ((after ≡ between)
       × (due → IsChangedSince refuses between changes
       ⊎ ((error : TurnError) × RefusesFor offers refuses more now between moment work.Refresh
       error))) → IfSome o (λ x. due
       × ((left : Option Bool) × TakesFor offers took more now between moment
       work.Refresh (items x) left) × (after ≡ between + 1))
-      → IfSome o (λ _. refuses.counted between changes)
+      → IfSome o (λ _. refuses.changes_read between changes)
       → MatchOption o ((after ≡ before + 1)
       × (due → IsUnrefreshed offers refuses known most moment before))
       (λ x. due × IsUnchanged refuses before × ((left : Option Bool)
@@ -183,7 +183,7 @@ module _ (known more now most : List LoaderOperation) (longer : IsPrefix known m
   follows items offers took refuses moment before between after changes due (Some x) one counted
       none some unchanged = (
         some.0,
-        (changes, counted, subst (λ n. refuses.counted n changes) one unchanged),
+        (changes, counted, subst (λ n. refuses.changes_read n changes) one unchanged),
         (
           some.1.0,
           subst (λ n. TakesFor offers took known most n moment work.Refresh (items x) some.1.0) one

@@ -10,7 +10,7 @@ use Rattle.hooks.specs.declared.operation.LoaderOperation.{LoaderOperation}
 use Rattle.hooks.specs.Questions.{ExternalAnswer}
 use Rattle.flood.specs.declared.event.Event.{Event}
 use Rattle.flood.specs.declared.event.Event.TheVariants as event
-use Rattle.turns.specs.Turns.{AreBeside, IsEventOfWork, IsOfferedBySome, Sends, TakesFor, took_from}
+use Rattle.turns.specs.Turns.{AreBeside, IsEventOfWork, IsOfferedBySome, IsTakenBySome, TakesFor, took_from}
 use Rattle.turns.specs.declared.work.Work.TheVariants as work
 
 -- A turn for a datagram gives the packet of just these bytes from just this interface, and sends
@@ -21,7 +21,7 @@ CountReachesNoEvent =
     (interface : InterfaceNumber) (bytes : List ℕ) (outs : List Out) (stale : Option Bool)
     → TakesFor (IsOfferedBySome origin) (took_from origin) known now events moment
     (work.Datagram interface bytes) outs stale
-    ↔ Sends origin events moment (event.Packet interface bytes) outs stale
+    ↔ IsTakenBySome origin events moment (event.Packet interface bytes) outs stale
 
 -- If a table is offered, the answers of an announcement are beside the rows of one that is: those
 -- for which none was asked are the same beside each.

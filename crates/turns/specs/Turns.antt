@@ -62,7 +62,7 @@ pub data Lack : Type 0 where
 pub record Refuses : Type 1 where
   pub refused : (events : ℕ) → Moment → Event → BookError → Type 0
   pub lacks : Lack → Type 0
-  pub counted : (events : ℕ) → (changes : ℕ) → Type 0
+  pub changes_read : (events : ℕ) → (changes : ℕ) → Type 0
 
 -- the fields by names of their own, for contracts
 abbrev pub IsTaken : Took → (events : ℕ) → Moment → Event → List Out → (stale : Option Bool)
@@ -82,7 +82,7 @@ abbrev pub IsLacking : Refuses → Lack → Type 0
 IsLacking refuses = refuses.lacks
 
 abbrev pub IsNumberOfChanges : Refuses → (events : ℕ) → (changes : ℕ) → Type 0
-IsNumberOfChanges refuses = refuses.counted
+IsNumberOfChanges refuses = refuses.changes_read
 
 -- what is said of candidates, and of the rows of the table beside them
 abbrev pub Offers : Type 1
@@ -110,9 +110,9 @@ IsAtTheEndOfTheClock {B = B} began moment_of moment =
 -- event that is given at this moment sends these, from a router to which events lead from there, at
 -- least as many as the port's, of which none is later; it leaves one that is stale or isn't, if
 -- that is known.
-abbrev pub Sends : (origin : Router) → (events : ℕ) → Moment → Event → List Out
+abbrev pub IsTakenBySome : (origin : Router) → (events : ℕ) → Moment → Event → List Out
     → (stale : Option Bool) → Type 0
-Sends origin events moment e outs stale =
+IsTakenBySome origin events moment e outs stale =
     (taken : ℕ) × (old : Router) × (new : Router) × (events ≤ taken)
     × IsAfterEvents origin taken old
     × (old.moment ≤ taken_at e moment old.moment)
@@ -135,7 +135,7 @@ IsRefusedBySome origin events moment e error =
 -- asked, or got no reading or no memory, nor of a number of changes that was read or told.
 abbrev pub took_from : (origin : Router) → Took
 took_from origin = record {
-  taken = Sends origin;
+  taken = IsTakenBySome origin;
   told = λ operations. Unit {0};
   asked = λ input. Unit {0};
 }
@@ -144,7 +144,7 @@ abbrev pub refuses_from : (origin : Router) → Refuses
 refuses_from origin = record {
   refused = IsRefusedBySome origin;
   lacks = λ lack. Unit {0};
-  counted = λ events changes. Unit {0};
+  changes_read = λ events changes. Unit {0};
 }
 
 -- a book that began with this router says: they are those of a router to which events lead from
@@ -358,7 +358,7 @@ RefusesFor offers refuses known now events moment w error =
 
 -- after `events` events, a number of changes of the programs was read that isn't `before`
 abbrev pub IsChangedSince : Refuses → (events : ℕ) → ℕ → Type 0
-IsChangedSince refuses events before = (now : ℕ) × refuses.counted events now × (now ≢ before)
+IsChangedSince refuses events before = (now : ℕ) × refuses.changes_read events now × (now ≢ before)
 
 -- The refresh that was due isn't taken: the programs were changed meanwhile, as the number of
 -- changes tells that was read before the event, beside the one after it, as in `IsUnchanged`; or it
@@ -366,7 +366,7 @@ IsChangedSince refuses events before = (now : ℕ) × refuses.counted events now
 abbrev pub IsUnrefreshed : Offers → Refuses → (known now : List LoaderOperation) → Moment
     → (events : ℕ) → Type 0
 IsUnrefreshed offers refuses known now moment events =
-    ((before : ℕ) × refuses.counted events before × IsChangedSince refuses (events + 1) before)
+    ((before : ℕ) × refuses.changes_read events before × IsChangedSince refuses (events + 1) before)
     ⊎ ((error : TurnError)
     × RefusesFor offers refuses known now (events + 1) moment work.Refresh error)
 
@@ -374,7 +374,7 @@ IsUnrefreshed offers refuses known now moment events =
 -- relations any number may have been read, so that this binds code that is generic over `Taker`
 abbrev pub IsUnchanged : Refuses → (events : ℕ) → Type 0
 IsUnchanged refuses events =
-    (changes : ℕ) × refuses.counted events changes × refuses.counted (events + 1) changes
+    (changes : ℕ) × refuses.changes_read events changes × refuses.changes_read (events + 1) changes
 
 -- ---- a turn
 

@@ -34,7 +34,7 @@ ghost use Rattle.turns.specs.Turns.{
   Lack,
   Refuses,
   RefusesAt,
-  Sends,
+  IsTakenBySome,
   Took,
   announces,
   IsNumberOfChanges,
@@ -311,7 +311,7 @@ impl<L: Origin> Taker<L> for Book<L> {
         ensures stale { IfOk result (λ t.
             IfSome t.stale (λ is. IsTrue is ↔ IsStaleNow self.new.current)) }
         ensures ok { IfOk result (λ t.
-            Sends L.origin mine.old.amount moment event t.outs.items t.stale) }
+            IsTakenBySome L.origin mine.old.amount moment event t.outs.items t.stale) }
         ensures refused_now { IfErr result (λ error. RefusesAt self.old moment event error) }
         ensures refused { IfErr result (λ error.
             IsRefusedBySome L.origin mine.old.amount moment event error) }

@@ -1,11 +1,11 @@
 use Rattle.std.proofs.Common.{refl, subst}
 use Rattle.flood.specs.declared.event.Event.{Event}
 use Rattle.flood.specs.declared.event.Event.TheVariants as event
-use Rattle.turns.specs.Turns.{Sends}
+use Rattle.turns.specs.Turns.{IsTakenBySome}
 use Rattle.turns.proofs.laws.count_reaches_no_event.Goals as goal
 
 pub returns : goal.returns
 returns c origin known now events moment number bytes outs stale = (
-  λ given. subst (λ (e : Event). Sends origin events moment e outs stale) given.1 given.2,
+  λ given. subst (λ (e : Event). IsTakenBySome origin events moment e outs stale) given.1 given.2,
   λ sent. (event.Packet number bytes, refl, sent),
 )
