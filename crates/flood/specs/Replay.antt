@@ -126,10 +126,10 @@ IsNotedAtLast old e new = (before : BookView) × MayBeMarked old before × IsNot
 
 -- what holds of the fields of every book that began with this router; `total` is its ledger's
 pub record IsBook (origin : Router) (start : Router) (journal : List JournalEntry) (now : Router)
-    (noted taken total : ℕ) : Type 0 where
+    (bytes taken total : ℕ) : Type 0 where
   pub replays : Replays start journal now
   pub leads : IsAfterEvents origin taken now
-  pub weighed : noted ≡ bytes_of journal
+  pub weighed : bytes ≡ bytes_of journal
   pub room : length journal ≤ 65536
   pub few : taken ≤ 9223372036854775808
   pub counted : taken ≡ total

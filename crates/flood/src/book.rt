@@ -58,7 +58,7 @@ pub struct Book<L: Origin> {
     current: Core,
     journal: Vec<JournalEntry>,
     // The bytes that the journal's events take, without the answers of Installs.
-    noted: u64,
+    journal_bytes: u64,
     // The place of the last Install that was taken by `apply_with_marks` since the start.
     installed: Option<usize>,
     taken: u64,
@@ -95,7 +95,7 @@ impl<L: Origin> Model for Book<L> {
     } };
 
     ghost invariant = { λ b. IsBook L.origin (start_of b.start b.current) b.journal.items b.current
-        b.noted b.taken b.total.total };
+        b.journal_bytes b.taken b.total.total };
 }
 
 // Makes the copy that is the router at the start, unless there is one already.
@@ -134,7 +134,7 @@ impl<L: Origin> Book<L> {
                     start: Some(start),
                     current: core,
                     journal: Vec::new(alloc),
-                    noted: 0,
+                    journal_bytes: 0,
                     installed: None,
                     taken: 0,
                     total,
@@ -234,7 +234,7 @@ impl<L: Origin> Book<L> {
         }
         match self.current.step(moment, &event) {
             Ok(outs) => {
-                self.noted = with_event(self.noted, &event);
+                self.journal_bytes = with_event(self.journal_bytes, &event);
                 self.journal.push_reserved(JournalEntry { moment, event });
                 self.total.add(mine, 1);
                 self.taken += 1;
@@ -269,7 +269,7 @@ impl<L: Origin> Book<L> {
         }
         self.journal.clear();
         self.installed = None;
-        self.noted = 0;
+        self.journal_bytes = 0;
     }
 
     // Whether the journal holds 65,536 events, or more bytes than it may beside the router's LSAs.
@@ -278,7 +278,7 @@ impl<L: Origin> Book<L> {
         ensures light { result ≡ false → IsDue self.now → ⊥ }
         ensures room { result ≡ false → length self.now.journal < 65536 }
     {
-        self.journal.len() == MAX_JOURNAL || self.noted > allowance(self.current.database().len())
+        self.journal.len() == MAX_JOURNAL || self.journal_bytes > allowance(self.current.database().len())
     }
 
     // Marks the book if that is due.
@@ -443,7 +443,7 @@ impl<L: Origin> Book<L> {
             start,
             current,
             journal: _,
-            noted: _,
+            journal_bytes: _,
             installed: _,
             taken,
             total: _,
