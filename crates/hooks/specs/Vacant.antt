@@ -29,5 +29,5 @@ IsAnsweredByNone before now input word =
     (seat : SeatView) → IsAnswered before now seat seat input word
 
 -- the answer of `veto` that accepts a route
-abbrev pub let_in : Moment → Route → RouteAnswer
-let_in moment route = record { route = route; moment = moment; word = 0 }
+abbrev pub let_in_answer : Moment → Route → RouteAnswer
+let_in_answer moment route = record { route = route; moment = moment; word = 0 }

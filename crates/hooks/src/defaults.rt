@@ -8,7 +8,7 @@ ghost use Rattle.words.specs.declared.route.TableRow.{TableRow};
 ghost use Rattle.hooks.specs.Known.{known_to, asker_history};
 ghost use Rattle.hooks.specs.Questions.{tag_input, price_input, veto_input};
 ghost use Rattle.hooks.specs.Rule.{HasSeen};
-ghost use Rattle.hooks.specs.Vacant.{AreVacancies, IsAnsweredByNone, IsVacant, let_in};
+ghost use Rattle.hooks.specs.Vacant.{AreVacancies, IsAnsweredByNone, IsVacant, let_in_answer};
 
 use crate::answer::{PriceAnswer, TagAnswer};
 use crate::asker::Asker;
@@ -103,7 +103,7 @@ impl Asker {
     pub fn all_let_in(&mut self, routes: Pages<Route>, moment: Second) -> Option<VetoAnswers>
         ensures history { asker_history self.new ≡ asker_history self.old }
         ensures known { IsPrefix (known_to self.old) (known_to self.new) }
-        ensures all { IfSome result (λ answers. answers ≡ map (let_in moment) routes) }
+        ensures all { IfSome result (λ answers. answers ≡ map (let_in_answer moment) routes) }
         ensures answered { IfSome result (λ answers.
             (route : Route) (rows : List TableRow) → IsAnsweredByNone
             (known_to self.old) (known_to self.new) (veto_input route moment rows) 0) }

@@ -1,6 +1,6 @@
 //! The answers of `veto` on the routes that were offered.
 ghost use Rattle.std.specs.Prelude.{◌≡◌, [], IfOk, map};
-ghost use Rattle.hooks.specs.Vacant.{let_in};
+ghost use Rattle.hooks.specs.Vacant.{let_in_answer};
 ghost use Rattle.hooks.specs.VetoAnswers.{words_of};
 
 use crate::answer::VetoAnswer;
@@ -61,7 +61,7 @@ impl VetoAnswers {
 
     // Each of these routes is let in.
     pub(crate) fn all_in(moment: Second, routes: Pages<Route>) -> Self
-        ensures { result ≡ map (let_in moment) routes }
+        ensures { result ≡ map (let_in_answer moment) routes }
     {
         VetoAnswers {
             kept: Kept::AllIn(moment, routes),

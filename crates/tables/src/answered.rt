@@ -34,11 +34,11 @@ pub fn table(
         table.items) }
 {
     if are_in_order(answers) {
-        let table = let_in(alloc, candidates, answers)?;
+        let table = routes_let_in(alloc, candidates, answers)?;
         return Ok(table);
     }
     let ordered = in_order(alloc, answers)?;
-    let table = let_in(alloc, candidates, &ordered)?;
+    let table = routes_let_in(alloc, candidates, &ordered)?;
     Ok(table)
 }
 
@@ -72,7 +72,7 @@ pub fn is_stale(
 }
 
 // The routes that the answers let in.
-fn let_in(
+fn routes_let_in(
     alloc: Global,
     routes: &[Route],
     answers: &[(Route, u64)],

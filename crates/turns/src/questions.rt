@@ -201,7 +201,7 @@ fn price<L: Site, B: Taker<L>>(
 
 /// An `Install`: of each candidate now, whether it is kept out of the table. If `veto` has no
 /// program, one reading of the programs answers for all of them, and the table isn't made. Another
-/// reading before it tells which way to go, so that the candidates are copied once.
+/// reading before it tells which way to go, so that candidates are fetched once.
 ///
 /// # Errors
 /// `Away` if `veto` got no reading of the published programs; `Memory` if an allocation is refused.
@@ -222,13 +222,13 @@ pub fn make_install<L: Site, B: Taker<L>, R: Wait>(
 {
     match asker.is_veto_vacant() {
         Some(false) => ask_about_candidates(rt, hub, asker, seat, moment),
-        _ => let_in(rt, hub, asker, seat, moment),
+        _ => install_if_vacant(rt, hub, asker, seat, moment),
     }
 }
 
-// The same, if no program may stand at `veto`. If the reading for the answers shows one after all,
-// it is asked.
-fn let_in<L: Site, B: Taker<L>, R: Wait>(
+// The same, if the first reading showed no program at `veto`, or none was got. If the reading for
+// the answers shows one after all, it is asked.
+fn install_if_vacant<L: Site, B: Taker<L>, R: Wait>(
     rt: &R,
     hub: &Hub<L, B>,
     asker: &mut Asker,

@@ -13,7 +13,7 @@ ghost use Rattle.maps.specs.Words.{IsSeatOf};
 ghost use Rattle.hooks.specs.Answered.{AreAnswered, IsAnswered};
 ghost use Rattle.hooks.specs.Known.{asker_history, known_to, told_by};
 ghost use Rattle.hooks.specs.Questions.{count_input, price_input, tag_input, veto_input};
-ghost use Rattle.hooks.specs.Vacant.{IsAnsweredByNone, let_in};
+ghost use Rattle.hooks.specs.Vacant.{IsAnsweredByNone, let_in_answer};
 ghost use Rattle.flood.specs.event_rules.Events.{Happens};
 ghost use Rattle.flood.specs.event_rules.Routers.{shown_at};
 ghost use Rattle.flood.specs.declared.event.Event.{Event};
@@ -231,7 +231,7 @@ pub trait Taker<L: Origin> {
     fn all_let_in(asker: &mut Asker, routes: Pages<Route>, moment: Second) -> Option<VetoAnswers>
         ensures history { asker_history asker.new ≡ asker_history asker.old }
         ensures known { IsPrefix (known_to asker.old) (known_to asker.new) }
-        ensures all { IfSome result (λ answers. answers ≡ map (let_in moment) routes) }
+        ensures all { IfSome result (λ answers. answers ≡ map (let_in_answer moment) routes) }
         ensures answered { IfSome result (λ answers.
             (route : RouteValue) (rows : List TableRow) → IsAnsweredByNone
             (known_to asker.old) (known_to asker.new) (veto_input route moment rows) 0) };

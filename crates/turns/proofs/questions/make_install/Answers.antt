@@ -13,7 +13,7 @@ returns-in-Some-false-clause-event g c =
 
 pub returns-in_default-clause-event : goal.returns-in_default-clause-event
 returns-in_default-clause-event g c =
-    IfOk-weaker c.let_in.result _ _
+    IfOk-weaker c.install_if_vacant.result _ _
     (λ e. install_longer (known_to c.args.asker.now) _ _ _ c.is_veto_vacant.ensures.known
-    (prefix_self (known_to c.let_in.new.asker)) g.B.Taker.offers c.args.moment e)
-    c.let_in.ensures.event
+    (prefix_self (known_to c.install_if_vacant.new.asker)) g.B.Taker.offers c.args.moment e)
+    c.install_if_vacant.ensures.event

@@ -4,7 +4,7 @@ use Rattle.hooks.specs.Known.{known_to}
 use Rattle.hooks.proofs.Fronts.{prefix_self}
 use Rattle.turns.proofs.LetIn.{all_let_in}
 use Rattle.turns.proofs.Longer.{install_longer}
-use Rattle.turns.proofs.questions.let_in.Goals as goal
+use Rattle.turns.proofs.questions.install_if_vacant.Goals as goal
 
 pub returns-in-Some-clause-event : goal.returns-in-Some-clause-event
 returns-in-Some-clause-event g c =

@@ -1,8 +1,8 @@
 use Rattle.std.proofs.Common.{◌≡◌, ◌+◌, true, false, Global, Vec, sym, ◌∙◌, ap, subst, arith}
 use Rattle.words.specs.declared.route.Route.{Route}
 use Rattle.tables.proofs.LetIn.{AreLetInOf, left_out, let_in_more, whole}
-use Rattle.tables.proofs.answered.let_in.Goals.{then-found+in_ok-push, else-found}
-use Rattle.tables.proofs.answered.let_in.Goals as goal
+use Rattle.tables.proofs.answered.routes_let_in.Goals.{then-found+in_ok-push, else-found}
+use Rattle.tables.proofs.answered.routes_let_in.Goals as goal
 
 pub loop-route-preserved : goal.loop-route-preserved
 loop-route-preserved c =
