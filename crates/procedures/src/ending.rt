@@ -17,15 +17,15 @@ fn originate_router_lsa(
     router: &mut Router,
     alloc: Global,
     moment: Second,
-    before: &[Option<RouterId>],
+    full_before: &[Option<RouterId>],
 ) -> Result<(), AllocError>
-    requires before { length before.now ≡ length router.old.present.area.links }
+    requires before { length full_before.now ≡ length router.old.present.area.links }
     ensures { (old : List Link)
         → interfaces_of old ≡ interfaces_of router.old.present.area.links
-        → full_routers old ≡ before.now
+        → full_routers old ≡ full_before.now
         → RouterDoes (originate_router_lsa old moment) router.old router.new result }
 {
-    let outdated = is_outdated(router, alloc, moment, before)?;
+    let outdated = is_outdated(router, alloc, moment, full_before)?;
     if !outdated {
         return Ok(());
     }
@@ -37,15 +37,15 @@ fn originate_router_lsa(
 fn postpone_router_lsa(
     router: &mut Router,
     alloc: Global,
-    before: &[Option<RouterId>],
+    full_before: &[Option<RouterId>],
 ) -> Result<(), AllocError>
-    requires before { length before.now ≡ length router.old.present.area.links }
+    requires before { length full_before.now ≡ length router.old.present.area.links }
     ensures { (old : List Link)
         → interfaces_of old ≡ interfaces_of router.old.present.area.links
-        → full_routers old ≡ before.now
+        → full_routers old ≡ full_before.now
         → RouterDoes (postpone_router_lsa old) router.old router.new result }
 {
-    let differ = has_changed(router, alloc, before)?;
+    let differ = has_changed(router, alloc, full_before)?;
     if !differ {
         return Ok(());
     }
@@ -59,16 +59,16 @@ fn loading_done_then_originate(
     router: &mut Router,
     alloc: Global,
     moment: Second,
-    before: &[Option<RouterId>],
+    full_before: &[Option<RouterId>],
 ) -> Result<(), AllocError>
-    requires before { length before.now ≡ length router.old.present.area.links }
+    requires before { length full_before.now ≡ length router.old.present.area.links }
     ensures { (old : List Link)
         → interfaces_of old ≡ interfaces_of router.old.present.area.links
-        → full_routers old ≡ before.now
+        → full_routers old ≡ full_before.now
         → RouterDoes (loading_done_then_originate old moment) router.old router.new result }
 {
     router.end_loading();
-    originate_router_lsa(router, alloc, moment, before)
+    originate_router_lsa(router, alloc, moment, full_before)
 }
 
 // LoadingDone once more, since flooding the router-LSA may have satisfied requests; what that
@@ -76,15 +76,15 @@ fn loading_done_then_originate(
 fn loading_done_then_postpone(router: &mut Router, alloc: Global) -> Result<(), AllocError>
     ensures { RouterDoes loading_done_then_postpone router.old router.new result }
 {
-    let before = full_routers(router, alloc)?;
+    let full_before = full_routers(router, alloc)?;
     router.end_loading();
-    postpone_router_lsa(router, alloc, &before)
+    postpone_router_lsa(router, alloc, &full_before)
 }
 
 /// The end of an event: each neighbor goes from Loading to Full if its request list is empty; the
 /// router-LSA is originated again if its body has changed since the event began; Link State
 /// Requests are sent; copies at MaxAge that are on no retransmission list are removed from the
-/// database, unless some neighbor is in Exchange or Loading; the moment is noted. `before` are the
+/// database, unless some neighbor is in Exchange or Loading; the moment is noted. `full_before` are the
 /// neighbors that were Full when the event began.
 ///
 /// # Errors
@@ -93,14 +93,14 @@ pub fn end_event(
     router: &mut Router,
     alloc: Global,
     moment: Second,
-    before: &[Option<RouterId>],
+    full_before: &[Option<RouterId>],
 ) -> Result<(), AllocError>
-    requires before { before.now ≡ full_routers router.old.committed.area.links }
+    requires before { full_before.now ≡ full_routers router.old.committed.area.links }
     requires interfaces { interfaces_of router.old.present.area.links
         ≡ interfaces_of router.old.committed.area.links }
     ensures { RouterDoes (end_event router.old.committed moment) router.old router.new result }
 {
-    loading_done_then_originate(router, alloc, moment, before)?;
+    loading_done_then_originate(router, alloc, moment, full_before)?;
     loading_done_then_postpone(router, alloc)?;
     router.request_and_remove_aged(alloc, moment)
 }

@@ -10,7 +10,7 @@ use Rattle.procedures.proofs.ending.loading_done_then_postpone.Goals as goal
 
 pub postpone_router_lsa-requires : goal.postpone_router_lsa-requires
 postpone_router_lsa-requires c = record {
-  before = ap length (c.deref.ensures.value ∙ c.in_ok-before.ensures)
+  before = ap length (c.deref.ensures.value ∙ c.in_ok-full_before.ensures)
       ∙ length-map c.args.router.now.present.area.links (λ (l : Link). full_router_on l.neighbor)
       ∙ sym (as_many_links c.end_loading.ensures);
 }
@@ -24,4 +24,4 @@ returns c =
     (then_does {f = loading_done} {g = postpone_router_lsa links} c.postpone_router_lsa.result
     c.end_loading.ensures
     (c.postpone_router_lsa.ensures links (sym c.end_loading.ensures.interfaces)
-    (sym (c.deref.ensures.value ∙ c.in_ok-before.ensures))))
+    (sym (c.deref.ensures.value ∙ c.in_ok-full_before.ensures))))
