@@ -17,18 +17,18 @@ case_of named.SequenceWraps = Case.SequenceWraps
 case_of named.SentJustNow = Case.SentJustNow
 case_of named.Older = Case.Older
 
--- it is newer than the copy, or there is none: it is installed
-abbrev pub is_installed : Case → Bool
-is_installed Case.Unreadable = false
-is_installed Case.NothingToFlush = false
-is_installed Case.TooSoon = false
-is_installed Case.Newer = true
-is_installed Case.BadRequest = false
-is_installed Case.ImpliedAcknowledgment = false
-is_installed Case.Duplicate = false
-is_installed Case.SequenceWraps = false
-is_installed Case.SentJustNow = false
-is_installed Case.Older = false
+-- it is to be installed: newer than the copy, or there is none, and MinLSArrival doesn't forbid it
+abbrev pub is_to_be_installed : Case → Bool
+is_to_be_installed Case.Unreadable = false
+is_to_be_installed Case.NothingToFlush = false
+is_to_be_installed Case.TooSoon = false
+is_to_be_installed Case.Newer = true
+is_to_be_installed Case.BadRequest = false
+is_to_be_installed Case.ImpliedAcknowledgment = false
+is_to_be_installed Case.Duplicate = false
+is_to_be_installed Case.SequenceWraps = false
+is_to_be_installed Case.SentJustNow = false
+is_to_be_installed Case.Older = false
 
 -- the tests in order, each with its case
 abbrev pub tests_of : Tests → List (Bool × Case)

@@ -2,7 +2,7 @@
 ghost use Rattle.std.specs.Prelude.{◌≡◌, ◌≤◌, false, length};
 ghost use Rattle.std.specs.FinMap as finite;
 ghost use Rattle.received.specs.Updates.{after_case, case_at, send_copy};
-ghost use Rattle.flooding.specs.Cases.{case_of, is_installed};
+ghost use Rattle.flooding.specs.Cases.{case_of, is_to_be_installed};
 ghost use Rattle.flooding.specs.Doing.{AreaDoes};
 ghost use Rattle.flooding.specs.Links.{start};
 
@@ -80,7 +80,7 @@ impl Area {
     ) -> Result<(), AllocError>
         requires first { 1 ≤ interface }
         requires last { interface ≤ length self.old.present.links }
-        requires other { is_installed (case_of case) ≡ false }
+        requires other { is_to_be_installed (case_of case) ≡ false }
         ensures { AreaDoes (λ a. after_case (case_of case) moment interface lsa.now (start a))
             self.old self.new result }
     {

@@ -30,7 +30,7 @@ use Rattle.event_rules.specs.Originations.{flush, flush_copy, install_and_flood}
 use Rattle.event_rules.specs.Ticks.{again, expire_timers, send_acknowledgments, send_all_again}
 use Rattle.event_rules.specs.Ticks.{send_hellos}
 use Rattle.event_rules.specs.Ticks.{with_hello_sent, without_acknowledgments}
-use Rattle.flooding.specs.Cases.{is_installed}
+use Rattle.flooding.specs.Cases.{is_to_be_installed}
 use Rattle.flooding.specs.Links.{age_copy, start}
 use Rattle.router_state.specs.Aging.{outcomes_in_turn}
 use Rattle.router_state.specs.Making.{interfaces_of}
@@ -137,7 +137,7 @@ module _ (moment number : ℕ) (lsa : Lsa) where
   keeps_case Case.Older a = keeps_copy (copy_of lsa a) a
 
   -- an LSA of the case `Newer` is installed
-  pub newer_installs : (c : Case) → is_installed c ≡ true → (o : Outcome)
+  pub newer_installs : (c : Case) → is_to_be_installed c ≡ true → (o : Outcome)
       → flood_and_install moment number lsa o ≡ after_case c moment number lsa o
   newer_installs Case.Unreadable is o = absurd (false≢true is)
   newer_installs Case.NothingToFlush is o = absurd (false≢true is)

@@ -14,7 +14,7 @@ use Rattle.event_rules.specs.EventState.{EventState, on_area}
 use Rattle.event_rules.specs.Originations.{receive_self_originated}
 use Rattle.event_rules.specs.Packets.{after_lsa, after_lsas, after_parsed, case_in}
 use Rattle.event_rules.specs.Routers.{Router}
-use Rattle.flooding.specs.Cases.{is_installed}
+use Rattle.flooding.specs.Cases.{is_to_be_installed}
 use Rattle.flooding.proofs.Updates.{drop_end}
 use Rattle.router_state.specs.Kept.{KeptRouter}
 use Rattle.router_state.specs.Making.{Makes}
@@ -33,7 +33,7 @@ reads_none bytes f r = sym (ap (read_unless bytes) r)
 -- ---- one LSA
 
 -- after an LSA that is newer the rest of the Link State Update is processed
-pub newer_goes_on : (c : Case) → is_installed c ≡ true → true ≡ goes_on c
+pub newer_goes_on : (c : Case) → is_to_be_installed c ≡ true → true ≡ goes_on c
 newer_goes_on Case.Unreadable is = refl
 newer_goes_on Case.NothingToFlush is = refl
 newer_goes_on Case.TooSoon is = refl
@@ -47,7 +47,7 @@ newer_goes_on Case.Older is = refl
 
 module _ (moment number : ℕ) (lsa : Lsa) (p : EventState) where
   -- an LSA that was installed is originated again or flushed if it is self-originated
-  after_newer : (c : Case) → is_installed c ≡ true
+  after_newer : (c : Case) → is_to_be_installed c ≡ true
       → receive_self_originated moment lsa (on_area (after_case c moment number lsa) p)
       ≡ after_lsa c moment number lsa p
   after_newer Case.Unreadable is = absurd (false≢true is)
@@ -61,7 +61,7 @@ module _ (moment number : ℕ) (lsa : Lsa) (p : EventState) where
   after_newer Case.SentJustNow is = absurd (false≢true is)
   after_newer Case.Older is = absurd (false≢true is)
 
-  after_other : (c : Case) → is_installed c ≡ false
+  after_other : (c : Case) → is_to_be_installed c ≡ false
       → on_area (after_case c moment number lsa) p ≡ after_lsa c moment number lsa p
   after_other Case.Unreadable is = refl
   after_other Case.NothingToFlush is = refl
@@ -75,14 +75,14 @@ module _ (moment number : ℕ) (lsa : Lsa) (p : EventState) where
   after_other Case.Older is = refl
 
 module _ (moment number : ℕ) (lsa : Lsa) (c : Case) where
-  pub newer_received : {old middle new : KeptRouter} → is_installed c ≡ true
+  pub newer_received : {old middle new : KeptRouter} → is_to_be_installed c ≡ true
       → Makes (on_area (after_case c moment number lsa)) old middle
       → Makes (receive_self_originated moment lsa) middle new
       → Makes (after_lsa c moment number lsa) old new
   newer_received is a b =
       makes_same (λ p _. after_newer moment number lsa p c is) (makes_then a b)
 
-  pub other_received : {old new : KeptRouter} → is_installed c ≡ false
+  pub other_received : {old new : KeptRouter} → is_to_be_installed c ≡ false
       → Makes (on_area (after_case c moment number lsa)) old new
       → Makes (after_lsa c moment number lsa) old new
   other_received is a = makes_same (λ p _. after_other moment number lsa p c is) a

@@ -3,7 +3,7 @@ ghost use Rattle.std.specs.Prelude.{◌≡◌, ◌≤◌, IfOk, length};
 ghost use Rattle.lsa.specs.Reading.{lsa_in};
 ghost use Rattle.event_rules.specs.received.Updates.{goes_on};
 ghost use Rattle.event_rules.specs.Packets.{after_lsas, after_parsed};
-ghost use Rattle.flooding.specs.Cases.{case_of, is_installed};
+ghost use Rattle.flooding.specs.Cases.{case_of, is_to_be_installed};
 ghost use Rattle.router_state.specs.Making.{RouterDoes};
 ghost use Rattle.router_state.specs.Received.{goes_on_at};
 
@@ -14,10 +14,10 @@ use lsa::{Lsa, LsaError, read};
 use std::alloc::{AllocError, Global};
 use words::{Second, Sequence};
 
-// Whether an LSA of this case is installed: it is newer than the copy, or there is none, and
+// Whether an LSA of this case is to be installed: it is newer than the copy, or there is none, and
 // MinLSArrival doesn't forbid it.
-fn is_installed(case: Case) -> bool
-    ensures { result ≡ is_installed (case_of case) }
+fn is_to_be_installed(case: Case) -> bool
+    ensures { result ≡ is_to_be_installed (case_of case) }
 {
     match case {
         Case::NothingToFlush => false,
@@ -84,7 +84,7 @@ impl Router {
         };
         let header = lsa.header();
         let case = self.area.case_at(moment, interface, &lsa);
-        let newer = is_installed(case);
+        let newer = is_to_be_installed(case);
         if newer {
             self.area.flood_and_install(alloc, moment, interface, lsa)?;
             receive_self_originated(self, alloc, moment, &header)?;

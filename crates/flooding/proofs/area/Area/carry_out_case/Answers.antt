@@ -11,7 +11,7 @@ use Rattle.adjacency.specs.Retransmissions.{remove_retransmission}
 use Rattle.received.specs.Links.{Area, Link}
 use Rattle.received.specs.Outcomes.{one_neighbor, only_at, sends_at, stepped_links, stepping_sends}
 use Rattle.received.specs.Updates.{acknowledge_directly, after_case, send_copy}
-use Rattle.flooding.specs.Cases.{case_of, is_installed}
+use Rattle.flooding.specs.Cases.{case_of, is_to_be_installed}
 use Rattle.flooding.specs.Kept.{KeptLink, RouterArea}
 use Rattle.flooding.specs.Links.{area_of, start}
 use Rattle.flooding.proofs.Doing.{area_rests, area_same}
@@ -48,7 +48,7 @@ returns-in-TooSoon c =
 
 pub returns-in-Newer : goal.returns-in-Newer
 returns-in-Newer c = absurd (false≢true
-    (sym c.requires.other ∙ ap (λ k. is_installed (case_of k)) c.in-Newer.is))
+    (sym c.requires.other ∙ ap (λ k. is_to_be_installed (case_of k)) c.in-Newer.is))
 
 pub returns-in-BadRequest : goal.returns-in-BadRequest
 returns-in-BadRequest c =

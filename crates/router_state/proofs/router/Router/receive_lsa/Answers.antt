@@ -40,7 +40,7 @@ returns-then-newer-clause-goes_on c =
     let n = c.args.interface in
     let lsa = c.in-Some.lsa in
     newer_goes_on (case_of c.case_at-case.result)
-    (sym c.is_installed-newer.ensures ∙ c.if-newer.true)
+    (sym c.is_to_be_installed-newer.ensures ∙ c.if-newer.true)
     ∙ ap goes_on (c.case_at-case.ensures
     ∙ ap (λ (r : KeptRouter). case_at m n lsa r.present.area) c.self.view_is)
     ∙ ap (λ (o : Option Lsa). goes_on_at m n o c.args.self.now.present)
@@ -63,7 +63,7 @@ returns-then-newer-clause-does c =
     let n = c.args.interface in
     let lsa = c.in-Some.lsa in
     let case = case_of c.case_at-case.result in
-    let newer = sym c.is_installed-newer.ensures ∙ c.if-newer.true in
+    let newer = sym c.is_to_be_installed-newer.ensures ∙ c.if-newer.true in
     done _
     (as_read m n lsa _ (sym c.in-Some.is ∙ c.in_ok-parsed.ensures)
     (text_read m n lsa case
@@ -105,7 +105,7 @@ returns-clause-does c =
     (text_read m n lsa case
     (c.case_at-case.ensures
     ∙ ap (λ (r : KeptRouter). case_at m n lsa r.present.area) c.self.view_is)
-    (other_received m n lsa case (sym c.is_installed-newer.ensures ∙ c.if-newer.false)
+    (other_received m n lsa case (sym c.is_to_be_installed-newer.ensures ∙ c.if-newer.false)
     (area_does (after_case case m n lsa) (keeps_case m n lsa case) (appends_case m n lsa case) _
     c.args.self.now c.self.inside.area c.carry_out_case.new.self _ c.self.view_is refl
     c.in_ok-carry_out_case.ensures refl).makes)))
