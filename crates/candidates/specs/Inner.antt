@@ -16,7 +16,7 @@ use Rattle.routes.specs.declared.root.Root.{Root}
 -- each list is sorted, and no cost plus a metric exceeds 32 bits
 pub record AreSearchable (inner : InnerRoutes) : Type 0 where
   pub flagged : AscendByRouter inner.flagged.items × AreCloseBy inner.flagged.items
-  pub advertised : Ascend inner.advertised.items × AreBelow inner.advertised.items
+  pub advertised : Ascend inner.boundary_routes.items × AreBelow inner.boundary_routes.items
   pub networks : Ascend inner.networks.items × AreBelow inner.networks.items
   pub lengths : HasLengths inner.networks.items inner.lengths
 
@@ -25,6 +25,6 @@ pub record AreInner (contents : Contents) (root : Root) (ways : Ways) (inner : I
     0 where
   pub flagged : AreFlagged contents ways inner.flagged.items
   pub advertised : AreRoutesAmong (OfContents (Tells root inner.flagged.items) contents)
-      inner.advertised.items
+      inner.boundary_routes.items
   pub networks : AreRoutesAmong (OffersInside contents root) inner.networks.items
   pub offers : (o : Offer) → Contains inner.offers.items o ↔ OffersInside contents root o

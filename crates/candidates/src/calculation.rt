@@ -167,7 +167,7 @@ fn with_externals(
         return Ok(networks);
     }
     let by = Inner {
-        advertised: &inner.advertised,
+        boundary_routes: &inner.boundary_routes,
         flagged: &inner.flagged,
         networks: &inner.networks,
         lengths: &inner.lengths,

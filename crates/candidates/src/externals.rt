@@ -26,7 +26,7 @@ use words::{Address, ExternalType, Key, LS_INFINITY, Prefix, Route, RouterId};
 /// prefixes.
 #[derive(Drop)]
 pub struct Inner<'a> {
-    pub advertised: &'a [Route],
+    pub boundary_routes: &'a [Route],
     /// The area border routers and AS boundary routers of the area, in the order of their Router
     /// IDs.
     pub flagged: &'a [Flagged],
@@ -78,14 +78,14 @@ fn outward_way(
     forwarding: Address,
 ) -> Option<Way>
     requires flagged { AscendByRouter inner.now.flagged.now × AreCloseBy inner.now.flagged.now }
-    requires routers { Ascend inner.now.advertised.now × AreBelow inner.now.advertised.now }
+    requires routers { Ascend inner.now.boundary_routes.now × AreBelow inner.now.boundary_routes.now }
     requires networks { Ascend inner.now.networks.now × AreBelow inner.now.networks.now }
     requires lengths { HasLengths inner.now.networks.now inner.now.lengths.now }
-    ensures just { IsJust (IsOutwardBy inner.now.flagged.now inner.now.advertised.now
+    ensures just { IsJust (IsOutwardBy inner.now.flagged.now inner.now.boundary_routes.now
         inner.now.networks.now originator forwarding) result }
     ensures near { IfSome result (λ way. way.distance < 2147483648) }
 {
-    let boundary = boundary_way(inner.flagged, place, inner.advertised, originator)?;
+    let boundary = boundary_way(inner.flagged, place, inner.boundary_routes, originator)?;
     if forwarding.is_unspecified() {
         return Some(boundary);
     }
@@ -102,10 +102,10 @@ pub fn offer_advertised(
     advertised: &ExternalAdvertisement,
 ) -> Option<Offer>
     requires flagged { AscendByRouter inner.now.flagged.now × AreCloseBy inner.now.flagged.now }
-    requires routers { Ascend inner.now.advertised.now × AreBelow inner.now.advertised.now }
+    requires routers { Ascend inner.now.boundary_routes.now × AreBelow inner.now.boundary_routes.now }
     requires networks { Ascend inner.now.networks.now × AreBelow inner.now.networks.now }
     requires lengths { HasLengths inner.now.networks.now inner.now.lengths.now }
-    ensures { IsJust (OfAdvertised root.now inner.now.flagged.now inner.now.advertised.now
+    ensures { IsJust (OfAdvertised root.now inner.now.flagged.now inner.now.boundary_routes.now
         inner.now.networks.now advertised.now) result }
 {
     if advertised.metric >= LS_INFINITY || advertised.originator == root.router {
@@ -118,10 +118,10 @@ pub fn offer_advertised(
 /// What an AS-external-LSA offers.
 pub fn external_offer(root: &Root, inner: &Inner<'_>, key: &Key, body: &LsaBody) -> Option<Offer>
     requires flagged { AscendByRouter inner.now.flagged.now × AreCloseBy inner.now.flagged.now }
-    requires routers { Ascend inner.now.advertised.now × AreBelow inner.now.advertised.now }
+    requires routers { Ascend inner.now.boundary_routes.now × AreBelow inner.now.boundary_routes.now }
     requires networks { Ascend inner.now.networks.now × AreBelow inner.now.networks.now }
     requires lengths { HasLengths inner.now.networks.now inner.now.lengths.now }
-    ensures { IsJust (OfExternal root.now inner.now.flagged.now inner.now.advertised.now
+    ensures { IsJust (OfExternal root.now inner.now.flagged.now inner.now.boundary_routes.now
         inner.now.networks.now (key.now, body.now)) result }
 {
     let advertised = advertised_external(key, body)?;

@@ -24,7 +24,7 @@ pub struct InnerRoutes {
     pub flagged: Vec<Flagged>,
     /// What summary-LSAs advertise about AS boundary routers, as routes to the routers' host
     /// prefixes.
-    pub advertised: Vec<Route>,
+    pub boundary_routes: Vec<Route>,
     /// The networks within the area and between areas, in the order of their prefixes.
     pub networks: Vec<Route>,
     /// The lengths that the networks' prefixes have.
@@ -58,7 +58,7 @@ pub fn inner_of<W: Ways>(
     let lengths = lengths_of(&networks);
     Ok(InnerRoutes {
         flagged,
-        advertised,
+        boundary_routes: advertised,
         networks,
         lengths,
         offers,

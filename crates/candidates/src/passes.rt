@@ -111,11 +111,11 @@ pub fn push_externals(
     offers: &mut Vec<Offer>,
 ) -> Result<(), AllocError>
     requires flagged { AscendByRouter inner.now.flagged.now × AreCloseBy inner.now.flagged.now }
-    requires routers { Ascend inner.now.advertised.now × AreBelow inner.now.advertised.now }
+    requires routers { Ascend inner.now.boundary_routes.now × AreBelow inner.now.boundary_routes.now }
     requires networks { Ascend inner.now.networks.now × AreBelow inner.now.networks.now }
     requires lengths { HasLengths inner.now.networks.now inner.now.lengths.now }
     ensures { OnOk result (Adds offers.old.items offers.new.items
-        (OfEach (OfAdvertised root.now inner.now.flagged.now inner.now.advertised.now
+        (OfEach (OfAdvertised root.now inner.now.flagged.now inner.now.boundary_routes.now
         inner.now.networks.now) externals.now)) }
 {
     let slots = slots_of(alloc, inner.flagged)?;

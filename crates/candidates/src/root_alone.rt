@@ -97,7 +97,7 @@ pub fn inner_alone<W: Ways>(
     let lengths = lengths_of(&networks);
     Ok(InnerRoutes {
         flagged,
-        advertised,
+        boundary_routes: advertised,
         networks,
         lengths,
         offers,

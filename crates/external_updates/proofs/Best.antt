@@ -92,7 +92,7 @@ module _ (moment : ℕ) (db : Database) (root : Root) (inner : InnerRoutes) (pre
         → Offers contents root o × (o.prefix ≡ prefix)
     from_external o (key, among, k) = (
       External (external_forth contents root knows.ways knows.are_ways inner.flagged.items
-          knows.are_inner.flagged inner.advertised.items knows.are_inner.advertised
+          knows.are_inner.flagged inner.boundary_routes.items knows.are_inner.advertised
           inner.networks.items
           knows.are_inner.networks o ((key, k.says), k.its, k.offers.0)),
       k.offers.1,
@@ -110,7 +110,7 @@ module _ (moment : ℕ) (db : Database) (root : Root) (inner : InnerRoutes) (pre
         ]
 
     put_external : (o : Offer) → o.prefix ≡ prefix
-        → OfContents (OfExternal root inner.flagged.items inner.advertised.items
+        → OfContents (OfExternal root inner.flagged.items inner.boundary_routes.items
         inner.networks.items)
         contents o → Contains second o
     put_external o e ((key, says), its, q) =
@@ -131,7 +131,7 @@ module _ (moment : ℕ) (db : Database) (root : Root) (inner : InnerRoutes) (pre
     back o (Between b) e = put o e (inr b)
     back o (External k) e =
         put_external o e (external_back contents root knows.ways knows.are_ways inner.flagged.items
-        knows.are_inner.flagged inner.advertised.items knows.are_inner.advertised
+        knows.are_inner.flagged inner.boundary_routes.items knows.are_inner.advertised
         inner.networks.items
         knows.are_inner.networks o k)
 

@@ -53,7 +53,7 @@ inner_kept old new root ways inner same are =
       );
       advertised = routes_among (OfContents (Tells root routers) old)
           (OfContents (Tells root routers) new)
-          inner.advertised.items (advertised old new same root routers)
+          inner.boundary_routes.items (advertised old new same root routers)
           (advertised new old back root routers)
           are.advertised;
       networks = routes_among (OffersInside old root) (OffersInside new root) inner.networks.items

@@ -48,7 +48,7 @@ IsTo prefix one o = (o ≡ one) × (o.prefix ≡ prefix)
 -- an AS-external-LSA with this body makes the offer, to the destination
 abbrev pub SaysTo : Root → InnerRoutes → Network → Key × LsaBody → Offer → Type 0
 SaysTo root inner prefix one o =
-    OfExternal root inner.flagged.items inner.advertised.items inner.networks.items one o
+    OfExternal root inner.flagged.items inner.boundary_routes.items inner.networks.items one o
     × (o.prefix ≡ prefix)
 
 -- the AS-external-LSA with this key does

@@ -46,7 +46,7 @@ fn offer_to(
     ensures { IsJust (SaysTo root.now inner.now prefix (key.now, lsa_body.now)) result }
 {
     let by = Inner {
-        advertised: &inner.advertised,
+        boundary_routes: &inner.boundary_routes,
         flagged: &inner.flagged,
         networks: &inner.networks,
         lengths: &inner.lengths,

@@ -53,18 +53,18 @@ returns c contents ways are inner tell =
     let first : Q it.flagged.items c.deref-2.result.now c.deref-4.result.now =
     subst (λ (rs : List Flagged). Q rs c.deref-2.result.now c.deref-4.result.now)
     c.deref-3.ensures.value c.in_ok-push_externals.ensures in
-    let second : Q it.flagged.items it.advertised.items c.deref-4.result.now =
+    let second : Q it.flagged.items it.boundary_routes.items c.deref-4.result.now =
     subst (λ (rs : List Route). Q it.flagged.items rs c.deref-4.result.now)
     c.deref-2.ensures.value first in
-    let third : Q it.flagged.items it.advertised.items it.networks.items =
-    subst (λ (rs : List Route). Q it.flagged.items it.advertised.items rs) c.deref-4.ensures.value
+    let third : Q it.flagged.items it.boundary_routes.items it.networks.items =
+    subst (λ (rs : List Route). Q it.flagged.items it.boundary_routes.items rs) c.deref-4.ensures.value
     second in
     let offered : (o : Offer) → Contains c.extend_from_slice.new.self.items o ↔ OffersInside
     contents
     root o = subst (λ (xs : List Offer). (o : Offer) → Contains xs o ↔ OffersInside contents root o)
     (sym copied) inner.offers in
     are_candidates contents root ways are it.flagged.items inner.flagged externals tell
-    it.advertised.items
+    it.boundary_routes.items
     it.networks.items inner.advertised inner.networks
     c.extend_from_slice.new.self.items c.push_externals.new.offers.items c.in_ok-routes.routes.items
     offered third c.in_ok-routes.ensures.routes
@@ -98,7 +98,7 @@ returns-then-is_empty c contents ways are inner tell =
     subst (AreCandidates contents root) (sym
     (c.in_ok-networks.ensures.items ∙ c.deref.ensures.value))
     (are_candidates contents root ways are it.flagged.items inner.flagged c.args.externals.now tell
-    it.advertised.items networks inner.advertised inner.networks
+    it.boundary_routes.items networks inner.advertised inner.networks
     offers offers networks inner.offers
     (λ o. (
       (λ t. inl t),

@@ -41,9 +41,9 @@ returns-in-None c =
     c.deref-2.ensures.value c.external_offer.ensures in
     let second = subst (λ (rs : List Route). Q it.flagged.items rs c.deref-3.result.now)
     c.deref.ensures.value first in
-    let third = subst (λ (rs : List Route). Q it.flagged.items it.advertised.items rs)
+    let third = subst (λ (rs : List Route). Q it.flagged.items it.boundary_routes.items rs)
     c.deref-3.ensures.value second in
-    let none = subst (λ x. IsJust (OfExternal root it.flagged.items it.advertised.items
+    let none = subst (λ x. IsJust (OfExternal root it.flagged.items it.boundary_routes.items
     it.networks.items
     one) x) c.in-None.is third in
     λ x p. none x p.0
@@ -60,8 +60,8 @@ returns-in-Some c =
     c.deref-2.ensures.value c.external_offer.ensures in
     let second = subst (λ (rs : List Route). Q it.flagged.items rs c.deref-3.result.now)
     c.deref.ensures.value first in
-    let third = subst (λ (rs : List Route). Q it.flagged.items it.advertised.items rs)
+    let third = subst (λ (rs : List Route). Q it.flagged.items it.boundary_routes.items rs)
     c.deref-3.ensures.value second in
-    let R = OfExternal root it.flagged.items it.advertised.items it.networks.items one in
+    let R = OfExternal root it.flagged.items it.boundary_routes.items it.networks.items one in
     let some = subst (λ x. IsJust R x) c.in-Some.is third in
     just_to R c.args.prefix c.in-Some.offer c.to.result some c.to.ensures
