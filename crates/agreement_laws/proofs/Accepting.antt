@@ -17,7 +17,7 @@ use Rattle.event_rules.specs.Endings.{start_event}
 use Rattle.event_rules.specs.EventState.{EventState, on_area}
 use Rattle.event_rules.specs.Events.{OwnPart}
 use Rattle.event_rules.specs.Hellos.{is_foreign}
-use Rattle.event_rules.specs.Packets.{after_packet, from_neighbor, is_from, is_hello}
+use Rattle.event_rules.specs.Packets.{after_packet, after_heard, is_from, is_hello}
 use Rattle.event_rules.specs.Packets.{receive_description}
 use Rattle.event_rules.specs.Packets.{neighbor_is_exchange_or_later}
 use Rattle.event_rules.specs.Routers.{Occurrence, Router}
@@ -93,14 +93,14 @@ is_taken old moment event number n d a after own =
     of_body : (says : PacketBody) → says ≡ body.Description d → (o : Option Neighbor) → o ≡ Some n
         → cond (is_foreign old.id a.brings.packet.router &&
         (is_hello says || is_from a.brings.packet.router o))
-        (from_neighbor moment number a.brings.packet.router (neighbor_is_exchange_or_later o) says
+        (after_heard moment number a.brings.packet.router (neighbor_is_exchange_or_later o) says
         begins)
         begins
         ≡ on_area (receive_description old.id moment number d) begins
     of_body says its o at =
         (λ i. cond (is_foreign old.id a.brings.packet.router &&
         (is_hello (its i) || is_from a.brings.packet.router (at i)))
-        (from_neighbor moment number a.brings.packet.router (neighbor_is_exchange_or_later (at i))
+        (after_heard moment number a.brings.packet.router (neighbor_is_exchange_or_later (at i))
         (its i)
         begins) begins)
         ∙ (λ i. cond (its_other i &&

@@ -26,7 +26,7 @@ use Rattle.routes.specs.declared.graph.Way.{Way}
 use Rattle.routes.specs.declared.node.Node.TheVariants.{ARouter}
 use Rattle.routes.proofs.Lists.{of_cons, of_empty}
 use Rattle.candidates.specs.Bodies.{HaveAll}
-use Rattle.candidates.specs.Borders.{AreCloseBy, AreFlagged, AscendByRouter, IsBorderFlag, IsListed}
+use Rattle.candidates.specs.Borders.{AreCloseBy, AreFlagged, AscendByRouter, IsBorderOrBoundaryFlag, IsListed}
 use Rattle.candidates.specs.Borders.{TellsFlags}
 use Rattle.candidates.specs.Gathering.{IsJust}
 use Rattle.candidates.specs.Ways.{AreNear, Ways}
@@ -178,7 +178,7 @@ module _ (ways : Ways) where
   are_close bodies routers near advertised r among = let p = (advertised.each r).0 among in
       near (ARouter p.0.0.advertising_router) r.way p.2.reached
 
-  pub has_one : (flags flag : ℕ) → IsBorderFlag flag → bit_and flags flag ≡ flag
+  pub has_one : (flags flag : ℕ) → IsBorderOrBoundaryFlag flag → bit_and flags flag ≡ flag
       → (bit_and flags 1 ≡ 1) ⊎ (bit_and flags 2 ≡ 2)
   has_one flags flag (inl e) is = inl (subst (λ f. bit_and flags f ≡ f) e is)
   has_one flags flag (inr e) is = inr (subst (λ f. bit_and flags f ≡ f) e is)

@@ -35,8 +35,8 @@ pub record IsFlagged (contents : Contents) (ways : Ways) (router flag : ℕ) (wa
 -- ---- area border routers and AS boundary routers as a list
 
 -- the flags B and E of a router-LSA (section A.4.2)
-abbrev pub IsBorderFlag : ℕ → Type 0
-IsBorderFlag flag = (flag ≡ 1) ⊎ (flag ≡ 2)
+abbrev pub IsBorderOrBoundaryFlag : ℕ → Type 0
+IsBorderOrBoundaryFlag flag = (flag ≡ 1) ⊎ (flag ≡ 2)
 
 -- the router is among them, with the flag and this way
 pub record IsListed (routers : List Flagged) (router flag : ℕ) (way : Way) : Type 0 where
@@ -49,7 +49,7 @@ pub record IsListed (routers : List Flagged) (router flag : ℕ) (way : Way) : T
 -- exactly the reachable routers with one of these flags, each with its flags and its way
 abbrev pub AreFlagged : Contents → Ways → List Flagged → Type 0
 AreFlagged contents ways routers =
-    (router flag : ℕ) (way : Way) → IsBorderFlag flag
+    (router flag : ℕ) (way : Way) → IsBorderOrBoundaryFlag flag
     → IsFlagged contents ways router flag way ↔ IsListed routers router flag way
 
 -- sorted by their Router IDs, each once

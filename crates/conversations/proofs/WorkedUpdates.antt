@@ -38,7 +38,7 @@ use Rattle.event_rules.specs.Events.{Happens, OwnPart}
 use Rattle.event_rules.specs.Hellos.{is_foreign}
 use Rattle.event_rules.specs.Originations.{originate_or_flush, should_originate, wanted_body}
 use Rattle.event_rules.specs.Packets.{after_lsa, after_lsas, after_packet, after_parsed, case_in}
-use Rattle.event_rules.specs.Packets.{neighbor_is_exchange_or_later, from_neighbor, is_heard}
+use Rattle.event_rules.specs.Packets.{neighbor_is_exchange_or_later, after_heard, is_heard}
 use Rattle.event_rules.specs.Packing.{outs_of}
 use Rattle.event_rules.specs.EventState.{EventState, on_area}
 use Rattle.event_rules.specs.Routers.{Occurrence, Router}
@@ -116,7 +116,7 @@ pub update_heard : (moment number : ℕ) (p : EventState) (n : Neighbor) (texts 
 update_heard moment number p n texts there other part =
     let packet : Packet = record { router = n.router; body = body.Update texts } in
     ap (λ o. cond (is_heard p.router.id packet o)
-    (from_neighbor moment number n.router (neighbor_is_exchange_or_later o) packet.body p) p) there
+    (after_heard moment number n.router (neighbor_is_exchange_or_later o) packet.body p) p) there
     ∙ (λ i. cond (other i && (false || itself n.router i))
     (cond (part i) (after_lsas moment number texts p) p) p)
 

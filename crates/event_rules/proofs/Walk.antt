@@ -50,7 +50,7 @@ use Rattle.event_rules.specs.Originations.{receive_self_originated}
 use Rattle.event_rules.specs.Originations.{originate_or_flush, postpone, wanted_body}
 use Rattle.event_rules.specs.Packets.{after_lsa, after_lsas, after_packet, receive_acknowledgment}
 use Rattle.event_rules.specs.Packets.{receive_hello}
-use Rattle.event_rules.specs.Packets.{after_parsed, case_in, from_neighbor, is_heard}
+use Rattle.event_rules.specs.Packets.{after_parsed, case_in, after_heard, is_heard}
 use Rattle.event_rules.specs.Packets.{receive_description}
 use Rattle.event_rules.specs.Packets.{neighbor_is_exchange_or_later, is_there, receive_request}
 use Rattle.event_rules.specs.Packets.{requested_lsas}
@@ -299,7 +299,7 @@ module _ (i : Invariant) (kept : IsKeptByParts i) where
 
   from_neighbor_kept : (moment number from : ℕ) (in_exchange : Bool) (b : PacketBody)
       (p : EventState) → OfBrought i.of_lsa b → InProgress p
-      → InProgress (from_neighbor moment number from in_exchange b p)
+      → InProgress (after_heard moment number from in_exchange b p)
   from_neighbor_kept moment number from in_exchange (body.Hello hello) p so h =
       on_area_kept (receive_hello p.router.id moment number from hello) p
       (λ a. kept.hello p.router.id moment number from hello (outcome p) a) h
@@ -324,7 +324,7 @@ module _ (i : Invariant) (kept : IsKeptByParts i) where
   packet_kept moment number packet p so h =
       let n : Option Neighbor = neighbor_on (link_at number p.router.area.links) in
       chosen InProgress (is_heard p.router.id packet n)
-      (from_neighbor moment number packet.router (neighbor_is_exchange_or_later n) packet.body p) p
+      (after_heard moment number packet.router (neighbor_is_exchange_or_later n) packet.body p) p
       (λ is. from_neighbor_kept moment number packet.router (neighbor_is_exchange_or_later n)
       packet.body p
       so h)

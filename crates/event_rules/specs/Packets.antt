@@ -114,17 +114,17 @@ receive_acknowledgment moment interface headers o =
 
 -- a packet that is heard: a Hello of any other router, or another packet from the interface's
 -- neighbor; Link State Requests, Updates and Acknowledgments are ignored before Exchange
-abbrev pub from_neighbor : Moment → InterfaceNumber → RouterNumber → Bool → PacketBody → EventState
+abbrev pub after_heard : Moment → InterfaceNumber → RouterNumber → Bool → PacketBody → EventState
     → EventState
-from_neighbor moment interface from exchange_or_later (body.Hello h) p =
+after_heard moment interface from exchange_or_later (body.Hello h) p =
     on_area (receive_hello p.router.id moment interface from h) p
-from_neighbor moment interface from exchange_or_later (body.Description d) p =
+after_heard moment interface from exchange_or_later (body.Description d) p =
     on_area (receive_description p.router.id moment interface d) p
-from_neighbor moment interface from exchange_or_later (body.Request keys) p =
+after_heard moment interface from exchange_or_later (body.Request keys) p =
     if exchange_or_later then on_area (receive_request moment interface keys) p else p
-from_neighbor moment interface from exchange_or_later (body.Update lsas) p =
+after_heard moment interface from exchange_or_later (body.Update lsas) p =
     if exchange_or_later then after_lsas moment interface lsas p else p
-from_neighbor moment interface from exchange_or_later (body.Acknowledgment headers) p =
+after_heard moment interface from exchange_or_later (body.Acknowledgment headers) p =
     if exchange_or_later then on_area (receive_acknowledgment moment interface headers) p else p
 
 abbrev pub is_hello : PacketBody → Bool
@@ -144,6 +144,6 @@ abbrev pub after_packet : Moment → InterfaceNumber → Packet → EventState �
 after_packet moment interface packet p =
     let n : Option Neighbor = neighbor_at interface p.router.area.links in
     if is_heard p.router.id packet n
-    then from_neighbor moment interface packet.router (neighbor_is_exchange_or_later n)
+    then after_heard moment interface packet.router (neighbor_is_exchange_or_later n)
     packet.body p
     else p

@@ -41,7 +41,7 @@ use Rattle.event_rules.specs.Originations.{wanted_body}
 use Rattle.event_rules.specs.Packets.{after_lsas, after_packet, after_self_originated}
 use Rattle.event_rules.specs.Packets.{receive_acknowledgment}
 use Rattle.event_rules.specs.Packets.{after_parsed, neighbor_is_exchange_or_later, case_in}
-use Rattle.event_rules.specs.Packets.{from_neighbor}
+use Rattle.event_rules.specs.Packets.{after_heard}
 use Rattle.event_rules.specs.Packets.{is_heard}
 use Rattle.event_rules.specs.Packets.{receive_request}
 use Rattle.event_rules.specs.Refusals.{refusal_before_limits, of_event}
@@ -121,7 +121,7 @@ all_lsas moment number (bytes ∷ rest) p =
     (all_lsas moment number rest q ∙ stays) stays
 
 from_one : (moment number from : ℕ) (in_exchange : Bool) (b : PacketBody) (p : EventState)
-    → of (from_neighbor moment number from in_exchange b p) ≡ of p
+    → of (after_heard moment number from in_exchange b p) ≡ of p
 from_one moment number from in_exchange (body.Hello hello) p = refl
 from_one moment number from in_exchange (body.Description d) p = refl
 from_one moment number from in_exchange (body.Request keys) p =
@@ -136,7 +136,7 @@ packet_stays : (moment number : ℕ) (packet : Packet) (p : EventState)
 packet_stays moment number packet p =
     let n : Option Neighbor = neighbor_at number p.router.area.links in
     either (is_heard p.router.id packet n)
-    (from_neighbor moment number packet.router (neighbor_is_exchange_or_later n) packet.body p) p p
+    (after_heard moment number packet.router (neighbor_is_exchange_or_later n) packet.body p) p p
     (from_one moment number packet.router (neighbor_is_exchange_or_later n) packet.body p) refl
 
 -- ---- the other parts

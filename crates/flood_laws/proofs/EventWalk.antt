@@ -46,7 +46,7 @@ use Rattle.event_rules.specs.Originations.{router_key, wanted_body}
 use Rattle.event_rules.specs.Packets.{after_lsa, after_lsas, after_packet, receive_acknowledgment}
 use Rattle.event_rules.specs.Packets.{receive_hello, after_self_originated, after_parsed, case_in}
 use Rattle.event_rules.specs.Packets.{receive_description, neighbor_is_exchange_or_later}
-use Rattle.event_rules.specs.Packets.{from_neighbor}
+use Rattle.event_rules.specs.Packets.{after_heard}
 use Rattle.event_rules.specs.Packets.{is_from, is_heard, is_hello, is_there, receive_request}
 use Rattle.event_rules.specs.Packets.{requested_lsas}
 use Rattle.event_rules.specs.EventState.{EventState, flood_from_nobody, on_area, on_router}
@@ -341,7 +341,7 @@ module _ (i : Invariant) (kept : IsKeptByParts i) (X Y : Lately) (old : Router) 
     router = from;
     body = b;
   }) → (in_exchange : Bool) → OfBrought i.of_lsa b → InProgress start
-      → InProgress (from_neighbor moment number from in_exchange b start)
+      → InProgress (after_heard moment number from in_exchange b start)
   from_neighbor_kept number from (body.Hello h) heard in_exchange so p =
       on_area_kept (receive_hello start.router.id moment number from h) start
       (λ a. kept.hello start.router.id moment number from h (outcome start) a)
@@ -394,7 +394,7 @@ module _ (i : Invariant) (kept : IsKeptByParts i) (X Y : Lately) (old : Router) 
   packet_kept number bytes packet is text so h =
       let n : Option Neighbor = neighbor_at number start.router.area.links in
       chosen InProgress (is_heard start.router.id packet n)
-      (from_neighbor moment number packet.router (neighbor_is_exchange_or_later n) packet.body
+      (after_heard moment number packet.router (neighbor_is_exchange_or_later n) packet.body
       start) start
       (λ heard. from_neighbor_kept number packet.router packet.body
       (record {

@@ -47,7 +47,7 @@ use Rattle.event_rules.specs.Originations.{has_room, is_due, may_originate, orig
 use Rattle.event_rules.specs.Originations.{originate_anyway, originate_body, originate_due}
 use Rattle.event_rules.specs.Originations.{originate_or_postpone, router_body, postpone, router_key}
 use Rattle.event_rules.specs.Originations.{wanted_body, wanted_keys}
-use Rattle.event_rules.specs.Packets.{accept_hello, after_packet, from_neighbor, is_heard}
+use Rattle.event_rules.specs.Packets.{accept_hello, after_packet, after_heard, is_heard}
 use Rattle.event_rules.specs.Packets.{receive_hello_on, neighbor_is_exchange_or_later, is_there}
 use Rattle.event_rules.specs.Packets.{receive_request, requested_lsas}
 use Rattle.event_rules.specs.Routers.{Router}
@@ -123,7 +123,7 @@ module _ (moment : ℕ) (t : Terms) where
       })
 
   from_kept : (number from : ℕ) (in_exchange : Bool) (b : PacketBody) (p : EventState) → Tells t p
-      → So p → So (from_neighbor moment number from in_exchange b p)
+      → So p → So (after_heard moment number from in_exchange b p)
   from_kept number from in_exchange (body.Hello h) p tells so =
       hello_kept number from h (link_at number p.router.area.links) p so
   from_kept number from in_exchange (body.Description d) p tells so = record {
@@ -154,7 +154,7 @@ module _ (moment : ℕ) (t : Terms) where
       let exchanges : Bool = neighbor_is_exchange_or_later
       (neighbor_at number p.router.area.links) in
       chosen So (is_heard p.router.id packet (neighbor_at number p.router.area.links))
-      (from_neighbor moment number packet.router exchanges packet.body p) p
+      (after_heard moment number packet.router exchanges packet.body p) p
       (λ heard. from_kept number packet.router exchanges packet.body p tells so) (λ heard. so)
 
   -- ---- commands

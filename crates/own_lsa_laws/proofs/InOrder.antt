@@ -3,7 +3,7 @@ use Rattle.std.proofs.Common.{◌≡◌, inl, inr, ℕ, zero, suc, List, [], ◌
 use Rattle.std.proofs.Common.{None, refl, sym, subst, ap, ◌∙◌}
 use Rattle.std.proofs.lemmas.List.{append-nil, append_assoc, map-append}
 use Rattle.worker.specs.Work.TheVariants.{Datagram, Tick}
-use Rattle.worker.specs.Lives.{IsHeard, Listens, Lives, Reads, Senses, Standing, Ticks}
+use Rattle.worker.specs.Lives.{IsHandled, Listens, Lives, Reads, Senses, Standing, Ticks}
 use Rattle.own_lsa_laws.specs.Deeds.{Deed, DoesEach, EachMayFollow, IsLookingAfter}
 use Rattle.own_lsa_laws.specs.Deeds.{LivesAreDeedsInOrder, MayFollow, given, given_by, heard}
 use Rattle.own_lsa_laws.specs.Deeds.{heard_by, last_tick, tick_after}
@@ -145,7 +145,7 @@ module _ {Transport Clock : Type 0} (senses : Senses Transport Clock) where
       (before : Standing Transport Clock) (heard : Option (List ℕ)) (between : Transport)
       (after : Standing Transport Clock) → Looked start ticked before
       → senses.hears before.transport heard between
-      → IsHeard senses heard (record before { transport = between }) after
+      → IsHandled senses heard (record before { transport = between }) after
       → Rounded start ticked after
   heard_now start ticked before None between after l is_heard turn = record {
     so_far = done_more start ticked before ticked after l.so_far (Deed.Listens None ∷ []) (

@@ -44,7 +44,7 @@ use Rattle.event_rules.specs.Originations.{wanted_body}
 use Rattle.event_rules.specs.Packets.{after_lsas, after_packet, after_self_originated}
 use Rattle.event_rules.specs.Packets.{receive_acknowledgment}
 use Rattle.event_rules.specs.Packets.{after_parsed, neighbor_is_exchange_or_later, case_in}
-use Rattle.event_rules.specs.Packets.{from_neighbor}
+use Rattle.event_rules.specs.Packets.{after_heard}
 use Rattle.event_rules.specs.Packets.{is_heard}
 use Rattle.event_rules.specs.Packets.{receive_request}
 use Rattle.event_rules.specs.Routers.{Occurrence, Router, unannounced_router}
@@ -136,7 +136,7 @@ updated moment number (bytes ∷ rest) p =
     (after_lsas moment number rest q) q (updated moment number rest q ∙ one) one
 
 from : (moment : Moment) (number : InterfaceNumber) (router : RouterNumber) (in_exchange : Bool)
-    (b : PacketBody) → Leaves (from_neighbor moment number router in_exchange b)
+    (b : PacketBody) → Leaves (after_heard moment number router in_exchange b)
 from moment number router in_exchange (body.Hello h) p = refl
 from moment number router in_exchange (body.Description d) p = refl
 from moment number router in_exchange (body.Request keys) p =
@@ -153,7 +153,7 @@ pub received : (moment : Moment) (number : InterfaceNumber) (packet : Packet)
 received moment number packet p =
     let n = neighbor_at number p.router.area.links in
     either (told p) (is_heard p.router.id packet n)
-    (from_neighbor moment number packet.router (neighbor_is_exchange_or_later n) packet.body p) p
+    (after_heard moment number packet.router (neighbor_is_exchange_or_later n) packet.body p) p
     (from moment number packet.router (neighbor_is_exchange_or_later n) packet.body p) refl
 
 pub ended : (old : Router) (moment : Moment) → Leaves (end_event old moment)

@@ -36,7 +36,7 @@ use Rattle.event_rules.specs.Originations.{originate_or_flush, originate_or_post
 use Rattle.event_rules.specs.Originations.{receive_self_originated, wanted_body}
 use Rattle.event_rules.specs.Packets.{after_lsa, after_lsas, after_packet, after_self_originated}
 use Rattle.event_rules.specs.Packets.{after_parsed, neighbor_is_exchange_or_later, case_in}
-use Rattle.event_rules.specs.Packets.{from_neighbor}
+use Rattle.event_rules.specs.Packets.{after_heard}
 use Rattle.event_rules.specs.Packets.{is_heard}
 use Rattle.event_rules.specs.Packing.{outs_of}
 use Rattle.event_rules.specs.Routers.{Occurrence, Router}
@@ -172,7 +172,7 @@ module _ (answers : List (Route × ℕ)) where
       (same_case moment number (lsa_in bytes) p)
 
   from_its_neighbor : (moment : Moment) (number : InterfaceNumber) (from : ℕ) (in_exchange : Bool)
-      (says : PacketBody) → Overlooks (from_neighbor moment number from in_exchange says)
+      (says : PacketBody) → Overlooks (after_heard moment number from in_exchange says)
   from_its_neighbor moment number from in_exchange (body.Hello h) p = refl
   from_its_neighbor moment number from in_exchange (body.Description d) p = refl
   from_its_neighbor moment number from true (body.Request keys) p = refl
@@ -188,7 +188,7 @@ module _ (answers : List (Route × ℕ)) where
       let heard : Bool = is_heard p.router.id packet (neighbor_at number p.router.area.links) in
       let exchanges : Bool = neighbor_is_exchange_or_later
       (neighbor_at number p.router.area.links) in
-      one_of heard (from_neighbor moment number packet.router exchanges packet.body p) p
+      one_of heard (after_heard moment number packet.router exchanges packet.body p) p
       ∙ ap (λ (q : EventState). cond heard q (answering p))
       (from_its_neighbor moment number packet.router exchanges packet.body p)
 

@@ -15,7 +15,7 @@ use Rattle.event_rules.specs.received.Links.{neighbor_at}
 use Rattle.event_rules.specs.EventState.{EventState, on_area}
 use Rattle.event_rules.specs.Packets.{after_lsas, after_packet, receive_acknowledgment}
 use Rattle.event_rules.specs.Packets.{receive_hello}
-use Rattle.event_rules.specs.Packets.{neighbor_is_exchange_or_later, from_neighbor, is_from}
+use Rattle.event_rules.specs.Packets.{neighbor_is_exchange_or_later, after_heard, is_from}
 use Rattle.event_rules.specs.Packets.{is_heard}
 use Rattle.event_rules.specs.Packets.{receive_description}
 use Rattle.event_rules.specs.Packets.{receive_request}
@@ -42,7 +42,7 @@ from_named from (Some n) = refl
 -- what isn't processed changes nothing
 unprocessed : (heard in_exchange : Bool) (moment number from : ℕ) (b : PacketBody) (p : EventState)
     → (heard && (in_exchange || is_accepted_before_exchange b)) ≡ false
-    → p ≡ cond heard (from_neighbor moment number from in_exchange b p) p
+    → p ≡ cond heard (after_heard moment number from in_exchange b p) p
 unprocessed false in_exchange moment number from b p is = refl
 unprocessed true true moment number from b p is = absurd (false≢true (sym is))
 unprocessed true false moment number from (body.Hello h) p is = absurd (false≢true (sym is))
@@ -74,7 +74,7 @@ module _ (moment number : ℕ) (packet : Packet) where
   is_processed_at r = is_processed r.id packet (neighbor_at number r.area.links)
 
   abbrev pub heard : EventState → EventState
-  heard p = from_neighbor moment number packet.router (exchanges_at p.router) packet.body p
+  heard p = after_heard moment number packet.router (exchanges_at p.router) packet.body p
 
   abbrev pub discarded : EventState → EventState
   discarded p = p
@@ -89,14 +89,14 @@ module _ (moment number : ℕ) (packet : Packet) where
 
   is_taken : {X E : Type 0} {old new : KeptRouter} (r : Result X E) (b : Bool)
       → is_processed_at old.present ≡ true → exchanges_at old.present ≡ b
-      → RouterDoes (from_neighbor moment number packet.router b packet.body) old new r
+      → RouterDoes (after_heard moment number packet.router b packet.body) old new r
       → RouterDoes (after_packet moment number packet) old new r
   is_taken {old = old} r b holds exchanges a =
       does_if_true heard discarded r is_heard_at
       (first_holds (is_heard_at old.present)
       (exchanges_at old.present || is_accepted_before_exchange packet.body) holds)
       (does_same r
-      (λ p here. ap (λ c. from_neighbor moment number packet.router c packet.body p)
+      (λ p here. ap (λ c. after_heard moment number packet.router c packet.body p)
       (sym (ap exchanges_at here ∙ exchanges)))
       a)
 
@@ -117,7 +117,7 @@ module _ (moment number : ℕ) (packet : Packet) where
       (λ p here.
       ap (λ (own : ℕ). on_area (receive_hello own moment number packet.router h) p)
       (sym (ap (λ (r : Router). r.id) here))
-      ∙ ap (λ (k : PacketBody). from_neighbor moment number packet.router
+      ∙ ap (λ (k : PacketBody). after_heard moment number packet.router
       (exchanges_at old.present) k p) (sym is))
       a)
 
@@ -131,7 +131,7 @@ module _ (moment number : ℕ) (packet : Packet) where
       (λ p here.
       ap (λ (own : ℕ). on_area (receive_description own moment number d) p)
       (sym (ap (λ (r : Router). r.id) here))
-      ∙ ap (λ (k : PacketBody). from_neighbor moment number packet.router
+      ∙ ap (λ (k : PacketBody). after_heard moment number packet.router
       (exchanges_at old.present) k p) (sym is))
       a)
 
@@ -145,7 +145,7 @@ module _ (moment number : ℕ) (packet : Packet) where
       (does_same r
       (λ p _.
       ap (λ (ks : List Key). on_area (receive_request moment number ks) p) same
-      ∙ ap (λ (k : PacketBody). from_neighbor moment number packet.router true k p) (sym is))
+      ∙ ap (λ (k : PacketBody). after_heard moment number packet.router true k p) (sym is))
       a)
 
   pub updates : {X E : Type 0} {old new : KeptRouter} (r : Result X E)
@@ -158,7 +158,7 @@ module _ (moment number : ℕ) (packet : Packet) where
       (does_same r
       (λ p _.
       ap (λ (ls : List (List ℕ)). after_lsas moment number ls p) same
-      ∙ ap (λ (k : PacketBody). from_neighbor moment number packet.router true k p) (sym is))
+      ∙ ap (λ (k : PacketBody). after_heard moment number packet.router true k p) (sym is))
       a)
 
   pub acknowledges : {X E : Type 0} {old new : KeptRouter} (r : Result X E)
@@ -171,5 +171,5 @@ module _ (moment number : ℕ) (packet : Packet) where
       (does_same r
       (λ p _.
       ap (λ (hs : List Header). on_area (receive_acknowledgment moment number hs) p) same
-      ∙ ap (λ (k : PacketBody). from_neighbor moment number packet.router true k p) (sym is))
+      ∙ ap (λ (k : PacketBody). after_heard moment number packet.router true k p) (sym is))
       a)

@@ -12,7 +12,7 @@ use Rattle.turns.specs.declared.work.Work.{Work}
 use Rattle.turns.specs.declared.work.Work.TheVariants.{Datagram, Tick}
 use Rattle.worker.specs.Refusals.{clock_back}
 use Rattle.worker.specs.Sending.{Gives}
-use Rattle.worker.specs.Lives.{AreAhead, HasLived, HasLivedOn, Hears, IsHeard, IsSent, IsTried}
+use Rattle.worker.specs.Lives.{AreAhead, HasLived, HasLivedOn, Hears, IsHandled, IsSent, IsTried}
 use Rattle.worker.specs.Lives.{IsTurnedTo, Listens, Lives, Reads, Round, Senses, Serves, Shows}
 use Rattle.worker.specs.Lives.{ShowsEach, Standing, Ticks, latest, senses_of}
 
@@ -155,7 +155,7 @@ turned_to senses bytes before moment shown ended after is_shown serves =
 pub listened : {Transport Clock : Type 0} (senses : Senses Transport Clock)
     (before after : Standing Transport Clock) (heard : Option (List ℕ))
     (between : Transport) → senses.hears before.transport heard between
-    → IsHeard senses heard (record before { transport = between }) after
+    → IsHandled senses heard (record before { transport = between }) after
     → Listens senses before after
 listened senses before after heard between is_heard turn =
     record { heard = heard; between = between; is_heard = is_heard; turn = turn }

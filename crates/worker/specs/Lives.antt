@@ -169,10 +169,10 @@ IsTurnedTo {Clock = Clock} senses bytes before after =
     after
 
 -- what is done about what was heard
-abbrev pub IsHeard : {Transport Clock : Type 0} → Senses Transport Clock → Option (List ℕ)
+abbrev pub IsHandled : {Transport Clock : Type 0} → Senses Transport Clock → Option (List ℕ)
     → (before after : Standing Transport Clock) → Type 0
-IsHeard senses None before after = after ≡ before
-IsHeard senses (Some bytes) before after = IsTurnedTo senses bytes before after
+IsHandled senses None before after = after ≡ before
+IsHandled senses (Some bytes) before after = IsTurnedTo senses bytes before after
 
 -- the transport heard a datagram or none
 pub record Listens {Transport Clock : Type 0} (senses : Senses Transport Clock)
@@ -181,7 +181,7 @@ pub record Listens {Transport Clock : Type 0} (senses : Senses Transport Clock)
   pub heard : Option (List ℕ)
   pub between : Transport
   pub is_heard : senses.hears before.transport heard between
-  pub turn : IsHeard senses heard (record before { transport = between }) after
+  pub turn : IsHandled senses heard (record before { transport = between }) after
 
 -- a round: first the time, and then the transport
 abbrev pub Round : {Transport Clock : Type 0} → Senses Transport Clock → (ticked : Option ℕ)

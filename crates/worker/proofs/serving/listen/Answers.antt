@@ -1,7 +1,7 @@
 use Rattle.std.proofs.Common.{ℕ, List, Option, refl, subst, sym}
 use Rattle.hooks.specs.Known.{known_to}
 use Rattle.turns.specs.declared.work.Work.TheVariants.{Datagram}
-use Rattle.worker.specs.Lives.{IsHeard, Serves, senses_of, standing}
+use Rattle.worker.specs.Lives.{IsHandled, Serves, senses_of, standing}
 use Rattle.worker.proofs.Living.{listened, on_ok, serves, turned_to}
 use Rattle.worker.proofs.serving.listen.Goals as goal
 
@@ -15,7 +15,7 @@ returns-in_default-clause-listens g c =
     c.args.port.now.share.amount in
     listened senses before after c.in_ok-heard.heard c.receive.new.self
     c.in_ok-heard.ensures.heard
-    (subst (λ (heard : Option (List ℕ)). IsHeard senses heard after after) (sym c.in_default.is)
+    (subst (λ (heard : Option (List ℕ)). IsHandled senses heard after after) (sym c.in_default.is)
     refl)
 
 pub returns-clause-listens : goal.returns-clause-listens
@@ -34,7 +34,7 @@ returns-clause-listens g c =
     on_ok c.send_turned.result
     (λ sent. listened senses before after c.in_ok-heard.heard c.receive.new.self
     c.in_ok-heard.ensures.heard
-    (subst (λ (h : Option (List ℕ)). IsHeard senses h heard after) (sym c.in-Some.is)
+    (subst (λ (h : Option (List ℕ)). IsHandled senses h heard after) (sym c.in-Some.is)
     (turned_to senses c.in-Some.bytes heard c.second-now.result c.second-now.new.self
     c.turn_with_retries-turned.new.moment after c.second-now.ensures
     (subst (λ (n : ℕ). Serves senses c.second-now.result (Datagram n c.in-Some.bytes) shown
