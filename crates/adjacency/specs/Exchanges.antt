@@ -81,7 +81,8 @@ abbrev pub becomes_master : RouterNumber → RouterNumber → ℕ → Descriptio
 becomes_master own other sequence d =
     not d.init && not d.master && d.sequence == sequence && nat_lt other own
 
--- the sequence number of the next Database Description from the other side
+-- the sequence number of the next Database Description from the other side: `expected_sequence` of
+-- `Descriptions`, by the standing alone
 abbrev pub expected_of : Standing → ℕ
 expected_of s = if s.is_master then s.sequence else (s.sequence + 1) % 2 ^ 32
 
@@ -96,7 +97,8 @@ starts_over Verdict.Repeated d = false
 starts_over Verdict.Accepted d = not (knows_types d)
 starts_over Verdict.Mismatch d = true
 
--- an accepted Database Description whose headers all have known LS types
+-- an accepted Database Description whose headers all have known LS types: `accept` of
+-- `Descriptions`, in the form that contracts use
 unfoldable pub accept_description : Moment → Database → Description → Neighbor → Step
 accept_description moment db d n =
     let m : Neighbor =

@@ -38,7 +38,7 @@ abbrev pub lsas_of : Moment → Database → List Key → List Lsa
 lsas_of moment db keys = filter_map (λ (key : Key). lsa_of moment (finite.get db key)) keys
 
 -- the LSAs are sent, without being put on the retransmission list; if one is missing, none is sent
--- (BadLSReq)
+-- (BadLSReq): what `receive_request` of `event_rules` does at one neighbor
 abbrev pub answer_to_request : Moment → Database → List Key → Neighbor → Step
 answer_to_request moment db keys n =
     if list_all (is_there db) keys

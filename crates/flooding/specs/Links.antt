@@ -52,7 +52,8 @@ flooded_copy moment sender (Some c) o = flood moment sender (lsa_now moment c) o
 abbrev pub flooded_key : Moment → Option InterfaceNumber → Key → Area → Outcome
 flooded_key moment sender key a = flooded_copy moment sender (finite.get a.database key) (start a)
 
--- this router originated the LSA: it is installed and flooded to every neighbor
+-- this router originated the LSA: it is installed and flooded to every neighbor, as in
+-- `event_rules`, `install_and_flood`, in the form that contracts of this crate use
 abbrev pub originate_outcome : Moment → Lsa → Area → Outcome
 originate_outcome moment lsa a =
     flood moment None lsa (on_database (install_originated moment lsa) (start a))

@@ -158,7 +158,8 @@ pub fn case_on(
 
 impl Tests {
     /// The tests of an LSA that was received on this link, by the copy of its key and by whether
-    /// any neighbor is in Exchange or Loading.
+    /// any neighbor is in Exchange or Loading. [`case_on`] asks only with a copy, so that the first
+    /// test, for which there must be none, is there to have all tests of section 13 in one list.
     pub fn of_received(
         moment: Second,
         copy: &Option<DatabaseCopy<'_>>,

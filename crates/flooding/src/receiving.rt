@@ -66,7 +66,7 @@ impl Area {
     /// flush. The same instance as on the sender's retransmission list is removed from there. One
     /// that is on the request list but not newer is BadLSReq; the caller then drops the rest of the
     /// packet. If the copy is newer, it is sent to the sender. Nothing is done within MinLSArrival,
-    /// or if the newer copy is being flushed or was just sent.
+    /// or if the newer copy has MaxAge and MaxSequenceNumber or was just sent.
     ///
     /// # Errors
     /// `AllocError` if an allocation is refused.

@@ -16,8 +16,9 @@ use Rattle.verifier.specs.Programs as verifier
 use Rattle.hooks.specs.declared.operation.LoaderOperation.{LoaderOperation}
 use Rattle.hooks.specs.declared.operation.LoaderOperation.TheVariants.{Attach, Detach}
 
--- The code, the hook that it is for, a number of instructions within which every run ends, and for
--- each slot the region that a load or store there accesses.
+-- A program of the verifier's, without its capacities: the code, the hook that it is for, a number of
+-- instructions within which every run ends, and for each slot the region that a load or store there
+-- accesses.
 pub record Program : Type 0 where
   pub code : List Slot
   pub hook : Hook
@@ -28,7 +29,7 @@ pub record Program : Type 0 where
 abbrev pub program_of : verifier.Program → Program
 program_of p = record { code = p.code; hook = p.hook; bound = p.bound; regions = p.regions }
 
--- its code is well made, and each run of it is safe and ends within the bound, as of every
+-- its slots are code, and each run of it is safe and ends within the bound, as of every
 -- `Accepted`; nothing is said of a call of `verify`
 abbrev pub IsSafeProgram : Program → Type 0
 IsSafeProgram p =

@@ -58,7 +58,7 @@ impl Asker {
     }
 
     /// Whether no program stands at `veto`, as one reading shows. `None` if the published programs
-    /// can't be read.
+    /// can't be read, or are older than those that the asker knows.
     pub fn is_veto_vacant(&mut self) -> Option<bool>
         ensures history { asker_history self.new ≡ asker_history self.old }
         ensures known { IsPrefix (known_to self.old) (known_to self.new) }
@@ -98,7 +98,7 @@ impl Asker {
     }
 
     /// The answers of `veto` on routes, in order, if one reading shows no program there: each route
-    /// is accepted. They are the same whatever the rows, and use no seat. `None` if the hook has a
+    /// is let in. They are the same whatever the rows, and use no seat. `None` if the hook has a
     /// program, or if the published programs can't be read.
     pub fn all_let_in(&mut self, routes: Pages<Route>, moment: Second) -> Option<VetoAnswers>
         ensures history { asker_history self.new ≡ asker_history self.old }

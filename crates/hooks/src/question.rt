@@ -98,8 +98,8 @@ impl Asker {
         Some(PriceAnswer::new(*external, moment, answer.word))
     }
 
-    /// Asks `veto` whether to keep a route out of the table, given the rows of a table; 0 accepts
-    /// it.
+    /// Asks `veto` whether to keep a route out of the table, given the rows of a table; 0 lets it
+    /// in.
     pub fn veto(
         &mut self,
         route: &Route,

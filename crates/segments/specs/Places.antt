@@ -14,12 +14,13 @@ falls_through (instructions.LongJump distance) = false
 falls_through instructions.Exit = false
 falls_through other = true
 
--- what is stated at a slot; the list has an element for each slot of the code
+-- the start of the segment at a slot, if something is stated there; the list has an element for each
+-- slot of the code
 abbrev pub segment_start_at : {D : Type 0} → List (Option (SegmentStart D)) → ℕ
     → Option (SegmentStart D)
 segment_start_at segment_starts slot = slice_index_or segment_starts slot None
 
--- the start of a segment: the entry, or the statement at a slot
+-- the start of a segment: the entry, or the statement at a slot (where none is, the entry too)
 abbrev pub segment_of : {D : Type 0} → List (Option (SegmentStart D)) → SegmentStart D → Option ℕ
     → SegmentStart D
 segment_of segment_starts entry None = entry

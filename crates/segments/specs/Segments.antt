@@ -1,4 +1,5 @@
--- The segments of a run: each goes from the entry or a statement up to the next statement.
+-- Segments: each starts in any state that is as the entry or a statement says, whether or not a run
+-- reaches it, and goes up to the next statement.
 use Rattle.std.specs.Prelude.{◌≡◌, ℕ, ◌+◌, ◌≤◌, ◌⊎◌, Bool, true, nat_le, if◌then◌else◌, List}
 use Rattle.std.specs.Prelude.{Option, Some, None, IsSomeAnd}
 use Rattle.isa.specs.declared.code.Slot.{Slot}
@@ -91,7 +92,7 @@ pub record IsKnown {D : Type 0} (contains : D → ℕ → Type 0) (segment : Seg
   pub begins : SegmentStartHolds contains segment start
   pub holds : StateHolds contains state start now
 
--- the same, if the slot may be reached
+-- the slot may be reached, and the machine there is as is known
 pub record Knows {D : Type 0} (contains : D → ℕ → Type 0) (segment : SegmentStart D)
     (known : Known D)
     (start now : Machine) : Type 0 where

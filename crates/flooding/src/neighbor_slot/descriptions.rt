@@ -13,7 +13,8 @@ use packet::Description;
 use std::alloc::{AllocError, Global};
 use words::{LARGEST_PACKET, RouterId, Second};
 
-// Whether the MTU of the sending interface is larger than this router's.
+// Whether the MTU of the sending interface is larger than 8,192 bytes, which each interface of this
+// router has in its own Database Descriptions.
 fn is_too_large(description: &Description) -> bool
     ensures { result ≡ nat_lt largest_packet description.now.mtu }
 {

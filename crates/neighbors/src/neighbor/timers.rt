@@ -321,9 +321,11 @@ impl Neighbor {
     }
 
     /// What a Tick retransmits if RxmtInterval (`interval`, in seconds) has passed since it was
-    /// sent: the Database Description, the Link State Request for the outstanding keys, and the
-    /// first LSAs of the retransmission list in key order, as many as fit into one Link State
-    /// Update (RFC 2328, sections 10.8, 10.9 and 13.6).
+    /// sent: the Database Description, the Link State Request for the outstanding keys. The
+    /// retransmission list has one timer, which starts when the list is no longer empty and with
+    /// each retransmission: then the first LSAs of the list follow in key order, as many as fit
+    /// into one Link State Update, also those that were flooded just now (RFC 2328, sections 10.8,
+    /// 10.9 and 13.6).
     ///
     /// # Errors
     /// `AllocError` if an allocation is refused; the caller then rolls back.
