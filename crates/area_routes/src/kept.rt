@@ -31,7 +31,7 @@ use pages::{Pages, RouteAnswers};
 use routes::Root;
 use std::alloc::{AllocError, Global};
 use std::marker::Model;
-use tables::{lacks_answers, rows_of, table_among, table_of};
+use tables::{compare, rows_of, table_among, table_of};
 use words::{Route, RouterId, Second, TableRow};
 
 /// The candidates of a router, and the rows of its table, at one moment.
@@ -499,7 +499,7 @@ impl AreaRoutes {
             self.answered = false;
             return;
         }
-        self.answered = match self.lacks_answers(alloc, router, area, moment, answers) {
+        self.answered = match self.compare_answers(alloc, router, area, moment, answers) {
             Ok(lacks) => !lacks,
             Err(_) => false,
         };
@@ -593,7 +593,7 @@ impl AreaRoutes {
 
     // Whether some candidate isn't among the answers, by searching for each. The candidates are
     // kept, and what that tells of them and of the answers.
-    fn lacks_answers(
+    fn compare_answers(
         &mut self,
         alloc: Global,
         router: RouterId,
@@ -621,13 +621,13 @@ impl AreaRoutes {
         ensures err { OnErr result (self.new ≡ self.old) }
     {
         if let Some(candidates) = &self.candidates {
-            let found = lacks_answers(candidates, answers)?;
+            let found = compare(candidates, answers)?;
             self.matching = matching_by(found);
             return Ok(found.lacks);
         }
         let made = calculated(alloc, area, &self.walk, moment, &self.externals)?;
         let pages = Pages::from_slice(alloc, &made.calculated.routes)?;
-        let found = lacks_answers(&pages, answers)?;
+        let found = compare(&pages, answers)?;
         let Made {
             calculated,
             advertised,
@@ -677,7 +677,7 @@ impl AreaRoutes {
             return Ok(false);
         }
         self.catch_up(alloc, router, area, moment)?;
-        let lacks = self.lacks_answers(alloc, router, area, moment, answers)?;
+        let lacks = self.compare_answers(alloc, router, area, moment, answers)?;
         self.answered = !lacks;
         Ok(lacks)
     }

@@ -3,7 +3,7 @@ use pages::{Pages, RouteAnswers};
 use std::alloc::{AllocError, Global};
 use std::process::Abort;
 use std::test::Fail;
-use tables::{is_stale, lacks_answers, table};
+use tables::{is_stale, compare, table};
 use words::{Address, Hops, Prefix, Route, RouteKind, Sequence};
 
 // An answer: the index of the candidate that it is for, the answer, and by how much the cost
@@ -169,10 +169,10 @@ fn candidates_are_compared_with_answers(rt: HostRuntime) -> Result<(), Fail> {
         let (name, candidates, answered, lacks, exact) = *case;
         let candidates = chosen(alloc, &offered, candidates)?;
         let answers = RouteAnswers::all_in(chosen(alloc, &offered, answered)?);
-        let found = lacks_answers(&candidates, &answers)?;
+        let found = compare(&candidates, &answers)?;
         assert!(rt; found.lacks == lacks && found.exact == exact, "{name}");
         let each = kept_out(alloc, &offered, answered)?;
-        let found = lacks_answers(&candidates, &each)?;
+        let found = compare(&candidates, &each)?;
         assert!(rt;
             found.lacks == lacks && found.exact == exact,
             "{name}, one by one"

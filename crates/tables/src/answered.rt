@@ -65,10 +65,10 @@ pub fn is_stale(
         return Ok(true);
     }
     if are_in_order(answers) {
-        return Ok(lack_answers(candidates, answers));
+        return Ok(is_stale_by_sorted(candidates, answers));
     }
     let ordered = in_order(alloc, answers)?;
-    Ok(lack_answers(candidates, &ordered))
+    Ok(is_stale_by_sorted(candidates, &ordered))
 }
 
 // The routes that the answers let in.
@@ -93,7 +93,7 @@ fn routes_let_in(
 }
 
 // Whether some route has no answer.
-fn lack_answers(routes: &[Route], answers: &[(Route, u64)]) -> bool
+fn is_stale_by_sorted(routes: &[Route], answers: &[(Route, u64)]) -> bool
     requires { IsSorted answer_cmp answers.now }
     ensures { IsTrue result ↔ LacksAnswers answers.now routes.now }
 {

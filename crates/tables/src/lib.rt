@@ -10,4 +10,4 @@ mod shared;
 
 pub use answered::{is_stale, table};
 pub use rows::rows_of;
-pub use shared::{Comparison, lacks_answers, table_among, table_of};
+pub use shared::{Comparison, compare, table_among, table_of};

@@ -65,30 +65,30 @@ pub struct Comparison {
 ///
 /// # Errors
 /// `AllocError` if an allocation is refused.
-pub fn lacks_answers(
+pub fn compare(
     candidates: &Pages<Route>,
     answers: &RouteAnswers,
 ) -> Result<Comparison, AllocError>
     ensures { IfOk result (IsComparison answers.now candidates.now) }
 {
     match answers.kept() {
-        KeptAnswers::Each(each) => lacks_each(candidates, each),
+        KeptAnswers::Each(each) => compare_each(candidates, each),
         KeptAnswers::AllIn(routes) => {
-            if let Some(found) = compared(candidates, routes) {
+            if let Some(found) = compare_all_in(candidates, routes) {
                 return Ok(found);
             }
             let each = answers.to_vec(candidates.allocator())?;
-            lacks_each(candidates, &each)
+            compare_each(candidates, &each)
         }
     }
 }
 
 // The same, where the answers are kept one by one. The candidates are copied into one piece only if
 // that takes a search.
-fn lacks_each(candidates: &Pages<Route>, answers: &[(Route, u64)]) -> Result<Comparison, AllocError>
+fn compare_each(candidates: &Pages<Route>, answers: &[(Route, u64)]) -> Result<Comparison, AllocError>
     ensures { IfOk result (IsComparison answers.now candidates.now) }
 {
-    if let Some(found) = compared_each(candidates, answers) {
+    if let Some(found) = compare_in_turn(candidates, answers) {
         return Ok(found);
     }
     let alloc = candidates.allocator();
@@ -101,7 +101,7 @@ fn lacks_each(candidates: &Pages<Route>, answers: &[(Route, u64)]) -> Result<Com
 }
 
 // The same. `None` if that takes a search.
-fn compared_each(candidates: &Pages<Route>, answers: &[(Route, u64)]) -> Option<Comparison>
+fn compare_in_turn(candidates: &Pages<Route>, answers: &[(Route, u64)]) -> Option<Comparison>
     ensures { IfSome result (IsComparison answers.now candidates.now) }
 {
     let met = answered_in_pages(candidates, answers);
@@ -142,7 +142,7 @@ fn answered_in_pages(candidates: &Pages<Route>, answers: &[(Route, u64)]) -> usi
 }
 
 // The same, where each of these routes was answered with 0. `None` if that takes a search.
-fn compared(candidates: &Pages<Route>, answered: &Pages<Route>) -> Option<Comparison>
+fn compare_all_in(candidates: &Pages<Route>, answered: &Pages<Route>) -> Option<Comparison>
     ensures { IfSome result (IsComparison (all_in answered.now) candidates.now) }
 {
     let met = met_in_turn(candidates, answered);

@@ -28,13 +28,13 @@ returns-then-not-is_answered_from c contents root are =
 
 pub returns-then-are_in_order : goal.returns-then-are_in_order
 returns-then-are_in_order c = tells_stale c.args.answers.now c.args.candidates.now
-    c.lack_answers.result c.lack_answers.ensures
+    c.is_stale_by_sorted.result c.is_stale_by_sorted.ensures
 
 pub returns : goal.returns
 returns c =
-    let b = c.lack_answers-2.result in
+    let b = c.is_stale_by_sorted-2.result in
     let lacks = subst (λ (made : RouteWords). IsTrue b ↔ LacksAnswers made c.args.candidates.now)
-    c.deref.ensures.value c.lack_answers-2.ensures in
+    c.deref.ensures.value c.is_stale_by_sorted-2.ensures in
     tells_stale c.args.answers.now c.args.candidates.now b
     (lack_by c.in_ok-ordered.ordered.items c.args.answers.now c.args.candidates.now b
     c.in_ok-ordered.ensures.same lacks)

@@ -2,7 +2,7 @@ use Rattle.std.proofs.Common.{List, subst, sym, ◌∙◌}
 use mathlib.Core.Bool.{false≢true}
 use Rattle.words.specs.declared.route.Route.{Route}
 use Rattle.routes.specs.Candidates.{AreCandidates}
-use Rattle.tables.proofs.shared.lacks_each.Goals as goal
+use Rattle.tables.proofs.shared.compare_each.Goals as goal
 
 pub returns : goal.returns
 returns c = record {

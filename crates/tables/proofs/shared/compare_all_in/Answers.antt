@@ -7,7 +7,7 @@ use Rattle.words.specs.declared.route.Route.{Route}
 use Rattle.tables.proofs.InTurn.{all_answered, none_lacks, one_lacks}
 use Rattle.tables.proofs.LetIn.{tells_stale}
 use Rattle.tables.proofs.InPages.{are_met, first_of_part, none_behind}
-use Rattle.tables.proofs.shared.compared.Goals as goal
+use Rattle.tables.proofs.shared.compare_all_in.Goals as goal
 
 pub bounds-behind-0 : goal.bounds-behind-0
 bounds-behind-0 c =

@@ -11,7 +11,7 @@ use Rattle.routes.specs.Candidates.{AreCandidates}
 use Rattle.routes.specs.Contents.{contents_at}
 use Rattle.routes.specs.declared.root.Root.{Root}
 use Rattle.area_routes.proofs.Matches.{found_lacking}
-use Rattle.area_routes.proofs.kept.AreaRoutes.lacks_answers.Goals as goal
+use Rattle.area_routes.proofs.kept.AreaRoutes.compare_answers.Goals as goal
 
 pub returns-in-Some-clause-lacks : goal.returns-in-Some-clause-lacks
 returns-in-Some-clause-lacks c =

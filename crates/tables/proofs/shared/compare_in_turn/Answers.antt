@@ -4,7 +4,7 @@ use Rattle.std.proofs.lemmas.Bool.{eqb-true}
 use Rattle.tables.proofs.InTurn.{all_answered, none_lacks, one_lacks}
 use Rattle.tables.proofs.LetIn.{tells_stale}
 use Rattle.tables.proofs.InPages.{first_of_part}
-use Rattle.tables.proofs.shared.compared_each.Goals as goal
+use Rattle.tables.proofs.shared.compare_in_turn.Goals as goal
 
 pub bounds-behind-0 : goal.bounds-behind-0
 bounds-behind-0 c =
