@@ -17,17 +17,17 @@ loader_history l = history l.writer.desk.shown.value
 
 -- the operations that the loader told, and their history
 abbrev pub told_by : Notice → List LoaderOperation
-told_by n = n.front.seen.log
+told_by n = n.prefix.seen.log
 
 abbrev pub notice_history : Notice → Book
-notice_history n = n.front.seen.book
+notice_history n = n.prefix.seen.book
 
 -- all operations that the asker saw or was told, and their history
 abbrev pub known_to : Asker → List LoaderOperation
-known_to a = a.front.seen.log
+known_to a = a.prefix.seen.log
 
 abbrev pub asker_history : Asker → Book
-asker_history a = a.front.seen.book
+asker_history a = a.prefix.seen.book
 
 -- it has seen nothing and was told nothing
 abbrev pub IsNew : Book → Asker → Type 0

@@ -10,15 +10,15 @@ use Rattle.hooks.specs.Operations.{after, leaves}
 
 -- the published operations
 abbrev pub published_operations : Programs → List LoaderOperation
-published_operations p = p.front.seen.log
+published_operations p = p.prefix.seen.log
 
 -- their history
 abbrev pub history : Programs → Book
-history p = p.front.seen.book
+history p = p.prefix.seen.book
 
 -- no program is attached at any hook
 abbrev pub vacant : HistoryPrefix → Programs
-vacant front = record { count = None; tag = None; price = None; veto = None; front = front }
+vacant prefix = record { count = None; tag = None; price = None; veto = None; prefix = prefix }
 
 -- each slot shows what the operations leave at its hook
 abbrev pub ShowsOperations : Programs → Type 0
@@ -36,7 +36,7 @@ after_operation p e =
       tag = after Tag p.tag e.operation;
       price = after Price p.price e.operation;
       veto = after Veto p.veto e.operation;
-      front = e.front;
+      prefix = e.prefix;
     }
 
 -- the value with these entries remains valid, with the same history

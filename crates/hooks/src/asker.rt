@@ -19,9 +19,9 @@ use maps::{Seat, Shared};
 #[derive(Drop)]
 pub struct Asker {
     pub(crate) reader: Option<ProgramReader>,
-    pub(crate) front: HistoryPrefix,
+    pub(crate) prefix: HistoryPrefix,
     ghost idle: { IsSome reader },
-    ghost same: { ForSome reader (λ r. HasSeen front.seen.book (view r.place)) },
+    ghost same: { ForSome reader (λ r. HasSeen prefix.seen.book (view r.place)) },
 }
 
 /// The word of a run, or the default.
@@ -40,18 +40,18 @@ impl HookAnswer {
 
 fn ask_by(
     reader: ProgramReader,
-    front: &mut HistoryPrefix,
+    prefix: &mut HistoryPrefix,
     input: &Input,
     shared: &Shared,
     seat: &mut Seat,
 ) -> (ProgramReader, Option<HookAnswer>)
     requires asked { HasHookNumber (given_by input.now) }
     requires table { IsSeatOf shared.now seat.old }
-    requires same { HasSeen front.old.seen.book (view reader.place) }
-    ensures same { (front.new.seen.book ≡ front.old.seen.book)
-        × HasSeen front.new.seen.book (view result.0.place) }
-    ensures unread { IfNone result.1 ((front.new ≡ front.old) × (seat.new ≡ seat.old)) }
-    ensures answered { IfSome result.1 (λ a. IsAnswered front.old.seen.log front.new.seen.log
+    requires same { HasSeen prefix.old.seen.book (view reader.place) }
+    ensures same { (prefix.new.seen.book ≡ prefix.old.seen.book)
+        × HasSeen prefix.new.seen.book (view result.0.place) }
+    ensures unread { IfNone result.1 ((prefix.new ≡ prefix.old) × (seat.new ≡ seat.old)) }
+    ensures answered { IfSome result.1 (λ a. IsAnswered prefix.old.seen.log prefix.new.seen.log
         seat.old seat.new (given_by input.now) a.word) }
     ensures table { IsSeatOf shared.now seat.new }
 {
@@ -60,24 +60,24 @@ fn ask_by(
         Ok(reading) => reading,
     };
     let programs = reading.get();
-    if !programs.front.reaches(front) {
+    if !programs.prefix.reaches(prefix) {
         return (reading.leave(), None);
     }
     let word = programs.answer(input, shared, seat);
-    *front = programs.front.copy();
+    *prefix = programs.prefix.copy();
     (reading.leave(), Some(HookAnswer { word }))
 }
 
 impl Asker {
     ghost use Rattle.hooks.specs.Known.{known_to, asker_history, told_by, notice_history};
 
-    pub(crate) fn new(reader: ProgramReader, front: HistoryPrefix) -> Asker
-        requires { HasSeen front.seen.book (view reader.place) }
-        ensures { result.front ≡ front }
+    pub(crate) fn new(reader: ProgramReader, prefix: HistoryPrefix) -> Asker
+        requires { HasSeen prefix.seen.book (view reader.place) }
+        ensures { result.prefix ≡ prefix }
     {
         Asker {
             reader: Some(reader),
-            front,
+            prefix,
         }
     }
 
@@ -96,7 +96,7 @@ impl Asker {
         let Some(reader) = self.reader.take() else {
             unreachable!()
         };
-        let (reader, answer) = ask_by(reader, &mut self.front, input, shared, seat);
+        let (reader, answer) = ask_by(reader, &mut self.prefix, input, shared, seat);
         self.reader = Some(reader);
         answer
     }
@@ -110,8 +110,8 @@ impl Asker {
         ensures one { (known_to self.new ≡ known_to self.old)
             ⊎ (known_to self.new ≡ told_by notice) }
     {
-        if notice.front.reaches(&self.front) {
-            self.front = notice.front;
+        if notice.prefix.reaches(&self.prefix) {
+            self.prefix = notice.prefix;
         }
     }
 }

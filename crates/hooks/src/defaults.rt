@@ -21,23 +21,23 @@ use words::{External, Route, Second};
 
 // The hooks without a program, by one reading; `None` if the published programs can't be read, or
 // are older than those that the asker knows.
-fn look(reader: ProgramReader, front: &mut HistoryPrefix) -> (ProgramReader, Option<Vacancies>)
-    requires { HasSeen front.old.seen.book (view reader.place) }
-    ensures same { (front.new.seen.book ≡ front.old.seen.book)
-        × HasSeen front.new.seen.book (view result.0.place) }
-    ensures begins { IsPrefix front.old.seen.log front.new.seen.log }
-    ensures vacant { IfSome result.1 (AreVacancies front.new.seen.log) }
+fn look(reader: ProgramReader, prefix: &mut HistoryPrefix) -> (ProgramReader, Option<Vacancies>)
+    requires { HasSeen prefix.old.seen.book (view reader.place) }
+    ensures same { (prefix.new.seen.book ≡ prefix.old.seen.book)
+        × HasSeen prefix.new.seen.book (view result.0.place) }
+    ensures begins { IsPrefix prefix.old.seen.log prefix.new.seen.log }
+    ensures vacant { IfSome result.1 (AreVacancies prefix.new.seen.log) }
 {
     let reading = match reader.enter_as::<Sees>() {
         Err(reader) => return (reader, None),
         Ok(reading) => reading,
     };
     let programs = reading.get();
-    if !programs.front.reaches(front) {
+    if !programs.prefix.reaches(prefix) {
         return (reading.leave(), None);
     }
     let vacancies = programs.vacancies();
-    *front = programs.front.copy();
+    *prefix = programs.prefix.copy();
     (reading.leave(), Some(vacancies))
 }
 
@@ -52,7 +52,7 @@ impl Asker {
         let Some(reader) = self.reader.take() else {
             unreachable!()
         };
-        let (reader, vacancies) = look(reader, &mut self.front);
+        let (reader, vacancies) = look(reader, &mut self.prefix);
         self.reader = Some(reader);
         vacancies
     }

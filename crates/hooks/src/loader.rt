@@ -27,14 +27,14 @@ pub struct Loader<R: Wait + Drop> {
     head: Head,
     rt: R,
     ghost idle: { drop writer.behind writer.log.items ≡ [] },
-    ghost knows: { view writer.desk.place ≡ Some writer.desk.shown.value.front },
+    ghost knows: { view writer.desk.place ≡ Some writer.desk.shown.value.prefix },
     ghost head_is: { head ≡ head_of (history writer.desk.shown.value) },
 }
 
 /// What the loader tells an asker: its operations.
 #[derive(Drop)]
 pub struct Notice {
-    pub(crate) front: HistoryPrefix,
+    pub(crate) prefix: HistoryPrefix,
 }
 
 /// Publishes each pending entry.
@@ -43,19 +43,19 @@ fn show<R: Wait>(writer: ProgramWriter, rt: &R) -> (ProgramWriter, ())
     ensures shown { result.0.desk.shown.value ≡ fold after_operation writer.desk.shown.value
         (drop writer.behind writer.log.items) }
     ensures idle { drop result.0.behind result.0.log.items ≡ [] }
-    ensures knows { view result.0.desk.place ≡ Some result.0.desk.shown.value.front }
+    ensures knows { view result.0.desk.place ≡ Some result.0.desk.shown.value.prefix }
 {
     let (writer, _published) = writer.publish_as::<Sees, R>(rt);
     (writer, ())
 }
 
 /// An entry that has no effect: it detaches from a hook without a program.
-fn pad(front: &HistoryPrefix) -> HistoryEntry
-    ensures { (result.operation ≡ Detach HookCount) × (result.front ≡ front.now) }
+fn pad(prefix: &HistoryPrefix) -> HistoryEntry
+    ensures { (result.operation ≡ Detach HookCount) × (result.prefix ≡ prefix.now) }
 {
     HistoryEntry {
         operation: LoaderOperation::Detach(Hook::Count),
-        front: front.copy(),
+        prefix: prefix.copy(),
     }
 }
 
@@ -63,16 +63,16 @@ fn pad(front: &HistoryPrefix) -> HistoryEntry
 fn make_room<R: Wait>(
     mut writer: ProgramWriter,
     rt: &R,
-    front: &HistoryPrefix,
+    prefix: &HistoryPrefix,
 ) -> Result<ProgramWriter, AllocError>
-    requires new { front.now.seen.log ≡ [] }
-    requires shown { writer.desk.shown.value ≡ vacant front.now }
+    requires new { prefix.now.seen.log ≡ [] }
+    requires shown { writer.desk.shown.value ≡ vacant prefix.now }
     requires idle { drop writer.behind writer.log.items ≡ [] }
-    ensures shown { IfOk result (λ w. w.desk.shown.value ≡ vacant front.now) }
+    ensures shown { IfOk result (λ w. w.desk.shown.value ≡ vacant prefix.now) }
     ensures idle { IfOk result (λ w. drop w.behind w.log.items ≡ []) }
-    ensures knows { IfOk result (λ w. view w.desk.place ≡ Some w.desk.shown.value.front) }
+    ensures knows { IfOk result (λ w. view w.desk.place ≡ Some w.desk.shown.value.prefix) }
 {
-    if writer.append(pad(front)).is_err() || writer.append(pad(front)).is_err() {
+    if writer.append(pad(prefix)).is_err() || writer.append(pad(prefix)).is_err() {
         drop(writer.take(rt));
         return Err(AllocError);
     }
@@ -89,11 +89,11 @@ impl<R: Wait + Drop> Loader<R> {
         requires { (0 < askers) × (askers ≤ 64) }
         ensures { IfOk result (λ l. operations_of l ≡ []) }
     {
-        let (head, front) = HistoryPrefix::open();
-        let first = Programs::empty(alloc, front.copy())?;
-        let second = Programs::empty(alloc, front.copy())?;
+        let (head, prefix) = HistoryPrefix::open();
+        let first = Programs::empty(alloc, prefix.copy())?;
+        let second = Programs::empty(alloc, prefix.copy())?;
         let writer = ProgramWriter::new(alloc, first, second, askers)?;
-        let writer = make_room(writer, &rt, &front)?;
+        let writer = make_room(writer, &rt, &prefix)?;
         Ok(Loader { writer, head, rt })
     }
 
@@ -113,7 +113,7 @@ impl<R: Wait + Drop> Loader<R> {
                 return Err(HookError::Places);
             };
             reader.learn::<Takes>(self.writer.tell::<Tells>());
-            list.push_reserved(Asker::new(reader, self.writer.published().front.copy()));
+            list.push_reserved(Asker::new(reader, self.writer.published().prefix.copy()));
         }
         Ok(list)
     }
@@ -152,8 +152,8 @@ impl<R: Wait + Drop> Loader<R> {
             ≡ operations_of self.old) }
         ensures history { loader_history self.new ≡ loader_history self.old }
     {
-        let front = &self.writer.published().front;
-        let Some(numbered) = Numbered::next(front, &self.head, operation) else {
+        let prefix = &self.writer.published().prefix;
+        let Some(numbered) = Numbered::next(prefix, &self.head, operation) else {
             return Err(AllocError);
         };
         numbered.append_to(&mut self.writer, &self.rt);
@@ -167,7 +167,7 @@ impl<R: Wait + Drop> Loader<R> {
             × (notice_history result ≡ loader_history self.now) }
     {
         Notice {
-            front: self.writer.published().front.copy(),
+            prefix: self.writer.published().prefix.copy(),
         }
     }
 }

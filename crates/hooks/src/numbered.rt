@@ -16,17 +16,17 @@ pub struct Numbered {
 }
 
 impl Numbered {
-    /// Takes the next number for the operation. `None` if the history is longer than the front, or
+    /// Takes the next number for the operation. `None` if the history is longer than the prefix, or
     /// if no number is left.
-    pub fn next(front: &HistoryPrefix, head: &Head, operation: LoaderOperation) -> Option<Numbered>
-        requires { head.now ≡ head_of front.now.seen.book }
+    pub fn next(prefix: &HistoryPrefix, head: &Head, operation: LoaderOperation) -> Option<Numbered>
+        requires { head.now ≡ head_of prefix.now.seen.book }
         ensures operation { IfSome result (λ n. n.entry.operation ≡ operation) }
-        ensures front { IfSome result (λ n. (n.entry.front.seen.book ≡ front.now.seen.book)
-            × (n.entry.front.seen.log ≡ front.now.seen.log ++ operation ∷ [])) }
+        ensures prefix { IfSome result (λ n. (n.entry.prefix.seen.book ≡ prefix.now.seen.book)
+            × (n.entry.prefix.seen.log ≡ prefix.now.seen.log ++ operation ∷ [])) }
     {
-        let front = front.append(head, &operation)?;
+        let prefix = prefix.append(head, &operation)?;
         Some(Numbered {
-            entry: HistoryEntry { operation, front },
+            entry: HistoryEntry { operation, prefix },
         })
     }
 

@@ -22,7 +22,7 @@ use words::{Route, Second};
 // and aren't older than those that the asker knows; if not, none is asked about.
 fn ask_some_by(
     reader: ProgramReader,
-    front: &mut HistoryPrefix,
+    prefix: &mut HistoryPrefix,
     routes: &[Route],
     moment: Second,
     rows: &[TableRow],
@@ -31,16 +31,16 @@ fn ask_some_by(
     answers: &mut Vec<VetoAnswer>,
 ) -> (ProgramReader, bool)
     requires table { IsSeatOf shared.now seat.old }
-    requires same { HasSeen front.old.seen.book (view reader.place) }
+    requires same { HasSeen prefix.old.seen.book (view reader.place) }
     requires left { vec_len answers.old < length routes.now }
     requires room { length routes.now ≤ vec_capacity answers.old }
-    ensures same { (front.new.seen.book ≡ front.old.seen.book)
-        × HasSeen front.new.seen.book (view result.0.place) }
-    ensures begins { IsPrefix front.old.seen.log front.new.seen.log }
+    ensures same { (prefix.new.seen.book ≡ prefix.old.seen.book)
+        × HasSeen prefix.new.seen.book (view result.0.place) }
+    ensures begins { IsPrefix prefix.old.seen.log prefix.new.seen.log }
     ensures answered { (known : List LoaderOperation) (first : SeatView)
-        → AreAnswered known front.old.seen.log first seat.old moment rows.now
+        → AreAnswered known prefix.old.seen.log first seat.old moment rows.now
         (take (vec_len answers.old) routes.now) answers.old.items
-        → AreAnswered known front.new.seen.log first seat.new moment rows.now
+        → AreAnswered known prefix.new.seen.log first seat.new moment rows.now
         (take (vec_len answers.new) routes.now) answers.new.items }
     ensures more { IsTrue result.1 → vec_len answers.old < vec_len answers.new }
     ensures unread { result.1 ≡ false → vec_len answers.new ≡ vec_len answers.old }
@@ -53,11 +53,11 @@ fn ask_some_by(
         Ok(reading) => reading,
     };
     let programs = reading.get();
-    if !programs.front.reaches(front) {
+    if !programs.prefix.reaches(prefix) {
         return (reading.leave(), false);
     }
     programs.vetoes(routes, moment, rows, shared, seat, answers);
-    *front = programs.front.copy();
+    *prefix = programs.prefix.copy();
     (reading.leave(), true)
 }
 
@@ -91,9 +91,9 @@ impl Asker {
         let Some(reader) = self.reader.take() else {
             unreachable!()
         };
-        let front = &mut self.front;
+        let prefix = &mut self.prefix;
         let (reader, is_read) = ask_some_by(
-            reader, front, routes, moment, rows, shared, seat, answers,
+            reader, prefix, routes, moment, rows, shared, seat, answers,
         );
         self.reader = Some(reader);
         is_read

@@ -36,15 +36,15 @@ impl Programs {
     ///
     /// # Errors
     /// `AllocError` if an allocation is refused.
-    pub fn empty(alloc: Global, front: HistoryPrefix) -> Result<Programs, AllocError>
-        ensures { IfOk result (λ p. p ≡ vacant front) }
+    pub fn empty(alloc: Global, prefix: HistoryPrefix) -> Result<Programs, AllocError>
+        ensures { IfOk result (λ p. p ≡ vacant prefix) }
     {
         Ok(Programs {
             count: ProgramSlot::empty(alloc)?,
             tag: ProgramSlot::empty(alloc)?,
             price: ProgramSlot::empty(alloc)?,
             veto: ProgramSlot::empty(alloc)?,
-            front,
+            prefix,
         })
     }
 
@@ -197,7 +197,7 @@ impl Absorb<HistoryEntry> for Programs {
             Hook::Price => self.price.change(&entry.operation),
             Hook::Veto => self.veto.change(&entry.operation),
         }
-        self.front = entry.front.copy();
+        self.prefix = entry.prefix.copy();
         Ok(())
     }
 }

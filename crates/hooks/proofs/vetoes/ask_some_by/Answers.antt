@@ -14,7 +14,7 @@ enter_as-requires c x = sees_same _ _ x
 
 pub returns-clause-answered : goal.returns-clause-answered
 returns-clause-answered c known first so_far =
-    let before = c.args.front.now.seen.log in
+    let before = c.args.prefix.now.seen.log in
     let after = c.copy.result.seen.log in
     let now = published_operations c.get-programs.result.now in
     let same = ap (λ (f : HistoryPrefix). f.seen.log) c.copy.ensures in
