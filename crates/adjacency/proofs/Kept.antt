@@ -234,7 +234,8 @@ module _ {Begins : ByKey ListEntry → Type 0} {Adds : Key → ListEntry → Typ
       (λ e. mismatched_kept moment (in_exchange n) h)
 
   -- the step of a verdict, by the state in which it is possible
-  module _ (moment : ℕ) (db : Database) (d : Description) (begun : Begins (max_age_copies moment db))
+  module _ (moment : ℕ) (db : Database) (d : Description)
+      (begun : Begins (max_age_copies moment db))
     where
       abbrev Keeps : Neighbor → Verdict → Type 0
       Keeps m v = Of Q (act v moment db d m).neighbor
@@ -275,7 +276,8 @@ module _ {Begins : ByKey ListEntry → Type 0} {Adds : Key → ListEntry → Typ
           let at : Neighbor = record n { state = Full } in
           over_one_of (Keeps at) at d k (repeat_kept moment at k) (mismatched_kept moment at k)
 
-  judge_kept : (own moment : ℕ) (db : Database) (d : Description) → Begins (max_age_copies moment db)
+  judge_kept : (own moment : ℕ) (db : Database) (d : Description)
+      → Begins (max_age_copies moment db)
       → (n : Neighbor) → Of Q n → Of Q (process own moment db d n).neighbor
   judge_kept own moment db d begun n h = judged_in moment db d begun n.state own n h
 

@@ -26,4 +26,5 @@ has_retransmission key (Some n) = finite.contains_key n.retransmissions key
 -- exactly this instance is on the retransmission list
 abbrev pub has_retransmission_of : Moment → Header → Option Neighbor → Bool
 has_retransmission_of moment h None = false
-has_retransmission_of moment h (Some n) = is_entry moment h (finite.get n.retransmissions (key_of h))
+has_retransmission_of moment h (Some n) = is_entry moment h
+    (finite.get n.retransmissions (key_of h))

@@ -73,7 +73,8 @@ module _ (own moment : ℕ) (P : Database → Type 0) (kept : IsKept own moment 
       → P (flood_from_nobody moment (lsa_with_age 3600 c.lsa)
       (on_database (age_prematurely moment k) o)).area.database
   flushed k c o at h =
-      each (flood_to moment None (lsa_with_age 3600 c.lsa)) (on_database (age_prematurely moment k) o)
+      each (flood_to moment None (lsa_with_age 3600 c.lsa))
+      (on_database (age_prematurely moment k) o)
       (kept.flushes k c o.area.database at h)
 
   pub originated : (k : Key) (says : LsaBody) (p : EventState) → k.advertising_router ≡ own

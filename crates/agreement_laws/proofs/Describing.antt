@@ -212,7 +212,8 @@ module _ (key : Key) (now : ℕ) (Of : ℕ → Type 0) (Said : Saying) where
     module _ (db : Database) (own : (c : DatabaseCopy) → finite.get db key ≡ Some c → lsa_key c.lsa
         ≡ key) where
       begun_with : (c : Option DatabaseCopy) → finite.get db key ≡ c → (w : Conversation)
-          → HasAny key now Of Said (instance_at now c) (max_age_copies now db) (young_copies now db) w
+          → HasAny key now Of Said (instance_at now c) (max_age_copies now db)
+          (young_copies now db) w
       begun_with None at w = tt
       begun_with (Some c) at w = by_age (is_aged_out now c) refl
         where

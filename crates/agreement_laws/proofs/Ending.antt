@@ -48,7 +48,8 @@ module _ (own moment : ℕ) (X : Outcome → Type 0) where
     flushed k None o at its h = (its, h)
     flushed k (Some c) o at its h =
         chosen (λ (q : Outcome). IsItsOwn q.area × X q) (is_aged_out moment c) o
-        (flood_from_nobody moment (lsa_with_age 3600 c.lsa) (on_database (age_prematurely moment k) o))
+        (flood_from_nobody moment (lsa_with_age 3600 c.lsa)
+        (on_database (age_prematurely moment k) o))
         (λ aged. (its, h))
         (λ young. ((order_kept own).flushes moment k c o at young its, kept.flushes k c o at its h))
 

@@ -40,7 +40,8 @@ taken heard before moment event p x own is later not_forged in_range texts = rec
   not_forged = not_forged;
   sent = refl;
   began = refl;
-  in_range = subst (λ (q : EventState). AllByRecursion IsIdentityInRange (instances_in_sends q.sends))
+  in_range = subst (λ (q : EventState). AllByRecursion IsIdentityInRange
+      (instances_in_sends q.sends))
       (sym is) in_range;
   texts = subst (λ (q : EventState). AreTexts before.router.id before.router.area.links q.sends)
       (sym is) texts;

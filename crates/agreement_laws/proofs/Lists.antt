@@ -76,7 +76,8 @@ module _ (key : Key) (moment : ℕ) (entry : ListEntry) where
   -- an entry of a list is among the rest, or its header is among the first
   pub left_or_taken : (n : ℕ) (m : ByKey ListEntry) → finite.get m key ≡ Some entry
       → (finite.get (finite.from_entries {R = key_cmp} (drop n (finite.entries m))) key
-      ≡ Some entry) ⊎ Contains (headers (take n (finite.entries m))) (listed_header_now moment entry)
+      ≡ Some entry) ⊎ Contains (headers (take n (finite.entries m)))
+      (listed_header_now moment entry)
   left_or_taken n m at = by_place (split n (finite.entries m) (sym (finite.get-entries m key) ∙ at))
     where
       by_place : (finite.find key_cmp key (drop n (finite.entries m)) ≡ Some entry)

@@ -127,7 +127,8 @@ module _ (old : Router) (moment : ℕ) (event : Occurrence) (number : ℕ) (n : 
       (flood_from_nobody moment (lsa_now moment e.1) o) o
       (λ just. interface.stepped SameThere number (flood_to moment None (lsa_now moment e.1))
       o.area.links
-      (λ link m k. steps.same_flooded n moment (is_received_at None number) (lsa_now moment e.1) m k) h)
+      (λ link m k. steps.same_flooded n moment (is_received_at None number) (lsa_now moment e.1) m
+      k) h)
       (λ young. h))
 
   same_begun : SameThere (neighbor_at number start.router.area.links)

@@ -324,7 +324,8 @@ module _ (key : Key) (moment : ℕ) (number : ℕ) (There : Type 0) (Of : ℕ �
 
     pub flushes : (k : Key) (c : DatabaseCopy) (o : Outcome) → finite.get o.area.database k ≡ Some c
         → lsa_key c.lsa ≡ k → Stands o → Stands
-        (flood_from_nobody moment (lsa_with_age 3600 c.lsa) (on_database (age_prematurely moment k) o))
+        (flood_from_nobody moment (lsa_with_age 3600 c.lsa)
+        (on_database (age_prematurely moment k) o))
     flushes k c o at own h =
         subst (λ (x : Option DatabaseCopy). Stands
         (flood_from_nobody moment (lsa_with_age 3600 c.lsa)

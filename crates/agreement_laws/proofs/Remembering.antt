@@ -126,7 +126,8 @@ module _ (number : ℕ) where
   flushed_quiet moment key None o is = is
   flushed_quiet moment key (Some c) o is =
       chosen (λ (p : Outcome). IsQuiet (link_at number p.area.links)) (is_aged_out moment c) o
-      (flood_from_nobody moment (lsa_with_age 3600 c.lsa) (on_database (age_prematurely moment key) o))
+      (flood_from_nobody moment (lsa_with_age 3600 c.lsa)
+      (on_database (age_prematurely moment key) o))
       (λ e. is) (λ e. flooded_quiet moment (lsa_with_age 3600 c.lsa)
       (on_database (age_prematurely moment key) o) is)
 

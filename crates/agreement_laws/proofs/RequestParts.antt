@@ -220,13 +220,15 @@ module _ (ranks : RanksFollowTheComparison) (key : Key) (moment : ℕ) (first : 
 
   pub flushes : (k : Key) (c : DatabaseCopy) (o : Outcome) → finite.get o.area.database k ≡ Some c
       → lsa_key c.lsa ≡ k → Stands o → Stands
-      (flood_from_nobody moment (lsa_with_age 3600 c.lsa) (on_database (age_prematurely moment k) o))
+      (flood_from_nobody moment (lsa_with_age 3600 c.lsa)
+      (on_database (age_prematurely moment k) o))
   flushes k c o at own h =
       floods None (lsa_with_age 3600 c.lsa) (on_database (age_prematurely moment k) o)
       (held_by (flushed_copy moment c) (lsa_with_age 3600 c.lsa)
       (age_prematurely moment k o.area.database)
       there
-      (stored_at_least ranks key moment first (lsa_with_age 3600 c.lsa) (flushed_copy moment c) refl))
+      (stored_at_least ranks key moment first (lsa_with_age 3600 c.lsa) (flushed_copy moment c)
+      refl))
       (on_db (age_prematurely moment k) o
       (λ x. held_flushed ranks key moment first k c o.area.database at
       x) h)

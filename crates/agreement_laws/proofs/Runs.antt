@@ -69,7 +69,8 @@ module _ (number : ℕ) (at : ℕ) where
   flushed_alone moment key None o is = is
   flushed_alone moment key (Some c) o is =
       chosen (λ (p : Outcome). neighbor_at number p.area.links ≡ None) (is_aged_out moment c) o
-      (flood_from_nobody moment (lsa_with_age 3600 c.lsa) (on_database (age_prematurely moment key) o))
+      (flood_from_nobody moment (lsa_with_age 3600 c.lsa)
+      (on_database (age_prematurely moment key) o))
       (λ e. is) (λ e. flooded_alone moment (lsa_with_age 3600 c.lsa)
       (on_database (age_prematurely moment key) o) is)
 

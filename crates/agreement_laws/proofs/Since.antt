@@ -110,7 +110,8 @@ module _ (key : Key) (number : ℕ) where
 
   module _ (Earlier : Conversation → Header → Type 0) (event : Option Step) (p q : Party) where
     eventful : (heard : List (List ℕ)) (t : TakesEvent number heard p q) → event
-        ≡ Some (step_taken t) → IsConsistent p.router → IsSettled key number (SaidIn Earlier) p.router
+        ≡ Some (step_taken t) → IsConsistent p.router → IsSettled key number (SaidIn Earlier)
+        p.router
         → IsSettled key number (SaidIn (Further event p q Earlier)) q.router
     eventful heard t its order was =
         more_said key number q.router (Then key number (SaidIn Earlier) p.router (step_taken t))

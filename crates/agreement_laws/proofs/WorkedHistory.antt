@@ -77,7 +77,10 @@ abbrev own_opening : Packet
 own_opening = record { router = 1; body = body.Description (initial_description 0) }
 
 abbrev requests : Packet
-requests = record { router = 2; body = body.Request (key_of (listed_header_now 0 left.listed) ∷ []) }
+requests = record {
+  router = 2;
+  body = body.Request (key_of (listed_header_now 0 left.listed) ∷ []);
+}
 
 right_greets : TakesEvent 1 (first 1 a).sent (first 2 b) right_1
 right_greets =

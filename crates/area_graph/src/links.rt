@@ -140,7 +140,12 @@ fn add_router(
 }
 
 // The index of a router, if its LSA has a link of this kind to this ID.
-fn index_if_linking_back(area: &AreaTopology<'_>, router: RouterId, kind: EntryKind, id: u32) -> Option<usize>
+fn index_if_linking_back(
+    area: &AreaTopology<'_>,
+    router: RouterId,
+    kind: EntryKind,
+    id: u32,
+) -> Option<usize>
     requires ordered { AreOrdered area.now.nodes.now area.now.entries.now }
     requires of_link { rank kind < 2 }
     ensures { IsNeighborAt area.now.nodes.now area.now.entries.now router kind id result }

@@ -22,7 +22,12 @@ use std::alloc::{AllocError, Global};
 use words::{LinkStateId, RouterId};
 
 // The index of a router, if its LSA has a link of this kind to this Link ID.
-fn index_if_linking_back(at: &Surroundings<'_>, far: RouterId, kind: LinkKind, id: u32) -> Option<usize>
+fn index_if_linking_back(
+    at: &Surroundings<'_>,
+    far: RouterId,
+    kind: LinkKind,
+    id: u32,
+) -> Option<usize>
     requires { AreNodes (contents_at at.now.moment at.now.db.now.present) at.now.nodes.now }
     ensures { IsNeighbor (contents_at at.now.moment at.now.db.now.present) at.now.nodes.now far
         kind id

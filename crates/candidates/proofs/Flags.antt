@@ -26,7 +26,8 @@ use Rattle.routes.specs.declared.graph.Way.{Way}
 use Rattle.routes.specs.declared.node.Node.TheVariants.{ARouter}
 use Rattle.routes.proofs.Lists.{of_cons, of_empty}
 use Rattle.candidates.specs.Bodies.{HaveAll}
-use Rattle.candidates.specs.Borders.{AreCloseBy, AreFlagged, AscendByRouter, IsBorderOrBoundaryFlag, IsListed}
+use Rattle.candidates.specs.Borders.{AreCloseBy, AreFlagged, AscendByRouter, IsBorderOrBoundaryFlag}
+use Rattle.candidates.specs.Borders.{IsListed}
 use Rattle.candidates.specs.Borders.{TellsFlags}
 use Rattle.candidates.specs.Gathering.{IsJust}
 use Rattle.candidates.specs.Ways.{AreNear, Ways}

@@ -102,7 +102,8 @@ settles r link n moment lsa mine last young =
     ∙ (λ i. cond (max i) (flush moment key p) rest)
     ∙ (λ i. on_area (flush_copy moment key (there i)) p)
     ∙ (λ i. on_area (λ q. cond (fresh i) q
-    (flood_from_nobody moment (lsa_with_age 3600 lsa) (on_database (age_prematurely moment key) q))) p)
+    (flood_from_nobody moment (lsa_with_age 3600 lsa)
+    (on_database (age_prematurely moment key) q))) p)
 
 pub aged : (db : Database) (key : Key) (c : DatabaseCopy) (moment : ℕ) → finite.get db key ≡ Some c
     → finite.get (age_prematurely moment key db) key ≡ Some (record c {
@@ -165,7 +166,8 @@ flushes_it : (r new : Router) (link : Link) (n : Neighbor) (moment : ℕ) (bytes
       header = header_with_age 3600 lsa.header;
       at = moment;
     }))
-    × (outs ≡ outs_of r.id (beside r link (full n)).area.links (sends_update (lsa_with_age 3600 lsa)))
+    × (outs ≡ outs_of r.id (beside r link (full n)).area.links
+    (sends_update (lsa_with_age 3600 lsa)))
 flushes_it r new link n moment bytes lsa own outs back text event =
     let old : Router = beside r link (full n) in
     let p : EventState = flushed r link n moment lsa in
@@ -180,7 +182,8 @@ flushes_it r new link n moment bytes lsa own outs back text event =
     let end : end_event old moment event.after ≡ ended moment p = ap (end_event old moment) own_is
     ∙ ends old moment p refl refl in
     let is : new ≡ (ended moment p).router = event.router ∙ ap (λ (q : EventState). q.router) end in
-    let sent : outs ≡ outs_of r.id old.area.links (sends_update (lsa_with_age 3600 lsa)) = event.sent
+    let sent : outs ≡ outs_of r.id old.area.links (sends_update (lsa_with_age 3600 lsa)) =
+    event.sent
     ∙ ap (λ (q : EventState). outs_of r.id old.area.links q.sends) end in
     let flushed_now : IsFlushed new moment lsa =
     subst (λ s. IsFlushed s moment lsa) (sym is) (is_flushed r link n moment lsa back.is_own) in

@@ -59,7 +59,8 @@ settles r link n moment lsa mine other unknown young =
     ∙ (λ i. originate_or_flush (should_originate (announced_body (unknown i))) moment key p)
     ∙ (λ i. on_area (flush_copy moment key (there i)) p)
     ∙ (λ i. on_area (λ q. cond (fresh i) q
-    (flood_from_nobody moment (lsa_with_age 3600 lsa) (on_database (age_prematurely moment key) q))) p)
+    (flood_from_nobody moment (lsa_with_age 3600 lsa)
+    (on_database (age_prematurely moment key) q))) p)
 
 on_list : (r : Router) (link : Link) (n : Neighbor) (moment : ℕ) (lsa : Lsa)
     → HasOnList (ended moment (flushed r link n moment lsa)).router (lsa_key lsa) (Some (record {

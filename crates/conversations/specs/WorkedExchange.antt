@@ -39,7 +39,8 @@ reply moment sequence summary = record {
   master = false;
   sequence = sequence;
   headers =
-      map (λ (e : Key × ListEntry). listed_header_now moment e.1) (take 408 (finite.entries summary));
+      map (λ (e : Key × ListEntry). listed_header_now moment e.1)
+      (take 408 (finite.entries summary));
 }
 
 -- the master's last Database Description, with one header

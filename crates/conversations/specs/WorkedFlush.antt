@@ -73,10 +73,12 @@ pub record TheNumbersEnd : Type 0 where
       → IsFlushed new moment lsa
       × HasOnList new (router_key r.id)
       (Some (record { header = header_with_age 3600 lsa.header; at = moment }))
-      × (outs ≡ outs_of r.id (beside r link (full n)).area.links (sends_update (lsa_with_age 3600 lsa)))
+      × (outs ≡ outs_of r.id (beside r link (full n)).area.links
+      (sends_update (lsa_with_age 3600 lsa)))
   -- an entry at MaxAge is the same instance at each later moment, and a copy stays at MaxAge
   pub entry_stays : (h : Header) (at moment : ℕ)
-      → same_as_listed moment (header_with_age 3600 h) (record { header = header_with_age 3600 h; at = at })
+      → same_as_listed moment (header_with_age 3600 h)
+      (record { header = header_with_age 3600 h; at = at })
       ≡ true
   pub copy_stays : (lsa : Lsa) (at moment : ℕ) (received sent : Option ℕ)
       → is_aged_out moment (record {

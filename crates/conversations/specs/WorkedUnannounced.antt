@@ -48,4 +48,5 @@ WhatIsNotAnnouncedIsFlushed =
     → IsUnannounced r n moment lsa → IsUpdateWith bytes n.router lsa
     → Happens (beside r link (full n)) moment (Occurrence.Packet 1 bytes) outs new
     → IsFlushed new moment lsa × WaitsAt new 1 lsa
-    × (outs ≡ outs_of r.id (beside r link (full n)).area.links (sends_update (lsa_with_age 3600 lsa)))
+    × (outs ≡ outs_of r.id (beside r link (full n)).area.links
+    (sends_update (lsa_with_age 3600 lsa)))

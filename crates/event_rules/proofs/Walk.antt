@@ -186,7 +186,8 @@ module _ (i : Invariant) (kept : IsKeptByParts i) where
   copy_flushed moment key None o is h = h
   copy_flushed moment key (Some c) o is h =
       chosen (OfOutcome i) (is_aged_out moment c) o
-      (flood_from_nobody moment (lsa_with_age 3600 c.lsa) (on_database (age_prematurely moment key) o))
+      (flood_from_nobody moment (lsa_with_age 3600 c.lsa)
+      (on_database (age_prematurely moment key) o))
       (λ aged. h) (λ young. kept.flushes moment key c o is young h)
 
   flush_kept : (moment : ℕ) (key : Key) (p : EventState) → InProgress p

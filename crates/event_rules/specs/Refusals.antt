@@ -87,7 +87,8 @@ abbrev pub RefusesByRules : {X : Type 0} → Router → ℕ → Occurrence → R
 RefusesByRules old moment event (Ok x) =
     (refusal_before_limits old moment event ≡ None) × (WouldExceed old moment event → ⊥)
 RefusesByRules old moment event (Err error.Full) = WouldExceed old moment event
-RefusesByRules old moment event (Err error.Memory) = MayLackMemory (refusal_before_limits old moment event)
+RefusesByRules old moment event (Err error.Memory) = MayLackMemory
+    (refusal_before_limits old moment event)
 RefusesByRules old moment event (Err (error.BadPacket f)) =
     refusal_before_limits old moment event ≡ Some (error.BadPacket f)
 RefusesByRules old moment event (Err error.NoInterface) =

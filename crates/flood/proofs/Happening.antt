@@ -7,7 +7,8 @@ use Rattle.event_rules.specs.RoomLaws.{IsRoomy}
 use Rattle.event_rules.proofs.Roomy.{every_packet_has_room}
 use Rattle.event_rules.specs.declared.model.Out.{Out}
 use Rattle.flood_laws.specs.InOrder.{AnnouncesItsOwn, IsConsistent}
-use Rattle.flood_laws.specs.Keeping.{AnnouncesAddress, AreTexts, HasNumbersInRange, KeepsWhatIsKnown}
+use Rattle.flood_laws.specs.Keeping.{AnnouncesAddress, AreTexts, HasNumbersInRange}
+use Rattle.flood_laws.specs.Keeping.{KeepsWhatIsKnown}
 use Rattle.flood_laws.proofs.Keeping.{events_keep_what_is_known, instances_stay_in_range}
 use Rattle.flood_laws.proofs.Known.{router_stays}
 use Rattle.flood_laws.proofs.Acknowledged.{routers_stay_in_order}

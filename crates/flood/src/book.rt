@@ -278,7 +278,8 @@ impl<L: Origin> Book<L> {
         ensures light { result ≡ false → IsDue self.now → ⊥ }
         ensures room { result ≡ false → length self.now.journal < 65536 }
     {
-        self.journal.len() == MAX_JOURNAL || self.journal_bytes > allowance(self.current.database().len())
+        self.journal.len() == MAX_JOURNAL
+            || self.journal_bytes > allowance(self.current.database().len())
     }
 
     // Marks the book if that is due.

@@ -13,7 +13,7 @@ ghost use Rattle.flood.specs.Occurrences.{occurrence_of};
 ghost use Rattle.flood.specs.Owed.{owed_at};
 
 use crate::event::Event;
-use crate::processing::{process_event, early_refusal};
+use crate::processing::{early_refusal, process_event};
 use crate::profile::in_profile;
 use crate::start::begin;
 use adjacency::NeighborState;

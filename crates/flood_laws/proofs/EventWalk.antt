@@ -168,7 +168,8 @@ module _ (i : Invariant) (kept : IsKeptByParts i) (X Y : Lately) (old : Router) 
   copy_flushed key None o is h = h
   copy_flushed key (Some c) o is h =
       chosen (OfOutcome i) (is_aged_out moment c) o
-      (flood_from_nobody moment (lsa_with_age 3600 c.lsa) (on_database (age_prematurely moment key) o))
+      (flood_from_nobody moment (lsa_with_age 3600 c.lsa)
+      (on_database (age_prematurely moment key) o))
       (λ aged. h) (λ young. kept.flushes moment key c o is young h)
 
   copy_flushed_too : (key : Key) (c : Option DatabaseCopy) (o : Outcome) (t : ByKey ℕ)
@@ -176,7 +177,8 @@ module _ (i : Invariant) (kept : IsKeptByParts i) (X Y : Lately) (old : Router) 
   copy_flushed_too key None o t is h x = x
   copy_flushed_too key (Some c) o t is h x =
       chosen (λ (q : Outcome). X q t) (is_aged_out moment c) o
-      (flood_from_nobody moment (lsa_with_age 3600 c.lsa) (on_database (age_prematurely moment key) o))
+      (flood_from_nobody moment (lsa_with_age 3600 c.lsa)
+      (on_database (age_prematurely moment key) o))
       (λ aged. x) (λ young. too.flushes key c o t is young h x)
 
   flush_kept : (key : Key) (p : EventState) → InProgress p → InProgress (flush moment key p)

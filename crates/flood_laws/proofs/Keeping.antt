@@ -49,7 +49,8 @@ use Rattle.event_rules.specs.Packing.{IsSentText, bodies, out_of, outs_at}
 use Rattle.event_rules.specs.Routers.{Occurrence, Router, fresh_link, unannounced_router}
 use Rattle.flood_laws.specs.Worlds.{IsKnown, IsLawfulOut, instances_stored}
 use Rattle.flood_laws.specs.Keeping.{AnnouncesAddress, AreTexts, AreTextsAt, EventsKeepWhatIsKnown}
-use Rattle.flood_laws.specs.Keeping.{HasNumbersInRange, InstancesStayInRange, IsIdentityInRange, IsLsaKey}
+use Rattle.flood_laws.specs.Keeping.{HasNumbersInRange, InstancesStayInRange, IsIdentityInRange}
+use Rattle.flood_laws.specs.Keeping.{IsLsaKey}
 use Rattle.flood_laws.specs.Keeping.{KeepsWhatIsKnown}
 use Rattle.flood_laws.specs.InOrder.{AnnouncesItsOwn, IsConsistent}
 use Rattle.flood_laws.specs.NewInstances.{IsNewInstance}
@@ -197,7 +198,8 @@ update_in_range (bytes ∷ rest) h = with_first (fault_of bytes) (update_in_rang
     with_first None more = (header_names (header_at bytes 0) (header-fits bytes 0 h.0.bytes), more)
     with_first (Some f) more = more
 
-brought_in_range : (b : PacketBody) → IsBody b → AllByRecursion IsIdentityInRange (instances_received b)
+brought_in_range : (b : PacketBody) → IsBody b → AllByRecursion IsIdentityInRange
+    (instances_received b)
 brought_in_range (body.Hello h) is = tt
 brought_in_range (body.Description d) is = tt
 brought_in_range (body.Request keys) is = tt
@@ -242,7 +244,8 @@ next_in_range : (z : ℤ) → FitsSigned w32 z → z ≢ pos 0x7fff_ffff → Fit
 next_in_range z fits not_last = omega (arith, ints)
 
 sequence_in_range : (key : Key) (copy : Option DatabaseCopy)
-    → IfThere (λ k c. IsIdentityInRange (identity_of_lsa c.lsa)) key copy → has_max_sequence copy ≡ false
+    → IfThere (λ k c. IsIdentityInRange (identity_of_lsa c.lsa)) key copy → has_max_sequence copy
+    ≡ false
     → FitsSigned w32 (next_sequence copy)
 sequence_in_range key None is goes = record { sfits = omega arith }
 sequence_in_range key (Some c) is goes =
@@ -256,7 +259,8 @@ sequence_in_range key (Some c) is goes =
 -- ---- the ranges of the numbers
 
 new_in_range : (key : Key) (copy : Option DatabaseCopy) (says : LsaBody) → IsLsaKey key
-    → IfThere (λ k c. IsIdentityInRange (identity_of_lsa c.lsa)) key copy → has_max_sequence copy ≡ false
+    → IfThere (λ k c. IsIdentityInRange (identity_of_lsa c.lsa)) key copy → has_max_sequence copy
+    ≡ false
     → IsIdentityInRange (identity_of_lsa (new_instance key copy says))
 unfolding sealed_lsa
 new_in_range key copy says its there goes = record {
@@ -318,7 +322,8 @@ module _ (old : Router) (moment : ℕ) (event : Occurrence) (outs : List Out) (n
     p = end_event old moment happens.after
 
     leaves : Leaves IsIdentityInRange IsLsaKey (λ name is. is.key) old event p
-    leaves = event_leaves IsIdentityInRange IsLsaKey (λ name is. is.key) old moment event outs new happens
+    leaves = event_leaves IsIdentityInRange IsLsaKey (λ name is. is.key) old moment event outs new
+        happens
         own (enters old event address holds)
 
     pub stays_in_range : HasNumbersInRange new
@@ -328,7 +333,8 @@ module _ (old : Router) (moment : ℕ) (event : Occurrence) (outs : List Out) (n
         (record {
           id = subst (λ id. id < 2 ^ 32) (sym l.same_router) holds.id;
           held = λ name c. of_member IsIdentityInRange (instances_stored p.router)
-              (left_all IsIdentityInRange (instances_stored p.router) (instances_in_sends p.sends) l.holds)
+              (left_all IsIdentityInRange (instances_stored p.router) (instances_in_sends p.sends)
+              l.holds)
               name c;
           announced = l.announced;
         })
@@ -408,7 +414,8 @@ first_in_ranges c router =
     record {
       id = subst (λ id. id < 2 ^ 32) (sym end.announced.0) router;
       held = λ name there. of_member IsIdentityInRange (instances_stored (initial c))
-          (left_all IsIdentityInRange (instances_stored (initial c)) (instances_in_sends []) all) name
+          (left_all IsIdentityInRange (instances_stored (initial c)) (instances_in_sends []) all)
+          name
           there;
       announced = λ key e is. (subst (IfThere (IsOwn (of_instances c) c.router) key) is
           (end.announced.1 key)).1;

@@ -490,7 +490,8 @@ module _ (old : Router) (moment : ℕ) (event : Occurrence) (number : ℕ) (befo
 
     flush_stored : IsStored (flood_from_nobody moment (lsa_with_age 3600 c.lsa) aged_out).area
     flush_stored =
-        let s : IsStill (flood_from_nobody moment (lsa_with_age 3600 c.lsa) aged_out).area.database key
+        let s : IsStill (flood_from_nobody moment (lsa_with_age 3600 c.lsa) aged_out).area.database
+        key
         (flushed_copy moment c) =
         mark_all moment (stepping_sends (flood_to moment None (lsa_with_age 3600 c.lsa))
         aged_out.area.links) key (flushed_copy moment c) aged_out.area.database put_there in

@@ -101,7 +101,8 @@ module _ (t : Telling) where
         lsa = lsa_with_age 3600 d.lsa;
         stored = moment;
       }) (λ d at. t.aged 3600 d.lsa (omega arith) at) o.area.database h.copies) h in
-      flood_told t moment None (lsa_with_age 3600 c.lsa) (on_database (age_prematurely moment key) o)
+      flood_told t moment None (lsa_with_age 3600 c.lsa)
+      (on_database (age_prematurely moment key) o)
       (t.aged 3600 c.lsa (omega arith) so) old
 
   -- ---- each link

@@ -71,7 +71,8 @@ pub record HoldsWhatIsKnown (old : Router) (moment : Moment) (event : Occurrence
 abbrev pub EventsHoldOnlyWhatIsKnown : Type 0
 EventsHoldOnlyWhatIsKnown =
     (old : Router) (moment : Moment) (event : Occurrence) (outs : List Out) (new : Router)
-    → Happens old moment event outs new → IsConsistent old → HoldsWhatIsKnown old moment event outs new
+    → Happens old moment event outs new → IsConsistent old → HoldsWhatIsKnown old moment event outs
+    new
 
 -- a Link State Update of LSAs whose header fields are in their ranges contains only those LSAs
 abbrev pub UpdatesTellWhatTheyBear : Type 0

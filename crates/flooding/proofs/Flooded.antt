@@ -32,14 +32,16 @@ unfolding flood_step
 flooded_to moment sender lsa number link n = refl
 
 pub step_is : (moment : ℕ) (sender : Option ℕ) (lsa : Lsa) (number : ℕ) (link : Link)
-    (o : Option Neighbor) → neighbor.step_on (flood_step moment (is_received_at sender number) lsa) o
+    (o : Option Neighbor) → neighbor.step_on (flood_step moment (is_received_at sender number) lsa)
+    o
     ≡ step_on (flood_to moment sender lsa number link) o
 step_is moment sender lsa number link None = refl
 step_is moment sender lsa number link (Some n) =
     ap (λ (s : Step). Some s.neighbor) (sym (flooded_to moment sender lsa number link n))
 
 pub sent_is : (moment : ℕ) (sender : Option ℕ) (lsa : Lsa) (number : ℕ) (link : Link)
-    (o : Option Neighbor) → neighbor.sent_on (flood_step moment (is_received_at sender number) lsa) o
+    (o : Option Neighbor) → neighbor.sent_on (flood_step moment (is_received_at sender number) lsa)
+    o
     ≡ sent_on (flood_to moment sender lsa number link) o
 sent_is moment sender lsa number link None = refl
 sent_is moment sender lsa number link (Some n) =
@@ -83,7 +85,8 @@ module _ (moment : ℕ) (sender : Option ℕ) (lsa : Lsa) where
   one_on number link (Some n) =
       let m = without_satisfied_request moment lsa n in
       one_by lsa n (add_retransmission moment lsa.header m) (remove_retransmission (lsa_key lsa) m)
-      (is_exchange_or_later n.state) (not (is_received_at sender number) && exceeds_request moment lsa
+      (is_exchange_or_later n.state) (not (is_received_at sender number)
+      && exceeds_request moment lsa
       (request_of n lsa))
 
   -- a Link State Update to each neighbor, or nothing

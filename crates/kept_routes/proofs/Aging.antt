@@ -171,6 +171,7 @@ pub keeps_all : (last_type : Option ℕ) (before moment : ℕ) (old new : Databa
 keeps_all last_type before moment old new left key of = (left key of).same
 
 pub olds_all : (last_type : Option ℕ) (before moment : ℕ) (old new : Database) (keys : List Key)
-    → AreLsasUnchanged last_type before moment old new → HaveNotJustAgedOut last_type before moment new keys
+    → AreLsasUnchanged last_type before moment old new → HaveNotJustAgedOut last_type before moment
+    new keys
 olds_all last_type before moment old new keys left key among copy of is =
     (left key of).not_just_aged copy is

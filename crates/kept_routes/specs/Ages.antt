@@ -13,12 +13,14 @@ HasNotJustReachedMaxAge before moment copy = is_aged_out moment copy ≡ true
     → is_aged_out before copy ≡ true
 
 -- the same for the copy with this key, if its type is up to this one
-abbrev pub HasNotJustAgedOut : Option ℕ → (before : Moment) → (moment : Moment) → Database → Key → Type 0
+abbrev pub HasNotJustAgedOut : Option ℕ → (before : Moment) → (moment : Moment) → Database → Key
+    → Type 0
 HasNotJustAgedOut last_type before moment db key =
     (copy : DatabaseCopy) → IsUpTo last_type key → finite.get db key ≡ Some copy
     → HasNotJustReachedMaxAge before moment copy
 
 -- the same for each of these keys
-abbrev pub HaveNotJustAgedOut : Option ℕ → (before : Moment) → (moment : Moment) → Database → List Key → Type 0
+abbrev pub HaveNotJustAgedOut : Option ℕ → (before : Moment) → (moment : Moment) → Database
+    → List Key → Type 0
 HaveNotJustAgedOut last_type before moment db keys =
     (key : Key) → Contains keys key → HasNotJustAgedOut last_type before moment db key

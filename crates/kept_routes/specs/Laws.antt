@@ -23,7 +23,8 @@ pub record RoutesAreKept : Type 0 where
   pub table : (old new : Contents) (root : Root) (answers : RouteWords) (table : List Route)
       → HaveSameContents None old new → IsTable old root answers table → IsTable new root answers
       table
-  pub stale : (old new : Contents) (root : Root) (answers : RouteWords) → HaveSameContents None old new
+  pub stale : (old new : Contents) (root : Root) (answers : RouteWords)
+      → HaveSameContents None old new
       → IsStale old root answers ↔ IsStale new root answers
 
 -- and so they are while only AS-external-LSAs of the root or of unreached routers change (section

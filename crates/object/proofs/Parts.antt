@@ -103,7 +103,8 @@ read_more read bytes part i one h lt part_is found only =
           ≡ take 40 (drop (40 * k) bytes)) i
           (λ k less. let other : k ≢ i = omega (arith, less) in
           ap kind_text (get_or-set_other read i k one Unstated other) ∙ h.texts k less) text;
-      same = λ ks all ten e. below_more (λ k. get_or (set read i one) k Unstated ≡ get_or ks k Unstated) i
+      same = λ ks all ten e. below_more (λ k. get_or (set read i one) k Unstated
+          ≡ get_or ks k Unstated) i
           (λ k less. let other : k ≢ i = omega (arith, less) in
           get_or-set_other read i k one Unstated other ∙ h.same ks all ten e k less)
           (get_or-set_same read i one Unstated (omega arith)

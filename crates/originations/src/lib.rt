@@ -11,7 +11,7 @@ mod sequence;
 
 pub use described::{copy_describes, links_differ};
 pub use external::external_instance;
-pub use origination::{Origination, interval_is_over, decide_external_lsa, decide_router_lsa};
+pub use origination::{Origination, decide_external_lsa, decide_router_lsa, interval_is_over};
 pub use router::{full_routers, router_instance, subnet_mask};
 // Names from the crates below that crates above use.
 pub use flooding::Case;

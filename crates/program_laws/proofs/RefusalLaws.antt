@@ -425,7 +425,8 @@ cut_targets slot =
 
 cut_ends : (slot : ℕ) → FallsOff cut_code slot → ⊥
 cut_ends slot off =
-    of_cut (λ at i. falls_through i ≡ true → ⊥) (λ on. never on) (λ on. never on) slot off.instruction
+    of_cut (λ at i. falls_through i ≡ true → ⊥) (λ on. never on) (λ on. never on) slot
+    off.instruction
     off.at off.on
 
 none_before_cut : (slot : ℕ) (i : Instruction) → BeginsAt i cut_code slot → slot_after slot i ≡ 0

@@ -33,7 +33,8 @@ use Rattle.program_laws.specs.Runs.{loads_context, loads_of_map, says_first, sto
 no_steps : (hook : Hook) → Run (setting_of loads_context hook blank) 0 [] start
 no_steps hook = record { steps = refl; leads = refl }
 
-pub loads_of_context : (hook : Hook) (kept : List Region) → AreRecordedRegions loads_context hook kept
+pub loads_of_context : (hook : Hook) (kept : List Region) → AreRecordedRegions loads_context hook
+    kept
     → slice_get kept 0 ≡ Some regions.Context
 loads_of_context hook kept are = are blank 0 [] start (no_steps hook) (Load Unsigned64 0 1 (pos 0))
     1 (pointers.Context 0) refl refl refl
@@ -149,7 +150,8 @@ pub starts_as_stated : {D : Type 0} (contains : D → ℕ → Type 0) (gives : G
 starts_as_stated contains gives hook = record {
   offset = λ meet. context_apart ((meet blank 0 [] start (says_first Unstated (Context 8))
       (no_steps hook) refl).registers 1 (omega arith));
-  filled = λ meet. let held = (meet blank 0 [] start (says_first any_number Unstated) (no_steps hook)
+  filled = λ meet. let held = (meet blank 0 [] start (says_first any_number Unstated)
+      (no_steps hook)
       refl).registers 0 (omega arith) in nothing_is_number held.0 held.1;
   byte = λ meet. let byte = (meet blank 0 [] start
       (record (says_first Unstated Unstated) { stack = with_range 0 1 no_bytes }) (no_steps hook)

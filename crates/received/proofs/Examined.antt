@@ -42,10 +42,10 @@ drops : (moment : ℕ) (sender : Option ℕ) (lsa : Lsa) (number : ℕ) (link : 
     → DropsRequest (flood_to moment sender lsa number link n) lsa
 drops moment sender lsa number link n true r =
     rw (r.is_later, r.is_received_at, r.is_synchronizing, r.is_requested, r.is_older)
-        (removed n.requests (lsa_key lsa))
+    (removed n.requests (lsa_key lsa))
 drops moment sender lsa number link n false r =
     rw (r.is_later, r.is_received_at, r.is_synchronizing, r.is_requested, r.is_newer, r.is_older)
-        (removed n.requests (lsa_key lsa))
+    (removed n.requests (lsa_key lsa))
 
 pub examined : FloodingExaminesEachNeighbor
 examined = record {

@@ -83,7 +83,8 @@ module _ (before moment : ℕ) where
       (still_aged e es o (has_just_aged_out before moment e.1) h.1)
       ∙ by_test e es o h.0 (is_aged_out moment e.1) refl
 
-  pub ages_are : (a : Area) → flood_each_new_max_age before moment (max_age_keys moment a.database) a
+  pub ages_are : (a : Area) → flood_each_new_max_age before moment (max_age_keys moment a.database)
+      a
       ≡ flood_aged before moment (start a)
   ages_are a = sym (ages_by_keys (finite.entries a.database) (start a)
       (still_all a.database (finite.entries a.database) (all_there a.database)))

@@ -34,7 +34,8 @@ is_accepted_before_exchange (body.Acknowledgment headers) = false
 -- it is heard, and doesn't wait for Exchange before that
 abbrev pub is_processed : RouterNumber → Packet → Option Neighbor → Bool
 is_processed own packet n =
-    is_heard own packet n && (neighbor_is_exchange_or_later n || is_accepted_before_exchange packet.body)
+    is_heard own packet n && (neighbor_is_exchange_or_later n || is_accepted_before_exchange
+    packet.body)
 
 -- ---- LSAs of a Link State Update
 

@@ -90,7 +90,8 @@ impl Router {
             receive_self_originated(self, alloc, moment, &header)?;
             return Ok(true);
         }
-        self.area.carry_out_case(alloc, case, moment, interface, &lsa)?;
+        self.area
+            .carry_out_case(alloc, case, moment, interface, &lsa)?;
         Ok(goes_on(case))
     }
 }

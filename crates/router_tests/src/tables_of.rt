@@ -3,7 +3,7 @@ use pages::{Pages, RouteAnswers};
 use std::alloc::{AllocError, Global};
 use std::process::Abort;
 use std::test::Fail;
-use tables::{is_stale, compare, table};
+use tables::{compare, is_stale, table};
 use words::{Address, Hops, Prefix, Route, RouteKind, Sequence};
 
 // An answer: the index of the candidate that it is for, the answer, and by how much the cost

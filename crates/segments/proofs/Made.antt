@@ -63,7 +63,8 @@ module _ (code : List Slot) (slot : ℕ) (i : Instruction) (here : BeginsAt i co
       let goes : falls_through i ≡ true = subst (λ k. falls_through k ≡ true) same off.on in
       absurd (omega (arith, inside_code code (slot + size i) (on goes), last))
 
-  pub falls_off : (slot + size i ≡ length code) ⊎ Begins code (slot + size i) → falls_through i ≡ true
+  pub falls_off : (slot + size i ≡ length code) ⊎ Begins code (slot + size i) → falls_through i
+      ≡ true
       → (Begins code (slot + size i) → ⊥) → FallsOff code slot
   falls_off followed goes nowhere =
       ⊎_elim

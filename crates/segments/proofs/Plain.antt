@@ -22,7 +22,8 @@ use Rattle.transfer.specs.declared.rule.Rule.TheVariants as rules
 use Rattle.transfer.specs.Plain.{IsPlainInstruction, IsPlainStep, IsStraight, KeepsFilled}
 use Rattle.transfer.specs.Rules.{MayName}
 use Rattle.segments.specs.Places.{falls_through}
-use Rattle.segments.specs.Plain.{AsksAtMost, IsFilledBehind, IsPlainHere, KeepsNumbers, IsPlainEdgeIfStated}
+use Rattle.segments.specs.Plain.{AsksAtMost, IsFilledBehind, IsPlainHere, KeepsNumbers}
+use Rattle.segments.specs.Plain.{IsPlainEdgeIfStated}
 
 -- ---- what is required of registers
 
@@ -89,7 +90,8 @@ module _ {D : Type 0} (contains : D → ℕ → Type 0) (segment_starts : List (
   module _ (slot : ℕ) (i : Instruction) (state : AbstractState D)
       (here : IsPlainHere contains segment_starts segment slot i state) where
     pub jump_edge : (to : ℕ) → jump_target slot i ≡ Some to → register_written i ≡ None
-        → IsPlainEdgeIfStated contains segment_starts segment (nat_le to slot) to (HoldsNumber state)
+        → IsPlainEdgeIfStated contains segment_starts segment (nat_le to slot) to
+        (HoldsNumber state)
     jump_edge to jumps none =
         enter_more (nat_le to slot) to (IsFilledBehind i state) (HoldsNumber state)
         (beside i state none)
@@ -101,7 +103,8 @@ module _ {D : Type 0} (contains : D → ℕ → Type 0) (segment_starts : List (
     pass_edge after next less behind on grows =
         let forward : nat_le next slot ≡ false = grind (arith, nat_tests) in
         enter_more false next (IsFilledBehind i state) (HoldsNumber after) grows
-        (subst (λ back. IsPlainEdgeIfStated contains segment_starts segment back next (IsFilledBehind i state))
+        (subst (λ back. IsPlainEdgeIfStated contains segment_starts segment back next
+        (IsFilledBehind i state))
         forward (here.edges next (inr (on, behind))))
 
 -- ---- what remains known

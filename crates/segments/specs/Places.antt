@@ -14,7 +14,8 @@ falls_through (instructions.LongJump distance) = false
 falls_through instructions.Exit = false
 falls_through other = true
 
--- the start of the segment at a slot, if something is stated there; the list has an element for each
+-- the start of the segment at a slot, if something is stated there; the list has an element for
+-- each
 -- slot of the code
 abbrev pub segment_start_at : {D : Type 0} → List (Option (SegmentStart D)) → ℕ
     → Option (SegmentStart D)

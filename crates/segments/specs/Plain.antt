@@ -60,7 +60,8 @@ pub record IsPlainHere {D : Type 0} (contains : D → ℕ → Type 0)
   pub reads : ReadsFilled i state
   pub ten : length state.kinds.items ≡ 10
   pub edges : (to : ℕ) → LeadsTo slot i to
-      → IsPlainEdgeIfStated contains segment_starts segment (nat_le to slot) to (IsFilledBehind i state)
+      → IsPlainEdgeIfStated contains segment_starts segment (nat_le to slot) to
+      (IsFilledBehind i state)
 
 -- as many registers as before, and numbers remain numbers
 pub record KeepsNumbers {D : Type 0} (state after : AbstractState D) : Type 0 where

@@ -45,7 +45,8 @@ module _ {X K : Type 0} {R : K → K → Ordering} (total : IsTotalOrder R) (key
 
 -- ---- answers
 
-pub lets_in : (answers : RouteWords) (route : Route) → IsSorted answer_cmp answers → (r : Result ℕ ℕ)
+pub lets_in : (answers : RouteWords) (route : Route) → IsSorted answer_cmp answers
+    → (r : Result ℕ ℕ)
     → IsSearchInRange r (length answers)
     → IsBinarySearchResult (λ (y : Route × ℕ). answer_cmp y (route, 0)) answers r
     → IsTrue (is_ok r) ↔ IsLetIn answers route

@@ -20,7 +20,8 @@ use Rattle.tables.specs.Parts.{AreLetIn, Ascend, LacksAnswers}
 abbrev pub IsAmong : List Route → ℕ → Route → Type 0
 IsAmong routes n r = (k : ℕ) × (k < n) × (get_or routes k r ≡ r)
 
-pub record AreLetInOf (answers : RouteWords) (routes : List Route) (n : ℕ) (part : List Route) : Type 0
+pub record AreLetInOf (answers : RouteWords) (routes : List Route) (n : ℕ) (part : List Route) :
+    Type 0
   where
     pub each : (r : Route) → Contains part r ↔ (IsAmong routes n r × IsLetIn answers r)
     pub ascending : Ascend routes → Ascend part

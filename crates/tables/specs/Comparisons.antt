@@ -10,7 +10,8 @@ use Rattle.tables.specs.declared.shared.Comparison.{Comparison}
 
 -- whether some candidate has no answer, both ways; and if it says so, each answered route is a
 -- candidate
-pub record IsComparison (answers : RouteWords) (candidates : List Route) (found : Comparison) : Type 0
+pub record IsComparison (answers : RouteWords) (candidates : List Route) (found : Comparison) :
+    Type 0
   where
     pub lacks : (contents : Contents) (root : Root) → AreCandidates contents root candidates
         → IsTrue found.lacks ↔ IsStale contents root answers

@@ -65,10 +65,7 @@ pub struct Comparison {
 ///
 /// # Errors
 /// `AllocError` if an allocation is refused.
-pub fn compare(
-    candidates: &Pages<Route>,
-    answers: &RouteAnswers,
-) -> Result<Comparison, AllocError>
+pub fn compare(candidates: &Pages<Route>, answers: &RouteAnswers) -> Result<Comparison, AllocError>
     ensures { IfOk result (IsComparison answers.now candidates.now) }
 {
     match answers.kept() {
@@ -85,7 +82,10 @@ pub fn compare(
 
 // The same, where the answers are kept one by one. The candidates are copied into one piece only if
 // that takes a search.
-fn compare_each(candidates: &Pages<Route>, answers: &[(Route, u64)]) -> Result<Comparison, AllocError>
+fn compare_each(
+    candidates: &Pages<Route>,
+    answers: &[(Route, u64)],
+) -> Result<Comparison, AllocError>
     ensures { IfOk result (IsComparison answers.now candidates.now) }
 {
     if let Some(found) = compare_in_turn(candidates, answers) {

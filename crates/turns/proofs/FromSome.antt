@@ -74,7 +74,8 @@ error_alone V b moment e refusing.Journal h = h
 error_alone V b moment e (refusing.Core x) h = h
 
 pub refused_now : {V : Type 0} (moment at : Moment) (e : Event) (b : BookView)
-    (r : Result V BookError) → at ≡ taken_at e moment b.current.moment → RefusesWithMarksByRules b at e r
+    (r : Result V BookError) → at ≡ taken_at e moment b.current.moment
+    → RefusesWithMarksByRules b at e r
     → IfErr r (λ error. RefusesAt b moment e error)
 refused_now moment at e b (Ok x) is h = tt
 refused_now {V = V} moment at e b (Err why) is h =

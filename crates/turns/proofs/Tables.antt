@@ -30,7 +30,8 @@ same_or_not a b =
       | Greater ↦ λ is. inr (λ same. absurd (let no : Greater ≡ Equal = sym is ∙ tied same in cc))
     ] refl
 
-among_or_not : (answers : RouteWords) (a : Route × ℕ) → Contains answers a ⊎ (Contains answers a → ⊥)
+among_or_not : (answers : RouteWords) (a : Route × ℕ) → Contains answers a
+    ⊎ (Contains answers a → ⊥)
 among_or_not [] a = inr (of_empty a)
 among_or_not (first ∷ rest) a =
     elim (same_or_not first a) [

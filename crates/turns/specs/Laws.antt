@@ -10,7 +10,8 @@ use Rattle.hooks.specs.declared.operation.LoaderOperation.{LoaderOperation}
 use Rattle.hooks.specs.Questions.{ExternalAnswer}
 use Rattle.flood.specs.declared.event.Event.{Event}
 use Rattle.flood.specs.declared.event.Event.TheVariants as event
-use Rattle.turns.specs.Turns.{AreBeside, IsEventOfWork, IsOfferedBySome, IsTakenBySome, TakesFor, took_from}
+use Rattle.turns.specs.Turns.{AreBeside, IsEventOfWork, IsOfferedBySome, IsTakenBySome, TakesFor}
+use Rattle.turns.specs.Turns.{took_from}
 use Rattle.turns.specs.declared.work.Work.TheVariants as work
 
 -- A turn for a datagram gives the packet of just these bytes from just this interface, and sends

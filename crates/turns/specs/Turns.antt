@@ -188,7 +188,8 @@ IsListed {B = B} began at interfaces neighbors =
 abbrev pub IsWordOn : (known now : List LoaderOperation) → Given → (word : ℕ) → Type 0
 IsWordOn known now input word =
     (operations : List LoaderOperation) × (labels : List Label)
-    × IsPrefix known operations × IsPrefix operations now × OperationsAnswer operations input labels word
+    × IsPrefix known operations × IsPrefix operations now × OperationsAnswer operations input
+    labels word
 
 -- the answer is on this destination, at this moment, beside these rows
 pub record IsTagOn (known now : List LoaderOperation) (external : External) (moment : Moment)
@@ -282,7 +283,8 @@ abbrev pub IsRedistribute : Offers → (known now : List LoaderOperation) → Ex
     → Type 0
 IsRedistribute offers known now external moment e =
     (tag : ExternalAnswer) × (price : ExternalAnswer)
-    × AreAnswersAsked offers known now external moment tag price × (e ≡ event.Redistribute tag price)
+    × AreAnswersAsked offers known now external moment tag price
+    × (e ≡ event.Redistribute tag price)
 
 -- the event is that of the work, with answers to its questions, by a port that knew the first of
 -- these operations when it began to ask, and knows the others then

@@ -84,13 +84,15 @@ empty_is_number said numbers empty number = cc
 stated_plainly : (r : ℕ) → r < 10 → (said_of (says 2 any_number 0) r ≡ kinds.Unstated)
     ⊎ (said_of (says 2 any_number 0) r ≡ any_number)
 stated_plainly zero low = inr refl
-stated_plainly (suc r) low = inl (get_or-replicate 9 r kinds.Unstated kinds.Unstated (omega (arith, low)))
+stated_plainly (suc r) low = inl (get_or-replicate 9 r kinds.Unstated kinds.Unstated
+    (omega (arith, low)))
 
 number_is_r0 : (r : ℕ) → IsNumberIn (says 2 any_number 0) r → r ≡ 0
 number_is_r0 zero number = refl
 number_is_r0 (suc r) number =
     absurd (empty_is_number (get_or (replicate 9 kinds.Unstated) r kinds.Unstated) number.numbers
-    (get_or-replicate 9 r kinds.Unstated kinds.Unstated (let low = number.low in omega (arith, low)))
+    (get_or-replicate 9 r kinds.Unstated kinds.Unstated
+    (let low = number.low in omega (arith, low)))
     number.says)
 
 third_is_none : Begins tested_code 3 → ⊥
@@ -123,7 +125,8 @@ well_made slot = record {
   ends = λ off. each (λ at i. slot_after at i ≡ 3 → falls_through i ≡ true → ⊥)
       (λ last on. omega (arith, last)) (λ last on. omega (arith, last)) (λ last on. never on)
       slot off.instruction off.at off.last off.on;
-  reached = λ unreached. each (λ before i. (to : ℕ) → slot_after before i ≡ to → falls_through i ≡ false
+  reached = λ unreached. each (λ before i. (to : ℕ) → slot_after before i ≡ to → falls_through i
+      ≡ false
       → Begins tested_code to → ⊥)
       (λ to behind leaves begins. never (sym leaves))
       (λ to behind leaves begins. never (sym leaves))

@@ -20,7 +20,8 @@ use Rattle.transfer.specs.Rules.{LacksHelper}
 use Rattle.segments.specs.Places.{falls_through, segment_start_at}
 use Rattle.segments.specs.Stated.{statement_at, AreSegmentStarts}
 use Rattle.segments.specs.Refusals.{JumpsNowhere, IsStray, LacksHelperAt, IsWellMade, IsFirst}
-use Rattle.segments.specs.Refusals.{IsFirstHere, IsPassedTo, IsPlaceRefusal, IsOfEdge, MayRefuseInstruction}
+use Rattle.segments.specs.Refusals.{IsFirstHere, IsPassedTo, IsPlaceRefusal, IsOfEdge}
+use Rattle.segments.specs.Refusals.{MayRefuseInstruction}
 use Rattle.segments.specs.Refusals.{MayRefuse}
 use Rattle.isa.proofs.Starts.{same_instruction}
 use Rattle.segments.proofs.SegmentStarts.{none_isn't_some, stated_of, unstated_of}

@@ -25,7 +25,8 @@ loop-router-preserved c =
     let i = c.loop-router.router-index in
     let first = c.args.links.now.items in
     let old = c.loop-router.links.items in
-    let is = λ (o : Option ℕ) (e : c.index_if_linking_back.result ≡ o). same_neighbor nodes entries Transit
+    let is = λ (o : Option ℕ) (e : c.index_if_linking_back.result ≡ o). same_neighbor nodes entries
+    Transit
     router router c.number.result c.args.id c.index_if_linking_back.result o refl c.number.ensures e
     c.index_if_linking_back.ensures in
     record {

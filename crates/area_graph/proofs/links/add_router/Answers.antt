@@ -12,7 +12,8 @@ returns-in-None-clause-adds c =
     let advertised = c.args.advertised.now in
     let none : IsNeighborAt nodes entries advertised.link_id PointToPoint c.args.router None =
     same_neighbor nodes entries PointToPoint c.new-far.result advertised.link_id c.number.result
-    c.args.router c.index_if_linking_back.result None c.new-far.ensures c.number.ensures c.in-None.is
+    c.args.router c.index_if_linking_back.result None c.new-far.ensures c.number.ensures
+    c.in-None.is
     c.index_if_linking_back.ensures in
     no_neighbor c.args.root.now nodes entries c.args.router advertised c.args.links.now.items none
 

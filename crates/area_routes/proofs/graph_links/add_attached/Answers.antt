@@ -32,7 +32,8 @@ loop-router-preserved c =
     let old = c.loop-router.links.items in
     let N : ℕ → Option ℕ → Type 0 = λ n o. IsNeighbor contents nodes router Transit n o in
     let is = λ (o : Option ℕ) (e : c.index_if_linking_back.result ≡ o). subst (N id) e
-    (subst (λ n. N n c.index_if_linking_back.result) c.number.ensures c.index_if_linking_back.ensures) in
+    (subst (λ n. N n c.index_if_linking_back.result) c.number.ensures
+    c.index_if_linking_back.ensures) in
     record {
       adds = elim c.match-index_if_linking_back.branch [
         | in-Some+in_ok-push w ↦

@@ -57,7 +57,8 @@ returns c contents ways are inner tell =
     subst (λ (rs : List Route). Q it.flagged.items rs c.deref-4.result.now)
     c.deref-2.ensures.value first in
     let third : Q it.flagged.items it.boundary_routes.items it.networks.items =
-    subst (λ (rs : List Route). Q it.flagged.items it.boundary_routes.items rs) c.deref-4.ensures.value
+    subst (λ (rs : List Route). Q it.flagged.items it.boundary_routes.items rs)
+    c.deref-4.ensures.value
     second in
     let offered : (o : Offer) → Contains c.extend_from_slice.new.self.items o ↔ OffersInside
     contents

@@ -5,7 +5,8 @@ use Rattle.candidates.proofs.passes.push_externals.Goals as goal
 
 pub loop-advertised-preserved : goal.loop-advertised-preserved
 loop-advertised-preserved c =
-    let Q = OfAdvertised c.args.root.now c.args.inner.now.flagged.now c.args.inner.now.boundary_routes.now
+    let Q = OfAdvertised c.args.root.now c.args.inner.now.flagged.now
+    c.args.inner.now.boundary_routes.now
     c.args.inner.now.networks.now in
     one_more Q c.args.offers.now.items c.loop-advertised.offers.items c.push_offer.new.offers.items
     c.args.externals.now c.loop-advertised.advertised-index c.advertised-item.result
@@ -17,7 +18,8 @@ loop-advertised-preserved c =
 
 pub returns : goal.returns
 returns c =
-    let Q = OfAdvertised c.args.root.now c.args.inner.now.flagged.now c.args.inner.now.boundary_routes.now
+    let Q = OfAdvertised c.args.root.now c.args.inner.now.flagged.now
+    c.args.inner.now.boundary_routes.now
     c.args.inner.now.networks.now in
     all_of_them Q c.args.offers.now.items c.loop-advertised.offers.items c.args.externals.now
     c.loop-advertised.advertised-index (omega (arith, c.loop-advertised-test.false))

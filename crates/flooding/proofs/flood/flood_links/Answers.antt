@@ -44,7 +44,8 @@ loop-i-preserved c =
     old.present old.present.neighbor in
     record {
       floods = finishes_next present draft_of (after_step c.args.moment c.args.received_at lsa)
-          (after_draft c.args.moment c.args.received_at lsa) (counts c.args.moment c.args.received_at lsa)
+          (after_draft c.args.moment c.args.received_at lsa)
+          (counts c.args.moment c.args.received_at lsa)
           c.loop-i.i c.loop-i.links c.loop-i.sent
           (stepped_links F P) (drafted_from 1 (stepping_sends F P) P D)
           (is_any (stepping_sends F P))
@@ -68,14 +69,16 @@ returns-clause-does c =
     let F = step c.args.moment c.args.received_at lsa in
     record {
       links = finished_items present draft_of (after_step c.args.moment c.args.received_at lsa)
-          (after_draft c.args.moment c.args.received_at lsa) (counts c.args.moment c.args.received_at lsa)
+          (after_draft c.args.moment c.args.received_at lsa)
+          (counts c.args.moment c.args.received_at lsa)
           c.loop-i.i c.loop-i.links c.loop-i.sent
           (stepped_links F P) (drafted_from 1 (stepping_sends F P) P D)
           (is_any (stepping_sends F P))
           (omega (arith, c.loop-i-test.false, c.loop-i.auto.i-end, c.loop-i.auto.links))
           c.loop-i.invariant.floods;
       drafts = finished_drafts present draft_of (after_step c.args.moment c.args.received_at lsa)
-          (after_draft c.args.moment c.args.received_at lsa) (counts c.args.moment c.args.received_at lsa)
+          (after_draft c.args.moment c.args.received_at lsa)
+          (counts c.args.moment c.args.received_at lsa)
           c.loop-i.i c.loop-i.links c.loop-i.sent
           (stepped_links F P) (drafted_from 1 (stepping_sends F P) P D)
           (is_any (stepping_sends F P))

@@ -11,7 +11,8 @@ returns-clause-same c = λ t.
     all_same c.args.last_type c.args.before c.args.moment old new c.requires
     (all_left c.args.last_type c.args.before c.args.moment old new
     (c.in_ok-is_unchanged.ensures.0 c.if-not-branch.false)
-    (subst (HaveNotJustAgedOut c.args.last_type c.args.before c.args.moment new) keys (c.are_old.ensures.0 t)))
+    (subst (HaveNotJustAgedOut c.args.last_type c.args.before c.args.moment new) keys
+    (c.are_old.ensures.0 t)))
 
 pub returns-clause-left : goal.returns-clause-left
 returns-clause-left c =

@@ -7,12 +7,14 @@ use Rattle.lsdb.proofs.sameness.have_one_body.Goals as goal
 pub have_one_rest-requires-clause-first : goal.have_one_rest-requires-clause-first
 have_one_rest-requires-clause-first c =
     subst (λ bs. 20 ≤ length bs) (sym c.as_slice.ensures.value)
-    (long c.in_ok-old_text.old_text.items (lsa_with_age 0 c.args.old.now) c.in_ok-old_text.ensures.text)
+    (long c.in_ok-old_text.old_text.items (lsa_with_age 0 c.args.old.now)
+    c.in_ok-old_text.ensures.text)
 
 pub have_one_rest-requires-clause-second : goal.have_one_rest-requires-clause-second
 have_one_rest-requires-clause-second c =
     subst (λ bs. 20 ≤ length bs) (sym c.as_slice-2.ensures.value)
-    (long c.in_ok-new_text.new_text.items (lsa_with_age 0 c.args.new.now) c.in_ok-new_text.ensures.text)
+    (long c.in_ok-new_text.new_text.items (lsa_with_age 0 c.args.new.now)
+    c.in_ok-new_text.ensures.text)
 
 pub returns-then-header : goal.returns-then-header
 returns-then-header c = (

@@ -16,5 +16,6 @@ returns-in-Each c =
 
 pub returns-in_ok-each-in-AllIn : goal.returns-in_ok-each-in-AllIn
 returns-in_ok-each-in-AllIn c =
-    subst (λ (l : RouteWords). IfOk c.compare_each-in-AllIn.result (IsComparison l c.args.candidates.now))
+    subst (λ (l : RouteWords). IfOk c.compare_each-in-AllIn.result
+    (IsComparison l c.args.candidates.now))
     (c.deref.ensures.value ∙ c.in_ok-each-in-AllIn.ensures) c.compare_each-in-AllIn.ensures

@@ -14,6 +14,7 @@ returns-in-Each c =
 
 pub returns-in_ok-each-in-AllIn : goal.returns-in_ok-each-in-AllIn
 returns-in_ok-each-in-AllIn c =
-    subst (λ (l : RouteWords). IfOk c.table-in-AllIn.result (λ table. (contents : Contents) (root : Root)
+    subst (λ (l : RouteWords). IfOk c.table-in-AllIn.result
+    (λ table. (contents : Contents) (root : Root)
     → AreCandidates contents root c.args.candidates.now → IsTable contents root l table.items))
     (c.deref.ensures.value ∙ c.in_ok-each-in-AllIn.ensures) c.table-in-AllIn.ensures

@@ -17,7 +17,8 @@ invariant-loop-slot g l = record {
   fine : (k : ℕ) → k < l.slot → Begins l.code k
       → IsFine g.D.Domain.contains l.code l.hook l.segment_starts l.entry k;
   kept : (k : ℕ) → k < l.slot → Begins l.code k
-      → HasRecordedRegion g.D.Domain.contains l.code l.hook l.segment_starts l.entry l.regions.items k;
+      → HasRecordedRegion g.D.Domain.contains l.code l.hook l.segment_starts l.entry
+      l.regions.items k;
   long : length l.regions.items ≡ length l.code;
   current : IsCurrentUnlessStated g.D.Domain.contains l.code l.hook l.segment_starts l.entry l.slot
       (segment_of l.segment_starts l.entry l.begun) l.known;

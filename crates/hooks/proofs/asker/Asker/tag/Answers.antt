@@ -20,7 +20,8 @@ new-requires c =
     } in i) c.tag_context.ensures in (
       rows,
       answered Tag all given a.labels _ refl
-          (subst (λ (i : Given). OperationsAnswer all i a.labels c.in_ok-answer.answer.word) same a.answers),
+          (subst (λ (i : Given). OperationsAnswer all i a.labels c.in_ok-answer.answer.word) same
+          a.answers),
     )
 
 pub returns-clause-answered : goal.returns-clause-answered
