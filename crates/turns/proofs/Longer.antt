@@ -106,25 +106,25 @@ module _ (known more now most : List LoaderOperation) (longer : IsPrefix known m
   refused_longer offers refuses events moment w error (inr (e, why, is, refused, same)) =
       inr (e, why, for_longer offers w moment e is, refused, same)
 
-  unrefreshed_longer : (offers : Offers) (refuses : Refuses) (moment : Moment) (events : ℕ)
-      → IsUnrefreshed offers refuses more now moment events
-      → IsUnrefreshed offers refuses known most moment events
-  unrefreshed_longer offers refuses moment events (inl changed) = inl changed
-  unrefreshed_longer offers refuses moment events (inr (error, why)) =
+  unrefreshed_longer : (offers : Offers) (took : Took) (refuses : Refuses) (moment : Moment) (events : ℕ)
+      → IsUnrefreshed offers took refuses more now moment events
+      → IsUnrefreshed offers took refuses known most moment events
+  unrefreshed_longer offers took refuses moment events (inl changed) = inl changed
+  unrefreshed_longer offers took refuses moment events (inr (error, why)) =
       inr (error, refused_longer offers refuses (events + 1) moment work.Refresh error why)
 
   refreshed_longer : {X : Type 0} (items : X → List Out) (offers : Offers) (took : Took)
       (refuses : Refuses) (moment : Moment) (events : ℕ) (one due still two : Type 0)
       (o : Option X)
-      → MatchOption o (one × (due → IsUnrefreshed offers refuses more now moment events))
+      → MatchOption o (one × (due → IsUnrefreshed offers took refuses more now moment events))
       (λ x. due × still × ((left : Option Bool)
       × TakesFor offers took more now (events + 1) moment work.Refresh (items x) left) × two)
-      → MatchOption o (one × (due → IsUnrefreshed offers refuses known most moment events))
+      → MatchOption o (one × (due → IsUnrefreshed offers took refuses known most moment events))
       (λ x. due × still × ((left : Option Bool)
       × TakesFor offers took known most (events + 1) moment work.Refresh (items x) left)
       × two)
   refreshed_longer items offers took refuses moment events one due still two None h =
-      (h.0, λ is. unrefreshed_longer offers refuses moment events (h.1 is))
+      (h.0, λ is. unrefreshed_longer offers took refuses moment events (h.1 is))
   refreshed_longer items offers took refuses moment events one due still two (Some x) h = (
     h.0,
     h.1,
@@ -143,15 +143,15 @@ module _ (known more now most : List LoaderOperation) (longer : IsPrefix known m
         turned.refreshed h.refreshed;
   }
 
-  unrefreshed_since : (offers : Offers) (refuses : Refuses) (moment : Moment)
-      (before between changes : ℕ) → between ≡ before + 1 → refuses.changes_read before changes
-      → IsChangedSince refuses between changes
+  unrefreshed_since : (offers : Offers) (took : Took) (refuses : Refuses) (moment : Moment)
+      (before between changes : ℕ) → between ≡ before + 1 → took.changes_read before changes
+      → IsChangedSince took between changes
       ⊎ ((error : TurnError)
       × RefusesFor offers refuses more now between moment work.Refresh error)
-      → IsUnrefreshed offers refuses known most moment before
-  unrefreshed_since offers refuses moment before between changes one counted (inl changed) =
-      inl (changes, counted, subst (λ n. IsChangedSince refuses n changes) one changed)
-  unrefreshed_since offers refuses moment before between changes one counted (inr (error, why)) =
+      → IsUnrefreshed offers took refuses known most moment before
+  unrefreshed_since offers took refuses moment before between changes one counted (inl changed) =
+      inl (changes, counted, subst (λ n. IsChangedSince took n changes) one changed)
+  unrefreshed_since offers took refuses moment before between changes one counted (inr (error, why)) =
       inr (
         error,
         subst (λ n. RefusesFor offers refuses known most n moment work.Refresh error) one
@@ -161,29 +161,29 @@ module _ (known more now most : List LoaderOperation) (longer : IsPrefix known m
   -- what follows an event that counts once
   pub follows : {X : Type 0} (items : X → List Out) (offers : Offers) (took : Took)
       (refuses : Refuses) (moment : Moment) (before between after changes : ℕ) (due : Type 0)
-      (o : Option X) → between ≡ before + 1 → refuses.changes_read before changes
+      (o : Option X) → between ≡ before + 1 → took.changes_read before changes
       → IfNone o ((after ≡ between)
-      × (due → IsChangedSince refuses between changes
+      × (due → IsChangedSince took between changes
       ⊎ ((error : TurnError) × RefusesFor offers refuses more now between moment work.Refresh
       error))) → IfSome o (λ x. due
       × ((left : Option Bool) × TakesFor offers took more now between moment
       work.Refresh (items x) left) × (after ≡ between + 1))
-      → IfSome o (λ _. refuses.changes_read between changes)
+      → IfSome o (λ _. took.changes_read between changes)
       → MatchOption o ((after ≡ before + 1)
-      × (due → IsUnrefreshed offers refuses known most moment before))
-      (λ x. due × IsUnchanged refuses before × ((left : Option Bool)
+      × (due → IsUnrefreshed offers took refuses known most moment before))
+      (λ x. due × IsUnchanged took before × ((left : Option Bool)
       × TakesFor offers took known most (before + 1) moment work.Refresh
       (items x) left) × (after ≡ before + 2))
   follows items offers took refuses moment before between after changes due None one counted none
       some unchanged = (
         none.0 ∙ one,
-        λ is. unrefreshed_since offers refuses moment before between changes one counted
+        λ is. unrefreshed_since offers took refuses moment before between changes one counted
             (none.1 is),
       )
   follows items offers took refuses moment before between after changes due (Some x) one counted
       none some unchanged = (
         some.0,
-        (changes, counted, subst (λ n. refuses.changes_read n changes) one unchanged),
+        (changes, counted, subst (λ n. took.changes_read n changes) one unchanged),
         (
           some.1.0,
           subst (λ n. TakesFor offers took known most n moment work.Refresh (items x) some.1.0) one

@@ -42,27 +42,27 @@ use Rattle.turns.specs.declared.work.Work.TheVariants as work
 
 -- ---- what the book is asked
 
--- Three predicates that a `Taker` leaves open: an event was taken at a moment, for a port with this
+-- Four predicates that a `Taker` leaves open: an event was taken at a moment, for a port with this
 -- number of events until then, sent these outs and left the router stale or not (None if that isn't
 -- known, for want of memory); the workers were told that the programs are now those that these
--- operations leave; and the programs at `count` were asked about this input.
+-- operations leave; the programs at `count` were asked about this input; and this number of changes
+-- of the programs was read, by such a port.
 pub record Took : Type 1 where
   pub taken : (events : ℕ) → Moment → Event → List Out → (stale : Option Bool) → Type 0
   pub told : List LoaderOperation → Type 0
   pub asked : Given → Type 0
+  pub changes_read : (events : ℕ) → (changes : ℕ) → Type 0
 
 -- what a question is refused for: no reading of the programs for its input, or no memory
 pub data Lack : Type 0 where
   Reading : (input : Given) → Lack
   Memory : Lack
 
--- Three more: an event was refused at a moment, to a port with this number of events until then,
--- and why; a question got no reading, or memory was lacking; and this number of changes of the
--- programs was read, by such a port.
+-- Two more: an event was refused at a moment, to a port with this number of events until then, and
+-- why; and a question got no reading, or memory was lacking.
 pub record Refuses : Type 1 where
   pub refused : (events : ℕ) → Moment → Event → BookError → Type 0
   pub lacks : Lack → Type 0
-  pub changes_read : (events : ℕ) → (changes : ℕ) → Type 0
 
 -- the fields by names of their own, for contracts
 abbrev pub IsTaken : Took → (events : ℕ) → Moment → Event → List Out → (stale : Option Bool)
@@ -81,8 +81,8 @@ IsRefused refuses = refuses.refused
 abbrev pub IsLacking : Refuses → Lack → Type 0
 IsLacking refuses = refuses.lacks
 
-abbrev pub IsNumberOfChanges : Refuses → (events : ℕ) → (changes : ℕ) → Type 0
-IsNumberOfChanges refuses = refuses.changes_read
+abbrev pub IsNumberOfChanges : Took → (events : ℕ) → (changes : ℕ) → Type 0
+IsNumberOfChanges took = took.changes_read
 
 -- what is said of candidates, and of the rows of the table beside them
 abbrev pub Offers : Type 1
@@ -138,13 +138,13 @@ took_from origin = record {
   taken = IsTakenBySome origin;
   told = λ operations. Unit {0};
   asked = λ input. Unit {0};
+  changes_read = λ events changes. Unit {0};
 }
 
 abbrev pub refuses_from : (origin : Router) → Refuses
 refuses_from origin = record {
   refused = IsRefusedBySome origin;
   lacks = λ lack. Unit {0};
-  changes_read = λ events changes. Unit {0};
 }
 
 -- a book that began with this router says: they are those of a router to which events lead from
@@ -359,24 +359,24 @@ RefusesFor offers refuses known now events moment w error =
     ⊎ RefusesEvent offers refuses known now events moment w error
 
 -- after `events` events, a number of changes of the programs was read that isn't `before`
-abbrev pub IsChangedSince : Refuses → (events : ℕ) → ℕ → Type 0
-IsChangedSince refuses events before = (now : ℕ) × refuses.changes_read events now × (now ≢ before)
+abbrev pub IsChangedSince : Took → (events : ℕ) → ℕ → Type 0
+IsChangedSince took events before = (now : ℕ) × took.changes_read events now × (now ≢ before)
 
 -- The refresh that was due isn't taken: the programs were changed meanwhile, as the number of
 -- changes tells that was read before the event, beside the one after it, as in `IsUnchanged`; or it
 -- was refused, as any refresh is.
-abbrev pub IsUnrefreshed : Offers → Refuses → (known now : List LoaderOperation) → Moment
+abbrev pub IsUnrefreshed : Offers → Took → Refuses → (known now : List LoaderOperation) → Moment
     → (events : ℕ) → Type 0
-IsUnrefreshed offers refuses known now moment events =
-    ((before : ℕ) × refuses.changes_read events before × IsChangedSince refuses (events + 1) before)
+IsUnrefreshed offers took refuses known now moment events =
+    ((before : ℕ) × took.changes_read events before × IsChangedSince took (events + 1) before)
     ⊎ ((error : TurnError)
     × RefusesFor offers refuses known now (events + 1) moment work.Refresh error)
 
 -- the number of changes that was read before the event was read after it too; of a book's own
 -- relations any number may have been read, so that this binds code that is generic over `Taker`
-abbrev pub IsUnchanged : Refuses → (events : ℕ) → Type 0
-IsUnchanged refuses events =
-    (changes : ℕ) × refuses.changes_read events changes × refuses.changes_read (events + 1) changes
+abbrev pub IsUnchanged : Took → (events : ℕ) → Type 0
+IsUnchanged took events =
+    (changes : ℕ) × took.changes_read events changes × took.changes_read (events + 1) changes
 
 -- ---- a turn
 
@@ -394,7 +394,7 @@ pub record IsTurned (offers : Offers) (took : Took) (refuses : Refuses)
   pub outs : TakesFor offers took known now before moment w turned.outs.items stale
   pub refreshed : MatchOption turned.refreshed
       ((after ≡ before + 1)
-      × (stale ≡ Some true → IsUnrefreshed offers refuses known now moment before))
-      (λ outs. (stale ≡ Some true) × IsUnchanged refuses before × ((left : Option Bool)
+      × (stale ≡ Some true → IsUnrefreshed offers took refuses known now moment before))
+      (λ outs. (stale ≡ Some true) × IsUnchanged took before × ((left : Option Bool)
       × TakesFor offers took known now (before + 1) moment work.Refresh outs.items left)
       × (after ≡ before + 2))

@@ -150,10 +150,10 @@ impl<L: Site, B: Taker<L>> Hub<L, B> {
         ensures ok { IfOk result (λ r.
             IsTaken B.took mine.old.amount moment event r.outs.items r.stale) }
         ensures refused { IfErr result (λ error.
-            IsChangedSince B.refuses mine.old.amount changes
+            IsChangedSince B.took mine.old.amount changes
             ⊎ ((why : BookError) × IsRefused B.refuses mine.old.amount moment event why
             × (error ≡ TurnError.Book why))) }
-        ensures unchanged { OnOk result (IsNumberOfChanges B.refuses mine.old.amount changes) }
+        ensures unchanged { OnOk result (IsNumberOfChanges B.took mine.old.amount changes) }
         ensures share { OnOk result (mine.new.amount ≡ mine.old.amount + 1) }
         ensures parts { mine.new.parts ≡ mine.old.parts }
         ensures err { OnErr result (mine.new.amount ≡ mine.old.amount) }

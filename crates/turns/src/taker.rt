@@ -251,7 +251,7 @@ pub trait Taker<L: Origin> {
 
     /// How many changes were counted, as it is read by the port that has this share.
     fn changes(changes: &AtomicU64, mine: &Share<L>) -> u64
-        ensures { IsNumberOfChanges refuses mine.now.amount result };
+        ensures { IsNumberOfChanges took mine.now.amount result };
 }
 
 // When an event that is given at a moment is taken, after one that came last: an `Install` isn't

@@ -114,7 +114,7 @@ fn follow<L: Site, B: Taker<L>, R: Wait>(
     stale: Option<bool>,
 ) -> Option<Vec<Out>>
     ensures none { IfNone result ((port.new.share.amount ≡ port.old.share.amount)
-        × (stale ≡ Some true → IsChangedSince B.refuses port.old.share.amount changes
+        × (stale ≡ Some true → IsChangedSince B.took port.old.share.amount changes
         ⊎ ((error : TurnError) × RefusesFor B.offers B.refuses
         (known_to port.old.asker) (known_to port.new.asker)
         port.old.share.amount moment Work.Refresh error))) }
@@ -123,7 +123,7 @@ fn follow<L: Site, B: Taker<L>, R: Wait>(
         port.old.share.amount moment Work.Refresh outs.items left)
         × (port.new.share.amount ≡ port.old.share.amount + 1)) }
     ensures unchanged { IfSome result (λ _.
-        IsNumberOfChanges B.refuses port.old.share.amount changes) }
+        IsNumberOfChanges B.took port.old.share.amount changes) }
     ensures number { port.new.number ≡ port.old.number }
     ensures known { IsPrefix (known_to port.old.asker) (known_to port.new.asker) }
 {
@@ -148,10 +148,10 @@ fn refresh<L: Site, B: Taker<L>, R: Wait>(
         (known_to port.old.asker) (known_to port.new.asker)
         port.old.share.amount moment Work.Refresh outs.items left) }
     ensures refused { IfErr result (λ error.
-        IsChangedSince B.refuses port.old.share.amount changes
+        IsChangedSince B.took port.old.share.amount changes
         ⊎ RefusesFor B.offers B.refuses (known_to port.old.asker) (known_to port.new.asker)
         port.old.share.amount moment Work.Refresh error) }
-    ensures unchanged { OnOk result (IsNumberOfChanges B.refuses port.old.share.amount changes) }
+    ensures unchanged { OnOk result (IsNumberOfChanges B.took port.old.share.amount changes) }
     ensures share { OnOk result (port.new.share.amount ≡ port.old.share.amount + 1) }
     ensures err { OnErr result (port.new.share.amount ≡ port.old.share.amount) }
     ensures number { port.new.number ≡ port.old.number }

@@ -28,12 +28,12 @@ impl<L: Site> Taker<L> for Tableless<L> {
       taken = λ events moment event outs stale. ⊤;
       told = λ operations. ⊤;
       asked = λ input. ⊤;
+      changes_read = λ events changes. ⊤;
     } };
 
     ghost refuses = { record {
       refused = λ events moment event error. ⊤;
       lacks = λ lack. ⊤;
-      counted = λ events number. ⊤;
     } };
 
     ghost offers = { λ candidates rows. ⊤ };
