@@ -17,7 +17,7 @@ use Rattle.flood.specs.Occurrences.{is_install, occurrence_of}
 use Rattle.flood.specs.declared.book.entry.JournalEntry.{JournalEntry}
 use Rattle.flood.specs.declared.book.error.BookError.{BookError}
 use Rattle.flood.specs.declared.book.error.BookError.TheVariants as refusing
-use Rattle.flood.specs.Refusals.{RefusesByRules, RefusesWithMarksByRules, IsFull, IsRefusedEarly}
+use Rattle.flood.specs.Refusals.{BookRefusesByRules, BookRefusesWithMarksByRules, IsFull, IsRefusedEarly}
 use Rattle.flood.specs.Refusals.{IsSpent}
 use Rattle.flood.specs.Replay.{BookView, EndsWith, IsLightened, IsNotedIn, MayBeMarked}
 use Rattle.flood.specs.Replay.{IsMarkedIfDue, forgotten_at, marked_book}
@@ -85,7 +85,7 @@ happens_at a b moment e back outs new same router happens =
 -- a refusal looks at the router as it is now, and at how many events were taken
 pub answered_at : {X : Type 0} (a b : BookView) (moment : Moment) (e : Event)
     (r : Result X BookError) → b.current ≡ a.current → b.taken ≡ a.taken
-    → RefusesWithMarksByRules b moment e r → RefusesWithMarksByRules a moment e r
+    → BookRefusesWithMarksByRules b moment e r → BookRefusesWithMarksByRules a moment e r
 answered_at {X = X} a b moment e (Ok x) current taken (fresh, answers) = (
   (λ spent. fresh (taken ∙ spent)),
   subst (λ (r : Router). router.RefusesByRules {X = X} r moment (occurrence_of e) (Ok x)) current
@@ -101,8 +101,8 @@ answered_at a b moment e (Err (refusing.Core x)) current taken (fresh, answers) 
 
 -- if the journal has room, only a book that may take no more is full
 pub answered_anew : {X : Type 0} (b : BookView) (moment : Moment) (e : Event)
-    (r : Result X BookError) → length b.journal < 65536 → RefusesByRules b moment e r
-    → RefusesWithMarksByRules b moment e r
+    (r : Result X BookError) → length b.journal < 65536 → BookRefusesByRules b moment e r
+    → BookRefusesWithMarksByRules b moment e r
 answered_anew b moment e (Ok x) room (free, answers) = ((λ spent. free (inr spent)), answers)
 answered_anew b moment e (Err refusing.Journal) room (inl long) = absurd (omega (arith, room, long))
 answered_anew b moment e (Err refusing.Journal) room (inr spent) = spent
@@ -111,10 +111,10 @@ answered_anew b moment e (Err (refusing.Core x)) room (free, answers) =
 
 pub answered_back : {X : Type 0} (a b : BookView) (moment : Moment) (e back : Event)
     (r : Result X BookError) → back ≡ e → b.current ≡ a.current → b.taken ≡ a.taken
-    → RefusesWithMarksByRules b moment back r → RefusesWithMarksByRules a moment e r
+    → BookRefusesWithMarksByRules b moment back r → BookRefusesWithMarksByRules a moment e r
 answered_back {X = X} a b moment e back r same current taken answers =
     answered_at {X = X} a b moment e r current taken
-    (subst (λ (x : Event). RefusesWithMarksByRules {X = X} b moment x r) same answers)
+    (subst (λ (x : Event). BookRefusesWithMarksByRules {X = X} b moment x r) same answers)
 
 -- the answer is no refusal
 pub where_ok : {X E : Type 0} (r : Result X E) (P : Type 0) → is_err r ≡ false → OnOk r P → P

@@ -35,13 +35,13 @@ RefusesWhere IsRefused b moment e (Err (refusing.Core x)) =
     (Err x)
 
 -- a full book says so
-abbrev pub RefusesByRules : {X : Type 0} → BookView → Moment → Event → Result X BookError → Type 0
-RefusesByRules b moment e r = RefusesWhere IsFull b moment e r
+abbrev pub BookRefusesByRules : {X : Type 0} → BookView → Moment → Event → Result X BookError → Type 0
+BookRefusesByRules b moment e r = RefusesWhere IsFull b moment e r
 
 -- a book that starts anew if its journal is full
-abbrev pub RefusesWithMarksByRules : {X : Type 0} → BookView → Moment → Event → Result X BookError
+abbrev pub BookRefusesWithMarksByRules : {X : Type 0} → BookView → Moment → Event → Result X BookError
     → Type 0
-RefusesWithMarksByRules b moment e r = RefusesWhere IsSpent b moment e r
+BookRefusesWithMarksByRules b moment e r = RefusesWhere IsSpent b moment e r
 
 -- the answer, of which a refusal gives the event back, without the event
 abbrev pub without_event : {X : Type 0} → Result X Refused → Result X BookError

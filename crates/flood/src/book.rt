@@ -7,7 +7,7 @@ ghost use Rattle.event_rules.specs.Events.{Happens};
 ghost use Rattle.flood.specs.Early.{early_refusal};
 ghost use Rattle.flood.specs.Occurrences.{occurrence_of};
 ghost use Rattle.flood.specs.Offers.{IsStaleNow};
-ghost use Rattle.flood.specs.Refusals.{RefusesByRules, RefusesWithMarksByRules, IsFull, IsRefusedEarly};
+ghost use Rattle.flood.specs.Refusals.{BookRefusesByRules, BookRefusesWithMarksByRules, IsFull, IsRefusedEarly};
 ghost use Rattle.flood.specs.Refusals.{without_event};
 ghost use Rattle.flood.specs.Replay.{IsDue, IsLightened, IsNotedAtLast, MayBeMarked};
 ghost use Rattle.flood.specs.Replay.{IsMarkedIfDue, IsAfterEvents, Replays, entry, marked_book};
@@ -172,7 +172,7 @@ impl<L: Origin> Book<L> {
         }) }
         ensures share { OnOk result (mine.new.amount ≡ mine.old.amount + 1) }
         ensures parts { mine.new.parts ≡ mine.old.parts }
-        ensures refused { RefusesByRules self.old moment event result }
+        ensures refused { BookRefusesByRules self.old moment event result }
         ensures err { OnErr result
             ((self.new ≡ self.old) × (mine.new.amount ≡ mine.old.amount)) }
     {
@@ -220,7 +220,7 @@ impl<L: Origin> Book<L> {
         }) }
         ensures share { OnOk result (mine.new.amount ≡ mine.old.amount + 1) }
         ensures parts { mine.new.parts ≡ mine.old.parts }
-        ensures refused { RefusesByRules self.old moment event (without_event result) }
+        ensures refused { BookRefusesByRules self.old moment event (without_event result) }
         ensures back { IfErr result (λ refused. refused.event ≡ event) }
         ensures err { OnErr result
             ((self.new ≡ self.old) × (mine.new.amount ≡ mine.old.amount)) }
@@ -336,7 +336,7 @@ impl<L: Origin> Book<L> {
         ensures taken { OnOk result (self.new.taken ≡ self.old.taken + 1) }
         ensures share { OnOk result (mine.new.amount ≡ mine.old.amount + 1) }
         ensures parts { mine.new.parts ≡ mine.old.parts }
-        ensures refused { RefusesWithMarksByRules self.old moment event result }
+        ensures refused { BookRefusesWithMarksByRules self.old moment event result }
         ensures early { IsRefusedEarly self.old moment event → self.new ≡ self.old }
         ensures short { result ≡ Err (BookError.Core CoreError.Memory)
             → self.new ≡ marked_book self.old }

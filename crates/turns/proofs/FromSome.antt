@@ -10,7 +10,7 @@ use Rattle.flood.specs.event_rules.Events.{Happens}
 use Rattle.flood.specs.event_rules.Routers.{Router}
 use Rattle.flood.specs.declared.event.Event.{Event}
 use Rattle.flood.specs.Occurrences.{occurrence_of}
-use Rattle.flood.specs.Refusals.{RefusesWithMarksByRules}
+use Rattle.flood.specs.Refusals.{BookRefusesWithMarksByRules}
 use Rattle.flood.specs.Replay.{BookView, IsAfterEvents}
 use Rattle.flood.specs.declared.book.error.BookError.{BookError}
 use Rattle.flood.specs.declared.book.error.BookError.TheVariants as refusing
@@ -68,24 +68,24 @@ candidates_of_some candidates origin taken now (Err x) leads h = h
 
 -- an answer that is a refusal, without what it would have given
 error_alone : (V : Type 0) (b : BookView) (moment : Moment) (e : Event) (why : BookError)
-    → RefusesWithMarksByRules {X = V} b moment e (Err why)
-    → RefusesWithMarksByRules {X = Unit {0}} b moment e (Err why)
+    → BookRefusesWithMarksByRules {X = V} b moment e (Err why)
+    → BookRefusesWithMarksByRules {X = Unit {0}} b moment e (Err why)
 error_alone V b moment e refusing.Journal h = h
 error_alone V b moment e (refusing.Core x) h = h
 
 pub refused_now : {V : Type 0} (moment at : Moment) (e : Event) (b : BookView)
     (r : Result V BookError) → at ≡ taken_at e moment b.current.moment
-    → RefusesWithMarksByRules b at e r
+    → BookRefusesWithMarksByRules b at e r
     → IfErr r (λ error. RefusesAt b moment e error)
 refused_now moment at e b (Ok x) is h = tt
 refused_now {V = V} moment at e b (Err why) is h =
-    subst (λ (m : Moment). RefusesWithMarksByRules {X = Unit {0}} b m e (Err why)) is
+    subst (λ (m : Moment). BookRefusesWithMarksByRules {X = Unit {0}} b m e (Err why)) is
     (error_alone V b at e why h)
 
 pub refused_by_some : {V : Type 0} (origin : Router) (events : ℕ) (moment at : Moment) (e : Event)
     (b : BookView) (r : Result V BookError) → events ≤ b.taken
     → IsAfterEvents origin b.taken b.current → at ≡ taken_at e moment b.current.moment
-    → RefusesWithMarksByRules b at e r → IfErr r
+    → BookRefusesWithMarksByRules b at e r → IfErr r
     (λ error. IsRefusedBySome origin events moment e error)
 refused_by_some origin events moment at e b (Ok x) least leads is h = tt
 refused_by_some {V = V} origin events moment at e b (Err why) least leads is h =

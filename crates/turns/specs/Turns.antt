@@ -31,7 +31,7 @@ use Rattle.flood.specs.declared.event.Event.{Event}
 use Rattle.flood.specs.declared.event.Event.TheVariants as event
 use Rattle.flood.specs.Occurrences.{occurrence_of}
 use Rattle.flood.specs.Offers.{IsOffered, IsStaleNow}
-use Rattle.flood.specs.Refusals.{RefusesWithMarksByRules}
+use Rattle.flood.specs.Refusals.{BookRefusesWithMarksByRules}
 use Rattle.flood.specs.Replay.{BookView, IsAfterEvents}
 use Rattle.flood.specs.NeighborState.{NeighborState}
 use Rattle.turns.specs.declared.turned.TurnOutcome.{TurnOutcome}
@@ -122,7 +122,7 @@ IsTakenBySome origin events moment e outs stale =
 -- a book says: given at this moment, the event is refused so, by the state that the book has then
 abbrev pub RefusesAt : BookView → Moment → Event → BookError → Type 0
 RefusesAt b moment e error =
-    RefusesWithMarksByRules {X = Unit {0}} b (taken_at e moment b.current.moment) e (Err error)
+    BookRefusesWithMarksByRules {X = Unit {0}} b (taken_at e moment b.current.moment) e (Err error)
 
 -- a book that began with this router says to a port with this number of events until then: it is
 -- refused so, at a router to which events lead from there, at least as many as the port's
