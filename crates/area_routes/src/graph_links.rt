@@ -1,5 +1,5 @@
-//! The links of the graph from one node, as in `area_graph::links`, but each looked up for itself in
-//! the database, and not in a sorted list of all that is advertised.
+//! The links of the graph from one node, as in `area_graph::links`, but each looked up for itself
+//! in the database, and not in a sorted list of all that is advertised.
 ghost use Rattle.std.specs.Prelude.{◌≡◌, ◌<◌, ◌≤◌, ◌↔◌, ℕ, length, IfOk, IsTrue, OnOk};
 ghost use Rattle.std.specs.Prelude.{MatchOption};
 ghost use Rattle.std.specs.List.{All, Contains};

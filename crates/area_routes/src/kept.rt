@@ -479,7 +479,8 @@ impl AreaRoutes {
         Ok(())
     }
 
-    /// Takes other answers: searches them for each candidate. The candidates are kept. If the walk
+    /// Notes whether each candidate is among these answers, which are the router's from now on. The
+    /// answers aren't kept here, the candidates are. If the walk
     /// isn't valid, or an allocation is refused, the outcome is unknown.
     pub fn take_answers(
         &mut self,

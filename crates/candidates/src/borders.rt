@@ -40,7 +40,7 @@ pub fn counted_border(
 }
 
 /// What the summary-LSA with this key advertises about an AS boundary router, as an offer for the
-/// router's host prefix (RFC 2328, section 16.4).
+/// router's host prefix (RFC 2328, section 16.2).
 pub fn advertised_offer(
     root: &Root,
     routers: &[Flagged],

@@ -1,4 +1,4 @@
-//! The results from the LSAs of types 1 to 4 (RFC 2328, sections 16.1 to 16.3), on which external
+//! The results from the LSAs of types 1 to 4 (RFC 2328, sections 16.1 and 16.2), on which external
 //! destinations depend (section 16.4).
 ghost use Rattle.std.specs.Prelude.{◌≡◌, IfOk};
 ghost use Rattle.candidates.specs.Inner.{AreInner, AreSearchable};

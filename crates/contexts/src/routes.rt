@@ -57,8 +57,8 @@ fn route_kind_number(kind: RouteKind) -> u64
     }
 }
 
-/// The first interface of the set, which is 0 for the router itself; 0 too if the set is empty, which
-/// the number of hops tells.
+/// The first interface of the set, which is 0 for the router itself; 0 too if the set is empty,
+/// which the number of hops tells.
 fn first_hop(hops: Hops) -> u64
     ensures { result ≡ first_hop hops }
 {

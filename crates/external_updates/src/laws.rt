@@ -3,7 +3,7 @@
 ghost use Rattle.external_updates.specs.Laws.{InnerRoutesAreKept, UntouchedCandidatesAreKept};
 
 /// The results from the LSAs of types 1 to 4 remain valid while those say the same (RFC 2328,
-/// sections 16.1 to 16.3).
+/// sections 16.1 and 16.2).
 pub fn inner_routes_are_kept()
     ensures { InnerRoutesAreKept }
 {}

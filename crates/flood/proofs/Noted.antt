@@ -17,7 +17,8 @@ use Rattle.flood.specs.Occurrences.{is_install, occurrence_of}
 use Rattle.flood.specs.declared.book.entry.JournalEntry.{JournalEntry}
 use Rattle.flood.specs.declared.book.error.BookError.{BookError}
 use Rattle.flood.specs.declared.book.error.BookError.TheVariants as refusing
-use Rattle.flood.specs.Refusals.{BookRefusesByRules, BookRefusesWithMarksByRules, IsFull, IsRefusedEarly}
+use Rattle.flood.specs.Refusals.{BookRefusesByRules, BookRefusesWithMarksByRules, IsFull}
+use Rattle.flood.specs.Refusals.{IsRefusedEarly}
 use Rattle.flood.specs.Refusals.{IsSpent}
 use Rattle.flood.specs.Replay.{BookView, EndsWith, IsLightened, IsNotedIn, MayBeMarked}
 use Rattle.flood.specs.Replay.{IsMarkedIfDue, forgotten_at, marked_book}

@@ -35,11 +35,13 @@ RefusesWhere IsRefused b moment e (Err (refusing.Core x)) =
     (Err x)
 
 -- a full book says so
-abbrev pub BookRefusesByRules : {X : Type 0} → BookView → Moment → Event → Result X BookError → Type 0
+abbrev pub BookRefusesByRules : {X : Type 0} → BookView → Moment → Event → Result X BookError
+    → Type 0
 BookRefusesByRules b moment e r = RefusesWhere IsFull b moment e r
 
 -- a book that starts anew if its journal is full
-abbrev pub BookRefusesWithMarksByRules : {X : Type 0} → BookView → Moment → Event → Result X BookError
+abbrev pub BookRefusesWithMarksByRules : {X : Type 0} → BookView → Moment → Event
+    → Result X BookError
     → Type 0
 BookRefusesWithMarksByRules b moment e r = RefusesWhere IsSpent b moment e r
 

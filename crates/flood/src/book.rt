@@ -7,8 +7,8 @@ ghost use Rattle.event_rules.specs.Events.{Happens};
 ghost use Rattle.flood.specs.Early.{early_refusal};
 ghost use Rattle.flood.specs.Occurrences.{occurrence_of};
 ghost use Rattle.flood.specs.Offers.{IsStaleNow};
-ghost use Rattle.flood.specs.Refusals.{BookRefusesByRules, BookRefusesWithMarksByRules, IsFull, IsRefusedEarly};
-ghost use Rattle.flood.specs.Refusals.{without_event};
+ghost use Rattle.flood.specs.Refusals.{BookRefusesByRules, BookRefusesWithMarksByRules, IsFull};
+ghost use Rattle.flood.specs.Refusals.{IsRefusedEarly, without_event};
 ghost use Rattle.flood.specs.Replay.{IsDue, IsLightened, IsNotedAtLast, MayBeMarked};
 ghost use Rattle.flood.specs.Replay.{IsMarkedIfDue, IsAfterEvents, Replays, entry, marked_book};
 ghost use Rattle.flood.specs.Replay.{start_of};
@@ -396,7 +396,7 @@ impl<L: Origin> Book<L> {
         self.current.stale()
     }
 
-    /// The router at the start.
+    /// The router at the last mark, or the one that the book began with if there was none.
     pub fn start(&self) -> &Core
         ensures { result.now ≡ self.now.start }
     {
@@ -425,7 +425,7 @@ impl<L: Origin> Book<L> {
         &self.journal
     }
 
-    /// How many events were taken in all, before the start too.
+    /// How many events were taken in all, those before the last mark too.
     pub fn taken(&self) -> u64
         ensures taken { result ≡ self.now.taken }
         ensures few { self.now.taken ≤ 2 ^ 63 }

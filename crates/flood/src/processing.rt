@@ -54,9 +54,10 @@ pub fn early_refusal(router: &Router, moment: Second, event: &Event) -> Option<C
     }
 }
 
-/// Processes one event: unless it is refused before, copies that have reached MaxAge are flooded,
-/// then the event's own part is done, then the end that all events share; last, what is kept for
-/// routes is updated. After a refusal the caller rolls the router back; the routes are unchanged.
+/// Processes one event: unless it is refused before, copies that have reached MaxAge since the last
+/// event are flooded, then the event's own part is done, then the end that all events share; last,
+/// what is kept for routes is updated. After a refusal the caller rolls the router back; the routes
+/// are unchanged.
 ///
 /// # Errors
 /// As [`Core::step`](crate::Core::step), in the same order.

@@ -32,7 +32,8 @@ use words::{Prefix, Route, RouterId, Second, external_key};
 pub struct Core {
     alloc: Global,
     router: Router,
-    // the walk of its database, and whether all candidates are known to be among the answers
+    // what is kept for its routes from one event to the next: the walk, the graph, the candidates,
+    // and what is known of the answers
     routes: AreaRoutes,
 }
 

@@ -61,7 +61,8 @@ fn flood_links(
 }
 
 // Floods the LSA over all links as the copy that is going to be installed, so that it needn't be
-// searched for afterwards. Returns whether any Link State Update is sent.
+// searched for afterwards: what comes of it is as if it were installed first. Returns whether any
+// Link State Update is sent.
 fn flood_received(
     alloc: Global,
     moment: Second,

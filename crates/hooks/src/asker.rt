@@ -15,7 +15,7 @@ use crate::rule::{ProgramReader, Sees};
 use machine::Input;
 use maps::{Seat, Shared};
 
-/// Runs the published programs on its own thread.
+/// Runs the published programs in the thread that calls it.
 #[derive(Drop)]
 pub struct Asker {
     pub(crate) reader: Option<ProgramReader>,

@@ -5,9 +5,9 @@
 //! wait until nobody reads the one that was swapped out; an asker sees the operation when it is
 //! asked next.
 //!
-//! An asker runs the program that is attached at a hook on its own thread, and never locks or
-//! blocks; only `Asker::vetoes` allocates, for the list of its answers. The operations that it sees begin with all those that it saw before, and with all
-//! that a notice told it.
+//! An asker runs the program that is attached at a hook in the calling thread, and never locks or
+//! blocks; only `Asker::vetoes` allocates, for the list of its answers. The operations that it sees
+//! begin with all those that it saw before, and with all that a notice told it.
 #![tactic(auto)]
 
 mod answer;

@@ -290,8 +290,9 @@ impl Lsdb {
     /// The keys of the copies that have MaxAge at the moment, in their order.
     ///
     /// It visits all copies only if one may have reached MaxAge since `commit_at` last scanned
-    /// them. Otherwise it visits only those that had MaxAge then or got it since; at most half
-    /// of these have been removed or replaced.
+    /// them. Otherwise it visits only those that had MaxAge then or got it since; when an event
+    /// begins, at most half of these have been removed or replaced, unless memory was refused for a
+    /// new list of them.
     ///
     /// # Errors
     /// `AllocError` if an allocation is refused.

@@ -164,8 +164,8 @@ pub fn initial_description(alloc: Global, sequence: u32) -> Description
 }
 
 impl Neighbor {
-    /// A neighbor in Init: nothing is kept of an earlier exchange except the number of the last
-    /// attempt. It doesn't allocate.
+    /// A neighbor in Init: nothing is kept of an earlier exchange except the DD sequence number
+    /// with which the last attempt began. It doesn't allocate.
     pub fn fresh(
         alloc: Global,
         router: RouterId,

@@ -6,8 +6,8 @@ use isa::Map;
 /// What a statement says that a register holds.
 #[derive(Clone, Copy, PartialEq, Eq)]
 pub enum StatedKind {
-    /// Nothing is stated: it may be empty or hold anything, so the program has to write it before it
-    /// reads it. Kind 0 of the format, which calls it empty.
+    /// Nothing is stated: it may be empty or hold anything, so the program has to write it before
+    /// it reads it. Kind 0 of the format, which calls it empty.
     Unstated,
     /// One of these numbers.
     Number(StatedNumber),

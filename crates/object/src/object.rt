@@ -128,7 +128,8 @@ impl Object {
         self.hook
     }
 
-    /// The rank at the entry: what the file claims to be an upper bound of the backward jumps of a run.
+    /// The rank at the entry: what the file claims to be an upper bound of the backward jumps of a
+    /// run.
     pub fn entry_rank(&self) -> u32
         ensures value { result ≡ self.now.entry_rank }
         ensures is_object { IsObject self.now }

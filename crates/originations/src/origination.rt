@@ -67,9 +67,10 @@ fn unless_flushed(copy: Option<DatabaseCopy<'_>>) -> Origination
 }
 
 /// Decides what is to happen to the router-LSA for these links, interface n at index n - 1: it is
-/// originated at once if `may_now` and MinLSInterval allow it, else at a Tick; after
-/// MaxSequenceNumber its copy is flushed first (RFC 2328, sections 12.4.1 and 12.1.6). `last` is the
-/// moment of the last origination, if it is known. The caller carries it out.
+/// originated at once if `may_now` (the database has room, or that doesn't matter) and
+/// MinLSInterval allow it, else at a Tick; after MaxSequenceNumber its copy is flushed first (RFC
+/// 2328, sections 12.4.1 and 12.1.6). `last` is the moment of the last origination, if it is known.
+/// The caller carries it out.
 ///
 /// # Errors
 /// `AllocError` if an allocation is refused.

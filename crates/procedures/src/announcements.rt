@@ -87,6 +87,7 @@ fn announce_as(
         return Ok(());
     }
     router.announce(external)?;
+    // Even without room in the database: the event is then refused as `Full`, and doesn't wait.
     originate_if_wanted(router, alloc, true, moment, key)
 }
 

@@ -84,8 +84,8 @@ fn loading_done_then_postpone(router: &mut Router, alloc: Global) -> Result<(), 
 /// The end of an event: each neighbor goes from Loading to Full if its request list is empty; the
 /// router-LSA is originated again if its body has changed since the event began; Link State
 /// Requests are sent; copies at MaxAge that are on no retransmission list are removed from the
-/// database, unless some neighbor is in Exchange or Loading; the moment is noted. `full_before` are the
-/// neighbors that were Full when the event began.
+/// database, unless some neighbor is in Exchange or Loading; the moment is noted. `full_before` are
+/// the neighbors that were Full when the event began.
 ///
 /// # Errors
 /// `AllocError` if an allocation is refused.

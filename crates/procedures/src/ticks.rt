@@ -9,7 +9,8 @@ use router_state::Router;
 use std::alloc::{AllocError, Global};
 use words::Second;
 
-// Expired timers: inactive neighbors go Down, and originations are forgotten after MinLSInterval.
+// Expired timers: inactive neighbors go Down, the others discard old Database Descriptions, and
+// originations are forgotten after MinLSInterval.
 fn expire_timers(router: &mut Router, alloc: Global, moment: Second) -> Result<(), AllocError>
     ensures { RouterDoes (expire_timers_and_forget moment) router.old router.new result }
 {
@@ -30,7 +31,8 @@ fn originate_what_is_due(
     originate_due(router, alloc, moment, &keys)
 }
 
-/// What a Tick does, in order: inactive neighbors go Down; LSAs that wait or are to be refreshed
+/// What a Tick does, in order: inactive neighbors go Down, old Database Descriptions are discarded,
+/// and originations are forgotten after MinLSInterval; LSAs that wait or are to be refreshed
 /// are originated; what was sent RxmtInterval ago is retransmitted; delayed acknowledgments and due
 /// Hellos are sent.
 ///

@@ -25,7 +25,8 @@ pub fn worked_cases()
 
 /// The table of received LSAs, row by row, for instances of one LSA: newer than a copy installed in
 /// the same second, newer, on the request list, an implied acknowledgment, a duplicate, and older
-/// than a copy with MaxAge and MaxSequenceNumber, one just sent or one that is sent back (RFC 2328, section 13).
+/// than a copy with MaxAge and MaxSequenceNumber, one just sent or one that is sent back (RFC 2328,
+/// section 13).
 pub fn the_table_of_received_lsas()
     ensures { WorkedTable }
 {}

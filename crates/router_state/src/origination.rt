@@ -31,7 +31,7 @@ fn carry_out(
 }
 
 /// A new instance of the LSA of this key at once or at a Tick, if it is wanted; at once only if
-/// `may_now`.
+/// `may_now` (the database has room, or that doesn't matter) and MinLSInterval allow it.
 ///
 /// # Errors
 /// `AllocError` if an allocation is refused.
@@ -70,9 +70,10 @@ pub fn originate_or_postpone(
 }
 
 /// Processes a self-originated LSA with this header that was received and installed (RFC 2328,
-/// section 13.4): a wanted one is originated again with the next sequence number; any other is
-/// flushed. An LSA of another router changes nothing: the second condition of section 13.4, for
-/// network-LSAs of this router's own addresses, isn't tested, since it is on no transit network.
+/// section 13.4): a wanted one is originated again with the next sequence number, at once or at a
+/// Tick, or after its copy was flushed; any other is flushed. An LSA of another router changes
+/// nothing: the second condition of section 13.4, for network-LSAs of this router's own addresses,
+/// isn't tested, since it is on no transit network.
 ///
 /// # Errors
 /// `AllocError` if an allocation is refused.

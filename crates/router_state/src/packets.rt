@@ -93,8 +93,8 @@ fn is_from(from: RouterId, router: &Router, interface: usize) -> bool
     is_from_named(from, neighbor)
 }
 
-// Whether the packet's Router ID is neither 0.0.0.0 nor this router's own, and it is a Hello or from
-// the interface's neighbor.
+// Whether the packet's Router ID is neither 0.0.0.0 nor this router's own, and it is a Hello or
+// from the interface's neighbor.
 fn is_heard(packet: &Packet, router: &Router, interface: usize) -> bool
     requires first { 1 ≤ interface }
     requires last { interface ≤ length router.now.present.area.links }

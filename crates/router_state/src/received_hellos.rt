@@ -10,7 +10,8 @@ use std::alloc::{AllocError, Global};
 use words::{E_BIT, RouterId, Second};
 
 /// Whether a packet with the Router ID `from` may be from a neighbor: it isn't 0.0.0.0, and not
-/// this router's own, `own`. (A rule of this router; RFC 2328, section 8.2, looks at the IP source.)
+/// this router's own, `own`. (A rule of this router; RFC 2328, section 8.2, looks at the IP
+/// source.)
 pub fn is_foreign(own: RouterId, from: RouterId) -> bool
     ensures { result ≡ is_foreign own from }
 {
@@ -78,8 +79,8 @@ fn names(own: RouterId, hello: &Hello) -> bool
 
 /// A Hello from the router `from`, to the router `own` (RFC 2328, section 10.5). It is discarded if
 /// its Router ID is 0.0.0.0 or this router's own, if it and the interface differ in HelloInterval,
-/// RouterDeadInterval or the E-bit, or if the interface has another neighbor (a rule
-/// of this router, until RouterDeadInterval is over: it has one neighbor at each interface). Otherwise the
+/// RouterDeadInterval or the E-bit, or if the interface has another neighbor (a rule of this
+/// router, until RouterDeadInterval is over: it has one neighbor at each interface). Otherwise the
 /// inactivity timer is restarted, Down becomes Init, and 2-WayReceived or 1-WayReceived follows, by
 /// whether it lists this router.
 #[derive(Drop)]

@@ -1,8 +1,8 @@
 //! What reachable routers and networks offer.
 use words::{Hops, Prefix, RouteKind, RouterId};
 
-/// An offer of a path to a network (RFC 2328, sections 16.1, 16.2 and 16.4). Ordered by prefix, then
-/// better before worse, then by originator and tag.
+/// An offer of a path to a network (RFC 2328, sections 16.1, 16.2 and 16.4). Ordered by prefix,
+/// then better before worse, then by originator and tag.
 #[derive(Clone, Copy)]
 pub struct Offer {
     pub prefix: Prefix,

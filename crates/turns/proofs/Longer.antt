@@ -106,7 +106,8 @@ module _ (known more now most : List LoaderOperation) (longer : IsPrefix known m
   refused_longer offers refuses events moment w error (inr (e, why, is, refused, same)) =
       inr (e, why, for_longer offers w moment e is, refused, same)
 
-  unrefreshed_longer : (offers : Offers) (took : Took) (refuses : Refuses) (moment : Moment) (events : ℕ)
+  unrefreshed_longer : (offers : Offers) (took : Took) (refuses : Refuses) (moment : Moment)
+      (events : ℕ)
       → IsUnrefreshed offers took refuses more now moment events
       → IsUnrefreshed offers took refuses known most moment events
   unrefreshed_longer offers took refuses moment events (inl changed) = inl changed
@@ -151,7 +152,8 @@ module _ (known more now most : List LoaderOperation) (longer : IsPrefix known m
       → IsUnrefreshed offers took refuses known most moment before
   unrefreshed_since offers took refuses moment before between changes one counted (inl changed) =
       inl (changes, counted, subst (λ n. IsChangedSince took n changes) one changed)
-  unrefreshed_since offers took refuses moment before between changes one counted (inr (error, why)) =
+  unrefreshed_since offers took refuses moment before between changes one counted
+      (inr (error, why)) =
       inr (
         error,
         subst (λ n. RefusesFor offers refuses known most n moment work.Refresh error) one

@@ -9,9 +9,9 @@ use hooks::{Asker, Notice};
 use maps::Seat;
 use std::sync::ledger::Share;
 
-/// A worker's access to the hub: one part of the ledger, a seat of the hub's counters and cells, and an asker of
-/// the published programs. Each worker has its own, and takes one turn at a time. The ledger is
-/// there for the contracts: nothing that the router does depends on it.
+/// A worker's access to the hub: one part of the ledger, a seat of the hub's counters and cells,
+/// and an asker of the published programs. Each worker has its own, and takes one turn at a time.
+/// The ledger is there for the contracts: nothing that the router does depends on it.
 #[derive(Drop)]
 pub struct Port<L: Site> {
     pub(crate) number: u16,

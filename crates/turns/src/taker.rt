@@ -279,10 +279,10 @@ fn known(told: Result<bool, AllocError>) -> Option<bool>
     }
 }
 
-/// A book takes an event by [`Book::apply_with_marks`], an `Install` at the moment of its last event
-/// if this is later. What is sent is what the event makes of its own router, which is then the one
-/// that the event leaves; and all that it says is of a router to which the events that it took lead
-/// from the one that it began with.
+/// A book takes an event by [`Book::apply_with_marks`], an `Install` at the moment of its last
+/// event if this is later. What is sent is what the event makes of its own router, which is then
+/// the one that the event leaves; and all that it says is of a router to which the events that it
+/// took lead from the one that it began with.
 impl<L: Origin> Taker<L> for Book<L> {
     ghost took = { took_from L.origin };
 

@@ -42,15 +42,15 @@ use words::Second;
 /// mark ([`Book::mark`](flood::Book::mark)).
 ///
 /// The refresh is refused too if the programs were changed since the turn began
-/// ([`Hub::count_program_change`]). A refusal of it leaves the turn's outs as they are, and the next
-/// turn tries again; so it does if memory was lacking to find out whether the router is stale.
+/// ([`Hub::count_program_change`]). A refusal of it leaves the turn's outs as they are, and the
+/// next turn tries again; so it does if memory was lacking to find out whether the router is stale.
 ///
 /// A turn that is refused before its event is given hasn't passed the gate.
 ///
 /// # Errors
 /// `Away` if `tag`, `price` or `veto` got no reading; else as the book refuses the event
-/// ([`Book::apply_with_marks`](flood::Book::apply_with_marks)). `Memory` may come earlier, while the programs
-/// are asked. A refused turn adds no event to the book.
+/// ([`Book::apply_with_marks`](flood::Book::apply_with_marks)). `Memory` may come earlier, while
+/// the programs are asked. A refused turn adds no event to the book.
 pub fn turn<L: Site, B: Taker<L>, G: Gate, R: Wait>(
     rt: &R,
     hub: &Hub<L, B>,

@@ -2,8 +2,9 @@
 use std::alloc::AllocError;
 use transfer::rule::Rule;
 
-/// Why a program isn't accepted: the rule that it breaks, and the slot at which it breaks it. `Budget`
-/// is of the whole program, and stands at slot 0. `Memory` does too, and says nothing of the program.
+/// Why a program isn't accepted: the rule that it breaks, and the slot at which it breaks it.
+/// `Budget` is of the whole program, and stands at slot 0. `Memory` does too, and says nothing of
+/// the program.
 #[derive(Clone, Copy, Debug)]
 pub struct Refusal {
     pub slot: usize,

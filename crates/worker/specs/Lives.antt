@@ -106,7 +106,9 @@ abbrev pub latest : (first : ℕ) → List ℕ → ℕ
 latest first [] = first
 latest first (moment ∷ moments) = moment
 
--- the turn was refused at each moment but the last, since the router's clock is ahead of it
+-- the turn was refused with `ClockBack` at each moment but the last: the router's clock was ahead
+-- of
+-- it, or the moment out of range
 abbrev pub AreAhead : (refused : (moment : ℕ) → TurnError → Type 0) → (first : ℕ) → List ℕ → Type 0
 AreAhead refused first [] = Unit {0}
 AreAhead refused first (moment ∷ moments) =

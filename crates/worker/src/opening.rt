@@ -45,7 +45,7 @@ pub fn open_hub<L: Site>(
     }
 }
 
-// A port for each seat with its asker, the last one first.
+// A port for each seat with its asker, in the order of the seats; the last one has number 0.
 fn ports_of<L: Site>(
     alloc: Global,
     all: &mut Share<L>,

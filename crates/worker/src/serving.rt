@@ -210,7 +210,8 @@ fn is_clock_back(turned: &Result<TurnOutcome, TurnError>) -> bool
 }
 
 /// A turn at the moment. While the router's clock is ahead of this one it is tried again, at most
-/// three times, each time at a new moment, and each try asks the programs anew. Afterwards `moment`
+/// three times, at once, each time at the moment that the clock shows then, and each try asks the
+/// programs anew. Afterwards `moment`
 /// is that of the last try.
 ///
 /// # Errors
@@ -252,7 +253,7 @@ pub fn turn_with_retries<L: Site, B: Taker<L>, G: Gate, S: Seconds, R: Wait>(
 }
 
 /// Sends what a turn sends, and then what its refresh sends: each out once, in their order, at its
-/// interface. An out that would wait is dropped.
+/// interface. An out that isn't sent is lost, whatever the reason.
 ///
 /// # Errors
 /// `SocketFault` if a send fails: the later outs aren't sent.

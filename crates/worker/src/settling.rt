@@ -7,8 +7,8 @@ use std::alloc::{AllocError, Global};
 use std::sync::ledger::Share;
 use turns::{Book, Hub, Port, Site};
 
-/// The share that counts every event of the book, and the ports' seats, all of the hub's counters and cells:
-/// what [`Shared::close`](maps::Shared::close) asks for.
+/// The share that counts every event of the book, and the ports' seats, all of the hub's counters
+/// and cells: what [`Shared::close`](maps::Shared::close) asks for.
 #[derive(Drop)]
 pub struct Settled<L: Site> {
     pub share: Share<L>,

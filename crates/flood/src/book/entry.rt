@@ -2,7 +2,7 @@
 use crate::event::Event;
 use words::Second;
 
-/// An event and the moment at which it came.
+/// An event and the moment at which it was taken.
 #[derive(Drop)]
 pub struct JournalEntry {
     pub moment: Second,

@@ -15,7 +15,7 @@ use std::alloc::{AllocError, Global};
 use words::{Key, RouterId, Second};
 
 // Whether the neighbor starts over at a Hello, by whether that lists this router: nothing is kept
-// except the number of the last attempt.
+// except the DD sequence number with which the last attempt began.
 fn restarts(state: NeighborState, lists_us: bool) -> bool
     ensures { result ≡ restarts state lists_us }
 {

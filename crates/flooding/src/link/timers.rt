@@ -19,8 +19,8 @@ impl Link {
     }
 }
 
-/// The timers that a Tick finds expired, as in `NeighborSlot::expire_neighbor_timers`, with the interface's
-/// RouterDeadInterval.
+/// The timers that a Tick finds expired, as in `NeighborSlot::expire_neighbor_timers`, with the
+/// interface's RouterDeadInterval.
 #[derive(Drop)]
 pub struct ExpireTimers {
     pub moment: Second,
