@@ -110,12 +110,14 @@ abbrev pub FaultIgnoresInput : Type 0
 FaultIgnoresInput = (code : List Slot) (hook : Hook) (a b : Given) (s : State)
     → fault_at (setting_of code hook a) s ≡ fault_at (setting_of code hook b) s
 
--- A safe program ends on every input in its ranges, within its number of instructions.
+-- Each run of a safe program, on an input in its ranges, goes on to an end within its number of
+-- instructions, whatever it was answered until then.
 abbrev pub SafeRunsEnd : Type 0
 SafeRunsEnd = (code : List Slot) (hook : Hook) (most : ℕ) (input : Given)
     → Safe code hook most → IsInput input
-    → (n : ℕ) × (labels : List Label) × (word : ℕ)
-    × Ends (setting_of code hook input) n labels word × (n ≤ most)
+    → (m : ℕ) (labels : List Label) (s : State) → Run (setting_of code hook input) m labels s
+    → (n : ℕ) × (more : List Label) × (word : ℕ)
+    × Ends (setting_of code hook input) n (labels ++ more) word × (n ≤ most)
 
 -- The labels of a run determine its answer.
 abbrev pub LabelsDetermineAnswer : Type 0

@@ -10,12 +10,14 @@ pub fn a_state_goes_one_way()
     ensures { GoesOneWay }
 {}
 
-/// A state is stuck, or steps, or is at EXIT with an answer.
+/// A state whose stack is whole, on an input in its ranges, is stuck, or steps, or is at EXIT with
+/// an answer.
 pub fn a_state_is_stuck_or_goes_on()
     ensures { StatesGoOn }
 {}
 
-/// Each state that a run reaches is stuck, or steps, or is at EXIT with an answer.
+/// Each state that a run on an input in its ranges reaches is stuck, or steps, or is at EXIT with
+/// an answer.
 pub fn a_run_goes_on_until_it_ends()
     ensures { RunsGoOn }
 {}
@@ -51,7 +53,8 @@ pub fn the_input_makes_no_fault()
     ensures { FaultIgnoresInput }
 {}
 
-/// A safe program ends on every input, within its number of instructions.
+/// Each run of a safe program, on an input in its ranges, goes on to an end, within its number of
+/// instructions, whatever counters and cells answer.
 pub fn a_safe_program_ends()
     ensures { SafeRunsEnd }
 {}
