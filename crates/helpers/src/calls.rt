@@ -15,7 +15,7 @@ use crate::lookups::{packet_byte, table_cost};
 use machine::{Content, Fault, Helper, Hook, Input};
 use maps::{Seat, Shared};
 
-/// The number of counters of the table.
+/// The number of counters, which all seats share.
 const COUNTERS: u64 = 256;
 
 /// The least amount that is too large for one addition.

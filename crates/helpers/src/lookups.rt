@@ -29,7 +29,8 @@ fn is_row_of(prefix: u64, length: u64, row: &TableRow) -> bool
 }
 
 /// The cost of the first row with exactly this prefix and length, or 2^32 if there is none, as for
-/// a length above 32 or a prefix with a host bit set.
+/// a length above 32 or a prefix with a host bit set. It goes through the rows one by one, and
+/// counts as one instruction however many there are.
 pub fn table_cost(input: &Input, prefix: u64, length: u64) -> u64
     ensures cost { result ≡ table_cost (given_by input.now).rows prefix length }
     ensures within { result ≤ 2 ^ 32 }

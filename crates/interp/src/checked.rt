@@ -15,8 +15,9 @@ use word_machine::Run;
 /// Runs a program at a hook on an input, for at most `limit` instructions, with every check that
 /// the machine requires.
 ///
-/// The answer is the number in r0 at EXIT. The seat belongs to the table, and its list grows by
-/// exactly the run's accesses, even if the run ends in a trap. The call never blocks or allocates.
+/// The answer is the number in r0 at EXIT. The seat is one of `shared`, and its list of accesses,
+/// which contracts alone have, grows by exactly the run's, even if the run ends in a trap. The call
+/// never blocks or allocates.
 ///
 /// # Errors
 /// `Trap::Stuck` if the machine is stuck after fewer than `limit` steps; `Trap::Limit` if `limit`

@@ -1,4 +1,4 @@
-//! The table of shared words.
+//! The table of counters and cells.
 ghost use Rattle.std.specs.Prelude.{◌≡◌, ℕ, ◌^◌, ◌<◌, ◌≤◌, ◌↔◌, ◌⊎◌, [], map, length, slice_index};
 ghost use Rattle.std.specs.Prelude.{IfOk, vec_len};
 ghost use Rattle.std.specs.List.{sum_by, All, range_with_len};
@@ -20,7 +20,7 @@ use atomic_table::{Closed, Table};
 use std::alloc::{AllocError, Global};
 use std::marker::Model;
 
-/// The words of one table: 256 counters that all its seats share, and 64 cells for each seat.
+/// A table of words: 256 counters that all its seats share, and 64 cells for each seat.
 ///
 /// It is shared by `&` with any number of threads, each with a seat of its own. A call with a seat
 /// makes one atomic step on one word: it never blocks or allocates. Contracts see which table it is
