@@ -15,7 +15,9 @@ abbrev pub statement_at : List StatementParts → ℕ → Option StatementParts
 statement_at [] slot = None
 statement_at (s ∷ ss) slot = if s.slot == slot then Some s else statement_at ss slot
 
--- the segment start is that of the statement: its kinds are what is stated of r0 to r9
+-- the segment start is that of the statement: its kinds are read from what is stated of r0 to r9,
+-- as
+-- `IsRead` says
 pub record IsSegmentStartOf {D : Type 0} (contains : D → ℕ → Type 0) (statement : StatementParts)
     (segment : SegmentStart D) : Type 0 where
   pub same : segment.statement.now ≡ statement
