@@ -16,7 +16,7 @@ use Rattle.hooks.specs.declared.operation.LoaderOperation.{LoaderOperation}
 use Rattle.hooks.specs.Laws.{DefaultsAreConfigured}
 use Rattle.hooks.specs.Operations.{Program, RunsTo, default_of, leaves}
 use Rattle.hooks.specs.Questions.{price_input, tag_input, veto_input}
-use Rattle.hooks.specs.Vacant.{IsAnsweredByNone, IsVacant}
+use Rattle.hooks.specs.Vacant.{IsAnsweredWithoutSeat, IsVacant}
 
 by_default : (hook : Hook) (input : Given) (word : ℕ) (labels : List Label) (o : Option Program)
     → o ≡ None → labels ≡ [] → word ≡ default_of hook input
@@ -27,7 +27,7 @@ by_default hook input word labels (Some p) vacant none is = absurd (cc (vacant))
 
 pub answered_by_none : (hook : Hook) (before now : List LoaderOperation) (input : Given) (word : ℕ)
     → IsPrefix before now → IsVacant hook now → IsOfHook hook input → word ≡ default_of hook input
-    → IsAnsweredByNone before now input word
+    → IsAnsweredWithoutSeat before now input word
 answered_by_none hook before now input word begins vacant asked is seat = record {
   labels = [];
   begins = begins;
@@ -50,20 +50,21 @@ configured_metric external moment rows fits = cc ((defaults external moment rows
 module _ (before now : List LoaderOperation) (external : External) (moment : Moment)
     (begins : IsPrefix before now) where
   pub tag_by_none : (word : ℕ) → IsVacant Tag now → external.tag < 2 ^ 32 → word ≡ external.tag
-      → (rows : List TableRow) → IsAnsweredByNone before now (tag_input external moment rows) word
+      → (rows : List TableRow)
+      → IsAnsweredWithoutSeat before now (tag_input external moment rows) word
   tag_by_none word vacant fits is rows =
       answered_by_none Tag before now (tag_input external moment rows) word begins vacant refl
       (is ∙ configured_tag external moment rows fits)
 
   pub price_by_none : (word : ℕ) → IsVacant Price now → external.metric < 2 ^ 32
       → word ≡ external.metric → (rows : List TableRow)
-      → IsAnsweredByNone before now (price_input external moment rows) word
+      → IsAnsweredWithoutSeat before now (price_input external moment rows) word
   price_by_none word vacant fits is rows =
       answered_by_none Price before now (price_input external moment rows) word begins vacant refl
       (is ∙ configured_metric external moment rows fits)
 
 pub veto_by_none : (before now : List LoaderOperation) (moment : Moment) → IsPrefix before now
     → IsVacant Veto now → (route : Route) (rows : List TableRow)
-    → IsAnsweredByNone before now (veto_input route moment rows) 0
+    → IsAnsweredWithoutSeat before now (veto_input route moment rows) 0
 veto_by_none before now moment begins vacant route rows =
     answered_by_none Veto before now (veto_input route moment rows) 0 begins vacant refl refl

@@ -68,10 +68,10 @@ default_of Tag input = number_of (slice_range input.context 16 20)
 default_of Price input = number_of (slice_range input.context 12 16)
 default_of Veto input = 0
 
--- the word of a run, with these labels, of an accepted program at its hook
+-- the word of a run, with these labels, of a safe program at its hook
 pub record RunsTo (program : Program) (input : Given) (labels : List Label)
     (word : ℕ) : Type 0 where
-  pub accepted : IsSafeProgram program
+  pub safe : IsSafeProgram program
   pub used : ℕ
   pub within : used ≤ program.bound
   pub ends : Ends (setting_of program.code program.hook input) used labels word

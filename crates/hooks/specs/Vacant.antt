@@ -23,9 +23,9 @@ pub record AreVacancies (operations : List LoaderOperation) (v : Vacancies) : Ty
   pub veto : IsTrue v.veto ↔ IsVacant Veto operations
 
 -- The operations that the asker knows now answer the input with the word, without a seat: each seat
--- is unchanged.
-abbrev pub IsAnsweredByNone : (before now : List LoaderOperation) → Given → (word : ℕ) → Type 0
-IsAnsweredByNone before now input word =
+-- is unchanged. A program that uses none may have answered.
+abbrev pub IsAnsweredWithoutSeat : (before now : List LoaderOperation) → Given → (word : ℕ) → Type 0
+IsAnsweredWithoutSeat before now input word =
     (seat : SeatView) → IsAnswered before now seat seat input word
 
 -- the answer of `veto` that accepts a route

@@ -1,14 +1,14 @@
 //! The answers at hooks without a program.
 ghost use Rattle.std.specs.Prelude.{◌≡◌, ◌↔◌, List, IfSome, IsTrue, map};
 ghost use mathlib.Core.List.{IsPrefix};
-ghost use Rattle.isa.specs.declared.hook.Hook.TheVariants.{Veto};
+ghost use Rattle.isa.specs.declared.hook.Hook.TheVariants.{Price, Tag, Veto};
 ghost use Rattle.left_right.specs.Sides.{view};
 ghost use Rattle.words.specs.declared.route.Route.{Route};
 ghost use Rattle.words.specs.declared.route.TableRow.{TableRow};
 ghost use Rattle.hooks.specs.Known.{known_to, asker_history};
 ghost use Rattle.hooks.specs.Questions.{tag_input, price_input, veto_input};
 ghost use Rattle.hooks.specs.Rule.{HasSeen};
-ghost use Rattle.hooks.specs.Vacant.{AreVacancies, IsAnsweredByNone, IsVacant, let_in_answer};
+ghost use Rattle.hooks.specs.Vacant.{AreVacancies, IsAnsweredWithoutSeat, IsVacant, let_in_answer};
 
 use crate::answer::{PriceAnswer, TagAnswer};
 use crate::asker::Asker;
@@ -80,11 +80,13 @@ impl Asker {
     ) -> Option<(TagAnswer, PriceAnswer)>
         ensures history { asker_history self.new ≡ asker_history self.old }
         ensures known { IsPrefix (known_to self.old) (known_to self.new) }
+        ensures vacant { IfSome result (λ _.
+            IsVacant Tag (known_to self.new) × IsVacant Price (known_to self.new)) }
         ensures tag { IfSome result (λ r. (r.0.external ≡ external.now) × (r.0.moment ≡ moment)) }
         ensures price { IfSome result (λ r. (r.1.external ≡ external.now) × (r.1.moment ≡ moment)) }
-        ensures tagged { IfSome result (λ r. (rows : List TableRow) → IsAnsweredByNone
+        ensures tagged { IfSome result (λ r. (rows : List TableRow) → IsAnsweredWithoutSeat
             (known_to self.old) (known_to self.new) (tag_input external.now moment rows) r.0.word) }
-        ensures priced { IfSome result (λ r. (rows : List TableRow) → IsAnsweredByNone
+        ensures priced { IfSome result (λ r. (rows : List TableRow) → IsAnsweredWithoutSeat
             (known_to self.old) (known_to self.new) (price_input external.now moment rows)
             r.1.word) }
     {
@@ -103,9 +105,10 @@ impl Asker {
     pub fn all_let_in(&mut self, routes: Pages<Route>, moment: Second) -> Option<VetoAnswers>
         ensures history { asker_history self.new ≡ asker_history self.old }
         ensures known { IsPrefix (known_to self.old) (known_to self.new) }
+        ensures vacant { IfSome result (λ _. IsVacant Veto (known_to self.new)) }
         ensures all { IfSome result (λ answers. answers ≡ map (let_in_answer moment) routes) }
         ensures answered { IfSome result (λ answers.
-            (route : Route) (rows : List TableRow) → IsAnsweredByNone
+            (route : Route) (rows : List TableRow) → IsAnsweredWithoutSeat
             (known_to self.old) (known_to self.new) (veto_input route moment rows) 0) }
     {
         match self.vacancies() {

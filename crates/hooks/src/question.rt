@@ -99,7 +99,7 @@ impl Asker {
     }
 
     /// Asks `veto` whether to keep a route out of the table, given the rows of a table; 0 lets it
-    /// in.
+    /// in. A router asks about all its candidates by [`vetoes`](Asker::vetoes).
     pub fn veto(
         &mut self,
         route: &Route,

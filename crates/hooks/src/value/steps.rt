@@ -122,7 +122,7 @@ impl Programs {
     }
 
     // Asks `veto` about a route.
-    fn veto(
+    fn veto_answer(
         &self,
         route: &Route,
         moment: Second,
@@ -175,7 +175,8 @@ impl Programs {
         let from = answers.len();
         let end = from + (routes.len() - from).min(QUESTIONS_PER_READING);
         for at in from..end {
-            answers.push_reserved(self.veto(&routes[at], moment, rows, &mut memory, shared, seat));
+            let answer = self.veto_answer(&routes[at], moment, rows, &mut memory, shared, seat);
+            answers.push_reserved(answer);
         }
     }
 }

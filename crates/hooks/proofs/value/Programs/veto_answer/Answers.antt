@@ -7,7 +7,7 @@ use Rattle.hooks.specs.Questions.{RouteAnswer, veto_input}
 use Rattle.hooks.specs.Shown.{published_operations}
 use Rattle.hooks.proofs.Answered.{answered}
 use Rattle.hooks.proofs.Fronts.{prefix_self}
-use Rattle.hooks.proofs.value.Programs.veto.Goals as goal
+use Rattle.hooks.proofs.value.Programs.veto_answer.Goals as goal
 
 pub at_veto-word-requires-clause-asked : goal.at_veto-word-requires-clause-asked
 at_veto-word-requires-clause-asked c =
