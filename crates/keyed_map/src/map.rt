@@ -507,7 +507,7 @@ impl<X: Drop> KeyedMap<X> {
     }
 
     /// The keys that have another value, by the test, than when the map was last committed. It
-    /// visits the keys that were edited since.
+    /// visits the edits since then, and for each that the test tells apart those before it.
     ///
     /// # Errors
     /// `AllocError` if an allocation is refused.

@@ -1,5 +1,5 @@
 //! The link-state database of a router.
-ghost use Rattle.std.specs.Prelude.{◌≡◌, ◌≤◌, ◌↔◌, length, take, IfOk, IsTrue, option_copied};
+ghost use Rattle.std.specs.Prelude.{◌≡◌, ◌≤◌, ◌↔◌, length, IfOk, IsTrue, option_copied};
 ghost use Rattle.std.specs.FinMap as finite;
 ghost use Rattle.lsdb.specs.Copies.{
   age_prematurely,
@@ -12,7 +12,7 @@ ghost use Rattle.lsdb.specs.Bodies.{AreBodies};
 ghost use Rattle.lsdb.specs.Doing.{DatabaseDoes};
 ghost use Rattle.lsdb.specs.Changes.{IsUpTo, ContentsAgree};
 ghost use Rattle.words.specs.declared.key.Key.{Key as KeyValue};
-ghost use Rattle.lsdb.specs.Limits.{exceeds, has_room, own_externals};
+ghost use Rattle.lsdb.specs.Limits.{exceeds, has_room};
 
 mod changed;
 mod others;
@@ -251,13 +251,6 @@ impl Lsdb {
         self.copies.keys()
     }
 
-    /// The number of AS-external-LSAs that the router itself originates.
-    pub fn own_externals(&self) -> usize
-        ensures { result ≡ own_externals self.now.router self.now.present }
-    {
-        self.externals
-    }
-
     /// Whether an LSA with this key stays within the limits: it replaces a copy, or there are fewer
     /// than 16,384 LSAs and, if it is an AS-external-LSA of the router itself, fewer than 4,096 of
     /// these.
@@ -275,16 +268,6 @@ impl Lsdb {
         ensures { result ≡ exceeds self.now.router self.now.present }
     {
         self.copies.len() > MAX_LSAS || self.externals > MAX_OWN_EXTERNALS
-    }
-
-    /// The first `count` keys, in their order, or all if there are fewer.
-    ///
-    /// # Errors
-    /// `AllocError` if an allocation is refused.
-    pub fn first(&self, alloc: Global, count: usize) -> Result<Vec<Key>, AllocError>
-        ensures { IfOk result (λ keys. keys.items ≡ take count (finite.keys self.now.present)) }
-    {
-        self.copies.first(alloc, count)
     }
 
     /// The keys of the copies that have MaxAge at the moment, in their order.
@@ -312,10 +295,12 @@ impl Lsdb {
     /// Whether the contents of no copy of an LS type up to this one, or of any type if none is
     /// given, have changed since the database was last committed (RFC 2328, section 13.2): no copy
     /// was added or removed, each has the same body, and neither the earlier copy nor the present
-    /// one is at MaxAge at the moment, unless they have the same age. It visits the edits since
-    /// then. Another sequence number, checksum or age below MaxAge doesn't matter, nor whether a
-    /// copy was sent; nor do other Options, which section 13.2 counts as a difference, but on which
-    /// no route depends.
+    /// one is at MaxAge at the moment, unless they had the same age at the same moment: a copy at
+    /// MaxAge in place of an earlier one counts as changed, and one that stayed doesn't, even if it
+    /// has come to MaxAge since. It visits the edits since then, and for
+    /// each whose contents differ those before it. Another sequence number, checksum or age below
+    /// MaxAge doesn't matter, nor whether a copy was sent; nor do other Options, which section 13.2
+    /// counts as a difference, but on which no route depends.
     ///
     /// # Errors
     /// `AllocError` if an allocation for the bytes of LSAs, which are compared, is refused.

@@ -1,9 +1,9 @@
 //! Whether two copies of one key say the same (RFC 2328, section 13.2).
 ghost use Rattle.std.specs.Prelude.{◌≡◌, ◌≤◌, ◌↔◌, ◌⊎◌, drop, length, IfOk, IsTrue, None};
 ghost use Rattle.std.specs.Prelude.{option_copied};
-ghost use Rattle.lsdb.specs.Changes.{HaveNoMaxAge, HaveOneAge, ContentsAgree, header_length};
+ghost use Rattle.lsdb.specs.Changes.{HaveNoMaxAge, HaveSameStoredAge, ContentsAgree, header_length};
 ghost use Rattle.lsdb.specs.Copies.{contents_of};
-ghost use Rattle.lsdb.specs.Unchanged.{IsContentUnchanged, StaysWithoutContents};
+ghost use Rattle.lsdb.specs.Unchanged.{IsUnchangedApartFromAging, StaysWithoutContents};
 
 use crate::plain_bodies::are_plainly_one;
 use crate::stored::StoredLsa;
@@ -13,8 +13,8 @@ use std::alloc::{AllocError, Global};
 use words::Second;
 
 /// Whether both copies have the same contents at the moment (RFC 2328, section 13.2), or neither
-/// exists: their bodies are equal, and they had one age or neither has MaxAge. Other Options are no
-/// difference here.
+/// exists: their bodies are equal, and either they had the same age at the same moment, or neither
+/// has MaxAge. Other Options are no difference here.
 ///
 /// # Errors
 /// `AllocError` if an allocation for their bytes, which are compared, is refused.
@@ -36,8 +36,8 @@ pub fn contents_agree(
     }
 }
 
-// Whether both copies have one body, and one age or no MaxAge at the moment. The bodies of copies
-// whose ages differ aren't compared.
+// Whether both copies have one body, and either had the same age at the same moment or are both
+// below MaxAge at this one. If neither is so, the bodies aren't compared.
 fn copies_agree(
     alloc: Global,
     moment: Second,
@@ -45,19 +45,20 @@ fn copies_agree(
     new: &StoredLsa,
 ) -> Result<bool, AllocError>
     ensures { IfOk result (λ same. IsTrue same ↔ ((old.now.lsa.body ≡ new.now.lsa.body)
-        × (HaveOneAge old.now new.now ⊎ HaveNoMaxAge moment old.now new.now))) }
+        × (HaveSameStoredAge old.now new.now ⊎ HaveNoMaxAge moment old.now new.now))) }
 {
-    if !count_alike(moment, old, new) {
+    if !ages_agree(moment, old, new) {
         return Ok(false);
     }
     have_one_body(alloc, old.lsa(), new.lsa())
 }
 
 // Whether both copies had the same age at the same moment, or neither has MaxAge at this one.
-fn count_alike(moment: Second, old: &StoredLsa, new: &StoredLsa) -> bool
-    ensures { IsTrue result ↔ (HaveOneAge old.now new.now ⊎ HaveNoMaxAge moment old.now new.now) }
+fn ages_agree(moment: Second, old: &StoredLsa, new: &StoredLsa) -> bool
+    ensures { IsTrue result
+        ↔ (HaveSameStoredAge old.now new.now ⊎ HaveNoMaxAge moment old.now new.now) }
 {
-    if old.has_age_of(new) {
+    if old.has_stored_age_of(new) {
         return true;
     }
     have_no_max_age(moment, old, new)
@@ -104,13 +105,14 @@ fn behind_header(text: &[u8]) -> &[u8]
 }
 
 /// Whether the body of this key's copy, on which routes depend, is the same at `moment` as it was
-/// at `before`: the contents of both copies agree, as in `contents_agree`; or neither the earlier
-/// one at `before` nor the present one at `moment` has a body that counts, since each is missing or
-/// at MaxAge.
+/// at `before`, apart from aging: the contents of both copies agree, as in `contents_agree`; or
+/// neither the earlier one at `before` nor the present one at `moment` has a body that counts,
+/// since each is missing or at MaxAge. A copy that stayed agrees with itself, though it may have
+/// come to MaxAge since `before`: for that the caller looks through the ages.
 ///
 /// # Errors
 /// `AllocError` if an allocation for their bytes, which are compared, is refused.
-pub fn is_content_unchanged(
+pub fn is_unchanged_apart_from_aging(
     alloc: Global,
     before: Second,
     moment: Second,
@@ -118,7 +120,8 @@ pub fn is_content_unchanged(
     new: Option<&StoredLsa>,
 ) -> Result<bool, AllocError>
     ensures { IfOk result (λ no_more. IsTrue no_more
-        ↔ IsContentUnchanged before moment (option_copied old.entry) (option_copied new.entry)) }
+        ↔ IsUnchangedApartFromAging before moment (option_copied old.entry)
+        (option_copied new.entry)) }
 {
     if stays_without_contents(before, moment, old, new) {
         return Ok(true);

@@ -2,7 +2,7 @@
 ghost use Rattle.std.specs.Prelude.{◌≡◌, ◌↔◌, ◌<◌, IfOk, IsTrue, Some, false, option_copied};
 ghost use Rattle.words.specs.Constants.{max_age};
 ghost use Rattle.words.specs.Numbers.{Moment};
-ghost use Rattle.lsdb.specs.Changes.{HaveOneAge};
+ghost use Rattle.lsdb.specs.Changes.{HaveSameStoredAge};
 ghost use Rattle.lsdb.specs.Copies.{copy_of, is_aged_out, contents_of};
 ghost use Rattle.lsdb.specs.Headers.{lsa_with_age};
 
@@ -122,8 +122,8 @@ impl StoredLsa {
     }
 
     /// Whether both had the same age at the same moment.
-    pub(crate) fn has_age_of(&self, other: &StoredLsa) -> bool
-        ensures { IsTrue result ↔ HaveOneAge self.now other.now }
+    pub(crate) fn has_stored_age_of(&self, other: &StoredLsa) -> bool
+        ensures { IsTrue result ↔ HaveSameStoredAge self.now other.now }
     {
         self.times.age == other.times.age && self.times.stored.count() == other.times.stored.count()
     }

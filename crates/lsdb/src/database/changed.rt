@@ -14,8 +14,9 @@ use words::{Key, Second};
 
 impl Lsdb {
     /// The keys whose copies have other contents at the moment than when the database was last
-    /// committed, as `is_unchanged` compares them (RFC 2328, section 13.2). It visits
-    /// the edits since then.
+    /// committed, as `is_unchanged` compares them (RFC 2328, section 13.2): one that stayed isn't
+    /// among them even if it has come to MaxAge since, which `max_age_keys` tells. It visits the
+    /// edits since then, and for each whose contents differ those before it.
     ///
     /// # Errors
     /// `AllocError` if an allocation for the keys, or for the bytes of LSAs, which are compared, is

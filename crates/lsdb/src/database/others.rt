@@ -3,11 +3,11 @@ ghost use Rattle.std.specs.Prelude.{◌≡◌, ◌↔◌, IfOk, IsTrue, false, s
 ghost use Rattle.std.specs.FinMap as finite;
 ghost use Rattle.keyed_map.specs.Slots.{keys_from};
 ghost use Rattle.lsdb.specs.Changes.{ContentsAgree};
-ghost use Rattle.lsdb.specs.Unchanged.{IsContentUnchanged};
+ghost use Rattle.lsdb.specs.Unchanged.{IsUnchangedApartFromAging};
 ghost use Rattle.words.specs.declared.key.Key.{Key as KeyValue};
 
 use super::Lsdb;
-use crate::sameness::is_content_unchanged;
+use crate::sameness::is_unchanged_apart_from_aging;
 use crate::stored::StoredLsa;
 use keyed_map::ChangeTest;
 use std::alloc::{AllocError, Global};
@@ -36,7 +36,7 @@ fn counts_by<T: KeyRule>(rule: &T, alloc: Global, key: &Key) -> Result<bool, All
 }
 
 // Whether the copies of the keys that count have the bodies that they had, or none that counts
-// (missing, or at MaxAge) before and now.
+// (missing, or at MaxAge) before and now; one that stayed may have come to MaxAge.
 #[derive(Drop)]
 struct OthersAreUnchanged<'a, T> {
     rule: &'a T,
@@ -45,10 +45,10 @@ struct OthersAreUnchanged<'a, T> {
 }
 
 impl<'a, T: KeyRule> ChangeTest<StoredLsa> for OthersAreUnchanged<'a, T> {
-    ghost use Rattle.lsdb.specs.Unchanged.{IsContentUnchanged};
+    ghost use Rattle.lsdb.specs.Unchanged.{IsUnchangedApartFromAging};
 
     ghost same = { λ a key old new. (T.leaves_out a.rule.now key → ⊥)
-        → IsContentUnchanged a.before a.moment old new };
+        → IsUnchangedApartFromAging a.before a.moment old new };
 
     ghost counted = { λ a key. T.leaves_out a.rule.now key → ⊥ };
 
@@ -63,7 +63,7 @@ impl<'a, T: KeyRule> ChangeTest<StoredLsa> for OthersAreUnchanged<'a, T> {
         old: Option<&StoredLsa>,
         new: Option<&StoredLsa>,
     ) -> Result<bool, AllocError> {
-        is_content_unchanged(alloc, self.before, self.moment, old, new)
+        is_unchanged_apart_from_aging(alloc, self.before, self.moment, old, new)
     }
 }
 
@@ -84,7 +84,7 @@ impl Lsdb {
         moment: Second,
     ) -> Result<bool, AllocError>
         ensures same { IfOk result (λ same. IsTrue same → (key : KeyValue)
-            → (T.leaves_out rule.now key → ⊥) → IsContentUnchanged before moment
+            → (T.leaves_out rule.now key → ⊥) → IsUnchangedApartFromAging before moment
             (finite.get self.now.committed key) (finite.get self.now.present key)) }
         ensures kept { IfOk result (λ same. ((key : KeyValue)
             → (T.leaves_out rule.now key → ⊥) → ContentsAgree moment
