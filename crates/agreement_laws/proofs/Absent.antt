@@ -8,7 +8,7 @@ use Rattle.lsdb.specs.Copies.{Database, DatabaseCopy}
 use Rattle.lsdb.specs.Headers.{Lsa, lsa_key}
 use Rattle.lsdb.specs.Keys.{same_key}
 use Rattle.adjacency.specs.Contents.{Content}
-use Rattle.received.specs.Outcomes.{Outcome, Send, marked_database}
+use Rattle.received.specs.AreaStates.{AreaState, Send, marked_database}
 use Rattle.received.proofs.Marks.{changed_by}
 use Rattle.event_rules.specs.Originations.{new_instance}
 use Rattle.flood_laws.proofs.Limits.{tied_key}
@@ -57,7 +57,7 @@ module _ (key : Key) where
       none_marked moment more (marked_database moment db s.content)
       (one_marked moment s.content db none)
 
-  abbrev pub Lacks : Outcome → Type 0
+  abbrev pub Lacks : AreaState → Type 0
   Lacks o = IsNone o.area.database
 
   -- if the key isn't the router's own

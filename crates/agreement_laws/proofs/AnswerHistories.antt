@@ -6,7 +6,7 @@ use Rattle.packet.specs.declared.model.Description.{Description}
 use Rattle.adjacency.specs.Neighbors.{Neighbor, is_exchange_or_later}
 use Rattle.received.specs.Holds.{Holds}
 use Rattle.received.specs.Links.{neighbor_at}
-use Rattle.received.specs.Outcomes.{Send}
+use Rattle.received.specs.AreaStates.{Send}
 use Rattle.event_rules.specs.declared.model.Config.{Config}
 use Rattle.event_rules.specs.Endings.{end_event}
 use Rattle.event_rules.specs.EventState.{EventState}

@@ -22,14 +22,15 @@ use Rattle.adjacency.specs.Requests.{request_next}
 use Rattle.adjacency.specs.Retransmissions.{after_acknowledgment, remove_retransmission}
 use Rattle.adjacency.proofs.Kept.{chosen}
 use Rattle.received.specs.Cases.{Case}
-use Rattle.received.specs.Flooding.{flood, flood_to, is_received_at}
+use Rattle.received.specs.Flooding.{flood, flood_to, is_incoming}
 use Rattle.received.specs.Holds.{Holds}
 use Rattle.received.specs.Links.{Link, change_link, delay_acknowledgment, link_at, neighbor_at}
 use Rattle.received.specs.Links.{neighbor_on}
-use Rattle.received.specs.Outcomes.{Outcome, Send, Stepping, each_neighbor, on_database, on_links}
-use Rattle.received.specs.Outcomes.{one_neighbor, only_at, sending, sends_at, sent_on, step_on}
-use Rattle.received.specs.Outcomes.{stepped_links, stepping_sends, sends_of}
-use Rattle.received.specs.Updates.{after_case, copy_of, send_copy}
+use Rattle.received.specs.AreaStates.{AreaState, Send, Stepping, each_neighbor, on_database}
+use Rattle.received.specs.AreaStates.{on_links}
+use Rattle.received.specs.AreaStates.{one_neighbor, only_at, sending, sends_at, sent_on, step_on}
+use Rattle.received.specs.AreaStates.{stepped_links, stepping_sends, sends_of}
+use Rattle.received.specs.Updates.{after_case, database_copy, send_copy}
 use Rattle.event_rules.specs.Commands.{taken_down}
 use Rattle.event_rules.specs.Endings.{flood_if_aged, link_loading_done}
 use Rattle.event_rules.specs.EventState.{flood_from_nobody}
@@ -166,7 +167,7 @@ module _ (own : ℕ) (Acc : Description → Type 0) (Began : Conversation → Ty
   abbrev pub There : List Send → Option Neighbor → Type 0
   There sends o = Holds (IsSound sends) o
 
-  abbrev pub Stands : Outcome → Type 0
+  abbrev pub Stands : AreaState → Type 0
   Stands o = There o.sends (neighbor_at number o.area.links)
 
   -- ---- what is sent
@@ -190,7 +191,7 @@ module _ (own : ℕ) (Acc : Description → Type 0) (Began : Conversation → Ty
       by d (inr c) =
           by_place d (Contains-append_cases sends more (at_place number (Content.Describes d)) c)
 
-  sent : (more : List Send) (o : Outcome) → NoneHere more → Stands o
+  sent : (more : List Send) (o : AreaState) → NoneHere more → Stands o
       → Stands (sending moment more o)
   sent more o none h = more_sent o.sends more none (neighbor_at number o.area.links) h
 
@@ -206,20 +207,20 @@ module _ (own : ℕ) (Acc : Description → Type 0) (Began : Conversation → Ty
 
   -- ---- links
 
-  each_link : (g : Link → Link) (o : Outcome)
+  each_link : (g : Link → Link) (o : AreaState)
       → ((link : Link) → There o.sends link.neighbor → There o.sends (g link).neighbor)
       → Stands o → Stands (on_links (map g) o)
   each_link g o keeps h =
       each_kept_at (There o.sends) (There o.sends) (λ n. n) g number keeps o.area.links h
 
-  change_at : (place : ℕ) (change : Link → Link) (o : Outcome)
+  change_at : (place : ℕ) (change : Link → Link) (o : AreaState)
       → ((link : Link) → There o.sends link.neighbor → There o.sends (change link).neighbor)
       → Stands o → Stands (on_links (change_link place change) o)
   change_at place change o keeps h =
       interface.changed (There o.sends) number place change o.area.links keeps h
 
   -- a step of each neighbor, with what it sends at its interface
-  module _ (f : Stepping) (o : Outcome) (link : Link)
+  module _ (f : Stepping) (o : AreaState) (link : Link)
       (at : link_at number o.area.links ≡ Some link) where
     abbrev stepping : List Send
     stepping = stepping_sends f o.area.links
@@ -260,7 +261,7 @@ module _ (own : ℕ) (Acc : Description → Type 0) (Began : Conversation → Ty
         (Said (o.sends ++ stepping)) (further m is) (f number link m).neighbor
         (keeps m there (subst (There o.sends) there h))
 
-  each_step : (f : Stepping) (o : Outcome)
+  each_step : (f : Stepping) (o : AreaState)
       → ((link : Link) (m : Neighbor) → neighbor_at number o.area.links ≡ Some m
       → IsSound o.sends m → OfStep own Acc Began (Said o.sends) (f number link m))
       → Stands o → Stands (each_neighbor moment f o)
@@ -276,7 +277,7 @@ module _ (own : ℕ) (Acc : Description → Type 0) (Began : Conversation → Ty
           (sym (stepped_at f number o.area.links link at))
           (by_neighbor f o link at (keeps link) h link.neighbor refl)
 
-  one_step : (place : ℕ) (f : Neighbor → Step) (o : Outcome)
+  one_step : (place : ℕ) (f : Neighbor → Step) (o : AreaState)
       → ((m : Neighbor) → neighbor_at number o.area.links ≡ Some m → (number == place) ≡ true
       → IsSound o.sends m → OfStep own Acc Began (Said o.sends) (f m))
       → Stands o → Stands (one_neighbor moment place f o)
@@ -288,11 +289,11 @@ module _ (own : ℕ) (Acc : Description → Type 0) (Began : Conversation → Ty
 
   -- ---- flooding
 
-  pub floods : (sender : Option ℕ) (lsa : Lsa) (o : Outcome) → Stands o
+  pub floods : (sender : Option ℕ) (lsa : Lsa) (o : AreaState) → Stands o
       → Stands (flood moment sender lsa o)
   floods sender lsa o h =
       each_step (flood_to moment sender lsa) o
-      (λ link m is at. steps.flooded own Acc Began moment (is_received_at sender number) lsa
+      (λ link m is at. steps.flooded own Acc Began moment (is_incoming sender number) lsa
       (Said o.sends) m at) h
 
   -- ---- ages
@@ -303,7 +304,7 @@ module _ (own : ℕ) (Acc : Description → Type 0) (Began : Conversation → Ty
       is_exchange_or_later m.state ≡ false
       → ((w : Conversation) → Began w → ⊥) × ((d : Description) → Was d → ⊥)
 
-  pub record Aged (o : Outcome) : Type 0 where
+  pub record Aged (o : AreaState) : Type 0 where
     pub stands : Stands o
     pub none : NoneHere o.sends
     pub new : Holds IsNew (neighbor_at number o.area.links)
@@ -314,7 +315,7 @@ module _ (own : ℕ) (Acc : Description → Type 0) (Began : Conversation → Ty
       neighbor_steps.met IsNew moment lsa m h h
       in neighbor_steps.flooded IsNew moment false lsa m met met h
 
-  aged_one : (lsa : Lsa) (o : Outcome) → Aged o → Aged (flood_from_nobody moment lsa o)
+  aged_one : (lsa : Lsa) (o : AreaState) → Aged o → Aged (flood_from_nobody moment lsa o)
   aged_one lsa o h = record {
     stands = floods None lsa o h.stands;
     none = none_here;
@@ -342,7 +343,7 @@ module _ (own : ℕ) (Acc : Description → Type 0) (Began : Conversation → Ty
               (Content.Describes d) o.area.links j in
               other_on r.0 r.0.neighbor (Content.Describes d) r.2
 
-  pub ages : (before : ℕ) (es : List (Key × DatabaseCopy)) (o : Outcome) → Aged o
+  pub ages : (before : ℕ) (es : List (Key × DatabaseCopy)) (o : AreaState) → Aged o
       → Aged (fold (flood_if_aged before moment) o es)
   ages before [] o h = h
   ages before (e ∷ es) o h =
@@ -353,7 +354,7 @@ module _ (own : ℕ) (Acc : Description → Type 0) (Began : Conversation → Ty
 
   -- ---- packets
 
-  copy_sent : (place : ℕ) (c : Option DatabaseCopy) (o : Outcome) → Stands o
+  copy_sent : (place : ℕ) (c : Option DatabaseCopy) (o : AreaState) → Stands o
       → Stands (send_copy moment place c o)
   copy_sent place None o h = h
   copy_sent place (Some c) o h =
@@ -361,26 +362,26 @@ module _ (own : ℕ) (Acc : Description → Type 0) (Began : Conversation → Ty
       sent (sends_at place says) o
       (others_here place says (one_other (Updates (lsa_now moment c)) tt)) h
 
-  pub mismatches : (place : ℕ) (o : Outcome) → Stands o
+  pub mismatches : (place : ℕ) (o : AreaState) → Stands o
       → Stands (one_neighbor moment place (adjacencies.mismatch_step moment) o)
   mismatches place o h =
       one_step place (adjacencies.mismatch_step moment) o
       (λ m is e at. steps.mismatched own Acc Began moment (Said o.sends) m at) h
 
-  acknowledges_at_once : (place : ℕ) (x : Header) (o : Outcome) → Stands o
+  acknowledges_at_once : (place : ℕ) (x : Header) (o : AreaState) → Stands o
       → Stands (sending moment (sends_at place (Content.Acknowledges x ∷ [])) o)
   acknowledges_at_once place x o h =
       let says : List Content = Content.Acknowledges x ∷ [] in
       sent (sends_at place says) o
       (others_here place says (one_other (Content.Acknowledges x) tt)) h
 
-  pub cases : (case : Case) (place : ℕ) (lsa : Lsa) (o : Outcome) → Stands o
+  pub cases : (case : Case) (place : ℕ) (lsa : Lsa) (o : AreaState) → Stands o
       → Stands (after_case case moment place lsa o)
   cases Case.Unreadable place lsa o h = h
   cases Case.NothingToFlush place lsa o h = acknowledges_at_once place lsa.header o h
   cases Case.TooSoon place lsa o h = h
   cases Case.Newer place lsa o h =
-      let p : Outcome = on_database (install_flooded moment lsa) o in
+      let p : AreaState = on_database (install_flooded moment lsa) o in
       change_at place (delay_acknowledgment lsa.header) (flood moment (Some place) lsa p)
       (λ link at. at) (floods (Some place) lsa p h)
   cases Case.BadRequest place lsa o h = mismatches place o h
@@ -391,9 +392,9 @@ module _ (own : ℕ) (Acc : Description → Type 0) (Began : Conversation → Ty
   cases Case.Duplicate place lsa o h = acknowledges_at_once place lsa.header o h
   cases Case.SequenceWraps place lsa o h = h
   cases Case.SentJustNow place lsa o h = h
-  cases Case.Older place lsa o h = copy_sent place (copy_of lsa o.area) o h
+  cases Case.Older place lsa o h = copy_sent place (database_copy lsa o.area) o h
 
-  pub hellos : (its place from : ℕ) (hello : Hello) → its ≡ own → (o : Outcome) → Stands o
+  pub hellos : (its place from : ℕ) (hello : Hello) → its ≡ own → (o : AreaState) → Stands o
       → Stands (receive_hello its moment place from hello o)
   hellos its place from hello same o h = by_link (link_at place o.area.links) refl
     where
@@ -466,7 +467,7 @@ module _ (own : ℕ) (Acc : Description → Type 0) (Began : Conversation → Ty
               (with_neighbor s.neighbor l) l
               (λ k. let no : true ≡ false = sym k ∙ e in absurd cc) (λ k. at)) o.area.links h)
 
-  pub descriptions : (place : ℕ) (d : Description) (o : Outcome) → Aged o
+  pub descriptions : (place : ℕ) (d : Description) (o : AreaState) → Aged o
       → ((m : Neighbor) → neighbor_at number o.area.links ≡ Some m → (number == place) ≡ true
       → is_foreign own m.router ≡ true → accepts_description own moment m d ≡ true → Acc d)
       → Stands (receive_description own moment place d o)
@@ -487,7 +488,7 @@ module _ (own : ℕ) (Acc : Description → Type 0) (Began : Conversation → Ty
           by x (inl k) = so.1 x k
           by x (inr c) = h.none x c
 
-  pub acknowledgments : (place : ℕ) (headers : List Header) (o : Outcome) → Stands o
+  pub acknowledgments : (place : ℕ) (headers : List Header) (o : AreaState) → Stands o
       → Stands (one_neighbor moment place
       (λ m. no_sends (after_acknowledgment moment headers m)) o)
   acknowledgments place headers o h =
@@ -496,7 +497,7 @@ module _ (own : ℕ) (Acc : Description → Type 0) (Began : Conversation → Ty
       (after_acknowledgment moment headers m)
       (steps.acknowledged own Acc Began moment headers (Said o.sends) m at)) h
 
-  pub requested : (place : ℕ) (lsas : List Lsa) (o : Outcome) → Stands o
+  pub requested : (place : ℕ) (lsas : List Lsa) (o : AreaState) → Stands o
       → Stands (sending moment (sends_at place (map Updates lsas)) o)
   requested place lsas o h =
       sent (sends_at place (map Updates lsas)) o
@@ -504,20 +505,20 @@ module _ (own : ℕ) (Acc : Description → Type 0) (Began : Conversation → Ty
 
   -- ---- a Tick, a command, and the end
 
-  pub inactive : (o : Outcome) → Stands o → Stands (on_links (map (expire_timers moment)) o)
+  pub inactive : (o : AreaState) → Stands o → Stands (on_links (map (expire_timers moment)) o)
   inactive o h =
       each_link (expire_timers moment) o
       (λ link at. interface.inactive (There o.sends) tt moment link.interface.dead_interval
       (λ m k. steps.old_description own Acc Began moment link.interface.dead_interval
       (Said o.sends) m k) link.neighbor at) h
 
-  pub agains : (o : Outcome) → Stands o → Stands (each_neighbor moment (again moment o) o)
+  pub agains : (o : AreaState) → Stands o → Stands (each_neighbor moment (again moment o) o)
   agains o h =
       each_step (again moment o) o
       (λ link m is at. steps.again own Acc Began moment link.interface.retransmit_interval
       o.area.database (Said o.sends) m at) h
 
-  pub acknowledges : (o : Outcome) → Stands o → Stands (send_acknowledgments moment o)
+  pub acknowledges : (o : AreaState) → Stands o → Stands (send_acknowledgments moment o)
   acknowledges o h =
       sent (sends_of acknowledgments_on o.area.links) (on_links (map without_acknowledgments) o)
       (others_of acknowledgments_on
@@ -525,7 +526,7 @@ module _ (own : ℕ) (Acc : Description → Type 0) (Began : Conversation → Ty
       (finite.values link.acknowledgments)) o.area.links)
       (each_link without_acknowledgments o (λ link at. at) h)
 
-  pub hellos_sent : (o : Outcome) → Stands o → Stands (send_hellos moment o)
+  pub hellos_sent : (o : AreaState) → Stands o → Stands (send_hellos moment o)
   hellos_sent o h =
       sent (sends_of (hello_sent_on moment) o.area.links)
       (on_links (map (with_hello_sent moment)) o)
@@ -535,17 +536,17 @@ module _ (own : ℕ) (Acc : Description → Type 0) (Began : Conversation → Ty
       (λ e. one_other (Content.SendsHello (hello_on link)) tt) (λ e. none_sent)) o.area.links)
       (each_link (with_hello_sent moment) o (λ link at. at) h)
 
-  pub down : (place : ℕ) (o : Outcome) → Stands o
+  pub down : (place : ℕ) (o : AreaState) → Stands o
       → Stands (on_links (change_link place taken_down) o)
   down place o h = change_at place taken_down o (λ link at. tt) h
 
-  pub loaded : (o : Outcome) → Stands o → Stands (on_links (map link_loading_done) o)
+  pub loaded : (o : AreaState) → Stands o → Stands (on_links (map link_loading_done) o)
   loaded o h =
       each_link link_loading_done o
       (λ link at. interface.loaded (There o.sends) (steps.filled own Acc Began (Said o.sends))
       link.neighbor at) h
 
-  pub requests : (o : Outcome) → Stands o
+  pub requests : (o : AreaState) → Stands o
       → Stands (each_neighbor moment (λ place link m. request_next moment m) o)
   requests o h =
       each_step (λ place link m. request_next moment m) o

@@ -11,7 +11,7 @@ use Rattle.lsdb.specs.Headers.{lsa_with_age}
 use Rattle.lsdb.specs.Copies.{age_prematurely, install_originated}
 use Rattle.adjacency.specs.Neighbors.{Neighbor}
 use Rattle.received.specs.Links.{neighbor_at}
-use Rattle.received.specs.Outcomes.{Outcome, on_database}
+use Rattle.received.specs.AreaStates.{AreaState, on_database}
 use Rattle.event_rules.specs.declared.model.Out.{Out}
 use Rattle.event_rules.specs.Endings.{end_event, start_event}
 use Rattle.event_rules.specs.EventState.{EventState}
@@ -37,10 +37,10 @@ module _ (old : Router) (moment : ℕ) (event : Occurrence) (number : ℕ)
   abbrev start : EventState
   start = start_event moment old
 
-  abbrev pub IsAged : Outcome → Type 0
+  abbrev pub IsAged : AreaState → Type 0
   IsAged o = Aged old.id Acc Began Was number moment o
 
-  abbrev X : Outcome → ByKey ℕ → Type 0
+  abbrev X : AreaState → ByKey ℕ → Type 0
   X o t = Stands old.id Acc Began Was number moment o
 
   module _ (aged : IsAged (outcome start)) where

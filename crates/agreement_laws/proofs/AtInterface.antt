@@ -8,7 +8,7 @@ use Rattle.adjacency.specs.Descriptions.{without_old_description}
 use Rattle.adjacency.specs.Neighbors.{Neighbor}
 use Rattle.adjacency.proofs.Kept.{chosen}
 use Rattle.received.specs.Links.{Link, change_link, link_at, neighbor_at, neighbor_on}
-use Rattle.received.specs.Outcomes.{Stepping, only_at, step_on, stepped_links}
+use Rattle.received.specs.AreaStates.{Stepping, only_at, step_on, stepped_links}
 use Rattle.event_rules.specs.Endings.{loading_done_on}
 use Rattle.event_rules.specs.Packets.{with_neighbor}
 use Rattle.event_rules.specs.Ticks.{settled_exchange}

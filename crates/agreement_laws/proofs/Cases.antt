@@ -10,7 +10,7 @@ use Rattle.lsdb.specs.Order.{is_max_age}
 use Rattle.received.specs.Cases.{Case, first_case, is_wrapping}
 use Rattle.adjacency.specs.Asked.{is_on_request_list, has_retransmission_of}
 use Rattle.received.specs.Links.{Area, any_exchange_or_loading, neighbor_at}
-use Rattle.received.specs.Updates.{case_at, copy_of}
+use Rattle.received.specs.Updates.{case_at, database_copy}
 
 -- by whether there is nothing to flush, it is newer, was sent and is the same
 abbrev Passed : (a c e f : Bool) → Case → Type 0
@@ -46,16 +46,17 @@ nothing_there (Some c) is = absurd cc
 module _ (moment place : ℕ) (lsa : Lsa) (a : Area) where
   abbrev has_nothing : Bool
   has_nothing =
-      is_max_age lsa.header.age && is_none (copy_of lsa a) && not (any_exchange_or_loading a.links)
+      is_max_age lsa.header.age && is_none (database_copy lsa a)
+      && not (any_exchange_or_loading a.links)
 
   abbrev is_listed : Bool
   is_listed = has_retransmission_of moment lsa.header (neighbor_at place a.links)
 
   abbrev is_newer : Bool
-  is_newer = newer_than_copy moment lsa.header (copy_of lsa a)
+  is_newer = newer_than_copy moment lsa.header (database_copy lsa a)
 
   abbrev is_same : Bool
-  is_same = same_as_copy moment lsa.header (copy_of lsa a)
+  is_same = same_as_copy moment lsa.header (database_copy lsa a)
 
   abbrev PassedHere : Case → Type 0
   PassedHere case = Passed has_nothing is_newer (is_same && is_listed) is_same case
@@ -64,9 +65,10 @@ module _ (moment place : ℕ) (lsa : Lsa) (a : Area) where
   passed case is =
       subst PassedHere is
       (by_tests has_nothing
-      (is_some (copy_of lsa a) && is_newer && received_just_now moment (copy_of lsa a)) is_newer
+      (is_some (database_copy lsa a) && is_newer
+      && received_just_now moment (database_copy lsa a)) is_newer
       (is_on_request_list (lsa_key lsa) (neighbor_at place a.links)) (is_same && is_listed) is_same
-      (is_wrapping moment (copy_of lsa a)) (sent_just_now moment (copy_of lsa a)))
+      (is_wrapping moment (database_copy lsa a)) (sent_just_now moment (database_copy lsa a)))
 
   pub is_newer_case : case_at moment place lsa a ≡ Case.Newer → is_newer ≡ true
   is_newer_case is = passed Case.Newer is
@@ -81,9 +83,9 @@ module _ (moment place : ℕ) (lsa : Lsa) (a : Area) where
 
   -- at MaxAge, and without a copy
   pub nothing_to_flush : case_at moment place lsa a ≡ Case.NothingToFlush
-      → (is_max_age lsa.header.age ≡ true) × (copy_of lsa a ≡ None)
+      → (is_max_age lsa.header.age ≡ true) × (database_copy lsa a ≡ None)
   nothing_to_flush is =
-      let all = and_parts (is_max_age lsa.header.age && is_none (copy_of lsa a))
+      let all = and_parts (is_max_age lsa.header.age && is_none (database_copy lsa a))
       (not (any_exchange_or_loading a.links)) (passed Case.NothingToFlush is) in
-      let both = and_parts (is_max_age lsa.header.age) (is_none (copy_of lsa a)) all.0 in
-      (both.0, nothing_there (copy_of lsa a) both.1)
+      let both = and_parts (is_max_age lsa.header.age) (is_none (database_copy lsa a)) all.0 in
+      (both.0, nothing_there (database_copy lsa a) both.1)

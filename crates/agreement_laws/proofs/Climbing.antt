@@ -6,7 +6,7 @@ use Rattle.words.specs.declared.key.Key.{Key}
 use Rattle.lsdb.specs.Copies.{Database, DatabaseCopy, copy_now}
 use Rattle.lsdb.specs.Keys.{ByKey}
 use Rattle.lsdb.specs.declared.order.Instance.{Instance}
-use Rattle.received.specs.Outcomes.{Outcome}
+use Rattle.received.specs.AreaStates.{AreaState}
 use Rattle.event_rules.specs.declared.model.Out.{Out}
 use Rattle.event_rules.specs.Endings.{start_event}
 use Rattle.event_rules.specs.Events.{Happens}
@@ -30,19 +30,19 @@ module _ (key : Key) (old : Router) (moment : ℕ) (event : Occurrence) (copy : 
   abbrev Climbs : Database → Type 0
   Climbs db = IsHeldAsNew follow key moment first db
 
-  abbrev IsWhole : Outcome → ByKey ℕ → Type 0
+  abbrev IsWhole : AreaState → ByKey ℕ → Type 0
   IsWhole o t = Whole old event moment o.area.database
 
-  abbrev X : Outcome → ByKey ℕ → Type 0
+  abbrev X : AreaState → ByKey ℕ → Type 0
   X o t = Climbs o.area.database
 
-  abbrev Y : Outcome → ByKey ℕ → Type 0
+  abbrev Y : AreaState → ByKey ℕ → Type 0
   Y o t = HasEnded follow key moment first (HasHad old event key) o.area
 
-  abbrev Both : Outcome → ByKey ℕ → Type 0
+  abbrev Both : AreaState → ByKey ℕ → Type 0
   Both o t = X o t × IsWhole o t
 
-  abbrev Anything : Outcome → ByKey ℕ → Type 0
+  abbrev Anything : AreaState → ByKey ℕ → Type 0
   Anything o t = Unit {0}
 
   kept : IsKept old.id moment Climbs

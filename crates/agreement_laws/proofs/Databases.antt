@@ -20,9 +20,9 @@ use Rattle.adjacency.proofs.Kept.{chosen}
 use Rattle.received.specs.Cases.{Case}
 use Rattle.received.specs.Flooding.{flood_to}
 use Rattle.received.specs.Links.{Link, link_at}
-use Rattle.received.specs.Outcomes.{Outcome, Send, Stepping, each_neighbor, marked_database}
-use Rattle.received.specs.Outcomes.{on_database, only_at, sends_at, stepping_sends, sends_of}
-use Rattle.received.specs.Updates.{after_case, case_at, copy_of, send_copy}
+use Rattle.received.specs.AreaStates.{AreaState, Send, Stepping, each_neighbor, marked_database}
+use Rattle.received.specs.AreaStates.{on_database, only_at, sends_at, stepping_sends, sends_of}
+use Rattle.received.specs.Updates.{after_case, case_at, database_copy, send_copy}
 use Rattle.received.proofs.Marks.{changed_by}
 use Rattle.event_rules.specs.Endings.{flood_if_aged, start_event}
 use Rattle.event_rules.specs.EventState.{EventState, flood_from_nobody}
@@ -64,11 +64,11 @@ pub record IsKept (own moment : ℕ) (P : Database → Type 0) : Type 0 where
       → P (install_originated moment (new_instance k (finite.get db k) says) db)
 
 module _ (own moment : ℕ) (P : Database → Type 0) (kept : IsKept own moment P) where
-  pub each : (f : Stepping) (o : Outcome) → P o.area.database
+  pub each : (f : Stepping) (o : AreaState) → P o.area.database
       → P (each_neighbor moment f o).area.database
   each f o h = kept.marks (stepping_sends f o.area.links) o.area.database h
 
-  pub flushed : (k : Key) (c : DatabaseCopy) (o : Outcome) → finite.get o.area.database k ≡ Some c
+  pub flushed : (k : Key) (c : DatabaseCopy) (o : AreaState) → finite.get o.area.database k ≡ Some c
       → P o.area.database
       → P (flood_from_nobody moment (lsa_with_age 3600 c.lsa)
       (on_database (age_prematurely moment k) o)).area.database
@@ -88,25 +88,25 @@ module _ (own moment : ℕ) (P : Database → Type 0) (kept : IsKept own moment 
       (new_key k (finite.get p.router.area.database k) says
       (wanted_type p.router k says so.announced.1 wants)) h)
 
-  pub ages : (before : ℕ) (es : List (Key × DatabaseCopy)) (o : Outcome) → P o.area.database
+  pub ages : (before : ℕ) (es : List (Key × DatabaseCopy)) (o : AreaState) → P o.area.database
       → P (fold (flood_if_aged before moment) o es).area.database
   ages before [] o h = h
   ages before (e ∷ es) o h =
       ages before es (flood_if_aged before moment o e)
-      (chosen (λ (p : Outcome). P p.area.database) (has_just_aged_out before moment e.1)
+      (chosen (λ (p : AreaState). P p.area.database) (has_just_aged_out before moment e.1)
       (flood_from_nobody moment (lsa_now moment e.1) o) o
       (λ is. each (flood_to moment None (lsa_now moment e.1)) o h) (λ is. h))
 
   -- ---- packets
 
-  copy_sent : (place : ℕ) (c : Option DatabaseCopy) (o : Outcome) → P o.area.database
+  copy_sent : (place : ℕ) (c : Option DatabaseCopy) (o : AreaState) → P o.area.database
       → P (send_copy moment place c o).area.database
   copy_sent place None o h = h
   copy_sent place (Some c) o h =
       kept.marks (sends_at place (Updates (lsa_now moment c) ∷ [])) o.area.database h
 
-  cases : (case : Case) (place : ℕ) (lsa : Lsa) (o : Outcome)
-      → (newer_than_copy moment lsa.header (copy_of lsa o.area) ≡ true
+  cases : (case : Case) (place : ℕ) (lsa : Lsa) (o : AreaState)
+      → (newer_than_copy moment lsa.header (database_copy lsa o.area) ≡ true
       → P (install_flooded moment lsa o.area.database))
       → case_at moment place lsa o.area ≡ case → P o.area.database
       → P (after_case case moment place lsa o).area.database
@@ -125,14 +125,14 @@ module _ (own moment : ℕ) (P : Database → Type 0) (kept : IsKept own moment 
       kept.marks (sends_at place (Content.Acknowledges lsa.header ∷ [])) o.area.database h
   cases Case.SequenceWraps place lsa o installs is h = h
   cases Case.SentJustNow place lsa o installs is h = h
-  cases Case.Older place lsa o installs is h = copy_sent place (copy_of lsa o.area) o h
+  cases Case.Older place lsa o installs is h = copy_sent place (database_copy lsa o.area) o h
 
-  hellos : (own place from : ℕ) (hello : Hello) (link : Option Link) (o : Outcome)
+  hellos : (own place from : ℕ) (hello : Hello) (link : Option Link) (o : AreaState)
       → P o.area.database → P (receive_hello_on own moment place from hello link o).area.database
   hellos own place from hello None o h = h
   hellos own place from hello (Some link) o h =
       let s : Step = adjacencies.after_hello moment from (names own hello) link.neighbor in
-      chosen (λ (p : Outcome). P p.area.database) (accepts own from hello link)
+      chosen (λ (p : AreaState). P p.area.database) (accepts own from hello link)
       (accept_hello moment place s o) o (λ e. kept.marks (sends_at place s.sends) o.area.database h)
       (λ e. h)
 

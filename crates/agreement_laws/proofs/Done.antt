@@ -37,11 +37,11 @@ use Rattle.adjacency.specs.Requests.{request_next}
 use Rattle.adjacency.specs.Retransmissions.{after_acknowledgment, remove_retransmission}
 use Rattle.adjacency.proofs.Kept.{chosen}
 use Rattle.received.specs.Cases.{Case}
-use Rattle.received.specs.Flooding.{flood, flood_to, is_received_at}
+use Rattle.received.specs.Flooding.{flood, flood_to, is_incoming}
 use Rattle.received.specs.Holds.{Holds, HoldsOfEach}
 use Rattle.received.specs.Links.{Link, delay_acknowledgment, link_at, neighbor_at, neighbor_on}
-use Rattle.received.specs.Outcomes.{Outcome, on_database}
-use Rattle.received.specs.Updates.{after_case, copy_of, flood_and_install, send_copy}
+use Rattle.received.specs.AreaStates.{AreaState, on_database}
+use Rattle.received.specs.Updates.{after_case, database_copy, flood_and_install, send_copy}
 use Rattle.received.proofs.Holding.{changed_keeps, each_keeps, each_link_keeps, one_holds}
 use Rattle.received.proofs.Holding.{one_keeps}
 use Rattle.event_rules.specs.declared.model.Config.{Config}
@@ -249,28 +249,28 @@ old_description moment dead m h =
 
 -- ---- every neighbor
 
-abbrev OnOutcome : Outcome → Type 0
+abbrev OnOutcome : AreaState → Type 0
 OnOutcome o = HoldsOfEach IsDone o.area.links
 
-flood_kept : (moment : ℕ) (sender : Option ℕ) (lsa : Lsa) (o : Outcome) → OnOutcome o
+flood_kept : (moment : ℕ) (sender : Option ℕ) (lsa : Lsa) (o : AreaState) → OnOutcome o
     → OnOutcome (flood moment sender lsa o)
 flood_kept moment sender lsa o h =
     each_keeps IsDone moment (flood_to moment sender lsa)
-    (λ number link n at. flooded moment (is_received_at sender number) lsa n at) o h
+    (λ number link n at. flooded moment (is_incoming sender number) lsa n at) o h
 
-install_kept : (moment number : ℕ) (lsa : Lsa) (o : Outcome) → OnOutcome o
+install_kept : (moment number : ℕ) (lsa : Lsa) (o : AreaState) → OnOutcome o
     → OnOutcome (flood_and_install moment number lsa o)
 install_kept moment number lsa o h =
-    let p : Outcome = on_database (install_flooded moment lsa) o in
+    let p : AreaState = on_database (install_flooded moment lsa) o in
     changed_keeps IsDone number (delay_acknowledgment lsa.header) (λ link at. at)
     (flood moment (Some number) lsa p).area.links (flood_kept moment (Some number) lsa p h)
 
-copy_kept : (moment number : ℕ) (c : Option DatabaseCopy) (o : Outcome) → OnOutcome o
+copy_kept : (moment number : ℕ) (c : Option DatabaseCopy) (o : AreaState) → OnOutcome o
     → OnOutcome (send_copy moment number c o)
 copy_kept moment number None o h = h
 copy_kept moment number (Some c) o h = h
 
-case_kept : (case : Case) (moment number : ℕ) (lsa : Lsa) (o : Outcome) → OnOutcome o
+case_kept : (case : Case) (moment number : ℕ) (lsa : Lsa) (o : AreaState) → OnOutcome o
     → OnOutcome (after_case case moment number lsa o)
 case_kept Case.Unreadable moment number lsa o h = h
 case_kept Case.NothingToFlush moment number lsa o h = h
@@ -284,9 +284,9 @@ case_kept Case.ImpliedAcknowledgment moment number lsa o h =
 case_kept Case.Duplicate moment number lsa o h = h
 case_kept Case.SequenceWraps moment number lsa o h = h
 case_kept Case.SentJustNow moment number lsa o h = h
-case_kept Case.Older moment number lsa o h = copy_kept moment number (copy_of lsa o.area) o h
+case_kept Case.Older moment number lsa o h = copy_kept moment number (database_copy lsa o.area) o h
 
-ages_kept : (before moment : ℕ) (es : List (Key × DatabaseCopy)) (o : Outcome) → OnOutcome o
+ages_kept : (before moment : ℕ) (es : List (Key × DatabaseCopy)) (o : AreaState) → OnOutcome o
     → OnOutcome (fold (flood_if_aged before moment) o es)
 ages_kept before moment [] o h = h
 ages_kept before moment (e ∷ es) o h =
@@ -295,7 +295,7 @@ ages_kept before moment (e ∷ es) o h =
     (flood_from_nobody moment (lsa_now moment e.1) o) o
     (λ is. flood_kept moment None (lsa_now moment e.1) o h) (λ is. h))
 
-hello_heard : (own moment number from : ℕ) (hello : Hello) (link : Option Link) (o : Outcome)
+hello_heard : (own moment number from : ℕ) (hello : Hello) (link : Option Link) (o : AreaState)
     → Holds IsDone (neighbor_on link) → OnOutcome o
     → OnOutcome (receive_hello_on own moment number from hello link o)
 hello_heard own moment number from hello None o here h = h

@@ -8,7 +8,7 @@ use Rattle.lsdb.specs.Copies.{DatabaseCopy, age_prematurely, is_aged_out}
 use Rattle.lsdb.specs.Headers.{lsa_with_age}
 use Rattle.adjacency.proofs.Kept.{chosen}
 use Rattle.received.specs.Links.{Link, any_exchange_or_loading}
-use Rattle.received.specs.Outcomes.{Outcome, on_database, on_links}
+use Rattle.received.specs.AreaStates.{AreaState, on_database, on_links}
 use Rattle.event_rules.specs.Endings.{end_event, is_current, originate_router_lsa}
 use Rattle.event_rules.specs.Endings.{postpone_router_lsa}
 use Rattle.event_rules.specs.Endings.{link_loading_done, links_differ, loading_done, request_all}
@@ -25,29 +25,30 @@ use Rattle.event_rules.proofs.Walk.{MayGrow, OfEvent, outcome}
 use Rattle.flood_laws.proofs.Acknowledged.{in_order, order_kept}
 use Rattle.flood_laws.proofs.Retransmitted.{IsItsOwn}
 
-module _ (own moment : ℕ) (X : Outcome → Type 0) where
+module _ (own moment : ℕ) (X : AreaState → Type 0) where
   pub record IsKeptToEnd : Type 0 where
-    pub flushes : (k : Key) (c : DatabaseCopy) (o : Outcome) → finite.get o.area.database k ≡ Some c
-        → IsItsOwn o.area → X o → X (flood_from_nobody moment (lsa_with_age 3600 c.lsa)
+    pub flushes : (k : Key) (c : DatabaseCopy) (o : AreaState)
+        → finite.get o.area.database k ≡ Some c → IsItsOwn o.area → X o
+        → X (flood_from_nobody moment (lsa_with_age 3600 c.lsa)
         (on_database (age_prematurely moment k) o))
     pub originates : (k : Key) (says : LsaBody) (p : EventState) → k.advertising_router ≡ own
         → wanted_body p.router k ≡ Some says → OfEvent (in_order own) p → X (outcome p)
         → X (install_and_flood moment
         (new_instance k (finite.get p.router.area.database k) says) (outcome p))
-    pub loaded : (o : Outcome) → X o → X (on_links (map link_loading_done) o)
-    pub requests : (o : Outcome) → X o → X (request_all moment o)
+    pub loaded : (o : AreaState) → X o → X (on_links (map link_loading_done) o)
+    pub requests : (o : AreaState) → X o → X (request_all moment o)
 
   pub record Going (p : EventState) : Type 0 where
     pub so : OfEvent (in_order own) p
     pub still : X (outcome p)
 
   module _ (kept : IsKeptToEnd) where
-    flushed : (k : Key) (c : Option DatabaseCopy) (o : Outcome) → finite.get o.area.database k ≡ c
+    flushed : (k : Key) (c : Option DatabaseCopy) (o : AreaState) → finite.get o.area.database k ≡ c
         → IsItsOwn o.area → X o
         → IsItsOwn (flush_copy moment k c o).area × X (flush_copy moment k c o)
     flushed k None o at its h = (its, h)
     flushed k (Some c) o at its h =
-        chosen (λ (q : Outcome). IsItsOwn q.area × X q) (is_aged_out moment c) o
+        chosen (λ (q : AreaState). IsItsOwn q.area × X q) (is_aged_out moment c) o
         (flood_from_nobody moment (lsa_with_age 3600 c.lsa)
         (on_database (age_prematurely moment k) o))
         (λ aged. (its, h))
@@ -110,8 +111,8 @@ module _ (own moment : ℕ) (X : Outcome → Type 0) where
         (λ is. waits (router_key p.router.id) p h) (λ is. h)
 
     -- then copies leave the database, or stay
-    pub ended : (Y : Outcome → Type 0) → ((o : Outcome) → X o → Y o)
-        → ((o : Outcome) → X o
+    pub ended : (Y : AreaState → Type 0) → ((o : AreaState) → X o → Y o)
+        → ((o : AreaState) → X o
         → Y (on_database (λ db. finite.retain_keys db (stays moment o.area)) o))
         → (old : Router) (after : EventState) → Going after
         → Y (outcome (end_event old moment after))
@@ -121,7 +122,7 @@ module _ (own moment : ℕ) (X : Outcome → Type 0) where
         postpone_router_lsa said.router.area.links (loading_done said) in
         let q : Going refilled = describes_later said.router.area.links (loading_done said)
         (loads said (describes old.area.links (loading_done after) (loads after h))) in
-        let o : Outcome = request_all moment (outcome refilled) in
+        let o : AreaState = request_all moment (outcome refilled) in
         let asks : X o = kept.requests (outcome refilled) q.still in
         chosen Y (any_exchange_or_loading o.area.links) o
         (on_database (λ db. finite.retain_keys db (stays moment o.area)) o) (λ is. stay o asks)

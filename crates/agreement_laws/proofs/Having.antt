@@ -12,7 +12,7 @@ use Rattle.lsdb.specs.Headers.{Lsa, lsa_key}
 use Rattle.lsdb.specs.Keys.{ByKey, same_key}
 use Rattle.lsdb.specs.Order.{age_at}
 use Rattle.lsdb.specs.declared.order.Instance.{Instance}
-use Rattle.received.specs.Outcomes.{Outcome, Send, marked_database, on_database}
+use Rattle.received.specs.AreaStates.{AreaState, Send, marked_database, on_database}
 use Rattle.event_rules.specs.Endings.{start_event, stays}
 use Rattle.event_rules.specs.EventState.{EventState}
 use Rattle.event_rules.specs.Originations.{new_instance}
@@ -33,9 +33,9 @@ use Rattle.agreement_laws.proofs.Databases.{installed_copy, kept_too, originated
 
 module _ (i : Invariant) (X W Y V Z : Lately) (start : EventState) (moment : ℕ) (event : Occurrence)
     (x : IsKeptToo i X Y start moment event) (w : IsKeptToo i W V start moment event) where
-  pub joined : ((o : Outcome) (t : ByKey ℕ) → X o t → W o t
+  pub joined : ((o : AreaState) (t : ByKey ℕ) → X o t → W o t
       → Z (on_database (λ db. finite.retain_keys db (stays moment o.area)) o) t)
-      → ((o : Outcome) (t : ByKey ℕ) → X o t → W o t → Z o t)
+      → ((o : AreaState) (t : ByKey ℕ) → X o t → W o t → Z o t)
       → IsKeptToo i (λ o t. X o t × W o t) Z start moment event
   joined on_removed on_stays = record {
     flushes = λ k c o t at young area h.

@@ -27,7 +27,7 @@ use Rattle.adjacency.specs.Requests.{next_request, still_outstanding}
 use Rattle.adjacency.specs.Retransmissions.{next_retransmissions, request_again, send_again}
 use Rattle.adjacency.specs.Retransmissions.{update_again}
 use Rattle.received.specs.Links.{Link}
-use Rattle.received.specs.Outcomes.{one_neighbor}
+use Rattle.received.specs.AreaStates.{one_neighbor}
 use Rattle.event_rules.specs.Endings.{end_event, is_at, originate_router_lsa, postpone_router_lsa}
 use Rattle.event_rules.specs.Endings.{copy_has_body, loading_done, remove_aged, start_event, stays}
 use Rattle.event_rules.specs.EventState.{EventState, on_area, on_router}

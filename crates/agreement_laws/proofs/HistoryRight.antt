@@ -25,7 +25,7 @@ use Rattle.adjacency.specs.Contents as contents
 use Rattle.adjacency.specs.Descriptions.{as_received, knows_types}
 use Rattle.adjacency.specs.Neighbors.{Neighbor, fresh}
 use Rattle.adjacency.specs.Requests.{next_request}
-use Rattle.received.specs.Outcomes.{Outcome, one_neighbor}
+use Rattle.received.specs.AreaStates.{AreaState, one_neighbor}
 use Rattle.event_rules.specs.Endings.{end_event, loading_done, postpone_router_lsa, remove_aged}
 use Rattle.event_rules.specs.Endings.{flood_if_aged, start_event, stays}
 use Rattle.event_rules.specs.EventState.{EventState, flood_from_nobody, on_area, on_router}
@@ -84,14 +84,14 @@ opened_at_end = opened_with finite.empty 3600
 
 ages : start_event 3600 greets_first.router ≡ record { router = greets_first.router; sends = [] }
 ages =
-    let o : Outcome = record { area = greets_first.router.area; sends = [] } in
-    ap (λ (es : List (Key × DatabaseCopy)). let q : Outcome = fold (flood_if_aged 0 3600) o es in
+    let o : AreaState = record { area = greets_first.router.area; sends = [] } in
+    ap (λ (es : List (Key × DatabaseCopy)). let q : AreaState = fold (flood_if_aged 0 3600) o es in
     record {
       router = record greets_first.router { area = q.area };
       sends = q.sends;
     })
     (entries_of 2 b)
-    ∙ (λ i. let q : Outcome = cond (old 2 b i && not (young 2 b i))
+    ∙ (λ i. let q : AreaState = cond (old 2 b i && not (young 2 b i))
     (flood_from_nobody 3600 (lsa_now 3600 (copy 2 b)) o) o in record {
       router = record greets_first.router { area = q.area };
       sends = q.sends;

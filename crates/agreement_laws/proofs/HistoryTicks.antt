@@ -16,7 +16,7 @@ use Rattle.adjacency.specs.Contents.{Content}
 use Rattle.adjacency.specs.Neighbors.{Neighbor}
 use Rattle.adjacency.specs.Retransmissions.{send_again}
 use Rattle.received.specs.Links.{Link}
-use Rattle.received.specs.Outcomes.{on_links, sending, sends_at, sent_on, step_on}
+use Rattle.received.specs.AreaStates.{on_links, sending, sends_at, sent_on, step_on}
 use Rattle.event_rules.specs.Endings.{start_event}
 use Rattle.event_rules.specs.EventState.{EventState, on_area, on_router}
 use Rattle.event_rules.specs.Hellos.{hello_on}

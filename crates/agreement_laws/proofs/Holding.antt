@@ -23,7 +23,7 @@ use Rattle.lsdb.specs.Order.{age_at, is_max_age}
 use Rattle.lsdb.specs.declared.order.Instance.{Instance}
 use Rattle.lsdb.proofs.Keys.{keys_exact}
 use Rattle.received.specs.Links.{Area, any_has_retransmission}
-use Rattle.received.specs.Outcomes.{Send, marked_database}
+use Rattle.received.specs.AreaStates.{Send, marked_database}
 use Rattle.received.proofs.Marks.{mark_all}
 use Rattle.event_rules.specs.Endings.{stays, stays_as}
 use Rattle.event_rules.specs.Originations.{new_instance, next_sequence}

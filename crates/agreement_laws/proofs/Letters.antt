@@ -20,7 +20,7 @@ use Rattle.packet.specs.Text.{PacketText, canonical}
 use Rattle.packet.proofs.Whole.{one_packet}
 use Rattle.adjacency.specs.Contents.{Content}
 use Rattle.received.specs.Links.{Link}
-use Rattle.received.specs.Outcomes.{Send, at_interface}
+use Rattle.received.specs.AreaStates.{Send, at_interface}
 use Rattle.event_rules.specs.declared.model.Out.{Out}
 use Rattle.event_rules.specs.InstanceIdentities.{InstanceIdentity, identity_of_header}
 use Rattle.event_rules.specs.InstanceIdentities.{identity_of_lsa}

@@ -22,12 +22,12 @@ use Rattle.adjacency.specs.Retransmissions.{after_acknowledgment, remove_retrans
 use Rattle.adjacency.proofs.Kept.{chosen}
 use Rattle.adjacency.specs.Descriptions.{after_description}
 use Rattle.received.specs.Cases.{Case}
-use Rattle.received.specs.Flooding.{flood, flood_to, is_received_at}
+use Rattle.received.specs.Flooding.{flood, flood_to, is_incoming}
 use Rattle.received.specs.Holds.{Holds}
 use Rattle.received.specs.Links.{Link, change_link, delay_acknowledgment, link_at, neighbor_at}
-use Rattle.received.specs.Outcomes.{Outcome, Stepping, each_neighbor, on_database, on_links}
-use Rattle.received.specs.Outcomes.{one_neighbor, only_at, step_on, stepped_links}
-use Rattle.received.specs.Updates.{after_case, copy_of, send_copy}
+use Rattle.received.specs.AreaStates.{AreaState, Stepping, each_neighbor, on_database, on_links}
+use Rattle.received.specs.AreaStates.{one_neighbor, only_at, step_on, stepped_links}
+use Rattle.received.specs.Updates.{after_case, database_copy, send_copy}
 use Rattle.event_rules.specs.Commands.{taken_down}
 use Rattle.event_rules.specs.Endings.{flood_if_aged, link_loading_done, start_event}
 use Rattle.event_rules.specs.EventState.{EventState, flood_from_nobody}
@@ -67,48 +67,48 @@ module _ (old : Router) (moment : ℕ) (event : Occurrence) (number : ℕ) (n : 
   StandsThere None = Unit {0}
   StandsThere (Some m) = Standing n m
 
-  abbrev Stands : Outcome → Type 0
+  abbrev Stands : AreaState → Type 0
   Stands o = Described ⊎ StandsThere (neighbor_at number o.area.links)
 
   -- ---- links
 
-  on_all : (f : List Link → List Link) (o : Outcome)
+  on_all : (f : List Link → List Link) (o : AreaState)
       → (StandsThere (neighbor_at number o.area.links)
       → StandsThere (neighbor_at number (f o.area.links))) → Stands o → Stands (on_links f o)
   on_all f o so (inl told) = inl told
   on_all f o so (inr k) = inr (so k)
 
-  each_link : (g : Link → Link) (o : Outcome)
+  each_link : (g : Link → Link) (o : AreaState)
       → ((link : Link) → StandsThere link.neighbor → StandsThere (g link).neighbor) → Stands o
       → Stands (on_links (map g) o)
   each_link g o keeps h = on_all (map g) o
       (λ k. each_kept_at StandsThere StandsThere (λ k. k) g number keeps o.area.links k) h
 
-  change_at : (place : ℕ) (change : Link → Link) (o : Outcome)
+  change_at : (place : ℕ) (change : Link → Link) (o : AreaState)
       → ((link : Link) → StandsThere link.neighbor → StandsThere (change link).neighbor) → Stands o
       → Stands (on_links (change_link place change) o)
   change_at place change o keeps h =
       on_all (change_link place change) o
       (λ k. interface.changed StandsThere number place change o.area.links keeps k) h
 
-  each_step : (f : Stepping) (o : Outcome)
+  each_step : (f : Stepping) (o : AreaState)
       → ((link : Link) (m : Neighbor) → Standing n m → Standing n (f number link m).neighbor)
       → Stands o → Stands (each_neighbor moment f o)
   each_step f o keeps h =
       on_all (stepped_links f) o
       (λ k. interface.stepped StandsThere number f o.area.links keeps k) h
 
-  one_step : (place : ℕ) (f : Neighbor → Step) (o : Outcome)
+  one_step : (place : ℕ) (f : Neighbor → Step) (o : AreaState)
       → ((m : Neighbor) → Standing n m → Standing n (f m).neighbor) → Stands o
       → Stands (one_neighbor moment place f o)
   one_step place f o keeps h =
       each_step (only_at place f) o
       (λ link m at. interface.stepped_at StandsThere number place f link m (λ e k. keeps m k) at) h
 
-  floods : (sender : Option ℕ) (lsa : Lsa) (o : Outcome) → Stands o
+  floods : (sender : Option ℕ) (lsa : Lsa) (o : AreaState) → Stands o
       → Stands (flood moment sender lsa o)
   floods sender lsa o h = each_step (flood_to moment sender lsa) o
-      (λ link m at. steps.flooded n moment (is_received_at sender number) lsa m at) h
+      (λ link m at. steps.flooded n moment (is_incoming sender number) lsa m at) h
 
   -- ---- ages: they leave it as it was
 
@@ -116,18 +116,18 @@ module _ (old : Router) (moment : ℕ) (event : Occurrence) (number : ℕ) (n : 
   SameThere None = ⊥
   SameThere (Some m) = IsSame n m
 
-  ages : (es : List (Key × DatabaseCopy)) (o : Outcome)
+  ages : (es : List (Key × DatabaseCopy)) (o : AreaState)
       → SameThere (neighbor_at number o.area.links)
       → SameThere (neighbor_at number (fold (flood_if_aged old.moment moment) o es).area.links)
   ages [] o h = h
   ages (e ∷ es) o h =
       ages es (flood_if_aged old.moment moment o e)
-      (chosen (λ (p : Outcome). SameThere (neighbor_at number p.area.links))
+      (chosen (λ (p : AreaState). SameThere (neighbor_at number p.area.links))
       (has_just_aged_out old.moment moment e.1)
       (flood_from_nobody moment (lsa_now moment e.1) o) o
       (λ just. interface.stepped SameThere number (flood_to moment None (lsa_now moment e.1))
       o.area.links
-      (λ link m k. steps.same_flooded n moment (is_received_at None number) (lsa_now moment e.1) m
+      (λ link m k. steps.same_flooded n moment (is_incoming None number) (lsa_now moment e.1) m
       k) h)
       (λ young. h))
 
@@ -147,17 +147,17 @@ module _ (old : Router) (moment : ℕ) (event : Occurrence) (number : ℕ) (n : 
 
   -- ---- received LSAs
 
-  copy_sent : (place : ℕ) (c : Option DatabaseCopy) (o : Outcome) → Stands o
+  copy_sent : (place : ℕ) (c : Option DatabaseCopy) (o : AreaState) → Stands o
       → Stands (send_copy moment place c o)
   copy_sent place None o h = h
   copy_sent place (Some c) o h = h
 
-  mismatches : (place : ℕ) (o : Outcome) → Stands o
+  mismatches : (place : ℕ) (o : AreaState) → Stands o
       → Stands (one_neighbor moment place (adjacencies.mismatch_step moment) o)
   mismatches place o h = one_step place (adjacencies.mismatch_step moment) o
       (steps.mismatched n moment) h
 
-  cases : (case : Case) (place : ℕ) (lsa : Lsa) (o : Outcome) → Stands o
+  cases : (case : Case) (place : ℕ) (lsa : Lsa) (o : AreaState) → Stands o
       → Stands (after_case case moment place lsa o)
   cases Case.Unreadable place lsa o h = h
   cases Case.NothingToFlush place lsa o h = h
@@ -173,11 +173,11 @@ module _ (old : Router) (moment : ℕ) (event : Occurrence) (number : ℕ) (n : 
   cases Case.Duplicate place lsa o h = h
   cases Case.SequenceWraps place lsa o h = h
   cases Case.SentJustNow place lsa o h = h
-  cases Case.Older place lsa o h = copy_sent place (copy_of lsa o.area) o h
+  cases Case.Older place lsa o h = copy_sent place (database_copy lsa o.area) o h
 
   -- ---- other packets
 
-  hellos : (own place from : ℕ) (hello : Hello) (o : Outcome) → Stands o
+  hellos : (own place from : ℕ) (hello : Hello) (o : AreaState) → Stands o
       → Stands (receive_hello own moment place from hello o)
   hellos own place from hello o h = by_link (link_at place o.area.links) refl
     where
@@ -238,7 +238,7 @@ module _ (old : Router) (moment : ℕ) (event : Occurrence) (number : ℕ) (n : 
 
   -- ---- every part
 
-  abbrev Lately : Outcome → ByKey ℕ → Type 0
+  abbrev Lately : AreaState → ByKey ℕ → Type 0
   Lately o t = Stands o
 
   each_part : IsKeptToo (in_order old.id) Lately Lately start moment event

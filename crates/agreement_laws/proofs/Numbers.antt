@@ -20,9 +20,9 @@ use Rattle.adjacency.specs.Descriptions.{verdict, verdict_in, with_requests}
 use Rattle.adjacency.specs.Neighbors.{Neighbor}
 use Rattle.adjacency.specs.Requests.{request_next}
 use Rattle.adjacency.proofs.Kept.{chosen}
-use Rattle.received.specs.Flooding.{flood_to, is_received_at}
+use Rattle.received.specs.Flooding.{flood_to, is_incoming}
 use Rattle.received.specs.Links.{Link, neighbor_at}
-use Rattle.received.specs.Outcomes.{Outcome, on_database, only_at, step_on}
+use Rattle.received.specs.AreaStates.{AreaState, on_database, only_at, step_on}
 use Rattle.event_rules.specs.declared.model.Out.{Out}
 use Rattle.event_rules.specs.Endings.{end_event, link_loading_done, start_event}
 use Rattle.event_rules.specs.EventState.{EventState, flood_from_nobody, on_area}
@@ -153,12 +153,12 @@ module _ (own moment number : ℕ) (x : Neighbor) where
   SameThere None = ⊥
   SameThere (Some m) = IsSame x m
 
-  abbrev StaysSame : Outcome → Type 0
+  abbrev StaysSame : AreaState → Type 0
   StaysSame o = SameThere (neighbor_at number o.area.links)
 
-  floods : (lsa : Lsa) (o : Outcome) → StaysSame o → StaysSame (flood_from_nobody moment lsa o)
+  floods : (lsa : Lsa) (o : AreaState) → StaysSame o → StaysSame (flood_from_nobody moment lsa o)
   floods lsa o h = interface.stepped SameThere number (flood_to moment None lsa) o.area.links
-      (λ link m at. same_flooded x moment (is_received_at None number) lsa m at) h
+      (λ link m at. same_flooded x moment (is_incoming None number) lsa m at) h
 
   kept : IsKeptToEnd own moment StaysSame
   kept = record {
@@ -203,7 +203,7 @@ module _ (old : Router) (moment : ℕ) (event : Occurrence) (order : IsConsisten
       })).neighbor) (sym (eq-eqb number number refl))
       (refl, refl, refl, refl, refl))
 
-  abbrev Stays : Outcome → Type 0
+  abbrev Stays : AreaState → Type 0
   Stays o = SameThere old.id moment number x (neighbor_at number o.area.links)
 
   goes : Going old.id moment Stays (on_area (receive_description old.id moment number d) begins)

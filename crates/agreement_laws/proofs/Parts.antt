@@ -29,14 +29,16 @@ use Rattle.adjacency.specs.Requests.{request_next}
 use Rattle.adjacency.specs.Retransmissions.{after_acknowledgment, remove_retransmission}
 use Rattle.adjacency.proofs.Kept.{chosen}
 use Rattle.received.specs.Cases.{Case}
-use Rattle.received.specs.Flooding.{flood, flood_to, is_received_at}
+use Rattle.received.specs.Flooding.{flood, flood_to, is_incoming}
 use Rattle.received.specs.Holds.{Holds}
 use Rattle.received.specs.Links.{Link, change_link, delay_acknowledgment}
 use Rattle.received.specs.Links.{link_at, neighbor_at, neighbor_on}
-use Rattle.received.specs.Outcomes.{Outcome, Send, Stepping, each_neighbor, marked_database}
-use Rattle.received.specs.Outcomes.{sends_at, on_database, on_links, one_neighbor, only_at, sending}
-use Rattle.received.specs.Outcomes.{sent_on, step_on, stepped_links, stepping_sends, sends_of}
-use Rattle.received.specs.Updates.{after_case, case_at, copy_of, flood_and_install, send_copy}
+use Rattle.received.specs.AreaStates.{AreaState, Send, Stepping, each_neighbor, marked_database}
+use Rattle.received.specs.AreaStates.{sends_at, on_database, on_links, one_neighbor, only_at}
+use Rattle.received.specs.AreaStates.{sending}
+use Rattle.received.specs.AreaStates.{sent_on, step_on, stepped_links, stepping_sends, sends_of}
+use Rattle.received.specs.Updates.{after_case, case_at, database_copy, flood_and_install}
+use Rattle.received.specs.Updates.{send_copy}
 use Rattle.received.proofs.Marks.{changed_by, tied}
 use Rattle.event_rules.specs.Commands.{taken_down}
 use Rattle.event_rules.specs.Endings.{link_loading_done, stays}
@@ -176,7 +178,7 @@ module _ (key : Key) (moment : ℕ) (number : ℕ) (There : Type 0) (Of : ℕ �
     abbrev pub HoldsThere : List Send → Option Instance → Option Neighbor → Type 0
     HoldsThere sends x o = Holds (SettlingBy sends x) o
 
-    abbrev pub Stands : Outcome → Type 0
+    abbrev pub Stands : AreaState → Type 0
     Stands o = HoldsThere o.sends (held moment key o.area.database)
         (neighbor_at number o.area.links)
 
@@ -208,7 +210,7 @@ module _ (key : Key) (moment : ℕ) (number : ℕ) (There : Type 0) (Of : ℕ �
         (λ l k. more_said sends more (conversation_with m) l k) x h
 
     -- what is sent marks the database
-    pub sent : (more : List Send) (o : Outcome) → Stands o → Stands (sending moment more o)
+    pub sent : (more : List Send) (o : AreaState) → Stands o → Stands (sending moment more o)
     sent more o h =
         subst (λ (x : Option Instance). HoldsThere (o.sends ++ more) x
         (neighbor_at number o.area.links)) (sym (held_marked moment key more o.area.database))
@@ -217,7 +219,7 @@ module _ (key : Key) (moment : ℕ) (number : ℕ) (There : Type 0) (Of : ℕ �
 
     -- ---- links
 
-    pub each_link : (g : Link → Link) (o : Outcome)
+    pub each_link : (g : Link → Link) (o : AreaState)
         → ((link : Link) → HoldsThere o.sends (held moment key o.area.database) link.neighbor
         → HoldsThere o.sends (held moment key o.area.database) (g link).neighbor) → Stands o
         → Stands (on_links (map g) o)
@@ -226,7 +228,7 @@ module _ (key : Key) (moment : ℕ) (number : ℕ) (There : Type 0) (Of : ℕ �
         (HoldsThere o.sends (held moment key o.area.database)) (λ n. n) g number keeps
         o.area.links h
 
-    pub change_at : (place : ℕ) (change : Link → Link) (o : Outcome)
+    pub change_at : (place : ℕ) (change : Link → Link) (o : AreaState)
         → ((link : Link) → HoldsThere o.sends (held moment key o.area.database) link.neighbor
         → HoldsThere o.sends (held moment key o.area.database) (change link).neighbor) → Stands o
         → Stands (on_links (change_link place change) o)
@@ -235,7 +237,7 @@ module _ (key : Key) (moment : ℕ) (number : ℕ) (There : Type 0) (Of : ℕ �
         o.area.links keeps h
 
     -- a step of each neighbor: for the instance x before it, and y after it
-    pub each_step : (f : Stepping) (o : Outcome) (x : Option Instance)
+    pub each_step : (f : Stepping) (o : AreaState) (x : Option Instance)
         → ((link : Link) (m : Neighbor) → SettlingBy o.sends x m
         → SettlingBy o.sends (held moment key o.area.database) (f number link m).neighbor)
         → HoldsThere o.sends x (neighbor_at number o.area.links)
@@ -250,7 +252,7 @@ module _ (key : Key) (moment : ℕ) (number : ℕ) (There : Type 0) (Of : ℕ �
         one link None k = tt
         one link (Some m) k = keeps link m k
 
-    pub one_step : (place : ℕ) (f : Neighbor → Step) (o : Outcome)
+    pub one_step : (place : ℕ) (f : Neighbor → Step) (o : AreaState)
         → ((m : Neighbor) → (number == place) ≡ true
         → SettlingBy o.sends (held moment key o.area.database) m
         → SettlingBy o.sends (held moment key o.area.database) (f m).neighbor) → Stands o
@@ -262,15 +264,15 @@ module _ (key : Key) (moment : ℕ) (number : ℕ) (There : Type 0) (Of : ℕ �
 
     -- ---- flooding
 
-    pub flood_other : (sender : Option ℕ) (lsa : Lsa) (o : Outcome) → same_key key (lsa_key lsa)
+    pub flood_other : (sender : Option ℕ) (lsa : Lsa) (o : AreaState) → same_key key (lsa_key lsa)
         ≡ false → Stands o → Stands (flood moment sender lsa o)
     flood_other sender lsa o other h =
         each_step (flood_to moment sender lsa) o (held moment key o.area.database)
         (λ link m at. settling.flooded_other key moment Of (SaidBy o.sends)
-        (held moment key o.area.database) moment (is_received_at sender number) lsa m other at) h
+        (held moment key o.area.database) moment (is_incoming sender number) lsa m other at) h
 
     -- an LSA of another key, whatever is held
-    pub flood_any : (sender : Option ℕ) (lsa : Lsa) (o : Outcome) (x : Option Instance)
+    pub flood_any : (sender : Option ℕ) (lsa : Lsa) (o : AreaState) (x : Option Instance)
         → same_key key (lsa_key lsa) ≡ false
         → HoldsThere o.sends x (neighbor_at number o.area.links)
         → HoldsThere (flood moment sender lsa o).sends x
@@ -280,10 +282,10 @@ module _ (key : Key) (moment : ℕ) (number : ℕ) (There : Type 0) (Of : ℕ �
         (neighbor_at number (stepped_links (flood_to moment sender lsa) o.area.links))
         (interface.stepped (HoldsThere o.sends x) number (flood_to moment sender lsa) o.area.links
         (λ link m k. settling.flooded_other key moment Of (SaidBy o.sends) x moment
-        (is_received_at sender number) lsa m other k) h)
+        (is_incoming sender number) lsa m other k) h)
 
     -- an LSA of this key that wasn't received from a neighbor; what was held before doesn't matter
-    pub flood_same : (lsa : Lsa) (o : Outcome) (x : Option Instance) → same_key key (lsa_key lsa)
+    pub flood_same : (lsa : Lsa) (o : AreaState) (x : Option Instance) → same_key key (lsa_key lsa)
         ≡ true → held moment key o.area.database ≡ Some (instance_of lsa.header)
         → HoldsThere o.sends x (neighbor_at number o.area.links)
         → Stands (flood_from_nobody moment lsa o)
@@ -294,7 +296,7 @@ module _ (key : Key) (moment : ℕ) (number : ℕ) (There : Type 0) (Of : ℕ �
         (settling.flooded_same key moment Of (SaidBy o.sends) x lsa m same at)) h
 
     -- an LSA of this key from a neighbor, which thus has said it
-    pub flood_back : (place : ℕ) (lsa : Lsa) (o : Outcome) (x : Option Instance) (i : Instance)
+    pub flood_back : (place : ℕ) (lsa : Lsa) (o : AreaState) (x : Option Instance) (i : Instance)
         → same_key key (lsa_key lsa) ≡ true → held moment key o.area.database ≡ Some i
         → instance_of lsa.header ≡ i → ((m : Neighbor) → (place == number) ≡ true → Of m.router
         → Known key moment Of (SaidBy o.sends) (conversation_with m) i)
@@ -322,9 +324,9 @@ module _ (key : Key) (moment : ℕ) (number : ℕ) (There : Type 0) (Of : ℕ �
         → Some (instance_of (record l.header { age = age })) ≡ Some (instance_of l.header)
     of_age l age is = ap (λ (a : ℕ). Some (instance_of (record l.header { age = a }))) is
 
-    pub flushes : (k : Key) (c : DatabaseCopy) (o : Outcome) → finite.get o.area.database k ≡ Some c
-        → lsa_key c.lsa ≡ k → Stands o → Stands
-        (flood_from_nobody moment (lsa_with_age 3600 c.lsa)
+    pub flushes : (k : Key) (c : DatabaseCopy) (o : AreaState)
+        → finite.get o.area.database k ≡ Some c → lsa_key c.lsa ≡ k → Stands o
+        → Stands (flood_from_nobody moment (lsa_with_age 3600 c.lsa)
         (on_database (age_prematurely moment k) o))
     flushes k c o at own h =
         subst (λ (x : Option DatabaseCopy). Stands
@@ -332,7 +334,7 @@ module _ (key : Key) (moment : ℕ) (number : ℕ) (There : Type 0) (Of : ℕ �
         (on_database (λ db. changed_by k (flushed_copy moment) o.area.database x) o))) (sym at)
         (by_key (same_key key k) refl)
       where
-        aged : Outcome
+        aged : AreaState
         aged = on_database (λ db. finite.insert db k (flushed_copy moment c)) o
 
         max_age : age_at 3600 moment moment ≡ 3600
@@ -355,7 +357,7 @@ module _ (key : Key) (moment : ℕ) (number : ℕ) (There : Type 0) (Of : ℕ �
             (subst (λ (x : Option Instance). HoldsThere o.sends x (neighbor_at number o.area.links))
             (sym (held_other moment key k (flushed_copy moment c) o.area.database other)) h)
 
-    pub originates : (lsa : Lsa) (o : Outcome) → lsa.header.age ≤ 3600 → Stands o
+    pub originates : (lsa : Lsa) (o : AreaState) → lsa.header.age ≤ 3600 → Stands o
         → Stands (install_and_flood moment lsa o)
     originates lsa o most h = by_key (same_key key (lsa_key lsa)) refl
       where
@@ -384,8 +386,8 @@ module _ (key : Key) (moment : ℕ) (number : ℕ) (There : Type 0) (Of : ℕ �
     turned : (a b : ℕ) → (a == b) ≡ true → (b == a) ≡ true
     turned a b e = eq-eqb b a (sym (eqb-true a b e))
 
-    installs : (place : ℕ) (lsa : Lsa) (o : Outcome) → lsa.header.age ≤ 3600 → Says place lsa.header
-        → Stands o → Stands (flood_and_install moment place lsa o)
+    installs : (place : ℕ) (lsa : Lsa) (o : AreaState) → lsa.header.age ≤ 3600
+        → Says place lsa.header → Stands o → Stands (flood_and_install moment place lsa o)
     installs place lsa o most says h =
         change_at place (delay_acknowledgment lsa.header)
         (flood moment (Some place) lsa (on_database (install_flooded moment lsa) o))
@@ -418,13 +420,13 @@ module _ (key : Key) (moment : ℕ) (number : ℕ) (There : Type 0) (Of : ℕ �
             (sym (held_other moment key (lsa_key lsa) (installed_copy moment lsa) o.area.database
             other)) h)
 
-    copy_sent : (place : ℕ) (c : Option DatabaseCopy) (o : Outcome) → Stands o
+    copy_sent : (place : ℕ) (c : Option DatabaseCopy) (o : AreaState) → Stands o
         → Stands (send_copy moment place c o)
     copy_sent place None o h = h
     copy_sent place (Some c) o h = sent (sends_at place (Updates (lsa_now moment c) ∷ [])) o h
 
-    implies : (place : ℕ) (lsa : Lsa) (o : Outcome)
-        → same_as_copy moment lsa.header (copy_of lsa o.area) ≡ true → Says place lsa.header
+    implies : (place : ℕ) (lsa : Lsa) (o : AreaState)
+        → same_as_copy moment lsa.header (database_copy lsa o.area) ≡ true → Says place lsa.header
         → Stands o → Stands (one_neighbor moment place
         (λ n. no_sends (remove_retransmission (lsa_key lsa) n)) o)
     implies place lsa o is says h =
@@ -450,14 +452,14 @@ module _ (key : Key) (moment : ℕ) (number : ℕ) (There : Type 0) (Of : ℕ �
         as_copy same i has = by_copy (finite.get o.area.database (lsa_key lsa)) is i
             (subst (λ (k : Key). held moment k o.area.database ≡ Some i) same has)
 
-    pub mismatches : (place : ℕ) (o : Outcome) → Stands o
+    pub mismatches : (place : ℕ) (o : AreaState) → Stands o
         → Stands (one_neighbor moment place (adjacencies.mismatch_step moment) o)
     mismatches place o h =
         one_step place (adjacencies.mismatch_step moment) o
         (λ m e at. settling.mismatched key moment Of (SaidBy o.sends)
         (held moment key o.area.database) moment m at) h
 
-    pub cases : (case : Case) (place : ℕ) (lsa : Lsa) (o : Outcome)
+    pub cases : (case : Case) (place : ℕ) (lsa : Lsa) (o : AreaState)
         → case_at moment place lsa o.area
         ≡ case → lsa.header.age ≤ 3600 → Says place lsa.header → Stands o
         → Stands (after_case case moment place lsa o)
@@ -473,11 +475,11 @@ module _ (key : Key) (moment : ℕ) (number : ℕ) (There : Type 0) (Of : ℕ �
         sent (sends_at place (Content.Acknowledges lsa.header ∷ [])) o h
     cases Case.SequenceWraps place lsa o is most says h = h
     cases Case.SentJustNow place lsa o is most says h = h
-    cases Case.Older place lsa o is most says h = copy_sent place (copy_of lsa o.area) o h
+    cases Case.Older place lsa o is most says h = copy_sent place (database_copy lsa o.area) o h
 
     -- ---- other packets
 
-    pub hellos : (own place from : ℕ) (hello : Hello) (o : Outcome) → Stands o
+    pub hellos : (own place from : ℕ) (hello : Hello) (o : AreaState) → Stands o
         → Stands (receive_hello own moment place from hello o)
     hellos own place from hello o h = by_link (link_at place o.area.links) refl
       where
@@ -495,7 +497,7 @@ module _ (key : Key) (moment : ℕ) (number : ℕ) (There : Type 0) (Of : ℕ �
             moment from (names own hello) link.neighbor at) h)) (λ e. h)
 
     -- a step of only this neighbor, with what it sends
-    step_here : (f : Stepping) (o : Outcome)
+    step_here : (f : Stepping) (o : AreaState)
         → ((link : Link) (m : Neighbor) → neighbor_at number o.area.links ≡ Some m
         → SettlingBy o.sends (held moment key o.area.database) m
         → SettlingBy (o.sends ++ stepping_sends f o.area.links)
@@ -523,7 +525,7 @@ module _ (key : Key) (moment : ℕ) (number : ℕ) (There : Type 0) (Of : ℕ �
         → SettlingBy sends x m → SettlingBy (sends ++ more) x m
     more_settled sends more x m h = more_sent sends more x (Some m) h
 
-    pub acknowledgments : (place : ℕ) (headers : List Header) (o : Outcome)
+    pub acknowledgments : (place : ℕ) (headers : List Header) (o : AreaState)
         → ((g : Header) → Contains headers g → Says place g)
         → ((m : Neighbor) → neighbor_at number o.area.links ≡ Some m
         → AreOfTheDatabase o.area.database m) → Stands o
@@ -555,7 +557,7 @@ module _ (key : Key) (moment : ℕ) (number : ℕ) (There : Type 0) (Of : ℕ �
     -- ---- a Database Description
 
     -- what is described in the step is described in what is sent
-    pub descriptions : (own place : ℕ) (d : Description) (o : Outcome)
+    pub descriptions : (own place : ℕ) (d : Description) (o : AreaState)
         → ((g : Header) → Contains d.headers g → Says place g)
         → ((c : DatabaseCopy) → finite.get o.area.database key ≡ Some c → lsa_key c.lsa ≡ key)
         → ((m : Neighbor) → neighbor_at number o.area.links ≡ Some m → Of m.router
@@ -643,7 +645,7 @@ module _ (key : Key) (moment : ℕ) (number : ℕ) (There : Type 0) (Of : ℕ �
 
     -- ---- a Tick, a command, and the end
 
-    pub inactive : (o : Outcome) → Stands o → Stands (on_links (map (expire_timers moment)) o)
+    pub inactive : (o : AreaState) → Stands o → Stands (on_links (map (expire_timers moment)) o)
     inactive o h =
         each_link (expire_timers moment) o
         (λ link at. interface.inactive (HoldsThere o.sends (held moment key o.area.database)) tt
@@ -652,35 +654,35 @@ module _ (key : Key) (moment : ℕ) (number : ℕ) (There : Type 0) (Of : ℕ �
         (held moment key o.area.database) moment link.interface.dead_interval m k)
         link.neighbor at) h
 
-    pub agains : (o : Outcome) → Stands o → Stands (each_neighbor moment (again moment o) o)
+    pub agains : (o : AreaState) → Stands o → Stands (each_neighbor moment (again moment o) o)
     agains o h =
         each_step (again moment o) o (held moment key o.area.database)
         (λ link m at. settling.again key moment Of (SaidBy o.sends)
         (held moment key o.area.database)
         moment link.interface.retransmit_interval o.area.database m at) h
 
-    pub acknowledges : (o : Outcome) → Stands o → Stands (send_acknowledgments moment o)
+    pub acknowledges : (o : AreaState) → Stands o → Stands (send_acknowledgments moment o)
     acknowledges o h =
         sent (sends_of acknowledgments_on o.area.links) (on_links (map without_acknowledgments) o)
         (each_link without_acknowledgments o (λ link at. at) h)
 
-    pub hellos_sent : (o : Outcome) → Stands o → Stands (send_hellos moment o)
+    pub hellos_sent : (o : AreaState) → Stands o → Stands (send_hellos moment o)
     hellos_sent o h =
         sent (sends_of (hello_sent_on moment) o.area.links)
         (on_links (map (with_hello_sent moment)) o)
         (each_link (with_hello_sent moment) o (λ link at. at) h)
 
-    pub down : (place : ℕ) (o : Outcome) → Stands o
+    pub down : (place : ℕ) (o : AreaState) → Stands o
         → Stands (on_links (change_link place taken_down) o)
     down place o h = change_at place taken_down o (λ link at. tt) h
 
-    pub loaded : (o : Outcome) → Stands o → Stands (on_links (map link_loading_done) o)
+    pub loaded : (o : AreaState) → Stands o → Stands (on_links (map link_loading_done) o)
     loaded o h = each_link link_loading_done o
         (λ link at. interface.loaded (HoldsThere o.sends (held moment key o.area.database))
         (settling.filled key moment Of (SaidBy o.sends) (held moment key o.area.database))
         link.neighbor at) h
 
-    pub requests : (o : Outcome) → Stands o
+    pub requests : (o : AreaState) → Stands o
         → Stands (each_neighbor moment (λ place link m. request_next moment m) o)
     requests o h =
         each_step (λ place link m. request_next moment m) o (held moment key o.area.database)
@@ -694,7 +696,7 @@ module _ (key : Key) (moment : ℕ) (number : ℕ) (There : Type 0) (Of : ℕ �
     gone_one sends x (Some m) h = settling.gone key moment Of (SaidBy sends) x m h
 
     -- a copy that is removed is settled
-    pub removes : (o : Outcome) → Stands o
+    pub removes : (o : AreaState) → Stands o
         → Stands (on_database (λ db. finite.retain_keys db (stays moment o.area)) o)
     removes o h =
         subst (λ (c : Option DatabaseCopy). HoldsThere o.sends (instance_at moment c)

@@ -20,7 +20,7 @@ use Rattle.adjacency.specs.declared.interface.Interface.{Interface}
 use Rattle.adjacency.proofs.Kept.{chosen}
 use Rattle.received.specs.Flooding.{flood_to}
 use Rattle.received.specs.Links.{Link, link_at}
-use Rattle.received.specs.Outcomes.{Outcome, Send, on_database, step_on}
+use Rattle.received.specs.AreaStates.{AreaState, Send, on_database, step_on}
 use Rattle.event_rules.specs.declared.model.Config.{Config}
 use Rattle.event_rules.specs.Endings.{end_event}
 use Rattle.event_rules.specs.EventState.{EventState, flood_from_nobody, on_router}
@@ -110,7 +110,7 @@ abbrev IsQuiet : Option Link → Type 0
 IsQuiet o = OnLink (λ (link : Link). link.acknowledgments ≡ finite.empty) o
 
 module _ (number : ℕ) where
-  flooded_quiet : (moment : ℕ) (lsa : Lsa) (o : Outcome) → IsQuiet (link_at number o.area.links)
+  flooded_quiet : (moment : ℕ) (lsa : Lsa) (o : AreaState) → IsQuiet (link_at number o.area.links)
       → IsQuiet (link_at number (flood_from_nobody moment lsa o).area.links)
   flooded_quiet moment lsa o is =
       numbered_on (λ (link : Link). link.acknowledgments ≡ finite.empty)
@@ -120,12 +120,12 @@ module _ (number : ℕ) where
       }) number (λ link e. e)
       o.area.links is
 
-  flushed_quiet : (moment : ℕ) (key : Key) (c : Option DatabaseCopy) (o : Outcome)
+  flushed_quiet : (moment : ℕ) (key : Key) (c : Option DatabaseCopy) (o : AreaState)
       → IsQuiet (link_at number o.area.links)
       → IsQuiet (link_at number (flush_copy moment key c o).area.links)
   flushed_quiet moment key None o is = is
   flushed_quiet moment key (Some c) o is =
-      chosen (λ (p : Outcome). IsQuiet (link_at number p.area.links)) (is_aged_out moment c) o
+      chosen (λ (p : AreaState). IsQuiet (link_at number p.area.links)) (is_aged_out moment c) o
       (flood_from_nobody moment (lsa_with_age 3600 c.lsa)
       (on_database (age_prematurely moment key) o))
       (λ e. is) (λ e. flooded_quiet moment (lsa_with_age 3600 c.lsa)

@@ -21,13 +21,15 @@ use Rattle.adjacency.specs.Retransmissions.{after_acknowledgment, remove_retrans
 use Rattle.adjacency.proofs.Kept.{chosen}
 use Rattle.adjacency.proofs.Maps.{OfEntry}
 use Rattle.received.specs.Cases.{Case}
-use Rattle.received.specs.Flooding.{flood, flood_to, is_received_at}
+use Rattle.received.specs.Flooding.{flood, flood_to, is_incoming}
 use Rattle.received.specs.Holds.{Holds}
 use Rattle.received.specs.Links.{Link, change_link, delay_acknowledgment, link_at, neighbor_at}
-use Rattle.received.specs.Outcomes.{Outcome, Send, Stepping, each_neighbor, on_database, on_links}
-use Rattle.received.specs.Outcomes.{one_neighbor, only_at, sending, sends_at, step_on, sends_of}
-use Rattle.received.specs.Outcomes.{stepped_links, stepping_sends}
-use Rattle.received.specs.Updates.{after_case, case_at, copy_of, flood_and_install, send_copy}
+use Rattle.received.specs.AreaStates.{AreaState, Send, Stepping, each_neighbor, on_database}
+use Rattle.received.specs.AreaStates.{on_links}
+use Rattle.received.specs.AreaStates.{one_neighbor, only_at, sending, sends_at, step_on, sends_of}
+use Rattle.received.specs.AreaStates.{stepped_links, stepping_sends}
+use Rattle.received.specs.Updates.{after_case, case_at, database_copy, flood_and_install}
+use Rattle.received.specs.Updates.{send_copy}
 use Rattle.received.proofs.Marks.{IsStill, mark_all, There}
 use Rattle.event_rules.specs.Commands.{taken_down}
 use Rattle.event_rules.specs.Endings.{flood_if_aged, link_loading_done, stays}
@@ -69,48 +71,48 @@ module _ (ranks : RanksFollowTheComparison) (key : Key) (moment : ℕ) (first : 
   Has db = IsHeldAsNew ranks key moment first db
 
   -- it was told again, or is met, or stands on the list
-  abbrev pub Stands : Outcome → Type 0
+  abbrev pub Stands : AreaState → Type 0
   Stands o = Told ⊎ Has o.area.database ⊎ AsksThere (neighbor_at number o.area.links)
 
   -- so at the end of the event
-  abbrev pub Ends : (Instance → Type 0) → Outcome → Type 0
+  abbrev pub Ends : (Instance → Type 0) → AreaState → Type 0
   Ends Had o = Told ⊎ HasEnded ranks key moment first Had o.area
       ⊎ AsksThere (neighbor_at number o.area.links)
 
   -- ---- the database and the links
 
-  pub on_db : (f : Database → Database) (o : Outcome)
+  pub on_db : (f : Database → Database) (o : AreaState)
       → (Has o.area.database → Has (f o.area.database)) → Stands o → Stands (on_database f o)
   on_db f o so (inl told) = inl told
   on_db f o so (inr (inl h)) = inr (inl (so h))
   on_db f o so (inr (inr k)) = inr (inr k)
 
-  on_all : (f : List Link → List Link) (o : Outcome)
+  on_all : (f : List Link → List Link) (o : AreaState)
       → (AsksThere (neighbor_at number o.area.links)
       → AsksThere (neighbor_at number (f o.area.links))) → Stands o → Stands (on_links f o)
   on_all f o so (inl told) = inl told
   on_all f o so (inr (inl h)) = inr (inl h)
   on_all f o so (inr (inr k)) = inr (inr (so k))
 
-  pub sent : (more : List Send) (o : Outcome) → Stands o → Stands (sending moment more o)
+  pub sent : (more : List Send) (o : AreaState) → Stands o → Stands (sending moment more o)
   sent more o (inl told) = inl told
   sent more o (inr (inl h)) = inr (inl (held_sent ranks key moment first more o.area.database h))
   sent more o (inr (inr k)) = inr (inr k)
 
-  each_link : (g : Link → Link) (o : Outcome)
+  each_link : (g : Link → Link) (o : AreaState)
       → ((link : Link) → AsksThere link.neighbor → AsksThere (g link).neighbor) → Stands o
       → Stands (on_links (map g) o)
   each_link g o keeps h = on_all (map g) o
       (λ k. each_kept_at AsksThere AsksThere (λ n. n) g number keeps o.area.links k) h
 
-  change_at : (place : ℕ) (change : Link → Link) (o : Outcome)
+  change_at : (place : ℕ) (change : Link → Link) (o : AreaState)
       → ((link : Link) → AsksThere link.neighbor → AsksThere (change link).neighbor) → Stands o
       → Stands (on_links (change_link place change) o)
   change_at place change o keeps h =
       on_all (change_link place change) o
       (λ k. interface.changed AsksThere number place change o.area.links keeps k) h
 
-  pub each_step : (f : Stepping) (o : Outcome)
+  pub each_step : (f : Stepping) (o : AreaState)
       → ((link : Link) (m : Neighbor) → Asks m → Asks (f number link m).neighbor) → Stands o
       → Stands (each_neighbor moment f o)
   each_step f o keeps h =
@@ -118,7 +120,7 @@ module _ (ranks : RanksFollowTheComparison) (key : Key) (moment : ℕ) (first : 
       (on_all (stepped_links f) o (λ k. interface.stepped AsksThere number f o.area.links keeps k)
       h)
 
-  pub one_step : (place : ℕ) (f : Neighbor → Step) (o : Outcome)
+  pub one_step : (place : ℕ) (f : Neighbor → Step) (o : AreaState)
       → ((m : Neighbor) → Asks m → Asks (f m).neighbor) → Stands o
       → Stands (one_neighbor moment place f o)
   one_step place f o keeps h =
@@ -131,7 +133,7 @@ module _ (ranks : RanksFollowTheComparison) (key : Key) (moment : ℕ) (first : 
   abbrev Holding : Lsa → Database → Type 0
   Holding lsa db = IsMet ranks key moment first entry low with_it May lsa → Has db
 
-  pub floods : (sender : Option ℕ) (lsa : Lsa) (o : Outcome) → Holding lsa o.area.database
+  pub floods : (sender : Option ℕ) (lsa : Lsa) (o : AreaState) → Holding lsa o.area.database
       → Stands o → Stands (flood moment sender lsa o)
   floods sender lsa o holds h = sent (stepping_sends f o.area.links) (on_links (stepped_links f) o)
       (by_state h)
@@ -145,7 +147,7 @@ module _ (ranks : RanksFollowTheComparison) (key : Key) (moment : ℕ) (first : 
       one : (link : Link) (n : Option Neighbor) → AsksThere n → Met (step_on (f number link) n)
       one link None k = inl k
       one link (Some m) k = flooded ranks key moment first entry low with_it May
-          (is_received_at sender number) lsa m k
+          (is_incoming sender number) lsa m k
 
       by_result : Met (neighbor_at number (stepped_links f o.area.links))
           → Stands (on_links (stepped_links f) o)
@@ -183,7 +185,7 @@ module _ (ranks : RanksFollowTheComparison) (key : Key) (moment : ℕ) (first : 
     abbrev Still : Database → Type 0
     Still x = (c : DatabaseCopy) → finite.get db key ≡ Some c → IsStill x key c
 
-    aged_one : (e : Key × DatabaseCopy) → There db e.0 e.1 → (o : Outcome) → Still o.area.database
+    aged_one : (e : Key × DatabaseCopy) → There db e.0 e.1 → (o : AreaState) → Still o.area.database
         → Stands o → Stands (flood_from_nobody moment (lsa_now moment e.1) o)
         × Still (flood_from_nobody moment (lsa_now moment e.1) o).area.database
     aged_one e at o still h = (
@@ -206,11 +208,11 @@ module _ (ranks : RanksFollowTheComparison) (key : Key) (moment : ℕ) (first : 
             o.area.links) key (record c { sent = s.0 }) o.area.database s.1
 
     pub ages : (before : ℕ) (es : List (Key × DatabaseCopy))
-        → AllByRecursion (OfEntry (There db)) es → (o : Outcome) → Still o.area.database → Stands o
-        → Stands (fold (flood_if_aged before moment) o es)
+        → AllByRecursion (OfEntry (There db)) es → (o : AreaState) → Still o.area.database
+        → Stands o → Stands (fold (flood_if_aged before moment) o es)
     ages before [] all o still h = h
     ages before (e ∷ es) all o still h =
-        let one = chosen (λ (p : Outcome). Stands p × Still p.area.database)
+        let one = chosen (λ (p : AreaState). Stands p × Still p.area.database)
         (has_just_aged_out before moment e.1) (flood_from_nobody moment (lsa_now moment e.1) o)
         o
         (λ just. aged_one e all.0 o still h) (λ young. (h, still)) in
@@ -218,7 +220,7 @@ module _ (ranks : RanksFollowTheComparison) (key : Key) (moment : ℕ) (first : 
 
   -- ---- the router's own LSAs
 
-  pub flushes : (k : Key) (c : DatabaseCopy) (o : Outcome) → finite.get o.area.database k ≡ Some c
+  pub flushes : (k : Key) (c : DatabaseCopy) (o : AreaState) → finite.get o.area.database k ≡ Some c
       → lsa_key c.lsa ≡ k → Stands o → Stands
       (flood_from_nobody moment (lsa_with_age 3600 c.lsa)
       (on_database (age_prematurely moment k) o))
@@ -241,7 +243,7 @@ module _ (ranks : RanksFollowTheComparison) (key : Key) (moment : ℕ) (first : 
           (put_same o.area.database k key (flushed_copy moment c)
           (subst (λ (q : Key). same_key key q ≡ true) own same))
 
-  pub originates : (k : Key) (says : LsaBody) (o : Outcome)
+  pub originates : (k : Key) (says : LsaBody) (o : AreaState)
       → lsa_key (new_instance k (finite.get o.area.database k) says) ≡ k → Stands o
       → Stands (install_and_flood moment (new_instance k (finite.get o.area.database k) says) o)
   originates k says o its h =
@@ -253,8 +255,8 @@ module _ (ranks : RanksFollowTheComparison) (key : Key) (moment : ℕ) (first : 
 
   -- ---- received LSAs
 
-  installs : (place : ℕ) (lsa : Lsa) (o : Outcome)
-      → newer_than_copy moment lsa.header (copy_of lsa o.area) ≡ true → Stands o
+  installs : (place : ℕ) (lsa : Lsa) (o : AreaState)
+      → newer_than_copy moment lsa.header (database_copy lsa o.area) ≡ true → Stands o
       → Stands (flood_and_install moment place lsa o)
   installs place lsa o is h =
       change_at place (delay_acknowledgment lsa.header)
@@ -265,17 +267,17 @@ module _ (ranks : RanksFollowTheComparison) (key : Key) (moment : ℕ) (first : 
       (on_db (install_flooded moment lsa) o
       (λ x. held_installed ranks key moment first lsa o.area.database is x) h))
 
-  copy_sent : (place : ℕ) (c : Option DatabaseCopy) (o : Outcome) → Stands o
+  copy_sent : (place : ℕ) (c : Option DatabaseCopy) (o : AreaState) → Stands o
       → Stands (send_copy moment place c o)
   copy_sent place None o h = h
   copy_sent place (Some c) o h = sent (sends_at place (Updates (lsa_now moment c) ∷ [])) o h
 
-  pub mismatches : May → (place : ℕ) (o : Outcome) → Stands o
+  pub mismatches : May → (place : ℕ) (o : AreaState) → Stands o
       → Stands (one_neighbor moment place (adjacencies.mismatch_step moment) o)
   mismatches may place o h = one_step place (adjacencies.mismatch_step moment) o
       (asking.mismatched ranks key moment first entry low with_it May may) h
 
-  pub cases : May → (case : Case) (place : ℕ) (lsa : Lsa) (o : Outcome)
+  pub cases : May → (case : Case) (place : ℕ) (lsa : Lsa) (o : AreaState)
       → case_at moment place lsa o.area ≡ case → Stands o
       → Stands (after_case case moment place lsa o)
   cases may Case.Unreadable place lsa o is h = h
@@ -291,11 +293,11 @@ module _ (ranks : RanksFollowTheComparison) (key : Key) (moment : ℕ) (first : 
       sent (sends_at place (Content.Acknowledges lsa.header ∷ [])) o h
   cases may Case.SequenceWraps place lsa o is h = h
   cases may Case.SentJustNow place lsa o is h = h
-  cases may Case.Older place lsa o is h = copy_sent place (copy_of lsa o.area) o h
+  cases may Case.Older place lsa o is h = copy_sent place (database_copy lsa o.area) o h
 
   -- ---- other packets
 
-  pub hellos : May → (own place from : ℕ) (hello : Hello) (o : Outcome) → Stands o
+  pub hellos : May → (own place from : ℕ) (hello : Hello) (o : AreaState) → Stands o
       → Stands (receive_hello own moment place from hello o)
   hellos may own place from hello o h = by_link (link_at place o.area.links) refl
     where
@@ -316,7 +318,7 @@ module _ (ranks : RanksFollowTheComparison) (key : Key) (moment : ℕ) (first : 
           heard_of None k = tt
           heard_of (Some m) k = k
 
-  pub acknowledgments : (place : ℕ) (headers : List Header) (o : Outcome) → Stands o
+  pub acknowledgments : (place : ℕ) (headers : List Header) (o : AreaState) → Stands o
       → Stands (receive_acknowledgment moment place headers o)
   acknowledgments place headers o h =
       one_step place (λ n. no_sends (after_acknowledgment moment headers n)) o
@@ -324,50 +326,50 @@ module _ (ranks : RanksFollowTheComparison) (key : Key) (moment : ℕ) (first : 
 
   -- ---- a Tick, a command, and the end
 
-  pub inactive : May → (o : Outcome) → Stands o → Stands (on_links (map (expire_timers moment)) o)
+  pub inactive : May → (o : AreaState) → Stands o → Stands (on_links (map (expire_timers moment)) o)
   inactive may o h = each_link (expire_timers moment) o
       (λ link at. interface.inactive AsksThere may moment link.interface.dead_interval
       (λ m k. asking.old_description ranks key moment first entry low with_it May
       link.interface.dead_interval m k) link.neighbor at) h
 
-  pub agains : (o : Outcome) → Stands o → Stands (each_neighbor moment (again moment o) o)
+  pub agains : (o : AreaState) → Stands o → Stands (each_neighbor moment (again moment o) o)
   agains o h =
       each_step (again moment o) o (λ link m at. asking.again ranks key moment first entry low
       with_it May link.interface.retransmit_interval o.area.database m at) h
 
-  pub acknowledges : (o : Outcome) → Stands o → Stands (send_acknowledgments moment o)
+  pub acknowledges : (o : AreaState) → Stands o → Stands (send_acknowledgments moment o)
   acknowledges o h =
       sent (sends_of acknowledgments_on o.area.links) (on_links (map without_acknowledgments) o)
       (each_link without_acknowledgments o (λ link at. at) h)
 
-  pub hellos_sent : (o : Outcome) → Stands o → Stands (send_hellos moment o)
+  pub hellos_sent : (o : AreaState) → Stands o → Stands (send_hellos moment o)
   hellos_sent o h =
       sent (sends_of (hello_sent_on moment) o.area.links)
       (on_links (map (with_hello_sent moment)) o)
       (each_link (with_hello_sent moment) o (λ link at. at) h)
 
-  pub down : May → (place : ℕ) (o : Outcome) → Stands o
+  pub down : May → (place : ℕ) (o : AreaState) → Stands o
       → Stands (on_links (change_link place taken_down) o)
   down may place o h = change_at place taken_down o (λ link at. may) h
 
-  pub loaded : (o : Outcome) → Stands o → Stands (on_links (map link_loading_done) o)
+  pub loaded : (o : AreaState) → Stands o → Stands (on_links (map link_loading_done) o)
   loaded o h = each_link link_loading_done o
       (λ link at. interface.loaded AsksThere
       (asking.filled ranks key moment first entry low with_it May) link.neighbor at) h
 
-  pub requests : (o : Outcome) → Stands o
+  pub requests : (o : AreaState) → Stands o
       → Stands (each_neighbor moment (λ place link m. request_next moment m) o)
   requests o h = each_step (λ place link m. request_next moment m) o
       (λ link m at. asking.asked ranks key moment first entry low with_it May m at) h
 
-  pub removes : (Had : Instance → Type 0) (o : Outcome)
+  pub removes : (Had : Instance → Type 0) (o : AreaState)
       → ((c : DatabaseCopy) → finite.get o.area.database key ≡ Some c → Had (copy_now moment c))
       → Stands o → Ends Had (on_database (λ db. finite.retain_keys db (stays moment o.area)) o)
   removes Had o why (inl told) = inl told
   removes Had o why (inr (inl h)) = inr (inl (held_removed ranks key moment first Had o.area why h))
   removes Had o why (inr (inr k)) = inr (inr k)
 
-  pub remain : (Had : Instance → Type 0) (o : Outcome) → Stands o → Ends Had o
+  pub remain : (Had : Instance → Type 0) (o : AreaState) → Stands o → Ends Had o
   remain Had o (inl told) = inl told
   remain Had o (inr (inl h)) = inr (inl (inl h))
   remain Had o (inr (inr k)) = inr (inr k)

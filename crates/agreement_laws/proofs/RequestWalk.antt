@@ -23,8 +23,8 @@ use Rattle.adjacency.specs.Neighbors.{Neighbor, is_exchange_or_later}
 use Rattle.adjacency.specs.Requests.{request_next}
 use Rattle.received.specs.Holds.{Holds}
 use Rattle.received.specs.Links.{Link, neighbor_at}
-use Rattle.received.specs.Outcomes.{Outcome, on_links, only_at, sends_at, step_on}
-use Rattle.received.specs.Outcomes.{stepped_links, stepping_sends}
+use Rattle.received.specs.AreaStates.{AreaState, on_links, only_at, sends_at, step_on}
+use Rattle.received.specs.AreaStates.{stepped_links, stepping_sends}
 use Rattle.received.proofs.Holding.{one_holds}
 use Rattle.received.proofs.Marks.{all_there}
 use Rattle.event_rules.specs.declared.model.Out.{Out}
@@ -87,13 +87,13 @@ module _ (ranks : RanksFollowTheComparison) (old : Router) (moment : ℕ) (event
   Told = AcceptsKey old moment event number n.router key
 
   -- after the ages it stands on the list, or is met
-  abbrev Bare : Outcome → Type 0
+  abbrev Bare : AreaState → Type 0
   Bare o = parts.Stands ranks key moment first entry low with_it ⊥ ⊥ number o
 
-  abbrev Stands : Outcome → Type 0
+  abbrev Stands : AreaState → Type 0
   Stands o = parts.Stands ranks key moment first entry low with_it (Unit {0}) Told number o
 
-  abbrev Ends : Outcome → Type 0
+  abbrev Ends : AreaState → Type 0
   Ends o = parts.Ends ranks key moment first entry low with_it (Unit {0}) Told number
       (HasHad old event key) o
 
@@ -119,7 +119,7 @@ module _ (ranks : RanksFollowTheComparison) (old : Router) (moment : ℕ) (event
   more_at (Some m) (inl over) = absurd over.0
   more_at (Some m) (inr at) = inr at
 
-  more : (o : Outcome) → Bare o → Stands o
+  more : (o : AreaState) → Bare o → Stands o
   more o (inl told) = absurd told
   more o (inr (inl h)) = inr (inl h)
   more o (inr (inr k)) = inr (inr (more_at (neighbor_at number o.area.links) k))
@@ -222,16 +222,16 @@ module _ (ranks : RanksFollowTheComparison) (old : Router) (moment : ℕ) (event
 
   -- ---- every part
 
-  abbrev Lately : Outcome → ByKey ℕ → Type 0
+  abbrev Lately : AreaState → ByKey ℕ → Type 0
   Lately o t = Stands o
 
-  abbrev Ended : Outcome → ByKey ℕ → Type 0
+  abbrev Ended : AreaState → ByKey ℕ → Type 0
   Ended o t = Ends o
 
-  abbrev Anything : Outcome → ByKey ℕ → Type 0
+  abbrev Anything : AreaState → ByKey ℕ → Type 0
   Anything o t = Unit {0}
 
-  abbrev IsWhole : Outcome → ByKey ℕ → Type 0
+  abbrev IsWhole : AreaState → ByKey ℕ → Type 0
   IsWhole o t = Whole old event moment o.area.database
 
   stands_kept : IsKeptToo (in_order old.id) Lately Anything start moment event
@@ -326,13 +326,13 @@ module _ (ranks : RanksFollowTheComparison) (old : Router) (moment : ℕ) (event
   -- ---- if nothing that could meet it is there, or comes
 
   module _ (foreign : IsForeignAndAbsent old key) (brings : BringsNone event key) where
-    abbrev Both : Outcome → ByKey ℕ → Type 0
+    abbrev Both : AreaState → ByKey ℕ → Type 0
     Both o t = Lacks key o × Stands o
 
-    abbrev Left : Outcome → ByKey ℕ → Type 0
+    abbrev Left : AreaState → ByKey ℕ → Type 0
     Left o t = Told ⊎ AsksThere (neighbor_at number o.area.links)
 
-    left_of : (o : Outcome) (t : ByKey ℕ) → Both o t → Left o t
+    left_of : (o : AreaState) (t : ByKey ℕ) → Both o t → Left o t
     left_of o t (none, inl told) = inl told
     left_of o t (none, inr (inl has)) =
         let no : None ≡ Some has.0 = sym none ∙ has.1 in absurd cc
@@ -404,15 +404,15 @@ module _ (ranks : RanksFollowTheComparison) (was : Router) (event : Occurrence) 
   abbrev own : ℕ
   own = was.id
 
-  abbrev Remains : Outcome → Type 0
+  abbrev Remains : AreaState → Type 0
   Remains o = parts.Stands ranks key moment first entry low with_it ⊥ ⊥ number o
 
-  abbrev Finally : Outcome → Type 0
+  abbrev Finally : AreaState → Type 0
   Finally o = parts.Ends ranks key moment first entry low with_it ⊥ ⊥ number (HasHad was event key)
       o
 
   -- what was absent still is, and what is held has been had
-  abbrev Still : Outcome → Type 0
+  abbrev Still : AreaState → Type 0
   Still o = Remains o × (Absent → Lacks key o) × Whole was event moment o.area.database
 
   still_absent : Absent → IsKept own moment (IsNone key)
@@ -465,11 +465,11 @@ module _ (ranks : RanksFollowTheComparison) (was : Router) (event : Occurrence) 
       ended own moment Still still_kept There (λ o h. asked_there o (h.1 a) h.0)
       (λ o h. asked_there o (h.1 a) h.0)
     where
-      There : Outcome → Type 0
+      There : AreaState → Type 0
       There o = parts.AsksThere ranks key moment first entry low with_it ⊥ ⊥ number
           (neighbor_at number o.area.links)
 
-      asked_there : (o : Outcome) → Lacks key o → Remains o → There o
+      asked_there : (o : AreaState) → Lacks key o → Remains o → There o
       asked_there o none (inl told) = absurd told
       asked_there o none (inr (inl has)) = let no : None ≡ Some has.0 = sym none ∙ has.1 in
           absurd cc
@@ -499,7 +499,7 @@ module _ (ranks : RanksFollowTheComparison) (old : Router) (moment : ℕ) (event
   abbrev takes : Neighbor → Step
   takes = after_description old.id moment begins.router.area.database d
 
-  abbrev Asked : Outcome → Type 0
+  abbrev Asked : AreaState → Type 0
   Asked o = parts.Stands ranks (key_of h) moment told entered as_new conversation ⊥ ⊥ number o
 
   abbrev AskedAt : Option Neighbor → Type 0
@@ -577,7 +577,7 @@ module _ (ranks : RanksFollowTheComparison) (old : Router) (moment : ℕ) (event
         asked = it.1;
       })
 
-  abbrev StillSo : Outcome → Type 0
+  abbrev StillSo : AreaState → Type 0
   StillSo o = Still ranks old event moment (key_of h) told entered as_new conversation number
       (IsForeignAndAbsent old (key_of h)) (λ f e. f.others e) o
 

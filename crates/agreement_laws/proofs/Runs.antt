@@ -21,7 +21,7 @@ use Rattle.adjacency.proofs.Kept.{chosen}
 use Rattle.received.specs.Flooding.{flood_to}
 use Rattle.received.specs.Holds.{Holds}
 use Rattle.received.specs.Links.{neighbor_at, neighbor_on}
-use Rattle.received.specs.Outcomes.{Outcome, on_database, step_on}
+use Rattle.received.specs.AreaStates.{AreaState, on_database, step_on}
 use Rattle.event_rules.specs.declared.model.Config.{Config}
 use Rattle.event_rules.specs.declared.model.Out.{Out}
 use Rattle.event_rules.specs.Endings.{end_event}
@@ -56,19 +56,19 @@ use Rattle.agreement_laws.proofs.Walk as walk
 -- ---- the start: there is no neighbor, and the moment is that of the start
 
 module _ (number : ℕ) (at : ℕ) where
-  flooded_alone : (moment : ℕ) (lsa : Lsa) (o : Outcome) → neighbor_at number o.area.links ≡ None
+  flooded_alone : (moment : ℕ) (lsa : Lsa) (o : AreaState) → neighbor_at number o.area.links ≡ None
       → neighbor_at number (flood_from_nobody moment lsa o).area.links ≡ None
   flooded_alone moment lsa o is =
       stepped_kept (λ (n : Option Neighbor). n ≡ None) (λ (n : Option Neighbor). n ≡ None) (λ e. e)
       (flood_to moment None lsa) number
       (λ link e. ap (step_on (flood_to moment None lsa number link)) e) o.area.links is
 
-  flushed_alone : (moment : ℕ) (key : Key) (c : Option DatabaseCopy) (o : Outcome)
+  flushed_alone : (moment : ℕ) (key : Key) (c : Option DatabaseCopy) (o : AreaState)
       → neighbor_at number o.area.links ≡ None
       → neighbor_at number (flush_copy moment key c o).area.links ≡ None
   flushed_alone moment key None o is = is
   flushed_alone moment key (Some c) o is =
-      chosen (λ (p : Outcome). neighbor_at number p.area.links ≡ None) (is_aged_out moment c) o
+      chosen (λ (p : AreaState). neighbor_at number p.area.links ≡ None) (is_aged_out moment c) o
       (flood_from_nobody moment (lsa_with_age 3600 c.lsa)
       (on_database (age_prematurely moment key) o))
       (λ e. is) (λ e. flooded_alone moment (lsa_with_age 3600 c.lsa)

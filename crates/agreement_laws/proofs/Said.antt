@@ -29,13 +29,14 @@ use Rattle.adjacency.specs.Retransmissions.{that_fit, update_again}
 use Rattle.adjacency.proofs.Kept.{chosen}
 use Rattle.adjacency.proofs.Maps.{IfThere, OfEntry, entries_in, inserted_in, none_in}
 use Rattle.received.specs.Cases.{Case}
-use Rattle.received.specs.Flooding.{flood, flood_to, is_received_at}
+use Rattle.received.specs.Flooding.{flood, flood_to, is_incoming}
 use Rattle.received.specs.Holds.{Holds}
 use Rattle.received.specs.Links.{Area, Link, change_link, delay_acknowledgment, link_at}
-use Rattle.received.specs.Outcomes.{Outcome, Send, Stepping, each_neighbor, marked_database}
-use Rattle.received.specs.Outcomes.{on_database, on_links, one_neighbor, only_at, sending, sends_at}
-use Rattle.received.specs.Outcomes.{sent_on, step_on, stepped_links, stepping_sends, sends_of}
-use Rattle.received.specs.Updates.{after_case, case_at, copy_of, send_copy}
+use Rattle.received.specs.AreaStates.{AreaState, Send, Stepping, each_neighbor, marked_database}
+use Rattle.received.specs.AreaStates.{on_database, on_links, one_neighbor, only_at, sending}
+use Rattle.received.specs.AreaStates.{sends_at}
+use Rattle.received.specs.AreaStates.{sent_on, step_on, stepped_links, stepping_sends, sends_of}
+use Rattle.received.specs.Updates.{after_case, case_at, database_copy, send_copy}
 use Rattle.received.proofs.Marks.{There}
 use Rattle.received.proofs.Roomy.{joined}
 use Rattle.event_rules.specs.Commands.{taken_down}
@@ -132,7 +133,7 @@ module _ (P : ℕ → Content → Type 0) where
 -- ---- one router
 
 module _ (old : Router) (moment : ℕ) where
-  pub record IsSaid (T : Truth) (o : Outcome) : Type 0 where
+  pub record IsSaid (T : Truth) (o : AreaState) : Type 0 where
     pub sends : AllByRecursion (OfSend old T) o.sends
     pub left : (number : ℕ) → OnLink (OfLink old T number) (link_at number o.area.links)
 
@@ -149,7 +150,7 @@ module _ (old : Router) (moment : ℕ) where
     sends_more sends h = each_all (OfSend old T) (OfSend old U)
         (λ s so. content_more old T U more s.interface s.content so) sends h
 
-    pub said_more : (o : Outcome) → IsSaid T o → IsSaid U o
+    pub said_more : (o : AreaState) → IsSaid T o → IsSaid U o
     said_more o h = record {
       sends = sends_more o.sends h.sends;
       left = λ number. on_link_more number (link_at number o.area.links) (h.left number);
@@ -164,7 +165,7 @@ module _ (old : Router) (moment : ℕ) where
   abbrev pub Grows : Database → Database → Type 0
   Grows db new = (key : Key) (i : Instance) → AsNew db key i → AsNew new key i
 
-  pub record IsSo (o : Outcome) : Type 0 where
+  pub record IsSo (o : AreaState) : Type 0 where
     -- what was held before
     pub had : (key : Key) (c : DatabaseCopy) → finite.get old.area.database key ≡ Some c
         → AsNew o.area.database key (copy_now moment c)
@@ -176,7 +177,7 @@ module _ (old : Router) (moment : ℕ) where
       → OnLink (OfLink old (AsNew b.database) number) (link_at number b.links)
 
   -- a change that sends nothing
-  changed : (o : Outcome) (a : Area) → Grows o.area.database a.database → KeepsWaiting o.area a
+  changed : (o : AreaState) (a : Area) → Grows o.area.database a.database → KeepsWaiting o.area a
       → IsSo o → IsSo (record { area = a; sends = o.sends })
   changed o a grows keeps h =
       let more : IsSaid (AsNew a.database) o =
@@ -187,7 +188,7 @@ module _ (old : Router) (moment : ℕ) where
       }
 
   -- a change that sends more
-  changed_with : (o : Outcome) (a : Area) (sends : List Send) → Grows o.area.database a.database
+  changed_with : (o : AreaState) (a : Area) (sends : List Send) → Grows o.area.database a.database
       → AllByRecursion (OfSend old (AsNew a.database)) sends → KeepsWaiting o.area a → IsSo o
       → IsSo (record { area = a; sends = o.sends ++ sends })
   changed_with o a sends grows new keeps h =
@@ -209,7 +210,7 @@ module _ (old : Router) (moment : ℕ) where
   mark_grows : (more : List Send) (db : Database) → Grows db (marked more db)
   mark_grows more db key i h = held_sent follow key moment i more db h
 
-  sent_so : (more : List Send) (o : Outcome)
+  sent_so : (more : List Send) (o : AreaState)
       → AllByRecursion (OfSend old (AsNew o.area.database)) more → IsSo o
       → IsSo (sending moment more o)
   sent_so more o new h =
@@ -218,7 +219,7 @@ module _ (old : Router) (moment : ℕ) where
       (mark_grows more o.area.database) more new) (λ number at. at) h
 
   -- at one interface
-  sent_at : (number : ℕ) (cs : List Content) (o : Outcome)
+  sent_at : (number : ℕ) (cs : List Content) (o : AreaState)
       → AllByRecursion (OfContent old (AsNew o.area.database) number) cs → IsSo o
       → IsSo (sending moment (sends_at number cs) o)
   sent_at number cs o new h = sent_so (sends_at number cs) o
@@ -229,7 +230,7 @@ module _ (old : Router) (moment : ℕ) where
   same_database : (db : Database) → Grows db db
   same_database db key i h = h
 
-  on_each : (g : Link → Link) (o : Outcome)
+  on_each : (g : Link → Link) (o : AreaState)
       → ((number : ℕ) (link : Link) → OfLink old (AsNew o.area.database) number link
       → OfLink old (AsNew o.area.database) number (g link)) → IsSo o → IsSo (on_links (map g) o)
   on_each g o keeps h =
@@ -237,7 +238,7 @@ module _ (old : Router) (moment : ℕ) where
       (λ number at. each_on (OfLink old (AsNew o.area.database) number)
       (OfLink old (AsNew o.area.database) number) g number (keeps number) o.area.links at) h
 
-  on_one : (place : ℕ) (change : Link → Link) (o : Outcome)
+  on_one : (place : ℕ) (change : Link → Link) (o : AreaState)
       → ((number : ℕ) (link : Link) → (number == place) ≡ true
       → OfLink old (AsNew o.area.database) number link
       → OfLink old (AsNew o.area.database) number (change link)) → IsSo o
@@ -253,19 +254,19 @@ module _ (old : Router) (moment : ℕ) where
   -- ---- steps of the neighbors
 
   -- what each neighbor's step does to the property
-  abbrev Steps : Outcome → Stepping → Type 0
+  abbrev Steps : AreaState → Stepping → Type 0
   Steps o f = (number : ℕ) (link : Link) (n : Neighbor)
       → OfNeighbor old (AsNew o.area.database) number n
       → OfStep old (AsNew o.area.database) number (f number link n)
 
-  step_on_so : (o : Outcome) (f : Stepping) → Steps o f
+  step_on_so : (o : AreaState) (f : Stepping) → Steps o f
       → (number : ℕ) (link : Link) (n : Option Neighbor)
       → Holds (OfNeighbor old (AsNew o.area.database) number) n
       → Holds (OfNeighbor old (AsNew o.area.database) number) (step_on (f number link) n)
   step_on_so o f steps number link None h = tt
   step_on_so o f steps number link (Some n) h = (steps number link n h).neighbor
 
-  sent_on_so : (o : Outcome) (f : Stepping) → Steps o f
+  sent_on_so : (o : AreaState) (f : Stepping) → Steps o f
       → (number : ℕ) (link : Link) (n : Option Neighbor)
       → Holds (OfNeighbor old (AsNew o.area.database) number) n
       → AllByRecursion (OfContent old (AsNew o.area.database) number)
@@ -273,7 +274,8 @@ module _ (old : Router) (moment : ℕ) where
   sent_on_so o f steps number link None h = tt
   sent_on_so o f steps number link (Some n) h = (steps number link n h).sends
 
-  stepped : (f : Stepping) (o : Outcome) → Steps o f → IsSo o → IsSo (on_links (stepped_links f) o)
+  stepped : (f : Stepping) (o : AreaState) → Steps o f → IsSo o
+      → IsSo (on_links (stepped_links f) o)
   stepped f o steps h =
       changed o (on_links (stepped_links f) o).area (same_database o.area.database)
       (λ number at. numbered_on (OfLink old (AsNew o.area.database) number)
@@ -284,7 +286,7 @@ module _ (old : Router) (moment : ℕ) where
         neighbor = step_on_so o f steps number link link.neighbor so.neighbor;
       }) o.area.links at) h
 
-  each_so : (f : Stepping) (o : Outcome) → Steps o f → IsSo o → IsSo (each_neighbor moment f o)
+  each_so : (f : Stepping) (o : AreaState) → Steps o f → IsSo o → IsSo (each_neighbor moment f o)
   each_so f o steps h =
       sent_so (stepping_sends f o.area.links) (on_links (stepped_links f) o)
       (by_links_sent (OfContent old (AsNew o.area.database))
@@ -302,7 +304,7 @@ module _ (old : Router) (moment : ℕ) where
       on_link number None k = tt
       on_link number (Some link) k = sent_on_so o f steps number link link.neighbor k.neighbor
 
-  one_so : (place : ℕ) (f : Neighbor → Step) (o : Outcome)
+  one_so : (place : ℕ) (f : Neighbor → Step) (o : AreaState)
       → ((number : ℕ) (n : Neighbor) → OfNeighbor old (AsNew o.area.database) number n
       → OfStep old (AsNew o.area.database) number (f n)) → IsSo o
       → IsSo (one_neighbor moment place f o)
@@ -314,13 +316,13 @@ module _ (old : Router) (moment : ℕ) where
 
   -- ---- flooding of what is held
 
-  flooded : (sender : Option ℕ) (lsa : Lsa) (o : Outcome)
+  flooded : (sender : Option ℕ) (lsa : Lsa) (o : AreaState)
       → AsNew o.area.database (lsa_key lsa) (instance_of lsa.header) → IsSo o
       → IsSo (flood moment sender lsa o)
   flooded sender lsa o so h =
       each_so (flood_to moment sender lsa) o
       (λ number link n at. flooded_so old (AsNew o.area.database) number moment
-      (is_received_at sender number) lsa n so at) h
+      (is_incoming sender number) lsa n so at) h
 
   -- ---- copies
 
@@ -353,7 +355,7 @@ module _ (old : Router) (moment : ℕ) where
 
   -- ---- aging, and self-originated LSAs
 
-  pub ages : (es : List (Key × DatabaseCopy)) (o : Outcome) → OwnKeys old.area.database
+  pub ages : (es : List (Key × DatabaseCopy)) (o : AreaState) → OwnKeys old.area.database
       → AllByRecursion (OfEntry (There old.area.database)) es → IsSo o
       → IsSo (fold (flood_if_aged old.moment moment) o es)
   ages [] o own all h = h
@@ -365,11 +367,11 @@ module _ (old : Router) (moment : ℕ) where
       (subst (λ (k : Key). AsNew o.area.database k (copy_now moment e.1))
       (sym (own_at old.area.database e.0 e.1 own all.0)) (h.had e.0 e.1 all.0)) h) (λ is. h))
 
-  on_copies : (o : Outcome) (db : Database) → Grows o.area.database db → IsSo o
+  on_copies : (o : AreaState) (db : Database) → Grows o.area.database db → IsSo o
       → IsSo (on_database (λ d. db) o)
   on_copies o db grows h = changed o (on_database (λ d. db) o).area grows (λ number at. at) h
 
-  pub flushes : (key : Key) (c : DatabaseCopy) (o : Outcome) → OwnKeys o.area.database
+  pub flushes : (key : Key) (c : DatabaseCopy) (o : AreaState) → OwnKeys o.area.database
       → finite.get o.area.database key ≡ Some c → IsSo o
       → IsSo (flood_from_nobody moment (lsa_with_age 3600 c.lsa)
       (on_database (age_prematurely moment key) o))
@@ -383,7 +385,7 @@ module _ (old : Router) (moment : ℕ) where
       (on_copies o (age_prematurely moment key o.area.database)
       (λ k i so. held_flushed follow k moment i key c o.area.database at so) h)
 
-  pub originates : (key : Key) (says : LsaBody) (o : Outcome)
+  pub originates : (key : Key) (says : LsaBody) (o : AreaState)
       → lsa_key (new_instance key (finite.get o.area.database key) says) ≡ key → IsSo o
       → IsSo (install_and_flood moment (new_instance key (finite.get o.area.database key) says)
       o)
@@ -396,14 +398,14 @@ module _ (old : Router) (moment : ℕ) where
 
   -- ---- a received LSA
 
-  installs : (place : ℕ) (lsa : Lsa) (o : Outcome)
-      → newer_than_copy moment lsa.header (copy_of lsa o.area) ≡ true → IsSo o
+  installs : (place : ℕ) (lsa : Lsa) (o : AreaState)
+      → newer_than_copy moment lsa.header (database_copy lsa o.area) ≡ true → IsSo o
       → IsSo (after_case Case.Newer moment place lsa o)
   installs place lsa o newer h =
-      let p : Outcome = on_database (install_flooded moment lsa) o in
+      let p : AreaState = on_database (install_flooded moment lsa) o in
       let there : AsNew p.area.database (lsa_key lsa) (instance_of lsa.header) =
       put_so lsa (Some moment) None o.area.database (lsa_key lsa) refl in
-      let q : Outcome = flood moment (Some place) lsa p in
+      let q : AreaState = flood moment (Some place) lsa p in
       let still : AsNew q.area.database (lsa_key lsa) (instance_of lsa.header) =
       mark_grows (stepping_sends (flood_to moment (Some place) lsa) p.area.links)
       p.area.database (lsa_key lsa) (instance_of lsa.header) there in
@@ -418,7 +420,7 @@ module _ (old : Router) (moment : ℕ) where
       (λ k i so. held_installed follow k moment i lsa o.area.database newer so) h))
 
   -- there was none before if there is none now
-  none_before : (key : Key) (o : Outcome) → finite.get o.area.database key ≡ None → IsSo o
+  none_before : (key : Key) (o : AreaState) → finite.get o.area.database key ≡ None → IsSo o
       → finite.get old.area.database key ≡ None
   none_before key o none h = by_copy (finite.get old.area.database key) refl
     where
@@ -429,21 +431,21 @@ module _ (old : Router) (moment : ℕ) where
           let no : None ≡ Some has.0 = sym none ∙ has.1 in absurd cc
 
   -- the copy is the same instance
-  same_held : (lsa : Lsa) (o : Outcome) (c : Option DatabaseCopy)
+  same_held : (lsa : Lsa) (o : AreaState) (c : Option DatabaseCopy)
       → finite.get o.area.database (lsa_key lsa) ≡ c → same_as_copy moment lsa.header c ≡ true
       → AsNew o.area.database (lsa_key lsa) (instance_of lsa.header)
   same_held lsa o None at same = absurd cc
   same_held lsa o (Some c) at same =
       (c, at, same_back (instance_of lsa.header) (copy_now moment c) same)
 
-  copy_sent : (place : ℕ) (key : Key) (c : Option DatabaseCopy) (o : Outcome)
+  copy_sent : (place : ℕ) (key : Key) (c : Option DatabaseCopy) (o : AreaState)
       → OwnKeys o.area.database → finite.get o.area.database key ≡ c → IsSo o
       → IsSo (send_copy moment place c o)
   copy_sent place key None o own at h = h
   copy_sent place key (Some c) o own at h =
       sent_at place (Updates (lsa_now moment c) ∷ []) o (of_copy o.area.database key c own at, tt) h
 
-  pub cases : (case : Case) (place : ℕ) (lsa : Lsa) (o : Outcome) → OwnKeys o.area.database
+  pub cases : (case : Case) (place : ℕ) (lsa : Lsa) (o : AreaState) → OwnKeys o.area.database
       → case_at moment place lsa o.area ≡ case → IsSo o → IsSo (after_case case moment place lsa o)
   cases Case.Unreadable place lsa o own is h = h
   cases Case.NothingToFlush place lsa o own is h =
@@ -466,15 +468,15 @@ module _ (old : Router) (moment : ℕ) where
   cases Case.Duplicate place lsa o own is h =
       let same = same_where_duplicate moment place lsa o.area is in
       sent_at place (Content.Acknowledges lsa.header ∷ []) o
-      (inl (inr (same_held lsa o (copy_of lsa o.area) refl same)), tt) h
+      (inl (inr (same_held lsa o (database_copy lsa o.area) refl same)), tt) h
   cases Case.SequenceWraps place lsa o own is h = h
   cases Case.SentJustNow place lsa o own is h = h
   cases Case.Older place lsa o own is h =
-      copy_sent place (lsa_key lsa) (copy_of lsa o.area) o own refl h
+      copy_sent place (lsa_key lsa) (database_copy lsa o.area) o own refl h
 
   -- ---- other packets
 
-  pub hellos : (own place from : ℕ) (hello : Hello) (link : Option Link) (o : Outcome)
+  pub hellos : (own place from : ℕ) (hello : Hello) (link : Option Link) (o : AreaState)
       → link_at place o.area.links ≡ link → IsSo o
       → IsSo (receive_hello_on own moment place from hello link o)
   hellos own place from hello None o at h = h
@@ -510,14 +512,14 @@ module _ (old : Router) (moment : ℕ) where
           (sym (own_at db key c own at))
           (c, at, older_at_least (copy_now moment c)))
 
-  pub descriptions : (own place : ℕ) (d : Description) (o : Outcome) → OwnKeys o.area.database
+  pub descriptions : (own place : ℕ) (d : Description) (o : AreaState) → OwnKeys o.area.database
       → IsSo o → IsSo (one_neighbor moment place (after_description own moment o.area.database d) o)
   descriptions own place d o keys h =
       one_so place (after_description own moment o.area.database d) o
       (λ number n so. after_one old (AsNew o.area.database) number own moment o.area.database d
       (copies_held number o.area.database keys) n so) h
 
-  pub acknowledgments : (place : ℕ) (headers : List Header) (o : Outcome) → IsSo o
+  pub acknowledgments : (place : ℕ) (headers : List Header) (o : AreaState) → IsSo o
       → IsSo (one_neighbor moment place (λ n. no_sends (after_acknowledgment moment headers n)) o)
   acknowledgments place headers o h =
       one_so place (λ n. no_sends (after_acknowledgment moment headers n)) o
@@ -525,7 +527,7 @@ module _ (old : Router) (moment : ℕ) where
       (after_acknowledgment moment headers n)
       (acknowledged old (AsNew o.area.database) number moment headers n so)) h
 
-  pub mismatches : (place : ℕ) (o : Outcome) → IsSo o
+  pub mismatches : (place : ℕ) (o : AreaState) → IsSo o
       → IsSo (one_neighbor moment place (adjacencies.mismatch_step moment) o)
   mismatches place o h = one_so place (adjacencies.mismatch_step moment) o
       (λ number n so. mismatched old (AsNew o.area.database) number moment n so) h
@@ -564,7 +566,7 @@ module _ (old : Router) (moment : ℕ) where
       with_one None at rest = rest
       with_one (Some c) at rest = (of_copy db key c own at, rest)
 
-  pub requested : (place : ℕ) (keys : List Key) (o : Outcome) → OwnKeys o.area.database → IsSo o
+  pub requested : (place : ℕ) (keys : List Key) (o : AreaState) → OwnKeys o.area.database → IsSo o
       → IsSo (sending moment (sends_at place
       (map Content.Updates (requested_lsas moment o.area.database keys))) o)
   requested place keys o own h =
@@ -600,7 +602,7 @@ module _ (old : Router) (moment : ℕ) where
             (update_again moment interval db first.neighbor).sends so.sends last.sends;
       }
 
-  pub agains : (o : Outcome) → OwnKeys o.area.database → IsSo o
+  pub agains : (o : AreaState) → OwnKeys o.area.database → IsSo o
       → IsSo (each_neighbor moment (again moment o) o)
   agains o own h = each_so (again moment o) o
       (λ number link n so. again_so o.area.database number link.interface.retransmit_interval n own
@@ -619,7 +621,7 @@ module _ (old : Router) (moment : ℕ) where
       values_so T number (finite.entries link.acknowledgments)
       (entries_in (OfWaiting old T number) link.acknowledgments h.acknowledgments)
 
-  pub acknowledges : (o : Outcome) → IsSo o → IsSo (send_acknowledgments moment o)
+  pub acknowledges : (o : AreaState) → IsSo o → IsSo (send_acknowledgments moment o)
   acknowledges o h =
       sent_so (sends_of acknowledgments_on o.area.links) (on_links (map without_acknowledgments) o)
       (by_links_sent (OfContent old (AsNew o.area.database))
@@ -640,7 +642,7 @@ module _ (old : Router) (moment : ℕ) where
       chosen (AllByRecursion (OfContent old T number)) (hello_is_due moment link)
       (Content.SendsHello (hello_on link) ∷ []) [] (λ is. (tt, tt)) (λ is. tt)
 
-  pub hellos_sent : (o : Outcome) → IsSo o → IsSo (send_hellos moment o)
+  pub hellos_sent : (o : AreaState) → IsSo o → IsSo (send_hellos moment o)
   hellos_sent o h =
       sent_so (sends_of (hello_sent_on moment) o.area.links)
       (on_links (map (with_hello_sent moment)) o)
@@ -658,7 +660,7 @@ module _ (old : Router) (moment : ℕ) where
       on_any number None = tt
       on_any number (Some link) = hello_sent_so (AsNew o.area.database) number link
 
-  pub inactive : (o : Outcome) → IsSo o → IsSo (on_links (map (expire_timers moment)) o)
+  pub inactive : (o : AreaState) → IsSo o → IsSo (on_links (map (expire_timers moment)) o)
   inactive o h =
       on_each (expire_timers moment) o (λ number link so. record {
         acknowledgments = so.acknowledgments;
@@ -666,20 +668,20 @@ module _ (old : Router) (moment : ℕ) where
             link.neighbor so.neighbor;
       }) h
 
-  pub down : (place : ℕ) (o : Outcome) → IsSo o → IsSo (on_links (change_link place taken_down) o)
+  pub down : (place : ℕ) (o : AreaState) → IsSo o → IsSo (on_links (change_link place taken_down) o)
   down place o h = on_one place taken_down o (λ number link e so. record {
     acknowledgments = so.acknowledgments;
     neighbor = tt;
   }) h
 
-  pub loaded : (o : Outcome) → IsSo o → IsSo (on_links (map link_loading_done) o)
+  pub loaded : (o : AreaState) → IsSo o → IsSo (on_links (map link_loading_done) o)
   loaded o h =
       on_each link_loading_done o (λ number link so. record {
         acknowledgments = so.acknowledgments;
         neighbor = filled old (AsNew o.area.database) number link.neighbor so.neighbor;
       }) h
 
-  pub requests : (o : Outcome) → IsSo o
+  pub requests : (o : AreaState) → IsSo o
       → IsSo (each_neighbor moment (λ place link m. request_next moment m) o)
   requests o h = each_so (λ place link m. request_next moment m) o
       (λ number link n so. asked old (AsNew o.area.database) number moment n so) h
@@ -687,20 +689,21 @@ module _ (old : Router) (moment : ℕ) where
   -- ---- the end
 
   -- it is held as new, or has left at MaxAge
-  abbrev pub Ended : Occurrence → Outcome → Truth
+  abbrev pub Ended : Occurrence → AreaState → Truth
   Ended event o key i = HasEnded follow key moment i (HasHad old event key) o.area
 
-  abbrev pub AtEnd : Occurrence → Outcome → Type 0
+  abbrev pub AtEnd : Occurrence → AreaState → Type 0
   AtEnd event o = IsSaid (Ended event o) o
 
-  pub stays_so : (event : Occurrence) (o : Outcome) → IsSo o → AtEnd event o
+  pub stays_so : (event : Occurrence) (o : AreaState) → IsSo o → AtEnd event o
   stays_so event o h = said_more (AsNew o.area.database) (Ended event o) (λ key i so. inl so) o
       h.said
 
-  pub removes : (event : Occurrence) (o : Outcome) → IsSo o → Whole old event moment o.area.database
+  pub removes : (event : Occurrence) (o : AreaState) → IsSo o
+      → Whole old event moment o.area.database
       → AtEnd event (on_database (λ db. finite.retain_keys db (stays moment o.area)) o)
   removes event o h whole =
-      let left : Outcome = on_database (λ db. finite.retain_keys db (stays moment o.area)) o in
+      let left : AreaState = on_database (λ db. finite.retain_keys db (stays moment o.area)) o in
       let more : IsSaid (Ended event left) o =
       said_more (AsNew o.area.database) (Ended event left)
       (λ key i so. held_removed follow key moment i (HasHad old event key) o.area

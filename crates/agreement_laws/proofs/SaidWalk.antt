@@ -15,7 +15,7 @@ use Rattle.adjacency.specs.Neighbors.{Neighbor}
 use Rattle.adjacency.proofs.Maps.{AllIn, IfThere}
 use Rattle.received.specs.Holds.{Holds}
 use Rattle.received.specs.Links.{Link, link_at, neighbor_at, neighbor_on}
-use Rattle.received.specs.Outcomes.{Outcome}
+use Rattle.received.specs.AreaStates.{AreaState}
 use Rattle.event_rules.specs.InstanceIdentities.{InstanceIdentity, identity_of_header}
 use Rattle.event_rules.specs.declared.model.Out.{Out}
 use Rattle.event_rules.specs.Endings.{end_event, start_event}
@@ -43,16 +43,16 @@ use Rattle.agreement_laws.proofs.Sayings.{OfNamed, OfNeighbor, OfReceived, OfSen
 use Rattle.agreement_laws.proofs.Holding.{in_words}
 
 module _ (old : Router) (moment : ℕ) (event : Occurrence) where
-  abbrev X : Outcome → ByKey ℕ → Type 0
+  abbrev X : AreaState → ByKey ℕ → Type 0
   X o t = IsSo old moment o
 
-  abbrev Y : Outcome → ByKey ℕ → Type 0
+  abbrev Y : AreaState → ByKey ℕ → Type 0
   Y o t = AtEnd old moment event o
 
-  abbrev Anything : Outcome → ByKey ℕ → Type 0
+  abbrev Anything : AreaState → ByKey ℕ → Type 0
   Anything o t = Unit {0}
 
-  abbrev Both : Outcome → ByKey ℕ → Type 0
+  abbrev Both : AreaState → ByKey ℕ → Type 0
   Both o t = X o t × Whole old event moment o.area.database
 
   says : IsKeptToo (in_order old.id) X Anything (start_event moment old) moment event

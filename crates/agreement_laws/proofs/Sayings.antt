@@ -38,7 +38,7 @@ use Rattle.adjacency.proofs.Kept.{chosen}
 use Rattle.adjacency.proofs.Maps.{AllIn, OfEntry, entries_in, made_in, none_in}
 use Rattle.received.specs.Holds.{Holds}
 use Rattle.received.specs.Links.{Link}
-use Rattle.received.specs.Outcomes.{Send}
+use Rattle.received.specs.AreaStates.{Send}
 use Rattle.received.proofs.Roomy.{joined}
 use Rattle.event_rules.specs.Endings.{loading_done_on}
 use Rattle.event_rules.specs.InstanceIdentities.{InstanceIdentity, identity_of_header}

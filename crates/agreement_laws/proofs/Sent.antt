@@ -11,7 +11,7 @@ use Rattle.packet.specs.declared.model.PacketBody.TheVariants as body
 use Rattle.packet.specs.declared.model.Description.{Description}
 use Rattle.adjacency.specs.Contents.{Content}
 use Rattle.received.specs.Links.{Link, link_at}
-use Rattle.received.specs.Outcomes.{Send, at_interface}
+use Rattle.received.specs.AreaStates.{Send, at_interface}
 use Rattle.event_rules.specs.Packing.{acknowledgments, bodies, descriptions}
 use Rattle.event_rules.specs.Packing.{first_key}
 use Rattle.event_rules.specs.Packing.{header_size, hellos, in_key_order, lsa_size, out_of, outs_at}

@@ -30,7 +30,7 @@ use Rattle.adjacency.proofs.Maps.{OfEntry}
 use Rattle.received.specs.Flooding.{flood_to}
 use Rattle.received.specs.Holds.{Holds, HoldsOfEach}
 use Rattle.received.specs.Links.{Area, Link, link_at, neighbor_at, neighbor_on}
-use Rattle.received.specs.Outcomes.{Outcome, sends_at, step_on, stepping_sends}
+use Rattle.received.specs.AreaStates.{AreaState, sends_at, step_on, stepping_sends}
 use Rattle.received.proofs.Holding.{one_holds}
 use Rattle.received.proofs.Marks.{There, all_there}
 use Rattle.event_rules.specs.declared.model.Out.{Out}
@@ -146,17 +146,17 @@ module _ (key : Key) (number : ℕ) (Before : Saying) (old : Router) (moment : �
     IsIts router = (from : ℕ) → is_from from (neighbor_at number start.router.area.links) ≡ true
         → from ≡ router
 
-    abbrev Stands : Outcome → Type 0
+    abbrev Stands : AreaState → Type 0
     Stands o = parts.Stands key moment number HasLink IsIts Base o
 
     -- ---- aging
 
-    abbrev Aging : Option Instance → Outcome → Type 0
+    abbrev Aging : Option Instance → AreaState → Type 0
     Aging x o = parts.HoldsThere key moment number HasLink Anybody Base o.sends x
         (neighbor_at number o.area.links)
 
     -- settled, or still to be flooded
-    abbrev Ages : DatabaseCopy → List (Key × DatabaseCopy) → Outcome → Type 0
+    abbrev Ages : DatabaseCopy → List (Key × DatabaseCopy) → AreaState → Type 0
     Ages c es o =
         (held moment key o.area.database ≡ Some (copy_now moment c))
         × (Aging (Some (copy_now moment c)) o
@@ -176,10 +176,10 @@ module _ (key : Key) (number : ℕ) (Before : Saying) (old : Router) (moment : �
 
     module _ (c : DatabaseCopy) (there : finite.get old.area.database key ≡ Some c)
         (keys : OwnKeys old.area.database) where
-      abbrev flooded : (Key × DatabaseCopy) → Outcome → Outcome
+      abbrev flooded : (Key × DatabaseCopy) → AreaState → AreaState
       flooded e o = flood_from_nobody moment (lsa_now moment e.1) o
 
-      still_held : (e : Key × DatabaseCopy) (o : Outcome) → held moment key o.area.database
+      still_held : (e : Key × DatabaseCopy) (o : AreaState) → held moment key o.area.database
           ≡ Some (copy_now moment c) → held moment key (flooded e o).area.database
           ≡ Some (copy_now moment c)
       still_held e o is = held_marked moment key
@@ -187,7 +187,7 @@ module _ (key : Key) (number : ℕ) (Before : Saying) (old : Router) (moment : �
           ∙ is
 
       -- another copy is flooded
-      other_flooded : (e : Key × DatabaseCopy) (o : Outcome) (x : Option Instance)
+      other_flooded : (e : Key × DatabaseCopy) (o : AreaState) (x : Option Instance)
           → There old.area.database e.0 e.1 → same_key key e.0 ≡ false → Aging x o
           → Aging x (flooded e o)
       other_flooded e o x at other h =
@@ -196,7 +196,7 @@ module _ (key : Key) (number : ℕ) (Before : Saying) (old : Router) (moment : �
           (sym (own_at old.area.database e.0 e.1 keys at)) other) h
 
       -- this one is
-      same_flooded : (e : Key × DatabaseCopy) (o : Outcome) (x : Option Instance)
+      same_flooded : (e : Key × DatabaseCopy) (o : AreaState) (x : Option Instance)
           → There old.area.database e.0 e.1 → same_key key e.0 ≡ true
           → held moment key o.area.database ≡ Some (copy_now moment c) → Aging x o
           → Aging (Some (copy_now moment c)) (flooded e o)
@@ -213,7 +213,7 @@ module _ (key : Key) (number : ℕ) (Before : Saying) (old : Router) (moment : �
           same)
           (is ∙ ap (λ (d : DatabaseCopy). Some (copy_now moment d)) it) h)
 
-      aged_one : (e : Key × DatabaseCopy) (es : List (Key × DatabaseCopy)) (o : Outcome)
+      aged_one : (e : Key × DatabaseCopy) (es : List (Key × DatabaseCopy)) (o : AreaState)
           → There old.area.database e.0 e.1 → has_just_aged_out old.moment moment e.1 ≡ true
           → Ages c (e ∷ es) o → Ages c es (flooded e o)
       aged_one e es o at just h = (still_held e o h.0, by_key (same_key key e.0) refl h.1)
@@ -236,7 +236,7 @@ module _ (key : Key) (number : ℕ) (Before : Saying) (old : Router) (moment : �
               by_place (inl is) = let no : true ≡ false = sym is.0 ∙ other in absurd cc
               by_place (inr is) = is.1
 
-      kept_one : (e : Key × DatabaseCopy) (es : List (Key × DatabaseCopy)) (o : Outcome)
+      kept_one : (e : Key × DatabaseCopy) (es : List (Key × DatabaseCopy)) (o : AreaState)
           → has_just_aged_out old.moment moment e.1 ≡ false → Ages c (e ∷ es) o → Ages c es o
       kept_one e es o young h = (h.0, by_state h.1)
         where
@@ -258,16 +258,16 @@ module _ (key : Key) (number : ℕ) (Before : Saying) (old : Router) (moment : �
               by_place (inr is) = is.1
 
       all_aged : (es : List (Key × DatabaseCopy))
-          → AllByRecursion (OfEntry (There old.area.database)) es → (o : Outcome) → Ages c es o
+          → AllByRecursion (OfEntry (There old.area.database)) es → (o : AreaState) → Ages c es o
           → Ages c [] (fold (flood_if_aged old.moment moment) o es)
       all_aged [] all o h = h
       all_aged (e ∷ es) all o h =
           all_aged es all.1 (flood_if_aged old.moment moment o e)
-          (chosen (λ (p : Outcome). Ages c es p) (has_just_aged_out old.moment moment e.1)
+          (chosen (λ (p : AreaState). Ages c es p) (has_just_aged_out old.moment moment e.1)
           (flooded e o) o (λ just. aged_one e es o all.0 just h)
           (λ young. kept_one e es o young h))
 
-      done : (o : Outcome) → Ages c [] o → parts.Stands key moment number HasLink Anybody Base o
+      done : (o : AreaState) → Ages c [] o → parts.Stands key moment number HasLink Anybody Base o
       done o h = by_state h.1
         where
           by_state : Aging (Some (copy_now moment c)) o
@@ -279,7 +279,7 @@ module _ (key : Key) (number : ℕ) (Before : Saying) (old : Router) (moment : �
           by_state (inr k) = absurd cc
 
     -- without a copy it stays so
-    none_aged : (es : List (Key × DatabaseCopy)) (o : Outcome) → held moment key o.area.database
+    none_aged : (es : List (Key × DatabaseCopy)) (o : AreaState) → held moment key o.area.database
         ≡ None → AllByRecursion (OfEntry (There old.area.database)) es → OwnKeys old.area.database
         → finite.get old.area.database key ≡ None → Aging None o
         → parts.Stands key moment number HasLink Anybody Base
@@ -288,9 +288,9 @@ module _ (key : Key) (number : ℕ) (Before : Saying) (old : Router) (moment : �
         subst (λ (x : Option Instance). parts.HoldsThere key moment number HasLink Anybody Base
         o.sends x (neighbor_at number o.area.links)) (sym is) h
     none_aged (e ∷ es) o is all keys nothing h =
-        let p : Outcome = flood_if_aged old.moment moment o e in
+        let p : AreaState = flood_if_aged old.moment moment o e in
         let so : (held moment key p.area.database ≡ None) × Aging None p =
-        chosen (λ (q : Outcome). (held moment key q.area.database ≡ None) × Aging None q)
+        chosen (λ (q : AreaState). (held moment key q.area.database ≡ None) × Aging None q)
         (has_just_aged_out old.moment moment e.1)
         (flood_from_nobody moment (lsa_now moment e.1) o) o
         (λ just. (
@@ -318,7 +318,7 @@ module _ (key : Key) (number : ℕ) (Before : Saying) (old : Router) (moment : �
         (held old.moment key old.area.database)) (neighbor_at number old.area.links)
 
     module _ (later : old.moment ≤ moment) where
-      abbrev begun : Outcome
+      abbrev begun : AreaState
       begun = record { area = old.area; sends = [] }
 
       -- what was said before is of the conversation that continues
@@ -505,14 +505,14 @@ module _ (key : Key) (number : ℕ) (Before : Saying) (old : Router) (moment : �
           at).before_exchange early).1
 
       -- if there was no neighbor before, there is none after aging
-      still_nobody : (es : List (Key × DatabaseCopy)) (o : Outcome)
+      still_nobody : (es : List (Key × DatabaseCopy)) (o : AreaState)
           → neighbor_at number o.area.links
           ≡ None → neighbor_at number (fold (flood_if_aged old.moment moment) o es).area.links
           ≡ None
       still_nobody [] o is = is
       still_nobody (e ∷ es) o is =
           still_nobody es (flood_if_aged old.moment moment o e)
-          (chosen (λ (p : Outcome). neighbor_at number p.area.links ≡ None)
+          (chosen (λ (p : AreaState). neighbor_at number p.area.links ≡ None)
           (has_just_aged_out old.moment moment e.1)
           (flood_from_nobody moment (lsa_now moment e.1) o) o
           (λ just. stepped_kept (λ (n : Option Neighbor). n ≡ None)
@@ -533,7 +533,7 @@ module _ (key : Key) (number : ℕ) (Before : Saying) (old : Router) (moment : �
 
       -- ---- every part
 
-      abbrev Lately : Outcome → ByKey ℕ → Type 0
+      abbrev Lately : AreaState → ByKey ℕ → Type 0
       Lately o t = Stands o
 
       each_part : IsKeptToo (in_order old.id) Lately Lately start moment event

@@ -9,7 +9,7 @@ use Rattle.packet.specs.declared.model.Description.{Description}
 use Rattle.adjacency.specs.Adjacencies.{initial_description}
 use Rattle.adjacency.specs.Neighbors.{Neighbor, is_exchange_or_later}
 use Rattle.received.specs.Links.{neighbor_at}
-use Rattle.received.specs.Outcomes.{Send}
+use Rattle.received.specs.AreaStates.{Send}
 use Rattle.event_rules.specs.Endings.{end_event}
 use Rattle.event_rules.specs.Events.{Step}
 use Rattle.agreement_laws.specs.Exchanged.{Conversation, Converses, conversation_with}

@@ -7,20 +7,20 @@ use Rattle.packet.specs.declared.model.Hello.{Hello}
 use Rattle.adjacency.specs.Adjacencies as adjacencies
 use Rattle.adjacency.specs.Neighbors.{Neighbor}
 use Rattle.received.specs.Links.{Link, link_at}
-use Rattle.received.specs.Outcomes.{Outcome}
+use Rattle.received.specs.AreaStates.{AreaState}
 use Rattle.event_rules.specs.Hellos.{accepts, agrees, is_foreign, may_be, names}
 use Rattle.event_rules.specs.Packets.{accept_hello, receive_hello_on}
 use Rattle.conversations.specs.HellosDiscarded.{HellosAreDiscarded, IsDiscarded}
 
 -- a Hello that isn't accepted at a link
-unheard : (own moment number from : ℕ) (h : Hello) (link : Link) (o : Outcome)
+unheard : (own moment number from : ℕ) (h : Hello) (link : Link) (o : AreaState)
     → accepts own from h link ≡ false → receive_hello_on own moment number from h (Some link) o ≡ o
 unheard own moment number from h link o e =
     cond-false (accepts own from h link)
     (accept_hello moment number (adjacencies.after_hello moment from (names own h) link.neighbor) o)
     o e
 
-discarded : (own moment number from : ℕ) (h : Hello) (link : Link) (o : Outcome)
+discarded : (own moment number from : ℕ) (h : Hello) (link : Link) (o : AreaState)
     → link_at number o.area.links ≡ Some link → accepts own from h link ≡ false
     → IsDiscarded own moment number from h o
 discarded own moment number from h link o there e =
@@ -28,7 +28,7 @@ discarded own moment number from h link o there e =
     ∙ unheard own moment number from h link o e
 
 -- a Hello that is accepted on no link
-discarded_everywhere : (own moment number from : ℕ) (h : Hello) (o : Outcome)
+discarded_everywhere : (own moment number from : ℕ) (h : Hello) (o : AreaState)
     → ((link : Link) → accepts own from h link ≡ false) → (l : Option Link)
     → receive_hello_on own moment number from h l o ≡ o
 discarded_everywhere own moment number from h o e None = refl
@@ -53,7 +53,7 @@ same_dead link h = h.dead_interval == link.interface.dead_interval
 abbrev has_e : Hello → Bool
 has_e h = not (bit_and h.options 2 == 0)
 
-other_hello : (own moment number from : ℕ) (h : Hello) (link : Link) (o : Outcome)
+other_hello : (own moment number from : ℕ) (h : Hello) (link : Link) (o : AreaState)
     → link_at number o.area.links ≡ Some link → h.hello_interval ≢ link.interface.hello_interval
     → IsDiscarded own moment number from h o
 other_hello own moment number from h link o there ne =
@@ -61,7 +61,7 @@ other_hello own moment number from h link o there ne =
     (disagrees own from h link (ap (λ a. (a && same_dead link h) && has_e h)
     (ne_eqb h.hello_interval link.interface.hello_interval ne)))
 
-other_dead : (own moment number from : ℕ) (h : Hello) (link : Link) (o : Outcome)
+other_dead : (own moment number from : ℕ) (h : Hello) (link : Link) (o : AreaState)
     → link_at number o.area.links ≡ Some link → h.dead_interval ≢ link.interface.dead_interval
     → IsDiscarded own moment number from h o
 other_dead own moment number from h link o there ne =
@@ -70,7 +70,7 @@ other_dead own moment number from h link o there ne =
     (ne_eqb h.dead_interval link.interface.dead_interval ne)
     ∙ ap (λ b. b && has_e h) (and-false (same_hello link h))))
 
-without_e : (own moment number from : ℕ) (h : Hello) (link : Link) (o : Outcome)
+without_e : (own moment number from : ℕ) (h : Hello) (link : Link) (o : AreaState)
     → link_at number o.area.links ≡ Some link → bit_and h.options 2 ≡ 0
     → IsDiscarded own moment number from h o
 without_e own moment number from h link o there e =
@@ -78,7 +78,7 @@ without_e own moment number from h link o there e =
     (disagrees own from h link (ap (λ k. (same_hello link h && same_dead link h) && not
     (k == 0)) e ∙ and-false (same_hello link h && same_dead link h)))
 
-of_another : (own moment number from : ℕ) (h : Hello) (link : Link) (n : Neighbor) (o : Outcome)
+of_another : (own moment number from : ℕ) (h : Hello) (link : Link) (n : Neighbor) (o : AreaState)
     → link_at number o.area.links ≡ Some link → link.neighbor ≡ Some n → n.router ≢ from
     → IsDiscarded own moment number from h o
 of_another own moment number from h link n o there is ne =
@@ -89,18 +89,19 @@ of_another own moment number from h link n o there is ne =
     ∙ ap (λ b. is_foreign own from && b) (and-false (agrees link h))
     ∙ and-false (is_foreign own from))
 
-of_nobody : (own moment number : ℕ) (h : Hello) (o : Outcome) → IsDiscarded own moment number 0 h o
+of_nobody : (own moment number : ℕ) (h : Hello) (o : AreaState)
+    → IsDiscarded own moment number 0 h o
 of_nobody own moment number h o = discarded_everywhere own moment number 0 h o
     (foreign own 0 h refl) (link_at number o.area.links)
 
-of_itself : (own moment number : ℕ) (h : Hello) (o : Outcome)
+of_itself : (own moment number : ℕ) (h : Hello) (o : AreaState)
     → IsDiscarded own moment number own h o
 of_itself own moment number h o =
     discarded_everywhere own moment number own h o
     (foreign own own h (ap (λ b. not (own == 0) && not b) (eq-eqb own own refl)
     ∙ and-false (not (own == 0)))) (link_at number o.area.links)
 
-any_mask : (own moment number from mask : ℕ) (h : Hello) (o : Outcome) (l : Option Link)
+any_mask : (own moment number from mask : ℕ) (h : Hello) (o : AreaState) (l : Option Link)
     → receive_hello_on own moment number from (record h {
       mask = mask;
     }) l o ≡ receive_hello_on own moment number from h l o

@@ -17,7 +17,7 @@ use Rattle.adjacency.specs.Neighbors.{Neighbor, fresh}
 use Rattle.adjacency.specs.Requests.{next_request}
 use Rattle.adjacency.specs.declared.state.NeighborState.TheVariants.{ExStart, Full, Loading}
 use Rattle.received.specs.Links.{Link, neighbor_at}
-use Rattle.received.specs.Outcomes.{one_neighbor}
+use Rattle.received.specs.AreaStates.{one_neighbor}
 use Rattle.event_rules.specs.declared.model.Out.{Out}
 use Rattle.event_rules.specs.Endings.{start_event, loading_done, end_event, remove_aged}
 use Rattle.event_rules.specs.Events.{Happens}

@@ -19,7 +19,8 @@ use Rattle.received.specs.Flooding.{without_satisfied_request}
 use Rattle.received.specs.Links.{Area, Link, any_has_retransmission, delay_acknowledgment}
 use Rattle.received.specs.Links.{any_exchange_or_loading, change_link, link_at, neighbor_at}
 use Rattle.received.specs.Links.{neighbor_on, neighbor_is_exchange_or_loading}
-use Rattle.received.specs.Outcomes.{Send, sends_at, sent_on, step_on, stepped_links, stepping_sends}
+use Rattle.received.specs.AreaStates.{Send, sends_at, sent_on, step_on, stepped_links}
+use Rattle.received.specs.AreaStates.{stepping_sends}
 use Rattle.received.specs.Updates.{case_at, flood_and_install}
 use Rattle.received.proofs.Flooded.{replaces_older}
 use Rattle.event_rules.specs.Endings.{end_event, stays_as}

@@ -3,7 +3,7 @@ use Rattle.std.proofs.Common.{◌≡◌, ℕ, cond, not, ◌||◌, List, [], Non
 use Rattle.std.specs.FinMap as finite
 use Rattle.words.specs.declared.route.Route.{Route}
 use Rattle.received.specs.Links.{any_has_retransmission}
-use Rattle.received.specs.Outcomes.{Outcome, Send}
+use Rattle.received.specs.AreaStates.{AreaState, Send}
 use Rattle.event_rules.specs.Commands.{after_install}
 use Rattle.event_rules.specs.Endings.{end_event, stays_as}
 use Rattle.event_rules.specs.Packing.{outs_of}
@@ -22,7 +22,7 @@ kept : (r : Router) (moment : ℕ) (sends : List Send) (answers : List (Route ×
       sends = sends;
     })).router
 kept r moment sends answers =
-    let o : Outcome = record { area = r.area; sends = sends } in
+    let o : AreaState = record { area = r.area; sends = sends } in
     record {
       young = λ key c there young.
           got moment o key

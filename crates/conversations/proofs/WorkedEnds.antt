@@ -24,7 +24,7 @@ use Rattle.adjacency.specs.declared.state.NeighborState.TheVariants.{Init, ExSta
 use Rattle.adjacency.specs.declared.state.NeighborState.TheVariants.{Loading, Full}
 use Rattle.received.specs.Links.{Link, any_has_retransmission, any_exchange_or_loading}
 use Rattle.received.specs.Links.{neighbor_is_exchange_or_loading}
-use Rattle.received.specs.Outcomes.{Outcome, on_database}
+use Rattle.received.specs.AreaStates.{AreaState, on_database}
 use Rattle.event_rules.specs.Endings.{originate_router_lsa, postpone_router_lsa, start_event}
 use Rattle.event_rules.specs.Endings.{link_loading_done, loading_done, loading_done_on, end_event}
 use Rattle.event_rules.specs.Endings.{is_current, links_differ, remove_aged, request_all, same_body}
@@ -37,7 +37,7 @@ use Rattle.conversations.proofs.WorkedLinks.{same_router, seen}
 
 -- ---- the beginning
 
-ages_nothing : (before moment : ℕ) (o : Outcome) (es : List (Key × DatabaseCopy))
+ages_nothing : (before moment : ℕ) (o : AreaState) (es : List (Key × DatabaseCopy))
     → list_any (λ e. has_just_aged_out before moment e.1) es ≡ false
     → fold (flood_if_aged before moment) o es ≡ o
 ages_nothing before moment o [] e = refl
@@ -50,7 +50,7 @@ pub begins : (moment : ℕ) (r : Router)
     → list_any (λ e. has_just_aged_out r.moment moment e.1) (finite.entries r.area.database) ≡ false
     → start_event moment r ≡ record { router = r; sends = [] }
 begins moment r nothing =
-    ap (λ (o : Outcome). record { router = record r { area = o.area }; sends = o.sends })
+    ap (λ (o : AreaState). record { router = record r { area = o.area }; sends = o.sends })
     (ages_nothing r.moment moment (record {
       area = r.area;
       sends = [];
@@ -135,7 +135,7 @@ asks_not moment n e =
 -- ---- the complete end
 
 -- copies at MaxAge that are on no retransmission list are removed
-abbrev pub removed : ℕ → Outcome → Outcome
+abbrev pub removed : ℕ → AreaState → AreaState
 removed moment o = on_database (λ db. finite.retain_keys db (stays moment o.area)) o
 
 abbrev pub ended : ℕ → EventState → EventState
@@ -151,11 +151,11 @@ last moment p = on_router (λ (r : Router). record r {
 pub last_rest : (moment : ℕ) (p : EventState) → any_exchange_or_loading p.router.area.links ≡ false
     → last moment p ≡ ended moment p
 last_rest moment p e =
-    let o : Outcome = record { area = p.router.area; sends = p.sends } in
+    let o : AreaState = record { area = p.router.area; sends = p.sends } in
     let asked : request_all moment o ≡ o =
     each_rest (request_next moment) (asks_not moment) moment o e in
     let left : remove_aged moment o ≡ removed moment o = ap (λ b. cond b o (removed moment o)) e in
-    ap (λ (q : Outcome). record {
+    ap (λ (q : AreaState). record {
       router = record p.router { area = q.area; moment = moment };
       sends = q.sends;
     })
@@ -192,7 +192,7 @@ ends old moment p same rest =
 
 -- ---- what is left of the database
 
-pub got : (moment : ℕ) (o : Outcome) (k : Key) → finite.get (removed moment o).area.database k
+pub got : (moment : ℕ) (o : AreaState) (k : Key) → finite.get (removed moment o).area.database k
     ≡ cond (stays moment o.area k) (finite.get o.area.database k) None
 got moment o k = finite.get-retain_keys o.area.database (stays moment o.area) k
     (λ x e. ap (stays moment o.area) (sym (keys_exact k x e)))
@@ -203,7 +203,7 @@ kept_again moment w x true e = ap (λ b. cond b x None) e
 kept_again moment w x false e = refl
 
 -- removing them again removes nothing
-pub removed_once : (moment : ℕ) (o : Outcome) → (removed moment (removed moment o)).area.database
+pub removed_once : (moment : ℕ) (o : AreaState) → (removed moment (removed moment o)).area.database
     ≡ (removed moment o).area.database
 removed_once moment o =
     finite.same_map keys_total keys_exact _ _ (λ k.

@@ -20,7 +20,7 @@ use Rattle.adjacency.specs.Neighbors.{Neighbor}
 use Rattle.adjacency.specs.Requests.{next_request}
 use Rattle.adjacency.specs.declared.state.NeighborState.TheVariants.{Exchange, Full, Loading}
 use Rattle.received.specs.Links.{Link}
-use Rattle.received.specs.Outcomes.{one_neighbor}
+use Rattle.received.specs.AreaStates.{one_neighbor}
 use Rattle.event_rules.specs.declared.model.Out.{Out}
 use Rattle.event_rules.specs.Endings.{loading_done, end_event, remove_aged}
 use Rattle.event_rules.specs.Events.{Happens}

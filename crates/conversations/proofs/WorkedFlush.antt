@@ -21,7 +21,7 @@ use Rattle.adjacency.specs.Retransmissions.{is_entry, add_retransmission, remove
 use Rattle.received.specs.Cases.{Case, case_of_readable, case_tests, first_case}
 use Rattle.received.specs.Links.{Area, Link, any_has_retransmission, any_exchange_or_loading}
 use Rattle.received.specs.Links.{neighbor_at}
-use Rattle.received.specs.Outcomes.{Outcome, on_database}
+use Rattle.received.specs.AreaStates.{AreaState, on_database}
 use Rattle.received.specs.Updates.{case_at, flood_and_install}
 use Rattle.event_rules.specs.declared.model.Out.{Out}
 use Rattle.event_rules.specs.Endings.{start_event, end_event, stays_as}
@@ -91,7 +91,7 @@ settles r link n moment lsa mine last young =
     ap (λ s. is_eq (int_cmp s (pos 2147483647))) last in
     let fresh : is_max_age (age_at lsa.header.age moment moment) ≡ false =
     ap is_max_age (same_age lsa.header.age moment young) ∙ is_young lsa.header.age young in
-    let o : Outcome = record { area = p.router.area; sends = [] } in
+    let o : AreaState = record { area = p.router.area; sends = [] } in
     let rest : EventState = cond (has_room key p.router && may_originate moment key p.router)
     (originate moment key (router_body p.router.area.links) p) (on_router (postpone key) p) in
     (λ i. cond (own i) (originate_or_flush (should_originate (wanted_body p.router (mine i))) moment
@@ -138,7 +138,7 @@ unfolding on_list
 is_flushed r link n moment lsa mine =
     let key : Key = router_key r.id in
     let p : EventState = flushed r link n moment lsa in
-    let o : Outcome = record { area = p.router.area; sends = p.sends } in
+    let o : AreaState = record { area = p.router.area; sends = p.sends } in
     let db : Database = install_flooded moment lsa r.area.database in
     let there : finite.get db key ≡ Some (brought lsa moment None) = ap (finite.get db) (sym mine)
     ∙ inserted r.area.database (lsa_key lsa) (brought lsa moment None) in
@@ -213,7 +213,7 @@ leaves_it r new link n moment bytes h entry c outs last event =
     let old : Router = beside r link (full n) in
     let packet : Packet = record { router = n.router; body = body.Acknowledgment (h ∷ []) } in
     let p : EventState = acknowledged_by_it r link n h in
-    let o : Outcome = record { area = p.router.area; sends = [] } in
+    let o : AreaState = record { area = p.router.area; sends = [] } in
     let entry_is : is_entry moment h (finite.get n.retransmissions (key_of h)) ≡ true =
     ap (is_entry moment h) last.on_list ∙ last.is_same in
     let own : event.after ≡ p =

@@ -22,8 +22,8 @@ use Rattle.received.specs.Flooding.{flood_to, is_to_be_sent, satisfies_request, 
 use Rattle.received.specs.Flooding.{without_satisfied_request}
 use Rattle.received.specs.Links.{Link, any_exchange_or_loading, change_link, delay_acknowledgment}
 use Rattle.received.specs.Links.{link_at, neighbor_is_exchange_or_loading}
-use Rattle.received.specs.Outcomes.{Outcome, Stepping, each_neighbor, marked_database, sends_at}
-use Rattle.received.specs.Outcomes.{sent_on, step_on, stepped_links}
+use Rattle.received.specs.AreaStates.{AreaState, Stepping, each_neighbor, marked_database, sends_at}
+use Rattle.received.specs.AreaStates.{sent_on, step_on, stepped_links}
 use Rattle.adjacency.specs.Steps.{named_neighbor}
 use Rattle.event_rules.specs.Originations.{links_of, point_to_point, router_body, stub}
 
@@ -185,7 +185,7 @@ module _ (f : Neighbor → Step) (does_nothing : (n : Neighbor) → is_exchange_
   sends_rest k (x ∷ xs) e = λ i. sends_at k (sent_rest x.neighbor (left_false _ _ e) i)
       ++ sends_rest (k + 1) xs (right_false (neighbor_is_exchange_or_loading x.neighbor) _ e) i
 
-  pub each_rest : (moment : ℕ) (o : Outcome) → any_exchange_or_loading o.area.links ≡ false
+  pub each_rest : (moment : ℕ) (o : AreaState) → any_exchange_or_loading o.area.links ≡ false
       → each_neighbor moment (λ number link n. f n) o ≡ o
   each_rest moment o e =
       (λ i. record {

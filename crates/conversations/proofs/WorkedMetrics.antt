@@ -10,7 +10,7 @@ use Rattle.lsdb.specs.Copies.{DatabaseCopy}
 use Rattle.lsdb.specs.Headers.{Lsa, lsa_key}
 use Rattle.received.specs.Flooding.{flood_to}
 use Rattle.received.specs.Links.{any_has_retransmission}
-use Rattle.received.specs.Outcomes.{Outcome, stepping_sends}
+use Rattle.received.specs.AreaStates.{AreaState, stepping_sends}
 use Rattle.event_rules.specs.declared.model.Out.{Out}
 use Rattle.event_rules.specs.Commands.{after_redistribute, announce, answered_external}
 use Rattle.event_rules.specs.Commands.{is_announced_as}
@@ -85,7 +85,7 @@ announces old new moment tag e outs rest may event =
     rest.nobody in
     let router : new ≡ (ended moment said).router = event.router
     ∙ ap (λ (z : EventState). z.router) end in
-    let o : Outcome = record { area = said.router.area; sends = said.sends } in
+    let o : AreaState = record { area = said.router.area; sends = said.sends } in
     let c : DatabaseCopy = record { lsa = lsa; stored = moment; received = None; sent = None } in
     let there : finite.get (finite.insert old.area.database (lsa_key lsa) c) key ≡ Some c =
     subst (λ k. finite.get (finite.insert old.area.database (lsa_key lsa) c) k ≡ Some c)
@@ -127,7 +127,7 @@ withholds old new moment tag e outs rest may event =
     ∙ ends old moment said refl rest.nobody in
     let router : new ≡ (ended moment said).router = event.router
     ∙ ap (λ (z : EventState). z.router) end in
-    let o : Outcome = record { area = said.router.area; sends = said.sends } in (
+    let o : AreaState = record { area = said.router.area; sends = said.sends } in (
       ap (λ (r : Router). finite.get r.announced key) router ∙ taken_off old.announced key,
       ap (λ (r : Router). finite.get r.area.database key) router
           ∙ got moment o key

@@ -19,7 +19,7 @@ use Rattle.adjacency.specs.Requests.{still_outstanding}
 use Rattle.adjacency.specs.Retransmissions.{next_retransmissions, add_retransmission, request_again}
 use Rattle.adjacency.specs.Retransmissions.{send_again, update_again}
 use Rattle.received.specs.Links.{Link}
-use Rattle.received.specs.Outcomes.{Outcome, Send, on_links, stepping_sends, sends_of}
+use Rattle.received.specs.AreaStates.{AreaState, Send, on_links, stepping_sends, sends_of}
 use Rattle.event_rules.specs.declared.model.Out.{Out}
 use Rattle.event_rules.specs.Endings.{end_event}
 use Rattle.event_rules.specs.Events.{Happens}
@@ -177,9 +177,9 @@ tick_sends r new link n moment copy outs due event =
     let lsa : Lsa = originated_lsa r link n copy in
     let p : EventState = told moment copy q in
     let after : EventState = rest_of_tick moment p in
-    let o : Outcome = record { area = p.router.area; sends = p.sends } in
-    let x : Outcome = send_all_again moment o in
-    let y : Outcome = send_acknowledgments moment x in
+    let o : AreaState = record { area = p.router.area; sends = p.sends } in
+    let x : AreaState = send_all_again moment o in
+    let y : AreaState = send_acknowledgments moment x in
     let resent : List Send = stepping_sends (again moment o) o.area.links in
     let hellos : List Send = sends_of (hello_sent_on moment) y.area.links in
     let same_router : m.router ≡ n.router =
@@ -240,8 +240,8 @@ tick_acknowledges r new link n moment outs idle event =
     let m : Neighbor = settled link n moment in
     let q : EventState = resting r link n moment in
     let after : EventState = rest_of_tick moment q in
-    let o : Outcome = record { area = q.router.area; sends = [] } in
-    let y : Outcome = send_acknowledgments moment (send_all_again moment o) in
+    let o : AreaState = record { area = q.router.area; sends = [] } in
+    let y : AreaState = send_acknowledgments moment (send_all_again moment o) in
     let resent : List Send = stepping_sends (again moment o) o.area.links in
     let hellos : List Send = sends_of (hello_sent_on moment) y.area.links in
     let same_router : m.router ≡ n.router =

@@ -13,7 +13,7 @@ use Rattle.adjacency.specs.Neighbors.{Neighbor}
 use Rattle.adjacency.specs.Retransmissions.{add_retransmission, remove_retransmission}
 use Rattle.received.specs.Cases.{Case}
 use Rattle.received.specs.Links.{Link, any_has_retransmission}
-use Rattle.received.specs.Outcomes.{Outcome, on_database}
+use Rattle.received.specs.AreaStates.{AreaState, on_database}
 use Rattle.event_rules.specs.Endings.{end_event, stays_as}
 use Rattle.event_rules.specs.EventState.{EventState, flood_from_nobody, on_area}
 use Rattle.event_rules.specs.Originations.{announced_body, flush_copy, should_originate}
@@ -81,7 +81,7 @@ unfolding on_list
 is_flushed r link n moment lsa =
     let key : Key = lsa_key lsa in
     let p : EventState = flushed r link n moment lsa in
-    let o : Outcome = record { area = p.router.area; sends = p.sends } in
+    let o : AreaState = record { area = p.router.area; sends = p.sends } in
     let db : Database = install_flooded moment lsa r.area.database in
     let there : finite.get db key ≡ Some (brought lsa moment None) =
     inserted r.area.database key (brought lsa moment None) in

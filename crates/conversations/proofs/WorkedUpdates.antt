@@ -29,7 +29,7 @@ use Rattle.received.specs.Flooding.{flood_to, satisfies_request, exceeds_request
 use Rattle.received.specs.Flooding.{without_satisfied_request}
 use Rattle.received.specs.Links.{Area, Link, any_has_retransmission, delay_acknowledgment}
 use Rattle.received.specs.Links.{any_exchange_or_loading, link_at, neighbor_at, neighbor_on}
-use Rattle.received.specs.Outcomes.{Outcome, step_on, stepped_links, stepping_sends}
+use Rattle.received.specs.AreaStates.{AreaState, step_on, stepped_links, stepping_sends}
 use Rattle.received.specs.Updates.{case_at, flood_and_install, goes_on}
 pub use Rattle.received.proofs.Marks.{IsStill, changed_by, mark_all, marked_once, tied}
 use Rattle.event_rules.specs.declared.model.Out.{Out}
@@ -170,7 +170,7 @@ sender_step moment number lsa link n part rest =
     (request_of n lsa)) got_it
     (no_sends (remove_retransmission (lsa_key lsa) (same i)))) (no_sends n)
 
-abbrev first : Router → ℕ → ℕ → Lsa → Outcome
+abbrev first : Router → ℕ → ℕ → Lsa → AreaState
 first r moment number lsa = flood_and_install moment number lsa (record {
   area = r.area;
   sends = [];
@@ -231,7 +231,7 @@ stays_young moment w lsa c same now young =
 has_brought : (r : Router) (moment number : ℕ) (lsa : Lsa) → lsa.header.age < 3600
     → HasBrought (second r moment number lsa) moment lsa
 has_brought r moment number lsa young =
-    let o : Outcome = first r moment number lsa in
+    let o : AreaState = first r moment number lsa in
     let key : Key = lsa_key lsa in
     let still : IsStill o.area.database key (brought lsa moment None) =
     mark_all moment (stepping_sends (flood_to moment (Some number) lsa) r.area.links) key
@@ -284,7 +284,7 @@ again : (r new : Router) (moment number : ℕ) (bytes : List ℕ) (lsa : Lsa) (l
     → Twice (second r moment number lsa) new moment number lsa more
 again r new moment number bytes lsa link n more rest from none text young event =
     let m : Router = second r moment number lsa in
-    let o : Outcome = first r moment number lsa in
+    let o : AreaState = first r moment number lsa in
     let key : Key = lsa_key lsa in
     let there : HasBrought m moment lsa = has_brought r moment number lsa young in
     let link_there : link_at number m.area.links ≡ Some (sender_after lsa link n) =

@@ -14,7 +14,7 @@ use Rattle.adjacency.specs.Contents.{Content}
 use Rattle.adjacency.specs.Neighbors.{Neighbor}
 use Rattle.received.specs.Cases.{Case}
 use Rattle.received.specs.Links.{Link}
-use Rattle.received.specs.Outcomes.{Send}
+use Rattle.received.specs.AreaStates.{Send}
 use Rattle.received.specs.Updates.{case_at}
 use Rattle.event_rules.specs.EventState.{EventState}
 use Rattle.event_rules.specs.Packets.{after_lsas}

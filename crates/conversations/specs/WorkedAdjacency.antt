@@ -15,7 +15,7 @@ use Rattle.adjacency.specs.Descriptions.{Verdict, verdict}
 use Rattle.adjacency.specs.declared.state.NeighborState.TheVariants.{ExStart, Loading}
 use Rattle.adjacency.specs.Neighbors.{Neighbor}
 use Rattle.received.specs.Links.{Link, neighbor_at}
-use Rattle.received.specs.Outcomes.{Send}
+use Rattle.received.specs.AreaStates.{Send}
 use Rattle.event_rules.specs.declared.model.Out.{Out}
 use Rattle.event_rules.specs.Events.{Happens}
 use Rattle.event_rules.specs.Hellos.{accepts, is_foreign, names}

@@ -8,7 +8,7 @@ use Rattle.adjacency.specs.Adjacencies.{has_passed}
 use Rattle.adjacency.specs.Contents.{Content}
 use Rattle.adjacency.specs.Neighbors.{Neighbor}
 use Rattle.received.specs.Links.{Link}
-use Rattle.received.specs.Outcomes.{Send, sends_at}
+use Rattle.received.specs.AreaStates.{Send, sends_at}
 use Rattle.event_rules.specs.declared.model.Out.{Out}
 use Rattle.event_rules.specs.Events.{Happens}
 use Rattle.event_rules.specs.Originations.{has_max_sequence, has_room, initial_sequence_number}

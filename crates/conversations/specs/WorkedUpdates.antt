@@ -13,7 +13,7 @@ use Rattle.adjacency.specs.declared.state.NeighborState.TheVariants.{Full}
 use Rattle.adjacency.specs.Neighbors.{Neighbor}
 use Rattle.adjacency.specs.Requests.{requested_entry}
 use Rattle.received.specs.Links.{Link, any_exchange_or_loading, link_at}
-use Rattle.received.specs.Outcomes.{Send}
+use Rattle.received.specs.AreaStates.{Send}
 use Rattle.event_rules.specs.declared.model.Out.{Out}
 use Rattle.event_rules.specs.Events.{Happens}
 use Rattle.event_rules.specs.Hellos.{is_foreign}

@@ -7,7 +7,7 @@ use Rattle.adjacency.specs.Contents.{Content, Step}
 use Rattle.adjacency.specs.Neighbors.{Neighbor}
 use Rattle.adjacency.specs.Drafts.{drafting}
 use Rattle.received.specs.Links.{Link, change_link}
-use Rattle.received.specs.Outcomes.{Send, only_at, sends_at, stepped_links, stepping_sends}
+use Rattle.received.specs.AreaStates.{Send, only_at, sends_at, stepped_links, stepping_sends}
 use Rattle.flooding.specs.Doing.{LinkDoes, LinksDo}
 use Rattle.flooding.specs.Drafted.{drafts_with}
 use Rattle.flooding.specs.Kept.{KeptLink}

@@ -4,7 +4,7 @@ use Rattle.std.proofs.Common.{◌≡◌, ℕ, ◌+◌, Bool, false, List, [], �
 use Rattle.adjacency.specs.Contents.{Content}
 use Rattle.adjacency.specs.Drafts.{Drafted, drafting}
 use Rattle.received.specs.Links.{Link}
-use Rattle.received.specs.Outcomes.{sends_of}
+use Rattle.received.specs.AreaStates.{sends_of}
 use Rattle.flooding.specs.Drafted.{drafts_with}
 use Rattle.flooding.specs.Kept.{KeptLink}
 use Rattle.flooding.specs.Links.{draft_of, present}

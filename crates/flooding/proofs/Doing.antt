@@ -3,12 +3,12 @@ use Rattle.std.proofs.Common.{◌≡◌, Result, Ok, Err, OnOk, IfOk, IsErr, ref
 use mathlib.Core.Bool.{true≢false}
 use Rattle.keyed_map.proofs.Helds.{on_ok}
 use Rattle.received.specs.Links.{Area}
-use Rattle.received.specs.Outcomes.{Outcome}
+use Rattle.received.specs.AreaStates.{AreaState}
 pub use Rattle.neighbors.proofs.Doing.{always}
 use Rattle.flooding.specs.Doing.{AreaDoes}
 use Rattle.flooding.specs.Drafted.{drafts_with}
 use Rattle.flooding.specs.Kept.{RouterArea}
-use Rattle.flooding.specs.Links.{start}
+use Rattle.flooding.specs.Links.{with_no_sends}
 use Rattle.flooding.proofs.Sends.{drafted_none}
 
 -- nothing is said of a call that errs
@@ -22,23 +22,23 @@ if_ok (Ok a) f p = f a p
 if_ok (Err e) f p = tt
 
 -- nothing changes
-pub area_rests : {X E : Type 0} (f : Area → Outcome) (a : RouterArea) (r : Result X E)
-    → start a.present ≡ f a.present → AreaDoes f a a r
+pub area_rests : {X E : Type 0} (f : Area → AreaState) (a : RouterArea) (r : Result X E)
+    → with_no_sends a.present ≡ f a.present → AreaDoes f a a r
 area_rests f a r is = record {
-  area = always r (ap (λ (o : Outcome). o.area) is);
+  area = always r (ap (λ (o : AreaState). o.area) is);
   drafts = always r (drafted_none 1 a.present.links a.drafted
-      ∙ ap (λ (o : Outcome). drafts_with o.sends a.present.links a.drafted) is);
+      ∙ ap (λ (o : AreaState). drafts_with o.sends a.present.links a.drafted) is);
   committed = refl;
   router = refl;
 }
 
 -- two definitions that agree for this area
-pub area_same : {X E : Type 0} (f g : Area → Outcome) (a b : RouterArea) (r : Result X E)
+pub area_same : {X E : Type 0} (f g : Area → AreaState) (a b : RouterArea) (r : Result X E)
     → f a.present ≡ g a.present → AreaDoes f a b r → AreaDoes g a b r
 area_same f g a b r same does = record {
-  area = on_ok r (λ is. is ∙ ap (λ (o : Outcome). o.area) same) does.area;
+  area = on_ok r (λ is. is ∙ ap (λ (o : AreaState). o.area) same) does.area;
   drafts = on_ok r (λ is.
-      is ∙ ap (λ (o : Outcome). drafts_with o.sends a.present.links a.drafted) same) does.drafts;
+      is ∙ ap (λ (o : AreaState). drafts_with o.sends a.present.links a.drafted) same) does.drafts;
   committed = does.committed;
   router = does.router;
 }

@@ -11,11 +11,11 @@ use Rattle.adjacency.specs.Drafts.{Drafted, drafting}
 use Rattle.adjacency.specs.Floods.{flood_step, is_any}
 use Rattle.adjacency.specs.Neighbors.{Neighbor, is_exchange_or_later}
 use Rattle.adjacency.specs.Retransmissions.{add_retransmission, remove_retransmission}
-use Rattle.received.specs.Flooding.{flood_to, is_received_at, exceeds_request, request_of}
+use Rattle.received.specs.Flooding.{flood_to, is_incoming, exceeds_request, request_of}
 use Rattle.received.specs.Flooding.{without_satisfied_request}
 use Rattle.received.specs.Links.{Link}
-use Rattle.received.specs.Outcomes.{Send, Stepping, marked_database, sent_on, step_on}
-use Rattle.received.specs.Outcomes.{stepped_links, stepping_sends}
+use Rattle.received.specs.AreaStates.{Send, Stepping, marked_database, sent_on, step_on}
+use Rattle.received.specs.AreaStates.{stepped_links, stepping_sends}
 use Rattle.flooding.specs.Drafted.{drafted_from}
 use Rattle.flooding.specs.Kept.{KeptLink}
 use Rattle.flooding.specs.Links.{draft_of, present, with_neighbor}
@@ -27,12 +27,12 @@ use Rattle.flooding.proofs.Marks.{marks_all}
 
 pub flooded_to : (moment : ℕ) (sender : Option ℕ) (lsa : Lsa) (number : ℕ) (link : Link)
     (n : Neighbor) → flood_to moment sender lsa number link n
-    ≡ flood_step moment (is_received_at sender number) lsa n
+    ≡ flood_step moment (is_incoming sender number) lsa n
 unfolding flood_step
 flooded_to moment sender lsa number link n = refl
 
 pub step_is : (moment : ℕ) (sender : Option ℕ) (lsa : Lsa) (number : ℕ) (link : Link)
-    (o : Option Neighbor) → neighbor.step_on (flood_step moment (is_received_at sender number) lsa)
+    (o : Option Neighbor) → neighbor.step_on (flood_step moment (is_incoming sender number) lsa)
     o
     ≡ step_on (flood_to moment sender lsa number link) o
 step_is moment sender lsa number link None = refl
@@ -40,7 +40,7 @@ step_is moment sender lsa number link (Some n) =
     ap (λ (s : Step). Some s.neighbor) (sym (flooded_to moment sender lsa number link n))
 
 pub sent_is : (moment : ℕ) (sender : Option ℕ) (lsa : Lsa) (number : ℕ) (link : Link)
-    (o : Option Neighbor) → neighbor.sent_on (flood_step moment (is_received_at sender number) lsa)
+    (o : Option Neighbor) → neighbor.sent_on (flood_step moment (is_incoming sender number) lsa)
     o
     ≡ sent_on (flood_to moment sender lsa number link) o
 sent_is moment sender lsa number link None = refl
@@ -85,7 +85,7 @@ module _ (moment : ℕ) (sender : Option ℕ) (lsa : Lsa) where
   one_on number link (Some n) =
       let m = without_satisfied_request moment lsa n in
       one_by lsa n (add_retransmission moment lsa.header m) (remove_retransmission (lsa_key lsa) m)
-      (is_exchange_or_later n.state) (not (is_received_at sender number)
+      (is_exchange_or_later n.state) (not (is_incoming sender number)
       && exceeds_request moment lsa
       (request_of n lsa))
 

@@ -6,7 +6,7 @@ use Rattle.std.proofs.lemmas.List.{length-map, take_at}
 use Rattle.keyed_map.proofs.Helds.{on_ok}
 use Rattle.adjacency.specs.lsdb.Kept.{RouterDatabase}
 use Rattle.received.specs.Links.{Link}
-use Rattle.received.specs.Outcomes.{Send}
+use Rattle.received.specs.AreaStates.{Send}
 use Rattle.flooding.specs.Doing.{AreaDoes, LinksDo}
 use Rattle.flooding.specs.Drafted.{drafts_with}
 use Rattle.flooding.specs.Kept.{KeptLink, RouterArea}

@@ -7,7 +7,7 @@ use Rattle.adjacency.specs.lsdb.Copies.{Database, mark_sent}
 use Rattle.adjacency.specs.Contents.{Content}
 use Rattle.adjacency.specs.Drafts.{Drafted, drafting}
 use Rattle.received.specs.Links.{Link}
-use Rattle.received.specs.Outcomes.{Send, marked_database, sends_at}
+use Rattle.received.specs.AreaStates.{Send, marked_database, sends_at}
 use Rattle.flooding.specs.Kept.{KeptLink}
 use Rattle.flooding.specs.Links.{draft_of}
 use Rattle.flooding.specs.Steps.{key_of_update, keys_behind, mark_each, update_count}

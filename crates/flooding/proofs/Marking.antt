@@ -12,10 +12,10 @@ use Rattle.adjacency.specs.Drafts.{Drafted}
 use Rattle.adjacency.specs.Neighbors.{Neighbor, is_exchange_or_later}
 use Rattle.adjacency.specs.Retransmissions.{remove_retransmission}
 use Rattle.received.specs.Links.{Area, Link}
-use Rattle.received.specs.Outcomes.{Outcome, Send, marked_database, one_neighbor, only_at}
-use Rattle.received.specs.Outcomes.{sends_at, stepped_links, stepping_sends}
+use Rattle.received.specs.AreaStates.{AreaState, Send, marked_database, one_neighbor, only_at}
+use Rattle.received.specs.AreaStates.{sends_at, stepped_links, stepping_sends}
 use Rattle.flooding.specs.Kept.{KeptLink, RouterArea}
-use Rattle.flooding.specs.Links.{area_of, present, start}
+use Rattle.flooding.specs.Links.{area_of, present, with_no_sends}
 use Rattle.flooding.proofs.Only.{sends_stepped}
 
 abbrev pub marks : ℕ → Database → List Send → Database
@@ -60,7 +60,7 @@ removal_sends (l ∷ ls) i k lt at key =
 
 -- ---- only links change
 
-abbrev pub on_links_alone : (List Link → List Link) → (List Link → List Send) → Area → Outcome
+abbrev pub on_links_alone : (List Link → List Link) → (List Link → List Send) → Area → AreaState
 on_links_alone after sends a = record {
   area = record { links = after a.links; database = a.database };
   sends = sends a.links;
@@ -70,7 +70,7 @@ module _ (ls : List KeptLink) (i k : ℕ) (lt : i < length ls) (at : k ≡ 1 + i
     (d : Database) where
   pub mismatch_alone : on_links_alone (stepped_links (only_at k (mismatch_step moment)))
       (stepping_sends (only_at k (mismatch_step moment))) (area_of ls d)
-      ≡ one_neighbor moment k (mismatch_step moment) (start (area_of ls d))
+      ≡ one_neighbor moment k (mismatch_step moment) (with_no_sends (area_of ls d))
   mismatch_alone =
       let f : ℕ → Link → Neighbor → neighbor.Step = only_at k (mismatch_step moment) in
       λ j. record {
@@ -86,7 +86,7 @@ module _ (ls : List KeptLink) (i k : ℕ) (lt : i < length ls) (at : k ≡ 1 + i
       (stepped_links (only_at k (λ (n : Neighbor). no_sends (remove_retransmission key n))))
       (λ (ms : List Link). []) (area_of ls d)
       ≡ one_neighbor moment k (λ (n : Neighbor). no_sends (remove_retransmission key n))
-      (start (area_of ls d))
+      (with_no_sends (area_of ls d))
   removal_alone key =
       let f : ℕ → Link → Neighbor → neighbor.Step =
       only_at k (λ (n : Neighbor). no_sends (remove_retransmission key n)) in

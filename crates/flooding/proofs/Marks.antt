@@ -15,7 +15,7 @@ use Rattle.adjacency.proofs.lsdb.Keys.{keys_exact, keys_total}
 use Rattle.adjacency.proofs.lsdb.Copies.{marks, marks_none}
 use Rattle.adjacency.specs.Contents.{Content, Updates}
 use Rattle.received.specs.Links.{Link}
-use Rattle.received.specs.Outcomes.{Send, marked_database, sends_at}
+use Rattle.received.specs.AreaStates.{Send, marked_database, sends_at}
 use Rattle.adjacency.specs.Floods.{is_any}
 use Rattle.flooding.proofs.Sends.{sends_from}
 

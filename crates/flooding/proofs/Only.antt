@@ -10,8 +10,8 @@ use Rattle.adjacency.specs.Drafts.{Drafted, drafting}
 use Rattle.adjacency.specs.Neighbors.{Neighbor}
 use Rattle.adjacency.proofs.Floods.{drafting-none}
 use Rattle.received.specs.Links.{Link, change_link}
-use Rattle.received.specs.Outcomes.{sends_at, only_at, sent_on, step_on, stepped_links}
-use Rattle.received.specs.Outcomes.{stepping_sends, at_interface}
+use Rattle.received.specs.AreaStates.{sends_at, only_at, sent_on, step_on, stepped_links}
+use Rattle.received.specs.AreaStates.{stepping_sends, at_interface}
 use Rattle.flooding.specs.Drafted.{drafts_with, drafted_from}
 use Rattle.flooding.specs.Kept.{KeptLink}
 use Rattle.flooding.specs.Links.{draft_of, present, with_neighbor}

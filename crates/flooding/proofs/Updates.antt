@@ -9,7 +9,7 @@ use Rattle.adjacency.specs.Contents.{Updates}
 use Rattle.adjacency.specs.Drafts.{Drafted, adds, drafting, update_of}
 use Rattle.adjacency.specs.declared.draft.Update.{Update}
 use Rattle.received.specs.Links.{link_at}
-use Rattle.received.specs.Outcomes.{sends_at}
+use Rattle.received.specs.AreaStates.{sends_at}
 use Rattle.flooding.specs.Kept.{KeptLink}
 use Rattle.flooding.specs.Links.{present}
 use Rattle.flooding.specs.Steps.{key_of_update, mark_each}

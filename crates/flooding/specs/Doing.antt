@@ -11,7 +11,7 @@ use Rattle.adjacency.specs.Kept.{Kept}
 use Rattle.adjacency.specs.Neighbors.{Neighbor}
 use Rattle.neighbors.specs.Doing.{Sends, SendsUpdates}
 use Rattle.received.specs.Links.{Area, Link}
-use Rattle.received.specs.Outcomes.{Outcome, Send}
+use Rattle.received.specs.AreaStates.{AreaState, Send}
 use Rattle.flooding.specs.Drafted.{drafts_with}
 use Rattle.flooding.specs.Kept.{KeptLink, RouterArea}
 use Rattle.flooding.specs.Links.{committed_link, draft_of, present}
@@ -44,7 +44,7 @@ pub record LinksDo {X E : Type 0} (after : List Link → List Link) (sends : Lis
   pub committed : map committed_link new ≡ map committed_link old
 
 -- links and database become what `f` says of the area, and what that sends is drafted
-pub record AreaDoes {X E : Type 0} (f : Area → Outcome) (old new : RouterArea)
+pub record AreaDoes {X E : Type 0} (f : Area → AreaState) (old new : RouterArea)
     (result : Result X E) : Type 0 where
   pub area : OnOk result (new.present ≡ (f old.present).area)
   pub drafts : OnOk result (new.drafted

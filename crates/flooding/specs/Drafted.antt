@@ -4,7 +4,7 @@ use Rattle.std.specs.List.{filter_map}
 use Rattle.words.specs.Numbers.{InterfaceNumber}
 use Rattle.adjacency.specs.Drafts.{Drafted, drafting, nothing_drafted}
 use Rattle.received.specs.Links.{Link}
-use Rattle.received.specs.Outcomes.{Send, at_interface}
+use Rattle.received.specs.AreaStates.{Send, at_interface}
 
 -- nothing was sent so far on any of these links
 abbrev pub nothing_at : List Link → List Drafted

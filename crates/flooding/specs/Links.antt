@@ -12,7 +12,7 @@ use Rattle.adjacency.specs.Drafts.{Drafted}
 use Rattle.adjacency.specs.Neighbors.{Neighbor}
 use Rattle.received.specs.Flooding.{flood}
 use Rattle.received.specs.Links.{Area, Link, any_has_retransmission}
-use Rattle.received.specs.Outcomes.{Outcome, on_database}
+use Rattle.received.specs.AreaStates.{AreaState, on_database}
 use Rattle.flooding.specs.Kept.{KeptLink}
 
 abbrev pub present : KeptLink → Link
@@ -39,45 +39,46 @@ abbrev pub area_of : List KeptLink → Database → Area
 area_of links db = record { links = map present links; database = db }
 
 -- nothing was sent so far
-abbrev pub start : Area → Outcome
-start a = record { area = a; sends = [] }
+abbrev pub with_no_sends : Area → AreaState
+with_no_sends a = record { area = a; sends = [] }
 
 -- flooding the copy, if there is one
-abbrev pub flooded_copy : Moment → Option InterfaceNumber → Option DatabaseCopy → Outcome
-    → Outcome
-flooded_copy moment sender None o = o
-flooded_copy moment sender (Some c) o = flood moment sender (lsa_now moment c) o
+abbrev pub flooded_copy : Moment → Option InterfaceNumber → Option DatabaseCopy → AreaState
+    → AreaState
+flooded_copy moment incoming None o = o
+flooded_copy moment incoming (Some c) o = flood moment incoming (lsa_now moment c) o
 
 -- flooding the copy of this key, if there is one
-abbrev pub flooded_key : Moment → Option InterfaceNumber → Key → Area → Outcome
-flooded_key moment sender key a = flooded_copy moment sender (finite.get a.database key) (start a)
+abbrev pub flooded_key : Moment → Option InterfaceNumber → Key → Area → AreaState
+flooded_key moment incoming key a = flooded_copy moment incoming (finite.get a.database key)
+    (with_no_sends a)
 
 -- this router originated the LSA: it is installed and flooded to every neighbor, as in
 -- `event_rules`, `install_and_flood`, in the form that contracts of this crate use
-abbrev pub originate_outcome : Moment → Lsa → Area → Outcome
+abbrev pub originate_outcome : Moment → Lsa → Area → AreaState
 originate_outcome moment lsa a =
-    flood moment None lsa (on_database (install_originated moment lsa) (start a))
+    flood moment None lsa (on_database (install_originated moment lsa) (with_no_sends a))
 
 -- a copy, if there is one, is set to MaxAge and flooded to every neighbor
-abbrev pub age_copy : Moment → Key → Option DatabaseCopy → Outcome → Outcome
+abbrev pub age_copy : Moment → Key → Option DatabaseCopy → AreaState → AreaState
 age_copy moment key None o = o
 age_copy moment key (Some c) o =
     flood moment None (lsa_with_age max_age c.lsa) (on_database (age_prematurely moment key) o)
 
-abbrev pub age_outcome : Moment → Key → Area → Outcome
-age_outcome moment key a = age_copy moment key (finite.get a.database key) (start a)
+abbrev pub age_outcome : Moment → Key → Area → AreaState
+age_outcome moment key a = age_copy moment key (finite.get a.database key) (with_no_sends a)
 
 -- a copy that has reached MaxAge since the moment `before` is flooded to every neighbor (section
 -- 14)
 abbrev pub flood_new_max_age_copy : (before : Moment) → (moment : Moment) → Option DatabaseCopy
-    → Outcome → Outcome
+    → AreaState → AreaState
 flood_new_max_age_copy before moment None o = o
 flood_new_max_age_copy before moment (Some c) o =
     if has_just_aged_out before moment c then flood moment None (lsa_now moment c) o else o
 
-abbrev pub flood_new_max_age : (before : Moment) → (moment : Moment) → Key → Area → Outcome
+abbrev pub flood_new_max_age : (before : Moment) → (moment : Moment) → Key → Area → AreaState
 flood_new_max_age before moment key a =
-    flood_new_max_age_copy before moment (finite.get a.database key) (start a)
+    flood_new_max_age_copy before moment (finite.get a.database key) (with_no_sends a)
 
 -- the copy of this key is removed unless the key is on some retransmission list (section 14)
 abbrev pub without_acknowledged : List Link → Database → Key → Database

@@ -9,14 +9,14 @@ use Rattle.adjacency.specs.Drafts.{Drafted}
 use Rattle.adjacency.specs.Retransmissions.{send_again}
 use Rattle.adjacency.specs.declared.draft.Update.{Update}
 use Rattle.received.specs.Links.{Link, change_link, link_at}
-use Rattle.received.specs.Outcomes.{Outcome, sends_at, sends_of, on_links, sending}
+use Rattle.received.specs.AreaStates.{AreaState, sends_at, sends_of, on_links, sending}
 use Rattle.flooding.specs.Kept.{KeptLink}
 use Rattle.flooding.specs.Links.{with_neighbor}
 
 -- each link takes a step, which reads the database before it, and the copies that they send in Link
 -- State Updates are marked as sent
 abbrev pub all_links : Moment → (after : Database → Link → Link)
-    → (sends : Database → Link → List Content) → Outcome → Outcome
+    → (sends : Database → Link → List Content) → AreaState → AreaState
 all_links moment after sends o =
     let db : Database = o.area.database in
     sending moment (sends_of (sends db) o.area.links) (on_links (map (after db)) o)
@@ -29,7 +29,7 @@ sent_by f (Some link) = f link
 -- the link with this number takes a step, which reads the database before it, and the copies that
 -- it sends in Link State Updates are marked as sent
 abbrev pub one_link : Moment → InterfaceNumber → (after : Database → Link → Link)
-    → (sends : Database → Link → List Content) → Outcome → Outcome
+    → (sends : Database → Link → List Content) → AreaState → AreaState
 one_link moment interface after sends o =
     let db : Database = o.area.database in
     sending moment (sends_at interface (sent_by (sends db) (link_at interface o.area.links)))

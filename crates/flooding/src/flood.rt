@@ -3,13 +3,13 @@ ghost use Rattle.std.specs.Prelude.{◌≡◌, ◌≤◌, ◌||◌, IfOk, None, 
 ghost use Rattle.words.specs.Constants.{max_age};
 ghost use Rattle.adjacency.specs.lsdb.Copies.{has_just_aged_out, lsa_now};
 ghost use Rattle.adjacency.specs.Floods.{is_any};
-ghost use Rattle.received.specs.Flooding.{flood_to, is_received_at};
-ghost use Rattle.received.specs.Outcomes.{stepped_links, stepping_sends};
+ghost use Rattle.received.specs.Flooding.{flood_to, is_incoming};
+ghost use Rattle.received.specs.AreaStates.{stepped_links, stepping_sends};
 ghost use Rattle.received.specs.Updates.{flood_and_install};
 ghost use Rattle.flooding.specs.Doing.{AreaDoes, LinksDo};
 ghost use Rattle.flooding.specs.Drafted.{nothing_at};
 ghost use Rattle.flooding.specs.Links.{age_outcome, draft_of, flood_new_max_age, flooded_key};
-ghost use Rattle.flooding.specs.Links.{committed_link, originate_outcome, present, start};
+ghost use Rattle.flooding.specs.Links.{committed_link, originate_outcome, present, with_no_sends};
 
 use crate::area::Area;
 use crate::link::Link;
@@ -20,12 +20,13 @@ use lsdb::CopyTimes;
 use std::alloc::{AllocError, Global};
 use words::{Key, Second};
 
-fn is_received_at(received_at: Option<usize>, interface: usize) -> bool
-    ensures { result ≡ is_received_at received_at interface }
+// Whether an LSA that came in at the first interface, if at any, came in at the second.
+fn is_incoming(incoming: Option<usize>, interface: usize) -> bool
+    ensures { result ≡ is_incoming incoming interface }
 {
-    match received_at {
+    match incoming {
         None => false,
-        Some(s) => s == interface,
+        Some(incoming) => incoming == interface,
     }
 }
 
@@ -40,20 +41,20 @@ fn was_sent(before: bool, here: bool) -> bool
 fn flood_links(
     alloc: Global,
     moment: Second,
-    received_at: Option<usize>,
+    incoming: Option<usize>,
     copy: &DatabaseCopy<'_>,
     links: &mut [Link],
 ) -> Result<bool, AllocError>
-    ensures does { LinksDo (stepped_links (flood_to moment received_at (lsa_now moment copy.now)))
-        (stepping_sends (flood_to moment received_at (lsa_now moment copy.now)))
+    ensures does { LinksDo (stepped_links (flood_to moment incoming (lsa_now moment copy.now)))
+        (stepping_sends (flood_to moment incoming (lsa_now moment copy.now)))
         links.old links.new result }
     ensures sent { IfOk result (λ sent. sent
-        ≡ is_any (stepping_sends (flood_to moment received_at (lsa_now moment copy.now))
+        ≡ is_any (stepping_sends (flood_to moment incoming (lsa_now moment copy.now))
         (map present links.old))) }
 {
     let mut sent = false;
     for i in 0..links.len() {
-        let came_in = is_received_at(received_at, i + 1);
+        let came_in = is_incoming(incoming, i + 1);
         let one = links[i].flood(alloc, moment, came_in, copy)?;
         sent = was_sent(sent, one);
     }
@@ -66,16 +67,16 @@ fn flood_links(
 fn flood_received(
     alloc: Global,
     moment: Second,
-    received_at: Option<usize>,
+    incoming: Option<usize>,
     lsa: &Lsa,
     links: &mut [Link],
 ) -> Result<bool, AllocError>
     requires age { lsa.now.header.age ≤ max_age }
-    ensures does { LinksDo (stepped_links (flood_to moment received_at lsa.now))
-        (stepping_sends (flood_to moment received_at lsa.now))
+    ensures does { LinksDo (stepped_links (flood_to moment incoming lsa.now))
+        (stepping_sends (flood_to moment incoming lsa.now))
         links.old links.new result }
     ensures sent { IfOk result (λ sent. sent
-        ≡ is_any (stepping_sends (flood_to moment received_at lsa.now) (map present links.old))) }
+        ≡ is_any (stepping_sends (flood_to moment incoming lsa.now) (map present links.old))) }
 {
     let header = lsa.header();
     let times = CopyTimes {
@@ -85,7 +86,7 @@ fn flood_received(
         sent: None,
     };
     let copy = DatabaseCopy { lsa, times };
-    flood_links(alloc, moment, received_at, &copy, links)
+    flood_links(alloc, moment, incoming, &copy, links)
 }
 
 fn has_just_aged_out(before: Second, moment: Second, copy: &DatabaseCopy<'_>) -> bool
@@ -127,8 +128,8 @@ impl Area {
     ) -> Result<(), AllocError>
         requires first { 1 ≤ interface }
         requires last { interface ≤ length self.old.present.links }
-        ensures { AreaDoes (λ a. flood_and_install moment interface lsa (start a)) self.old self.new
-            result }
+        ensures { AreaDoes (λ a. flood_and_install moment interface lsa (with_no_sends a))
+            self.old self.new result }
     {
         // For the prover alone, by what the call ensures.
         lsa.prove_age();

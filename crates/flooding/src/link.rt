@@ -155,8 +155,8 @@ impl Link {
             (neighbor_sends (mismatch_step moment))
             self.old self.new result }
     {
-        let exchanging = self.slot.is_exchange_or_later();
-        if exchanging {
+        let exchange_or_later = self.slot.is_exchange_or_later();
+        if exchange_or_later {
             return self.slot.enter_exstart(alloc, moment, &mut self.draft);
         }
         Ok(())

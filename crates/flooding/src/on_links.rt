@@ -7,7 +7,7 @@ ghost use Rattle.adjacency.specs.Contents.{Acknowledges, Updates, no_sends};
 ghost use Rattle.adjacency.specs.Retransmissions.{remove_retransmission};
 ghost use Rattle.received.specs.Links.{any_exchange_or_loading, delay_acknowledgment};
 ghost use Rattle.received.specs.Links.{any_has_retransmission, change_link};
-ghost use Rattle.received.specs.Outcomes.{sends_at, only_at, stepped_links, stepping_sends};
+ghost use Rattle.received.specs.AreaStates.{sends_at, only_at, stepped_links, stepping_sends};
 ghost use Rattle.flooding.specs.Doing.{LinksDo};
 ghost use Rattle.flooding.specs.Links.{present};
 

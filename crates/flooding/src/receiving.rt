@@ -4,7 +4,7 @@ ghost use Rattle.std.specs.FinMap as finite;
 ghost use Rattle.received.specs.Updates.{after_case, case_at, send_copy};
 ghost use Rattle.flooding.specs.Cases.{case_of, is_to_be_installed};
 ghost use Rattle.flooding.specs.Doing.{AreaDoes};
-ghost use Rattle.flooding.specs.Links.{start};
+ghost use Rattle.flooding.specs.Links.{with_no_sends};
 
 use crate::area::Area;
 use crate::cases::{Case, case_on};
@@ -45,7 +45,7 @@ impl Area {
         requires first { 1 ≤ interface }
         requires last { interface ≤ length self.old.present.links }
         ensures { AreaDoes
-            (λ a. send_copy moment interface (finite.get a.database key.now) (start a))
+            (λ a. send_copy moment interface (finite.get a.database key.now) (with_no_sends a))
             self.old self.new result }
     {
         let Some(copy) = self.database.get(key) else {
@@ -81,7 +81,8 @@ impl Area {
         requires first { 1 ≤ interface }
         requires last { interface ≤ length self.old.present.links }
         requires other { is_to_be_installed (case_of case) ≡ false }
-        ensures { AreaDoes (λ a. after_case (case_of case) moment interface lsa.now (start a))
+        ensures { AreaDoes (λ a.
+            after_case (case_of case) moment interface lsa.now (with_no_sends a))
             self.old self.new result }
     {
         let header = lsa.header();

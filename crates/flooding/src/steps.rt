@@ -1,10 +1,10 @@
 //! Changes of links, and steps in which links may send.
 ghost use Rattle.std.specs.Prelude.{◌≡◌, ◌≤◌, IfOk, drop, length, map};
 ghost use Rattle.received.specs.Links.{change_link, taken_down};
-ghost use Rattle.received.specs.Outcomes.{sends_of};
+ghost use Rattle.received.specs.AreaStates.{sends_of};
 ghost use Rattle.adjacency.specs.lsdb.Doing.{DatabaseDoes};
 ghost use Rattle.flooding.specs.Doing.{AreaDoes, LinksDo};
-ghost use Rattle.flooding.specs.Links.{draft_of, start, without_acknowledged};
+ghost use Rattle.flooding.specs.Links.{draft_of, with_no_sends, without_acknowledged};
 ghost use Rattle.flooding.specs.Steps.{all_links, key_of_update, keys_behind, mark_each, one_link};
 ghost use Rattle.flooding.specs.Steps.{update_count_on};
 
@@ -149,7 +149,7 @@ impl Area {
         step: &S,
     ) -> Result<(), AllocError>
         ensures { AreaDoes
-            (λ a. all_links moment (S.after step.now) (S.sends step.now) (start a))
+            (λ a. all_links moment (S.after step.now) (S.sends step.now) (with_no_sends a))
             self.old self.new result }
     {
         let counts = update_counts(alloc, &self.links)?;
@@ -172,7 +172,7 @@ impl Area {
         requires first { 1 ≤ interface }
         requires last { interface ≤ length self.old.present.links }
         ensures { AreaDoes
-            (λ a. one_link moment interface (S.after step.now) (S.sends step.now) (start a))
+            (λ a. one_link moment interface (S.after step.now) (S.sends step.now) (with_no_sends a))
             self.old self.new result }
     {
         let i = interface - 1;
@@ -188,7 +188,7 @@ impl Area {
     /// `AllocError` if an allocation is refused.
     pub fn remove_if_unlisted(&mut self, key: &Key) -> Result<(), AllocError>
         ensures { AreaDoes
-            (λ a. start
+            (λ a. with_no_sends
             (record a { database = without_acknowledged a.links a.database key.now }))
             self.old self.new result }
     {

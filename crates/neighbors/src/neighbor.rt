@@ -193,6 +193,8 @@ impl Neighbor {
     }
 
     /// A neighbor in ExStart, with a new attempt (RFC 2328, section 10.3). It doesn't allocate.
+    /// `dd_sequence_start` is that of the attempt before, if there was one: the number of this one
+    /// follows from it and the moment, as in the Description that the caller sends.
     pub fn started(
         alloc: Global,
         moment: Second,
@@ -302,8 +304,8 @@ impl Neighbor {
         self.retransmissions.insert(header.key(), entry)
     }
 
-    // Removes the request that the copy satisfies. Returns whether the copy may be sent: nothing
-    // newer or equal is requested.
+    // Removes the request that the copy satisfies, if there is one. Returns not that, but whether
+    // the copy may be sent: nothing newer or equal is requested.
     fn satisfy_request(
         &mut self,
         moment: Second,

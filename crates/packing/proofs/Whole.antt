@@ -15,7 +15,7 @@ use Rattle.adjacency.specs.Contents.{Content}
 use Rattle.adjacency.specs.Drafts.{Drafted}
 use Rattle.adjacency.specs.Rooms.{HasRoom}
 use Rattle.received.specs.Links.{Link}
-use Rattle.received.specs.Outcomes.{Send, at_interface}
+use Rattle.received.specs.AreaStates.{Send, at_interface}
 use Rattle.event_rules.specs.Packing.{acknowledgments, bodies, descriptions}
 use Rattle.event_rules.specs.Packing.{first_key}
 use Rattle.event_rules.specs.Packing.{header_size, hellos, in_key_order, lsa_size, packed_groups}

@@ -6,7 +6,7 @@ use Rattle.adjacency.specs.Drafts.{Drafted, drafting}
 pub use Rattle.adjacency.specs.Drafts.{nothing_drafted}
 use Rattle.adjacency.specs.Rooms.{HasRoom}
 use Rattle.received.specs.Links.{Link}
-use Rattle.received.specs.Outcomes.{Send, at_interface}
+use Rattle.received.specs.AreaStates.{Send, at_interface}
 
 -- the draft of what is sent at the interface with this number, which is the link's; each content
 -- fits into a packet

@@ -1,7 +1,7 @@
 //! Encodes packets.
 ghost use Rattle.std.specs.Prelude.{◌≡◌, ◌∷◌, [], ◌++◌, List, OnOk};
 ghost use Rattle.received.specs.Links.{Link};
-ghost use Rattle.received.specs.Outcomes.{Send, at_interface};
+ghost use Rattle.received.specs.AreaStates.{Send, at_interface};
 ghost use Rattle.std.specs.List.{AllByRecursion, filter_map};
 ghost use Rattle.packet.specs.Ranges.{LsasAreWhole};
 ghost use Rattle.event_rules.specs.Packing.{bodies, out_of, outs_at};

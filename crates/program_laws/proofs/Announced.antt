@@ -22,7 +22,7 @@ use Rattle.packet.specs.declared.model.PacketBody.TheVariants as body
 use Rattle.packet.specs.declared.model.Packet.{Packet}
 use Rattle.received.specs.Cases.{Case}
 use Rattle.received.specs.Links.{neighbor_at}
-use Rattle.received.specs.Outcomes.{on_links}
+use Rattle.received.specs.AreaStates.{on_links}
 use Rattle.received.specs.Updates.{after_case, case_at, goes_on}
 use Rattle.event_rules.specs.Commands.{after_redistribute, after_withdraw, announce, announce_as}
 use Rattle.event_rules.specs.Commands.{answered_external, end_want, is_announced_as, is_for}

@@ -18,8 +18,8 @@ use Rattle.adjacency.specs.Neighbors.{Neighbor, is_exchange_or_later, is_exchang
 use Rattle.adjacency.specs.Requests.{without_request}
 use Rattle.adjacency.specs.Retransmissions.{add_retransmission, remove_retransmission}
 use Rattle.received.specs.Links.{Link}
-use Rattle.received.specs.Outcomes.{Send, Stepping, marked_database, sends_at, sent_on, step_on}
-use Rattle.received.specs.Outcomes.{stepped_links, stepping_sends}
+use Rattle.received.specs.AreaStates.{Send, Stepping, marked_database, sends_at, sent_on, step_on}
+use Rattle.received.specs.AreaStates.{stepped_links, stepping_sends}
 use Rattle.received.proofs.Marks.{changed_by}
 use Rattle.program_laws.specs.Destinations.{link_without, neighbor_on_without, neighbor_without}
 

@@ -30,8 +30,9 @@ use Rattle.adjacency.specs.Requests.{is_to_request, next_request, request_next}
 use Rattle.received.specs.Flooding.{flood_to}
 use Rattle.received.specs.Links.{Link, any_exchange_or_loading, any_has_retransmission}
 use Rattle.received.specs.Links.{neighbor_is_exchange_or_loading}
-use Rattle.received.specs.Outcomes.{Outcome, Send, Stepping, each_neighbor, on_database, on_links}
-use Rattle.received.specs.Outcomes.{stepping_sends}
+use Rattle.received.specs.AreaStates.{AreaState, Send, Stepping, each_neighbor, on_database}
+use Rattle.received.specs.AreaStates.{on_links}
+use Rattle.received.specs.AreaStates.{stepping_sends}
 use Rattle.event_rules.specs.Endings as Endings
 use Rattle.event_rules.specs.Endings.{copy_has_body, end_event, originate_router_lsa}
 use Rattle.event_rules.specs.Endings.{postpone_router_lsa}
@@ -57,7 +58,7 @@ module _ (key : Key) where
   abbrev pub cut : EventState → EventState
   cut p = record { router = router_without key p.router; sends = sends_without key p.sends }
 
-  abbrev pub cut_outcome : Outcome → Outcome
+  abbrev pub cut_outcome : AreaState → AreaState
   cut_outcome o = record {
     area = record {
       links = map (link_without key) o.area.links;
@@ -70,8 +71,8 @@ module _ (key : Key) where
   abbrev pub Overlooks : (EventState → EventState) → Type 0
   Overlooks f = (p : EventState) → cut (f p) ≡ cut (f (cut p))
 
-  abbrev pub OverlooksIn : (Outcome → Outcome) → Type 0
-  OverlooksIn f = (o : Outcome)
+  abbrev pub OverlooksIn : (AreaState → AreaState) → Type 0
+  OverlooksIn f = (o : AreaState)
       → (map (link_without key) (f o).area.links
       ≡ map (link_without key) (f (cut_outcome o)).area.links)
       × (finite.remove (f o).area.database key
@@ -127,7 +128,7 @@ module _ (key : Key) where
       on None = refl
       on (Some n) = ap (λ (m : Neighbor). Some m) (apart.kept key n)
 
-  pub on_outcome : (f : Outcome → Outcome) → OverlooksIn f → Overlooks (on_area f)
+  pub on_outcome : (f : AreaState → AreaState) → OverlooksIn f → Overlooks (on_area f)
   on_outcome f overlooks p =
       let both = overlooks (record { area = p.router.area; sends = p.sends }) in
       let announced = apart.twice key p.router.announced in
@@ -194,7 +195,7 @@ module _ (key : Key) where
   nothing : OverlooksIn (λ o. o)
   nothing o = (links_twice o.area.links, apart.twice key o.area.database, sent_twice o.sends)
 
-  after : (f g : Outcome → Outcome) → OverlooksIn f → OverlooksIn g → OverlooksIn (λ o. g (f o))
+  after : (f g : AreaState → AreaState) → OverlooksIn f → OverlooksIn g → OverlooksIn (λ o. g (f o))
   after f g first second o =
       let both = first o in
       let same : cut_outcome (f o) ≡ cut_outcome (f (cut_outcome o)) = λ i. record {
@@ -203,9 +204,9 @@ module _ (key : Key) where
       } in
       let here = second (f o) in
       let there = second (f (cut_outcome o)) in (
-        here.0 ∙ ap (λ (x : Outcome). map (link_without key) (g x).area.links) same ∙ sym there.0,
-        here.1 ∙ ap (λ (x : Outcome). finite.remove (g x).area.database key) same ∙ sym there.1,
-        here.2 ∙ ap (λ (x : Outcome). sends_without key (g x).sends) same ∙ sym there.2,
+        here.0 ∙ ap (λ (x : AreaState). map (link_without key) (g x).area.links) same ∙ sym there.0,
+        here.1 ∙ ap (λ (x : AreaState). finite.remove (g x).area.database key) same ∙ sym there.1,
+        here.2 ∙ ap (λ (x : AreaState). sends_without key (g x).sends) same ∙ sym there.2,
       )
 
   changed_in : (h : Database → Database)
@@ -550,8 +551,8 @@ module _ (key : Key) where
         let e : Database = finite.remove d key in
         let keeps : Key → Bool = Endings.stays moment o.area in
         let keeps_so : Key → Bool = Endings.stays moment (cut_outcome o).area in
-        let left : Outcome = on_database (λ db. finite.retain_keys db keeps) o in
-        let left_so : Outcome = on_database (λ db. finite.retain_keys db keeps_so) (cut_outcome o)
+        let left : AreaState = on_database (λ db. finite.retain_keys db keeps) o in
+        let left_so : AreaState = on_database (λ db. finite.retain_keys db keeps_so) (cut_outcome o)
         in
         let all = apart.same_but key (finite.retain_keys d keeps) (finite.retain_keys e keeps_so)
         (λ q apart_.
@@ -572,7 +573,7 @@ module _ (key : Key) where
         (by_state (any_exchange_or_loading links) o left (cut_outcome o) left_so (links_twice links)
         (apart.twice key d) (links_twice links) all (sent_twice o.sends) (sent_twice o.sends))
       where
-        by_state : (b : Bool) (x y z w : Outcome) → map (link_without key) x.area.links
+        by_state : (b : Bool) (x y z w : AreaState) → map (link_without key) x.area.links
             ≡ map (link_without key) z.area.links → finite.remove x.area.database key
             ≡ finite.remove z.area.database key → map (link_without key) y.area.links
             ≡ map (link_without key) w.area.links → finite.remove y.area.database key

@@ -26,8 +26,9 @@ use Rattle.adjacency.specs.Floods.{satisfies_request, exceeds_request, request_o
 use Rattle.adjacency.specs.Neighbors.{Neighbor, is_exchange_or_later}
 use Rattle.received.specs.Flooding.{flood_to}
 use Rattle.received.specs.Links.{Link}
-use Rattle.received.specs.Outcomes.{Outcome, Send, marked_database, sends_at, on_database, sent_on}
-use Rattle.received.specs.Outcomes.{step_on, stepping_sends}
+use Rattle.received.specs.AreaStates.{AreaState, Send, marked_database, sends_at, on_database}
+use Rattle.received.specs.AreaStates.{sent_on}
+use Rattle.received.specs.AreaStates.{step_on, stepping_sends}
 use Rattle.received.proofs.Marks.{changed_by}
 use Rattle.event_rules.specs.Commands.{after_redistribute, announce, announce_as, answered_external}
 use Rattle.event_rules.specs.Commands.{end_want, is_announced_as, unannounce}
@@ -131,7 +132,7 @@ module _ (key : Key) (is_external : key.ls_type ≡ 5) where
       (apart.own_copy_agrees key (lsa_key lsa) is (λ c. record c { sent = Some moment }) d))
 
   -- the rest stays the same
-  abbrev IsKept : Outcome → Outcome → Type 0
+  abbrev IsKept : AreaState → AreaState → Type 0
   IsKept x o =
       (map (link_without key) x.area.links ≡ map (link_without key) o.area.links)
       × (finite.remove x.area.database key ≡ finite.remove o.area.database key)
@@ -154,7 +155,7 @@ module _ (key : Key) (is_external : key.ls_type ≡ 5) where
       let others = own_unsent_more lsa is xs sends own in
       λ i. cond (not (updates key x.content)) (x ∷ others i) (others i)
 
-  own_flooded : (moment : Moment) (lsa : Lsa) → lsa_key lsa ≡ key → (o : Outcome)
+  own_flooded : (moment : Moment) (lsa : Lsa) → lsa_key lsa ≡ key → (o : AreaState)
       → NotRequested o.area.links → IsKept (flood_from_nobody moment lsa o) o
   own_flooded moment lsa is o none = (
     own_links moment lsa is 1 o.area.links none,
@@ -166,7 +167,7 @@ module _ (key : Key) (is_external : key.ls_type ≡ 5) where
   )
 
   own_flushed : (moment : Moment) (x : Option DatabaseCopy)
-      → ((c : DatabaseCopy) → x ≡ Some c → lsa_key c.lsa ≡ key) → (o : Outcome)
+      → ((c : DatabaseCopy) → x ≡ Some c → lsa_key c.lsa ≡ key) → (o : AreaState)
       → NotRequested o.area.links → IsKept (flush_copy moment key x o) o
   own_flushed moment None under o none = (refl, refl, refl)
   own_flushed moment (Some c) under o none = by_age (is_aged_out moment c)
@@ -188,7 +189,7 @@ module _ (key : Key) (is_external : key.ls_type ≡ 5) where
             kept.2,
           )
 
-  own_installed : (moment : Moment) (lsa : Lsa) → lsa_key lsa ≡ key → (o : Outcome)
+  own_installed : (moment : Moment) (lsa : Lsa) → lsa_key lsa ≡ key → (o : AreaState)
       → NotRequested o.area.links → IsKept (install_and_flood moment lsa o) o
   own_installed moment lsa is o none =
       let d : Database = o.area.database in
@@ -212,7 +213,7 @@ module _ (key : Key) (is_external : key.ls_type ≡ 5) where
   abbrev cut : EventState → EventState
   cut = rest.cut key
 
-  lifted : (f : Outcome → Outcome) (p : EventState) → IsKept (f (record {
+  lifted : (f : AreaState → AreaState) (p : EventState) → IsKept (f (record {
     area = p.router.area;
     sends = p.sends;
   })) (record {
@@ -326,7 +327,7 @@ module _ (key : Key) (is_external : key.ls_type ≡ 5) where
 
   -- ---- aging, before the event's own part
 
-  abbrev Ready : Key → Outcome → Type 0
+  abbrev Ready : Key → AreaState → Type 0
   Ready k o = NotRequested o.area.links × IsUnderItsKey key o.area.database
       × (finite.contains_key o.area.database k ≡ true)
 
@@ -423,7 +424,7 @@ module _ (key : Key) (is_external : key.ls_type ≡ 5) where
       good_all moment other sends (marked_database moment d s.content)
       (good_marked moment other s.content d good)
 
-  ready_flooded : (moment : Moment) (other : Key) (lsa : Lsa) (o : Outcome) → Ready other o
+  ready_flooded : (moment : Moment) (other : Key) (lsa : Lsa) (o : AreaState) → Ready other o
       → Ready other (flood_from_nobody moment lsa o)
   ready_flooded moment other lsa o ready =
       let good = good_all moment other (stepping_sends (flood_to moment None lsa) o.area.links)
@@ -431,7 +432,7 @@ module _ (key : Key) (is_external : key.ls_type ≡ 5) where
       (still_not_requested moment lsa 1 o.area.links ready.0, good.0, good.1)
 
   ready_aged : (before moment : Moment) (other : Key) (entries : List (Key × DatabaseCopy))
-      (o : Outcome) → Ready other o → Ready other (fold (flood_if_aged before moment) o entries)
+      (o : AreaState) → Ready other o → Ready other (fold (flood_if_aged before moment) o entries)
   ready_aged before moment other [] o ready = ready
   ready_aged before moment other (e ∷ entries) o ready =
       ready_aged before moment other entries (flood_if_aged before moment o e)

@@ -19,7 +19,7 @@ use Rattle.program_laws.specs.Vetoes.{without_answers}
 use Rattle.program_laws.specs.Unheard.{Act, Acts, Cause, Datagram, History, Network}
 use Rattle.program_laws.specs.Unheard.{VetoesAreNeverHeard, act_without_words, asked}
 use Rattle.program_laws.specs.Unheard.{cause_without_words, event_of, network_without_answers}
-use Rattle.program_laws.specs.Unheard.{received_at, sent, sent_at, without_words}
+use Rattle.program_laws.specs.Unheard.{incoming, sent, sent_at, without_words}
 use Rattle.router_runs.proofs.Unheeded.{answered_alike, bringing}
 
 -- ---- an event does the same without the answers
@@ -168,7 +168,7 @@ set_mapped f (y ∷ ys) zero x = refl
 set_mapped {Y = Y} f (y ∷ ys) (suc i) x = ap (λ (zs : List Y). f y ∷ zs) (set_mapped f ys i x)
 
 delivered : (number : InterfaceNumber) (d : Option Datagram) → on_option without_words
-    (received_at number d) ≡ received_at number d
+    (incoming number d) ≡ incoming number d
 delivered number None = refl
 delivered number (Some d) = refl
 

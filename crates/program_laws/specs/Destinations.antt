@@ -14,7 +14,7 @@ use Rattle.adjacency.specs.Asked.{is_on_request_list}
 use Rattle.adjacency.specs.Contents.{Content}
 use Rattle.adjacency.specs.Neighbors.{Neighbor}
 use Rattle.received.specs.Links.{Link}
-use Rattle.received.specs.Outcomes.{Send}
+use Rattle.received.specs.AreaStates.{Send}
 use Rattle.event_rules.specs.Endings.{end_event}
 use Rattle.event_rules.specs.Events.{Happens}
 use Rattle.event_rules.specs.Originations.{external_key, router_key}

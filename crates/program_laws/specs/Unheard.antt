@@ -52,13 +52,13 @@ pub record Act : Type 0 where
   pub moment : Moment
   pub cause : Cause
 
-abbrev pub received_at : InterfaceNumber → Option Datagram → Option Occurrence
-received_at number None = None
-received_at number (Some d) = Some (Occurrence.Packet number d.out.bytes)
+abbrev pub incoming : InterfaceNumber → Option Datagram → Option Occurrence
+incoming number None = None
+incoming number (Some d) = Some (Occurrence.Packet number d.out.bytes)
 
 -- the event, unless no such datagram was sent
 abbrev pub event_of : List Datagram → Cause → Option Occurrence
-event_of all (Cause.Delivers datagram number) = received_at number (slice_get all datagram)
+event_of all (Cause.Delivers datagram number) = incoming number (slice_get all datagram)
 event_of all (Cause.Other event) = Some event
 
 abbrev pub sent_at : ℕ → Out → Datagram

@@ -13,13 +13,13 @@ stays : (moment : ℕ) (sender : Option ℕ) (lsa : Lsa) (number : ℕ) (link : 
     → (requested_entry (flood_to moment sender lsa number link n).neighbor (lsa_key lsa)
     ≡ Some r.entry) × ((flood_to moment sender lsa number link n).sends ≡ [])
 stays moment sender lsa number link n true r = (
-  rw (r.is_later, r.is_received_at, r.is_synchronizing, r.is_requested, r.is_older) r.is_requested,
-  rw (r.is_later, r.is_received_at) refl,
+  rw (r.is_later, r.is_incoming, r.is_synchronizing, r.is_requested, r.is_older) r.is_requested,
+  rw (r.is_later, r.is_incoming) refl,
 )
 stays moment sender lsa number link n false r = (
-  rw (r.is_later, r.is_received_at, r.is_synchronizing, r.is_requested, r.is_newer, r.is_older)
+  rw (r.is_later, r.is_incoming, r.is_synchronizing, r.is_requested, r.is_newer, r.is_older)
       r.is_requested,
-  rw (r.is_later, r.is_received_at, r.is_synchronizing, r.is_requested, r.is_newer) refl,
+  rw (r.is_later, r.is_incoming, r.is_synchronizing, r.is_requested, r.is_newer) refl,
 )
 
 goes : (moment : ℕ) (sender : Option ℕ) (lsa : Lsa) (number : ℕ) (link : Link) (n : Neighbor)
@@ -27,24 +27,24 @@ goes : (moment : ℕ) (sender : Option ℕ) (lsa : Lsa) (number : ℕ) (link : L
     → DropsRequest (flood_to moment sender lsa number link n) lsa
     × ((flood_to moment sender lsa number link n).sends ≡ [])
 goes moment sender lsa number link n true r = (
-  rw (r.is_later, r.is_received_at, r.is_synchronizing, r.is_requested, r.is_older)
+  rw (r.is_later, r.is_incoming, r.is_synchronizing, r.is_requested, r.is_older)
       (removed n.requests (lsa_key lsa)),
-  rw (r.is_later, r.is_received_at) refl,
+  rw (r.is_later, r.is_incoming) refl,
 )
 goes moment sender lsa number link n false r = (
-  rw (r.is_later, r.is_received_at, r.is_synchronizing, r.is_requested, r.is_newer, r.is_older)
+  rw (r.is_later, r.is_incoming, r.is_synchronizing, r.is_requested, r.is_newer, r.is_older)
       (removed n.requests (lsa_key lsa)),
-  rw (r.is_later, r.is_received_at, r.is_synchronizing, r.is_requested, r.is_newer) refl,
+  rw (r.is_later, r.is_incoming, r.is_synchronizing, r.is_requested, r.is_newer) refl,
 )
 
 drops : (moment : ℕ) (sender : Option ℕ) (lsa : Lsa) (number : ℕ) (link : Link) (n : Neighbor)
     (b : Bool) → Requests moment sender lsa number n b true false
     → DropsRequest (flood_to moment sender lsa number link n) lsa
 drops moment sender lsa number link n true r =
-    rw (r.is_later, r.is_received_at, r.is_synchronizing, r.is_requested, r.is_older)
+    rw (r.is_later, r.is_incoming, r.is_synchronizing, r.is_requested, r.is_older)
     (removed n.requests (lsa_key lsa))
 drops moment sender lsa number link n false r =
-    rw (r.is_later, r.is_received_at, r.is_synchronizing, r.is_requested, r.is_newer, r.is_older)
+    rw (r.is_later, r.is_incoming, r.is_synchronizing, r.is_requested, r.is_newer, r.is_older)
     (removed n.requests (lsa_key lsa))
 
 pub examined : FloodingExaminesEachNeighbor
@@ -53,7 +53,7 @@ examined = record {
   the_same = goes;
   more_recent = drops;
   sent = λ moment sender lsa number link n r.
-      rw (r.is_later, r.is_received_at, r.is_synchronizing, r.is_requested, r.is_newer) refl;
+      rw (r.is_later, r.is_incoming, r.is_synchronizing, r.is_requested, r.is_newer) refl;
   not_requested = λ moment sender lsa number link n later none from. rw (later, from, none) refl;
   back = λ moment sender lsa number link n later from. rw (later, from) refl;
   before_exchange = λ moment sender lsa number link n earlier. rw earlier refl;

@@ -18,9 +18,9 @@ use Rattle.received.specs.Flooding.{flood, flood_to, is_to_be_sent, satisfies_re
 use Rattle.received.specs.Flooding.{without_satisfied_request}
 use Rattle.received.specs.Holds.{Holds, HoldsOfEach}
 use Rattle.received.specs.Links.{Link, change_link, delay_acknowledgment, link_at, neighbor_on}
-use Rattle.received.specs.Outcomes.{Outcome, Stepping, each_neighbor, on_database, one_neighbor}
-use Rattle.received.specs.Outcomes.{only_at, step_on}
-use Rattle.received.specs.Updates.{after_case, copy_of, flood_and_install, send_copy}
+use Rattle.received.specs.AreaStates.{AreaState, Stepping, each_neighbor, on_database, one_neighbor}
+use Rattle.received.specs.AreaStates.{only_at, step_on}
+use Rattle.received.specs.Updates.{after_case, database_copy, flood_and_install, send_copy}
 
 module _ (P : Neighbor → Type 0) where
   -- ---- links
@@ -67,14 +67,14 @@ module _ (P : Neighbor → Type 0) where
 
   pub each_keeps : (moment : ℕ) (f : Stepping)
       → ((number : ℕ) (link : Link) (n : Neighbor) → P n → P (f number link n).neighbor)
-      → (o : Outcome) → HoldsOfEach P o.area.links
+      → (o : AreaState) → HoldsOfEach P o.area.links
       → HoldsOfEach P (each_neighbor moment f o).area.links
   each_keeps moment f keeps o h =
       links_keep (λ (e : ℕ × Link). record e.1 { neighbor = step_on (f e.0 e.1) e.1.neighbor })
       (λ k link at. step_holds (f k link) (keeps k link) link.neighbor at) 1 o.area.links h
 
   pub one_keeps : (moment number : ℕ) (f : Neighbor → Step)
-      → ((n : Neighbor) → P n → P (f n).neighbor) → (o : Outcome) → HoldsOfEach P o.area.links
+      → ((n : Neighbor) → P n → P (f n).neighbor) → (o : AreaState) → HoldsOfEach P o.area.links
       → HoldsOfEach P (one_neighbor moment number f o).area.links
   one_keeps moment number f keeps o h =
       each_keeps moment (only_at number f)
@@ -107,25 +107,25 @@ module _ (Q : Fact) (kept : IsKept Q) where
       (λ e. released_kept Q kept (lsa_key lsa) m both.0))
       (λ e. h)
 
-  pub flood_kept : (moment : ℕ) (sender : Option ℕ) (lsa : Lsa) (o : Outcome)
+  pub flood_kept : (moment : ℕ) (sender : Option ℕ) (lsa : Lsa) (o : AreaState)
       → HoldsOfEach (Of Q) o.area.links → HoldsOfEach (Of Q) (flood moment sender lsa o).area.links
   flood_kept moment sender lsa o h =
       each_keeps (Of Q) moment (flood_to moment sender lsa) (flood_to_kept moment sender lsa) o h
 
-  install_kept : (moment number : ℕ) (lsa : Lsa) (o : Outcome) → HoldsOfEach (Of Q) o.area.links
+  install_kept : (moment number : ℕ) (lsa : Lsa) (o : AreaState) → HoldsOfEach (Of Q) o.area.links
       → HoldsOfEach (Of Q) (flood_and_install moment number lsa o).area.links
   install_kept moment number lsa o h =
-      let p : Outcome = on_database (install_flooded moment lsa) o in
+      let p : AreaState = on_database (install_flooded moment lsa) o in
       changed_keeps (Of Q) number (delay_acknowledgment lsa.header) (λ link at. at)
       (flood moment (Some number) lsa p).area.links (flood_kept moment (Some number) lsa p h)
 
-  copy_kept : (moment number : ℕ) (c : Option DatabaseCopy) (o : Outcome)
+  copy_kept : (moment number : ℕ) (c : Option DatabaseCopy) (o : AreaState)
       → HoldsOfEach (Of Q) o.area.links
       → HoldsOfEach (Of Q) (send_copy moment number c o).area.links
   copy_kept moment number None o h = h
   copy_kept moment number (Some c) o h = h
 
-  pub case_kept : (case : Case) (moment number : ℕ) (lsa : Lsa) (o : Outcome)
+  pub case_kept : (case : Case) (moment number : ℕ) (lsa : Lsa) (o : AreaState)
       → HoldsOfEach (Of Q) o.area.links
       → HoldsOfEach (Of Q) (after_case case moment number lsa o).area.links
   case_kept Case.Unreadable moment number lsa o h = h
@@ -140,4 +140,5 @@ module _ (Q : Fact) (kept : IsKept Q) where
   case_kept Case.Duplicate moment number lsa o h = h
   case_kept Case.SequenceWraps moment number lsa o h = h
   case_kept Case.SentJustNow moment number lsa o h = h
-  case_kept Case.Older moment number lsa o h = copy_kept moment number (copy_of lsa o.area) o h
+  case_kept Case.Older moment number lsa o h =
+      copy_kept moment number (database_copy lsa o.area) o h

@@ -13,7 +13,7 @@ use Rattle.adjacency.specs.lsdb.Keys.{key_cmp}
 use Rattle.adjacency.proofs.lsdb.Keys.{keys_total}
 use Rattle.adjacency.specs.Contents.{Content}
 use Rattle.adjacency.proofs.Maps.{IfThere, OfEntry, entries_in}
-use Rattle.received.specs.Outcomes.{Send, marked_database}
+use Rattle.received.specs.AreaStates.{Send, marked_database}
 
 pub tied : (o : Ordering) → is_eq o ≡ true → o ≡ Equal
 tied Less e = absurd (true≢false (sym e))

@@ -26,10 +26,12 @@ use Rattle.received.specs.Flooding.{flood, flood_to, is_to_be_sent, satisfies_re
 use Rattle.received.specs.Flooding.{without_satisfied_request}
 use Rattle.received.specs.Holds.{Holds, HoldsOfEach}
 use Rattle.received.specs.Links.{Area, Link, change_link, delay_acknowledgment}
-use Rattle.received.specs.Outcomes.{Outcome, Send, Stepping, each_neighbor, marked_database}
-use Rattle.received.specs.Outcomes.{sends_at, on_database, on_links, one_neighbor, only_at, sending}
-use Rattle.received.specs.Outcomes.{sent_on, step_on, stepped_links}
-use Rattle.received.specs.Updates.{acknowledge_directly, after_case, copy_of, flood_and_install}
+use Rattle.received.specs.AreaStates.{AreaState, Send, Stepping, each_neighbor, marked_database}
+use Rattle.received.specs.AreaStates.{sends_at, on_database, on_links, one_neighbor, only_at}
+use Rattle.received.specs.AreaStates.{sending}
+use Rattle.received.specs.AreaStates.{sent_on, step_on, stepped_links}
+use Rattle.received.specs.Updates.{acknowledge_directly, after_case, database_copy}
+use Rattle.received.specs.Updates.{flood_and_install}
 use Rattle.received.specs.Updates.{send_copy}
 use Rattle.received.proofs.Holding.{changed_keeps, each_keeps}
 use Rattle.received.proofs.Marks.{changed_by}
@@ -47,7 +49,7 @@ pub record HasRoomFor (a : Area) (sends : List Send) : Type 0 where
   pub few : length a.links ≤ 63
   pub sent : AllByRecursion SendHasRoom sends
 
-abbrev pub IsRoomyOutcome : Outcome → Type 0
+abbrev pub IsRoomyOutcome : AreaState → Type 0
 IsRoomyOutcome o = HasRoomFor o.area o.sends
 
 -- ---- databases
@@ -114,8 +116,8 @@ pub numbered_roomy : (number : ℕ) (cs : List Content) → AllByRecursion HasRo
 numbered_roomy number [] room = tt
 numbered_roomy number (c ∷ cs) room = (room.0, numbered_roomy number cs room.1)
 
-pub sending_roomy : (moment : ℕ) (more : List Send) (o : Outcome) → AllByRecursion SendHasRoom more
-    → IsRoomyOutcome o → IsRoomyOutcome (sending moment more o)
+pub sending_roomy : (moment : ℕ) (more : List Send) (o : AreaState)
+    → AllByRecursion SendHasRoom more → IsRoomyOutcome o → IsRoomyOutcome (sending moment more o)
 sending_roomy moment more o room h = record {
   fit = all_marked_fit moment more o.area.database h.fit;
   lists = h.lists;
@@ -125,7 +127,7 @@ sending_roomy moment more o room h = record {
 
 -- ---- links and the database
 
-pub on_links_roomy : (f : List Link → List Link) (o : Outcome)
+pub on_links_roomy : (f : List Link → List Link) (o : AreaState)
     → HoldsOfEach HasRoomyLists (f o.area.links) → length (f o.area.links) ≡ length o.area.links
     → IsRoomyOutcome o → IsRoomyOutcome (on_links f o)
 on_links_roomy f o lists same h = record {
@@ -135,7 +137,7 @@ on_links_roomy f o lists same h = record {
   sent = h.sent;
 }
 
-pub on_database_roomy : (f : Database → Database) (o : Outcome) → AllFit (f o.area.database)
+pub on_database_roomy : (f : Database → Database) (o : AreaState) → AllFit (f o.area.database)
     → IsRoomyOutcome o → IsRoomyOutcome (on_database f o)
 on_database_roomy f o fit h = record { fit = fit; lists = h.lists; few = h.few; sent = h.sent }
 
@@ -146,7 +148,7 @@ same_number g xs = length-map (enumerate_from 1 xs) g ∙ length-enumerate_from 
 
 pub changed_roomy : (number : ℕ) (change : Link → Link)
     → ((link : Link) → Holds HasRoomyLists link.neighbor
-    → Holds HasRoomyLists (change link).neighbor) → (o : Outcome) → IsRoomyOutcome o
+    → Holds HasRoomyLists (change link).neighbor) → (o : AreaState) → IsRoomyOutcome o
     → IsRoomyOutcome (on_links (change_link number change) o)
 changed_roomy number change keeps o h =
     on_links_roomy (change_link number change) o
@@ -176,7 +178,7 @@ steps_roomy f keeps k (x ∷ xs) h =
 
 pub each_roomy : (moment : ℕ) (f : Stepping)
     → ((number : ℕ) (link : Link) (n : Neighbor) → HasRoomyLists n → IsRoomyStep (f number link n))
-    → (o : Outcome) → IsRoomyOutcome o → IsRoomyOutcome (each_neighbor moment f o)
+    → (o : AreaState) → IsRoomyOutcome o → IsRoomyOutcome (each_neighbor moment f o)
 each_roomy moment f keeps o h =
     sending_roomy moment _ (on_links (stepped_links f) o)
     (steps_roomy f keeps 1 o.area.links h.lists)
@@ -187,7 +189,7 @@ each_roomy moment f keeps o h =
     o.area.links) h)
 
 pub one_roomy : (moment number : ℕ) (f : Neighbor → Step)
-    → ((n : Neighbor) → HasRoomyLists n → IsRoomyStep (f n)) → (o : Outcome) → IsRoomyOutcome o
+    → ((n : Neighbor) → HasRoomyLists n → IsRoomyStep (f n)) → (o : AreaState) → IsRoomyOutcome o
     → IsRoomyOutcome (one_neighbor moment number f o)
 one_roomy moment number f keeps o h =
     each_roomy moment (only_at number f)
@@ -222,22 +224,22 @@ flood_to_roomy moment sender lsa fits number link n h =
     (released_roomy (lsa_key lsa) m met)))
     (λ part. quiet_roomy n h)
 
-pub flood_roomy : (moment : ℕ) (sender : Option ℕ) (lsa : Lsa) (o : Outcome) → Fits lsa
+pub flood_roomy : (moment : ℕ) (sender : Option ℕ) (lsa : Lsa) (o : AreaState) → Fits lsa
     → IsRoomyOutcome o → IsRoomyOutcome (flood moment sender lsa o)
 flood_roomy moment sender lsa o fits h =
     each_roomy moment (flood_to moment sender lsa) (flood_to_roomy moment sender lsa fits) o h
 
 -- ---- a received LSA
 
-at_once_roomy : (moment number : ℕ) (lsa : Lsa) (o : Outcome) → IsRoomyOutcome o
+at_once_roomy : (moment number : ℕ) (lsa : Lsa) (o : AreaState) → IsRoomyOutcome o
     → IsRoomyOutcome (acknowledge_directly moment number lsa.header o)
 at_once_roomy moment number lsa o h =
     sending_roomy moment (sends_at number (Acknowledges lsa.header ∷ [])) o (tt, tt) h
 
-install_roomy : (moment number : ℕ) (lsa : Lsa) (o : Outcome) → Fits lsa → IsRoomyOutcome o
+install_roomy : (moment number : ℕ) (lsa : Lsa) (o : AreaState) → Fits lsa → IsRoomyOutcome o
     → IsRoomyOutcome (flood_and_install moment number lsa o)
 install_roomy moment number lsa o fits h =
-    let p : Outcome = on_database (install_flooded moment lsa) o in
+    let p : AreaState = on_database (install_flooded moment lsa) o in
     let put : IsRoomyOutcome p =
     on_database_roomy (install_flooded moment lsa) o
     (inserted_fit o.area.database (lsa_key lsa) (record {
@@ -249,14 +251,14 @@ install_roomy moment number lsa o fits h =
     changed_roomy number (delay_acknowledgment lsa.header) (λ link at. at)
     (flood moment (Some number) lsa p) (flood_roomy moment (Some number) lsa p fits put)
 
-copy_roomy : (moment number : ℕ) (c : Option DatabaseCopy) (o : Outcome) → FitsIfThere c
+copy_roomy : (moment number : ℕ) (c : Option DatabaseCopy) (o : AreaState) → FitsIfThere c
     → IsRoomyOutcome o → IsRoomyOutcome (send_copy moment number c o)
 copy_roomy moment number None o fits h = h
 copy_roomy moment number (Some c) o fits h =
     sending_roomy moment (sends_at number (Updates (lsa_now moment c) ∷ [])) o
     (now_fits moment c fits, tt) h
 
-pub case_roomy : (case : Case) (moment number : ℕ) (lsa : Lsa) (o : Outcome) → Fits lsa
+pub case_roomy : (case : Case) (moment number : ℕ) (lsa : Lsa) (o : AreaState) → Fits lsa
     → IsRoomyOutcome o → IsRoomyOutcome (after_case case moment number lsa o)
 case_roomy Case.Unreadable moment number lsa o fits h = h
 case_roomy Case.NothingToFlush moment number lsa o fits h = at_once_roomy moment number lsa o h
@@ -272,4 +274,5 @@ case_roomy Case.Duplicate moment number lsa o fits h = at_once_roomy moment numb
 case_roomy Case.SequenceWraps moment number lsa o fits h = h
 case_roomy Case.SentJustNow moment number lsa o fits h = h
 case_roomy Case.Older moment number lsa o fits h =
-    copy_roomy moment number (copy_of lsa o.area) o (fits_at o.area.database h.fit (lsa_key lsa)) h
+    copy_roomy moment number (database_copy lsa o.area) o
+    (fits_at o.area.database h.fit (lsa_key lsa)) h

@@ -24,10 +24,12 @@ use Rattle.received.specs.Flooding.{flood, flood_to, is_to_be_sent, satisfies_re
 use Rattle.received.specs.Flooding.{without_satisfied_request}
 use Rattle.received.specs.Links.{Area, Link, change_link, delay_acknowledgment, link_at}
 use Rattle.received.specs.Links.{neighbor_on}
-use Rattle.received.specs.Outcomes.{Outcome, Send, Stepping, each_neighbor, marked_database}
-use Rattle.received.specs.Outcomes.{sends_at, on_database, on_links, one_neighbor, only_at, sending}
-use Rattle.received.specs.Outcomes.{sent_on, step_on, stepped_links}
-use Rattle.received.specs.Updates.{acknowledge_directly, after_case, copy_of, flood_and_install}
+use Rattle.received.specs.AreaStates.{AreaState, Send, Stepping, each_neighbor, marked_database}
+use Rattle.received.specs.AreaStates.{sends_at, on_database, on_links, one_neighbor, only_at}
+use Rattle.received.specs.AreaStates.{sending}
+use Rattle.received.specs.AreaStates.{sent_on, step_on, stepped_links}
+use Rattle.received.specs.Updates.{acknowledge_directly, after_case, database_copy}
+use Rattle.received.specs.Updates.{flood_and_install}
 use Rattle.received.specs.Updates.{send_copy}
 use Rattle.received.proofs.Marks.{changed_by}
 use Rattle.received.proofs.Roomy.{joined, same_number}
@@ -54,7 +56,7 @@ pub record OfArea (t : Telling) (a : Area) (sends : List Send) : Type 0 where
   pub few : length a.links ≡ t.count
   pub sent : AllByRecursion (OfSend t) sends
 
-abbrev pub OfOutcome : Telling → Outcome → Type 0
+abbrev pub OfOutcome : Telling → AreaState → Type 0
 OfOutcome t o = OfArea t o.area o.sends
 
 module _ (t : Telling) where
@@ -95,8 +97,8 @@ module _ (t : Telling) where
   numbered_told number [] h = tt
   numbered_told number (c ∷ cs) h = (h.0, numbered_told number cs h.1)
 
-  pub sending_told : (moment : ℕ) (more : List Send) (o : Outcome) → AllByRecursion (OfSend t) more
-      → OfOutcome t o → OfOutcome t (sending moment more o)
+  pub sending_told : (moment : ℕ) (more : List Send) (o : AreaState)
+      → AllByRecursion (OfSend t) more → OfOutcome t o → OfOutcome t (sending moment more o)
   sending_told moment more o so h = record {
     copies = all_marked moment more o.area.database h.copies;
     links = h.links;
@@ -106,7 +108,7 @@ module _ (t : Telling) where
 
   -- ---- links and the database
 
-  pub on_links_told : (f : List Link → List Link) (o : Outcome) → OfLinks t (f o.area.links)
+  pub on_links_told : (f : List Link → List Link) (o : AreaState) → OfLinks t (f o.area.links)
       → length (f o.area.links) ≡ length o.area.links → OfOutcome t o → OfOutcome t (on_links f o)
   on_links_told f o links same h = record {
     copies = h.copies;
@@ -115,7 +117,7 @@ module _ (t : Telling) where
     sent = h.sent;
   }
 
-  pub on_database_told : (f : Database → Database) (o : Outcome) → OfCopies t (f o.area.database)
+  pub on_database_told : (f : Database → Database) (o : AreaState) → OfCopies t (f o.area.database)
       → OfOutcome t o → OfOutcome t (on_database f o)
   on_database_told f o copies h = record {
     copies = copies;
@@ -137,7 +139,7 @@ module _ (t : Telling) where
   each_link_told g keeps (x ∷ xs) h = (keeps x h.0, each_link_told g keeps xs h.1)
 
   pub change_told : (number : ℕ) (change : Link → Link)
-      → ((link : Link) → OfLink t link → OfLink t (change link)) → (o : Outcome) → OfOutcome t o
+      → ((link : Link) → OfLink t link → OfLink t (change link)) → (o : AreaState) → OfOutcome t o
       → OfOutcome t (on_links (change_link number change) o)
   change_told number change keeps o h =
       on_links_told (change_link number change) o
@@ -186,7 +188,7 @@ module _ (t : Telling) where
 
   pub each_told : (moment : ℕ) (f : Stepping)
       → ((number : ℕ) (link : Link) (n : Neighbor) → OfOwed t n → OfStep t (f number link n))
-      → (o : Outcome) → OfOutcome t o → OfOutcome t (each_neighbor moment f o)
+      → (o : AreaState) → OfOutcome t o → OfOutcome t (each_neighbor moment f o)
   each_told moment f keeps o h =
       sending_told moment _ (on_links (stepped_links f) o)
       (steps_told f keeps 1 o.area.links h.links)
@@ -200,7 +202,7 @@ module _ (t : Telling) where
       o.area.links) h)
 
   pub one_neighbor_told : (moment number : ℕ) (f : Neighbor → Step)
-      → ((n : Neighbor) → OfOwed t n → OfStep t (f n)) → (o : Outcome) → OfOutcome t o
+      → ((n : Neighbor) → OfOwed t n → OfStep t (f n)) → (o : AreaState) → OfOutcome t o
       → OfOutcome t (one_neighbor moment number f o)
   one_neighbor_told moment number f keeps o h =
       each_told moment (only_at number f)
@@ -235,22 +237,22 @@ module _ (t : Telling) where
       (released_told t (lsa_key lsa) m met)))
       (λ part. quiet_told t n h)
 
-  pub flood_told : (moment : ℕ) (sender : Option ℕ) (lsa : Lsa) (o : Outcome) → t.of_lsa lsa
+  pub flood_told : (moment : ℕ) (sender : Option ℕ) (lsa : Lsa) (o : AreaState) → t.of_lsa lsa
       → OfOutcome t o → OfOutcome t (flood moment sender lsa o)
   flood_told moment sender lsa o so h =
       each_told moment (flood_to moment sender lsa) (flood_to_told moment sender lsa so) o h
 
   -- ---- a received LSA
 
-  at_once_told : (moment number : ℕ) (lsa : Lsa) (o : Outcome) → t.of_lsa lsa → OfOutcome t o
+  at_once_told : (moment number : ℕ) (lsa : Lsa) (o : AreaState) → t.of_lsa lsa → OfOutcome t o
       → OfOutcome t (acknowledge_directly moment number lsa.header o)
   at_once_told moment number lsa o so h =
       sending_told moment (sends_at number (Acknowledges lsa.header ∷ [])) o (t.header lsa so, tt) h
 
-  install_told : (moment number : ℕ) (lsa : Lsa) (o : Outcome) → t.of_lsa lsa → OfOutcome t o
+  install_told : (moment number : ℕ) (lsa : Lsa) (o : AreaState) → t.of_lsa lsa → OfOutcome t o
       → OfOutcome t (flood_and_install moment number lsa o)
   install_told moment number lsa o so h =
-      let p : Outcome = on_database (install_flooded moment lsa) o in
+      let p : AreaState = on_database (install_flooded moment lsa) o in
       let put : OfOutcome t p =
       on_database_told (install_flooded moment lsa) o
       (inserted_in (OfCopy t) o.area.database (lsa_key lsa) (record {
@@ -267,14 +269,14 @@ module _ (t : Telling) where
       })
       (flood moment (Some number) lsa p) (flood_told moment (Some number) lsa p so put)
 
-  copy_told : (moment number : ℕ) (key : Key) (c : Option DatabaseCopy) (o : Outcome)
+  copy_told : (moment number : ℕ) (key : Key) (c : Option DatabaseCopy) (o : AreaState)
       → IfThere (OfCopy t) key c → OfOutcome t o → OfOutcome t (send_copy moment number c o)
   copy_told moment number key None o so h = h
   copy_told moment number key (Some c) o so h =
       sending_told moment (sends_at number (Updates (lsa_now moment c) ∷ [])) o
       (lsa_now_told t moment c so, tt) h
 
-  pub case_told : (case : Case) (moment number : ℕ) (lsa : Lsa) (o : Outcome) → t.of_lsa lsa
+  pub case_told : (case : Case) (moment number : ℕ) (lsa : Lsa) (o : AreaState) → t.of_lsa lsa
       → OfOutcome t o → OfOutcome t (after_case case moment number lsa o)
   case_told Case.Unreadable moment number lsa o so h = h
   case_told Case.NothingToFlush moment number lsa o so h = at_once_told moment number lsa o so h
@@ -290,4 +292,4 @@ module _ (t : Telling) where
   case_told Case.SequenceWraps moment number lsa o so h = h
   case_told Case.SentJustNow moment number lsa o so h = h
   case_told Case.Older moment number lsa o so h =
-      copy_told moment number (lsa_key lsa) (copy_of lsa o.area) o (h.copies (lsa_key lsa)) h
+      copy_told moment number (lsa_key lsa) (database_copy lsa o.area) o (h.copies (lsa_key lsa)) h

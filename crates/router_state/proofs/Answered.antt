@@ -2,12 +2,12 @@
 -- fields.
 use Rattle.std.proofs.Common.{◌≡◌, [], Result, Ok, Err, OnOk, sym, ap, ◌∙◌}
 use Rattle.flooding.specs.received.Links.{Area}
-use Rattle.flooding.specs.received.Outcomes.{Outcome}
+use Rattle.flooding.specs.received.AreaStates.{AreaState}
 use Rattle.event_rules.specs.EventState.{EventState, on_area}
 use Rattle.flooding.specs.Doing.{AreaDoes}
 use Rattle.flooding.specs.Drafted.{drafts_with, nothing_at}
 use Rattle.flooding.specs.Kept.{RouterArea}
-use Rattle.flooding.specs.Links.{start}
+use Rattle.flooding.specs.Links.{with_no_sends}
 use Rattle.flooding.proofs.Sends.{drafted_none}
 use Rattle.router_state.specs.Kept.{KeptRouter}
 use Rattle.router_state.specs.Making.{Makes, RouterDoes}
@@ -40,37 +40,41 @@ module _ (shown old : KeptRouter) (a b : RouterArea) (view : shown ≡ old)
       ∙ ap (λ (r : KeptRouter). record r { drafted = nothing_at r.present.area.links })
       (whole ∙ view)
 
-module _ (F : Outcome → Outcome) (keeps : KeepsInterfaces F) (appends : Appends F)
+module _ (F : AreaState → AreaState) (keeps : KeepsInterfaces F) (appends : Appends F)
     (shown old : KeptRouter) (a b : RouterArea) where
   area_makes : shown ≡ old → with_area a shown ≡ shown → b.committed ≡ a.committed
-      → b.present ≡ (F (start a.present)).area
-      → b.drafted ≡ drafts_with (F (start a.present)).sends a.present.links a.drafted
+      → b.present ≡ (F (with_no_sends a.present)).area
+      → b.drafted ≡ drafts_with (F (with_no_sends a.present)).sends a.present.links a.drafted
       → Makes (on_area F) old (with_area b shown)
   area_makes view whole committed is drafts =
       let same : with_area a shown ≡ old = whole ∙ view in
       makes_on_area F appends keeps old (with_area b shown)
       (area_stays shown old a b view whole committed)
       ((λ i. record shown.present { area = is i })
-      ∙ ap (λ (r : KeptRouter). record r.present { area = (F (start r.present.area)).area }) same)
+      ∙ ap (λ (r : KeptRouter). record r.present { area = (F (with_no_sends r.present.area)).area })
+      same)
       (drafts
-      ∙ ap (λ (r : KeptRouter). drafts_with (F (start r.present.area)).sends r.present.area.links
+      ∙ ap (λ (r : KeptRouter). drafts_with (F (with_no_sends r.present.area)).sends
+      r.present.area.links
       r.drafted) same)
 
   -- what the call does to these links and this database is F
-  pub area_does : {X E : Type 0} {f : Area → Outcome} (r : Result X E) → shown ≡ old
-      → with_area a shown ≡ shown → AreaDoes f a b r → f a.present ≡ F (start a.present)
+  pub area_does : {X E : Type 0} {f : Area → AreaState} (r : Result X E) → shown ≡ old
+      → with_area a shown ≡ shown → AreaDoes f a b r → f a.present ≡ F (with_no_sends a.present)
       → RouterDoes (on_area F) old (with_area b shown) r
   area_does r view whole does same = record {
     committed = area_stays shown old a b view whole does.committed;
     makes = both r (λ is drafts. area_makes view whole does.committed
-        (is ∙ ap (λ (o : Outcome). o.area) same)
-        (drafts ∙ ap (λ (o : Outcome). drafts_with o.sends a.present.links a.drafted) same))
+        (is ∙ ap (λ (o : AreaState). o.area) same)
+        (drafts ∙ ap (λ (o : AreaState). drafts_with o.sends a.present.links a.drafted) same))
         does.area does.drafts;
   }
 
   -- if nothing is sent, each draft stays the same
   pub makes_alone : shown ≡ old → with_area a shown ≡ shown
-      → b ≡ record a { present = (F (start a.present)).area } → (F (start a.present)).sends ≡ []
+      → b ≡ record a {
+        present = (F (with_no_sends a.present)).area;
+      } → (F (with_no_sends a.present)).sends ≡ []
       → Makes (on_area F) old (with_area b shown)
   makes_alone view whole to none =
       area_makes view whole (ap (λ (x : RouterArea). x.committed) to)
@@ -79,9 +83,9 @@ module _ (F : Outcome → Outcome) (keeps : KeepsInterfaces F) (appends : Append
       ∙ ap (λ sends. drafts_with sends a.present.links a.drafted) (sym none))
 
   -- the call comes after a part that led to these links and this database
-  pub area_then : {X E : Type 0} {f : Area → Outcome} {first : EventState → EventState}
+  pub area_then : {X E : Type 0} {f : Area → AreaState} {first : EventState → EventState}
       (r : Result X E) → shown ≡ old → Makes first old (with_area a shown) → AreaDoes f a b r
-      → f a.present ≡ F (start a.present)
+      → f a.present ≡ F (with_no_sends a.present)
       → RouterDoes (λ p. on_area F (first p)) old (with_area b shown) r
   area_then {X} {E} {f} {first} r view made does same =
       let middle : KeptRouter = with_area a shown in
@@ -90,7 +94,7 @@ module _ (F : Outcome → Outcome) (keeps : KeepsInterfaces F) (appends : Append
         committed = λ i. record shown.committed { area = does.committed i };
         makes = both r (λ is drafts. makes_on_area F appends keeps middle (with_area b shown)
             (λ i. record shown.committed { area = does.committed i })
-            (λ i. record shown.present { area = (is ∙ ap (λ (o : Outcome). o.area) same) i })
-            (drafts ∙ ap (λ (o : Outcome). drafts_with o.sends a.present.links a.drafted) same))
+            (λ i. record shown.present { area = (is ∙ ap (λ (o : AreaState). o.area) same) i })
+            (drafts ∙ ap (λ (o : AreaState). drafts_with o.sends a.present.links a.drafted) same))
             does.area does.drafts;
       })

@@ -3,8 +3,9 @@ use Rattle.std.proofs.Common.{◌≡◌, ℕ, ◌+◌, ◌==◌, Bool, true, fal
 use Rattle.std.proofs.Common.{refl, sym, ap, ◌∙◌, append_assoc}
 use Rattle.std.specs.List.{enumerate_from}
 use Rattle.flooding.specs.received.Links.{Link, change_link}
-use Rattle.flooding.specs.received.Outcomes.{Outcome, Stepping, each_neighbor, on_links, step_on}
-use Rattle.flooding.specs.Links.{start}
+use Rattle.flooding.specs.received.AreaStates.{AreaState, Stepping, each_neighbor, on_links}
+use Rattle.flooding.specs.received.AreaStates.{step_on}
+use Rattle.flooding.specs.Links.{with_no_sends}
 use Rattle.flooding.proofs.Sends.{append_none}
 use Rattle.router_state.specs.Aging.{outcomes_in_turn}
 use Rattle.router_state.specs.Making.{interfaces_of}
@@ -21,10 +22,10 @@ appends_links f o = λ i. record {
   sends = sym (append_none o.sends) i;
 }
 
-pub appends_then : (F G : Outcome → Outcome) → Appends F → Appends G → Appends (λ o. G (F o))
+pub appends_then : (F G : AreaState → AreaState) → Appends F → Appends G → Appends (λ o. G (F o))
 appends_then F G first second o =
-    let p : Outcome = F (start o.area) in
-    let q : Outcome = G (start p.area) in
+    let p : AreaState = F (with_no_sends o.area) in
+    let q : AreaState = G (with_no_sends p.area) in
     ap G (first o) ∙ second (outcomes_in_turn o p)
     ∙ (λ i. record { area = q.area; sends = append_assoc o.sends p.sends q.sends i })
     ∙ ap (outcomes_in_turn o) (sym (second p))

@@ -14,12 +14,12 @@ use Rattle.flooding.specs.adjacency.Contents.{Step, Updates, no_sends}
 use Rattle.flooding.specs.adjacency.Descriptions.{after_description}
 use Rattle.flooding.specs.adjacency.Retransmissions.{after_acknowledgment}
 use Rattle.flooding.specs.received.Links.{Area, Link, link_at}
-use Rattle.flooding.specs.received.Outcomes.{Outcome, sends_at, one_neighbor, only_at, sending}
+use Rattle.flooding.specs.received.AreaStates.{AreaState, sends_at, one_neighbor, only_at, sending}
 use Rattle.event_rules.specs.Hellos.{accepts, names}
 use Rattle.event_rules.specs.Packets.{accept_hello, receive_acknowledgment, receive_description}
 use Rattle.event_rules.specs.Packets.{receive_hello, receive_hello_on}
 use Rattle.event_rules.specs.Packets.{is_there, receive_request, requested_lsas, with_neighbor}
-use Rattle.flooding.specs.Links.{start}
+use Rattle.flooding.specs.Links.{with_no_sends}
 use Rattle.router_state.specs.Aging.{outcomes_in_turn}
 use Rattle.router_state.specs.Making.{interfaces_of}
 use Rattle.router_state.proofs.Making.{Appends, KeepsInterfaces}
@@ -31,15 +31,16 @@ module _ (own moment number from : ℕ) (h : Hello) where
   abbrev heard : Link → Step
   heard l = adjacencies.after_hello moment from (names own h) l.neighbor
 
-  accepted_after : (s : Step) (o : Outcome) (b : Bool)
+  accepted_after : (s : Step) (o : AreaState) (b : Bool)
       → cond b (accept_hello moment number s o) o
-      ≡ outcomes_in_turn o (cond b (accept_hello moment number s (start o.area)) (start o.area))
+      ≡ outcomes_in_turn o (cond b (accept_hello moment number s (with_no_sends o.area))
+      (with_no_sends o.area))
   accepted_after s o true = refl
   accepted_after s o false = appends_nothing o
 
-  heard_after : (l : Option Link) (o : Outcome)
+  heard_after : (l : Option Link) (o : AreaState)
       → receive_hello_on own moment number from h l o
-      ≡ outcomes_in_turn o (receive_hello_on own moment number from h l (start o.area))
+      ≡ outcomes_in_turn o (receive_hello_on own moment number from h l (with_no_sends o.area))
   heard_after None o = appends_nothing o
   heard_after (Some l) o = accepted_after (heard l) o (accepts own from h l)
 
@@ -47,13 +48,14 @@ module _ (own moment number from : ℕ) (h : Hello) where
   appends_hello o = heard_after (link_at number o.area.links) o
 
   accepted_keeps : (s : Step) (a : Area) (b : Bool)
-      → interfaces_of (cond b (accept_hello moment number s (start a)) (start a)).area.links
+      → interfaces_of (cond b (accept_hello moment number s (with_no_sends a))
+      (with_no_sends a)).area.links
       ≡ interfaces_of a.links
   accepted_keeps s a true = change_interfaces number (with_neighbor s.neighbor) (λ l. refl) a.links
   accepted_keeps s a false = refl
 
   heard_keeps : (l : Option Link) (a : Area)
-      → interfaces_of (receive_hello_on own moment number from h l (start a)).area.links
+      → interfaces_of (receive_hello_on own moment number from h l (with_no_sends a)).area.links
       ≡ interfaces_of a.links
   heard_keeps None a = refl
   heard_keeps (Some l) a = accepted_keeps (heard l) a (accepts own from h l)
@@ -74,13 +76,13 @@ module _ (own moment number : ℕ) (d : Description) where
 -- ---- Link State Requests
 
 module _ (moment number : ℕ) (keys : List Key) where
-  abbrev sent : Database → Outcome → Outcome
+  abbrev sent : Database → AreaState → AreaState
   sent db o = sending moment (sends_at number (map Updates (requested_lsas moment db keys))) o
 
-  requested_after : (o : Outcome) (b : Bool)
+  requested_after : (o : AreaState) (b : Bool)
       → cond b (sent o.area.database o) (one_neighbor moment number (mismatch_step moment) o)
-      ≡ outcomes_in_turn o (cond b (sent o.area.database (start o.area))
-      (one_neighbor moment number (mismatch_step moment) (start o.area)))
+      ≡ outcomes_in_turn o (cond b (sent o.area.database (with_no_sends o.area))
+      (one_neighbor moment number (mismatch_step moment) (with_no_sends o.area)))
   requested_after o true = refl
   requested_after o false = refl
 
@@ -88,8 +90,8 @@ module _ (moment number : ℕ) (keys : List Key) where
   appends_request o = requested_after o (list_all (is_there o.area.database) keys)
 
   requested_keeps : (a : Area) (b : Bool)
-      → interfaces_of (cond b (sent a.database (start a))
-      (one_neighbor moment number (mismatch_step moment) (start a))).area.links
+      → interfaces_of (cond b (sent a.database (with_no_sends a))
+      (one_neighbor moment number (mismatch_step moment) (with_no_sends a))).area.links
       ≡ interfaces_of a.links
   requested_keeps a true = refl
   requested_keeps a false = keeps_neighbors moment (only_at number (mismatch_step moment)) a

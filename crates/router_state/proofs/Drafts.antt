@@ -6,7 +6,7 @@ use Rattle.flooding.specs.adjacency.Contents.{Content}
 use Rattle.flooding.specs.adjacency.Drafts.{Drafted, adds, drafting}
 use Rattle.flooding.specs.adjacency.declared.interface.Interface.{Interface}
 use Rattle.flooding.specs.received.Links.{Link}
-use Rattle.flooding.specs.received.Outcomes.{Send, at_interface}
+use Rattle.flooding.specs.received.AreaStates.{Send, at_interface}
 use Rattle.flooding.specs.Drafted.{drafts_with, drafted_from}
 use Rattle.flooding.proofs.Sends.{picked_append}
 use Rattle.router_state.specs.Making.{interfaces_of}

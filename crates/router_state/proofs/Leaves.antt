@@ -20,8 +20,10 @@ use Rattle.flooding.specs.received.Cases.{Case}
 use Rattle.flooding.specs.received.Flooding.{flood_to}
 use Rattle.flooding.specs.received.Links.{Area, any_exchange_or_loading, delay_acknowledgment}
 use Rattle.flooding.specs.received.Links.{change_link}
-use Rattle.flooding.specs.received.Outcomes.{Outcome, on_database, on_links, only_at, stepped_links}
-use Rattle.flooding.specs.received.Updates.{after_case, copy_of, flood_and_install, send_copy}
+use Rattle.flooding.specs.received.AreaStates.{AreaState, on_database, on_links, only_at}
+use Rattle.flooding.specs.received.AreaStates.{stepped_links}
+use Rattle.flooding.specs.received.Updates.{after_case, database_copy, flood_and_install}
+use Rattle.flooding.specs.received.Updates.{send_copy}
 use Rattle.event_rules.specs.Commands.{after_link_down, taken_down}
 use Rattle.event_rules.specs.Endings.{link_loading_done, remove_aged, request_all, stays}
 use Rattle.event_rules.specs.Endings.{flood_aged, flood_if_aged}
@@ -31,7 +33,7 @@ use Rattle.event_rules.specs.Ticks.{again, expire_timers, send_acknowledgments, 
 use Rattle.event_rules.specs.Ticks.{send_hellos}
 use Rattle.event_rules.specs.Ticks.{with_hello_sent, without_acknowledgments}
 use Rattle.flooding.specs.Cases.{is_to_be_installed}
-use Rattle.flooding.specs.Links.{age_copy, start}
+use Rattle.flooding.specs.Links.{age_copy, with_no_sends}
 use Rattle.router_state.specs.Aging.{outcomes_in_turn}
 use Rattle.router_state.specs.Making.{interfaces_of}
 use Rattle.router_state.proofs.Making.{Appends, KeepsInterfaces}
@@ -47,13 +49,14 @@ pub keeps_install : (moment : ℕ) (lsa : Lsa) → KeepsInterfaces (install_and_
 keeps_install moment lsa a = keeps_neighbors moment (flood_to moment None lsa) a
 
 module _ (moment : ℕ) (key : Key) where
-  abbrev pub aged_and_flooded : DatabaseCopy → Outcome → Outcome
+  abbrev pub aged_and_flooded : DatabaseCopy → AreaState → AreaState
   aged_and_flooded c o = flood_from_nobody moment (lsa_with_age max_age c.lsa)
       (on_database (age_prematurely moment key) o)
 
-  flush_by : (c : DatabaseCopy) (o : Outcome) (b : Bool)
+  flush_by : (c : DatabaseCopy) (o : AreaState) (b : Bool)
       → cond b o (aged_and_flooded c o)
-      ≡ outcomes_in_turn o (cond b (start o.area) (aged_and_flooded c (start o.area)))
+      ≡ outcomes_in_turn o (cond b (with_no_sends o.area)
+      (aged_and_flooded c (with_no_sends o.area)))
   flush_by c o true = appends_nothing o
   flush_by c o false = refl
 
@@ -62,7 +65,7 @@ module _ (moment : ℕ) (key : Key) where
   appends_flush (Some c) o = flush_by c o (is_aged_out moment c)
 
   kept_by : (c : DatabaseCopy) (a : Area) (b : Bool)
-      → interfaces_of (cond b (start a) (aged_and_flooded c (start a))).area.links
+      → interfaces_of (cond b (with_no_sends a) (aged_and_flooded c (with_no_sends a))).area.links
       ≡ interfaces_of a.links
   kept_by c a true = refl
   kept_by c a false = keeps_neighbors moment (flood_to moment None (lsa_with_age max_age c.lsa)) a
@@ -72,7 +75,7 @@ module _ (moment : ℕ) (key : Key) where
   keeps_flush (Some c) a = kept_by c a (is_aged_out moment c)
 
   -- a copy that is younger than MaxAge
-  pub flushed_is : (c : DatabaseCopy) (copy : Option DatabaseCopy) (o : Outcome) → Some c ≡ copy
+  pub flushed_is : (c : DatabaseCopy) (copy : Option DatabaseCopy) (o : AreaState) → Some c ≡ copy
       → false ≡ is_aged_out moment c
       → age_copy moment key copy o ≡ flush_copy moment key copy o
   flushed_is c copy o there young =
@@ -96,9 +99,9 @@ module _ (moment : ℕ) (key : Key) where
 -- ---- received LSAs
 
 module _ (moment number : ℕ) (lsa : Lsa) where
-  appends_copy : (copy : Option DatabaseCopy) (o : Outcome)
+  appends_copy : (copy : Option DatabaseCopy) (o : AreaState)
       → send_copy moment number copy o
-      ≡ outcomes_in_turn o (send_copy moment number copy (start o.area))
+      ≡ outcomes_in_turn o (send_copy moment number copy (with_no_sends o.area))
   appends_copy None o = appends_nothing o
   appends_copy (Some c) o = refl
 
@@ -112,10 +115,11 @@ module _ (moment number : ℕ) (lsa : Lsa) where
   appends_case Case.Duplicate o = refl
   appends_case Case.SequenceWraps o = appends_nothing o
   appends_case Case.SentJustNow o = appends_nothing o
-  appends_case Case.Older o = appends_copy (copy_of lsa o.area) o
+  appends_case Case.Older o = appends_copy (database_copy lsa o.area) o
 
   keeps_copy : (copy : Option DatabaseCopy) (a : Area)
-      → interfaces_of (send_copy moment number copy (start a)).area.links ≡ interfaces_of a.links
+      → interfaces_of (send_copy moment number copy (with_no_sends a)).area.links
+      ≡ interfaces_of a.links
   keeps_copy None a = refl
   keeps_copy (Some c) a = refl
 
@@ -134,10 +138,10 @@ module _ (moment number : ℕ) (lsa : Lsa) where
   keeps_case Case.Duplicate a = refl
   keeps_case Case.SequenceWraps a = refl
   keeps_case Case.SentJustNow a = refl
-  keeps_case Case.Older a = keeps_copy (copy_of lsa a) a
+  keeps_case Case.Older a = keeps_copy (database_copy lsa a) a
 
   -- an LSA of the case `Newer` is installed
-  pub newer_installs : (c : Case) → is_to_be_installed c ≡ true → (o : Outcome)
+  pub newer_installs : (c : Case) → is_to_be_installed c ≡ true → (o : AreaState)
       → flood_and_install moment number lsa o ≡ after_case c moment number lsa o
   newer_installs Case.Unreadable is o = absurd (false≢true is)
   newer_installs Case.NothingToFlush is o = absurd (false≢true is)
@@ -153,16 +157,16 @@ module _ (moment number : ℕ) (lsa : Lsa) where
 -- ---- aging
 
 module _ (before moment : ℕ) where
-  abbrev aged : (Key × DatabaseCopy) → Outcome → Outcome
+  abbrev aged : (Key × DatabaseCopy) → AreaState → AreaState
   aged e o = flood_if_aged before moment o e
 
-  abbrev all_aged : List (Key × DatabaseCopy) → Outcome → Outcome
+  abbrev all_aged : List (Key × DatabaseCopy) → AreaState → AreaState
   all_aged es o = fold (flood_if_aged before moment) o es
 
-  age_by : (e : Key × DatabaseCopy) (o : Outcome) (b : Bool)
+  age_by : (e : Key × DatabaseCopy) (o : AreaState) (b : Bool)
       → cond b (flood_from_nobody moment (lsa_now moment e.1) o) o
       ≡ outcomes_in_turn o (cond b (flood_from_nobody moment (lsa_now moment e.1)
-      (start o.area)) (start o.area))
+      (with_no_sends o.area)) (with_no_sends o.area))
   age_by e o true = refl
   age_by e o false = appends_nothing o
 
@@ -174,20 +178,20 @@ module _ (before moment : ℕ) where
   pub appends_ages : Appends (flood_aged before moment)
   appends_ages o = appends_each (finite.entries o.area.database) o
 
-  keeps_by : (e : Key × DatabaseCopy) (o : Outcome) (b : Bool)
+  keeps_by : (e : Key × DatabaseCopy) (o : AreaState) (b : Bool)
       → interfaces_of (cond b (flood_from_nobody moment (lsa_now moment e.1) o) o).area.links
       ≡ interfaces_of o.area.links
   keeps_by e o true = keeps_neighbors moment (flood_to moment None (lsa_now moment e.1)) o.area
   keeps_by e o false = refl
 
-  keeps_each : (es : List (Key × DatabaseCopy)) (o : Outcome)
+  keeps_each : (es : List (Key × DatabaseCopy)) (o : AreaState)
       → interfaces_of (all_aged es o).area.links ≡ interfaces_of o.area.links
   keeps_each [] o = refl
   keeps_each (e ∷ es) o = keeps_each es (aged e o)
       ∙ keeps_by e o (has_just_aged_out before moment e.1)
 
   pub keeps_ages : KeepsInterfaces (flood_aged before moment)
-  keeps_ages a = keeps_each (finite.entries a.database) (start a)
+  keeps_ages a = keeps_each (finite.entries a.database) (with_no_sends a)
 
 -- ---- timers
 
@@ -202,7 +206,7 @@ module _ (moment : ℕ) where
   appends_again o = refl
 
   pub keeps_again : KeepsInterfaces (send_all_again moment)
-  keeps_again a = keeps_neighbors moment (again moment (start a)) a
+  keeps_again a = keeps_neighbors moment (again moment (with_no_sends a)) a
 
   pub appends_acknowledgments : Appends (send_acknowledgments moment)
   appends_acknowledgments o = refl
@@ -216,12 +220,13 @@ module _ (moment : ℕ) where
   pub keeps_hellos : KeepsInterfaces (send_hellos moment)
   keeps_hellos a = map_interfaces (with_hello_sent moment) (λ l. refl) a.links
 
-  abbrev without_aged : Area → Outcome → Outcome
+  abbrev without_aged : Area → AreaState → AreaState
   without_aged a o = on_database (λ db. finite.retain_keys db (stays moment a)) o
 
-  removed_by : (o : Outcome) (b : Bool)
+  removed_by : (o : AreaState) (b : Bool)
       → cond b o (without_aged o.area o)
-      ≡ outcomes_in_turn o (cond b (start o.area) (without_aged o.area (start o.area)))
+      ≡ outcomes_in_turn o (cond b (with_no_sends o.area)
+      (without_aged o.area (with_no_sends o.area)))
   removed_by o true = appends_nothing o
   removed_by o false = appends_nothing (without_aged o.area o)
 
@@ -229,7 +234,7 @@ module _ (moment : ℕ) where
   appends_removal o = removed_by o (any_exchange_or_loading o.area.links)
 
   remains_by : (a : Area) (b : Bool)
-      → interfaces_of (cond b (start a) (without_aged a (start a))).area.links
+      → interfaces_of (cond b (with_no_sends a) (without_aged a (with_no_sends a))).area.links
       ≡ interfaces_of a.links
   remains_by a true = refl
   remains_by a false = refl

@@ -5,11 +5,11 @@ use Rattle.std.proofs.lemmas.List.{length-map}
 use Rattle.keyed_map.proofs.Helds.{on_ok}
 use Rattle.flooding.specs.adjacency.Drafts.{Drafted}
 use Rattle.flooding.specs.received.Links.{Area, Link}
-use Rattle.flooding.specs.received.Outcomes.{Outcome}
+use Rattle.flooding.specs.received.AreaStates.{AreaState}
 use Rattle.event_rules.specs.EventState.{EventState, on_area, on_router}
 use Rattle.event_rules.specs.Routers.{Router}
 use Rattle.flooding.specs.Drafted.{drafts_with}
-use Rattle.flooding.specs.Links.{start}
+use Rattle.flooding.specs.Links.{with_no_sends}
 use Rattle.flooding.proofs.Doing.{always, on_err}
 use Rattle.flooding.proofs.Sends.{drafted_none}
 use Rattle.router_state.specs.Aging.{outcomes_in_turn}
@@ -17,7 +17,7 @@ use Rattle.router_state.specs.Kept.{KeptRouter}
 use Rattle.router_state.specs.Making.{IsMaking, Makes, RouterDoes, interfaces_of}
 use Rattle.router_state.proofs.Drafts.{drafted_append, drafted_same}
 
--- ---- the start of an event: nothing was sent yet
+-- ---- the with_no_sends of an event: nothing was sent yet
 
 pub making_starts : (r : KeptRouter) → IsMaking (record {
   router = r.present;
@@ -135,35 +135,36 @@ makes_on_router f old new stays committed is drafted = record {
 -- ---- a change of links and database
 
 -- what is sent comes after what was sent before, and doesn't depend on it
-abbrev pub Appends : (Outcome → Outcome) → Type 0
-Appends F = (o : Outcome) → F o ≡ outcomes_in_turn o (F (start o.area))
+abbrev pub Appends : (AreaState → AreaState) → Type 0
+Appends F = (o : AreaState) → F o ≡ outcomes_in_turn o (F (with_no_sends o.area))
 
-abbrev pub KeepsInterfaces : (Outcome → Outcome) → Type 0
-KeepsInterfaces F = (a : Area) → interfaces_of (F (start a)).area.links ≡ interfaces_of a.links
+abbrev pub KeepsInterfaces : (AreaState → AreaState) → Type 0
+KeepsInterfaces F = (a : Area) → interfaces_of (F (with_no_sends a)).area.links
+    ≡ interfaces_of a.links
 
-module _ (F : Outcome → Outcome) (appends : Appends F) (keeps : KeepsInterfaces F) where
+module _ (F : AreaState → AreaState) (appends : Appends F) (keeps : KeepsInterfaces F) where
   drafts_on_area : (p : EventState) (first : List Drafted)
-      → drafts_with (F (start p.router.area)).sends p.router.area.links
+      → drafts_with (F (with_no_sends p.router.area)).sends p.router.area.links
       (drafts_with p.sends p.router.area.links first)
       ≡ drafts_with (on_area F p).sends (on_area F p).router.area.links first
   drafts_on_area p first =
-      let o : Outcome = record { area = p.router.area; sends = p.sends } in
-      let more : Outcome = F (start p.router.area) in
+      let o : AreaState = record { area = p.router.area; sends = p.sends } in
+      let more : AreaState = F (with_no_sends p.router.area) in
       drafted_append 1 p.sends more.sends p.router.area.links first
       ∙ drafted_same (p.sends ++ more.sends) p.router.area.links more.area.links first
       (sym (keeps p.router.area))
-      ∙ ap (λ (q : Outcome). drafts_with q.sends q.area.links first) (sym (appends o))
+      ∙ ap (λ (q : AreaState). drafts_with q.sends q.area.links first) (sym (appends o))
 
   router_on_area : (p : EventState)
-      → ◌≡◌ {A = Router} (record p.router { area = (F (start p.router.area)).area })
+      → ◌≡◌ {A = Router} (record p.router { area = (F (with_no_sends p.router.area)).area })
       (on_area F p).router
   router_on_area p =
-      let o : Outcome = record { area = p.router.area; sends = p.sends } in
-      ap (λ (q : Outcome). record p.router { area = q.area }) (sym (appends o))
+      let o : AreaState = record { area = p.router.area; sends = p.sends } in
+      ap (λ (q : AreaState). record p.router { area = q.area }) (sym (appends o))
 
   pub makes_on_area : (old new : KeptRouter) → new.committed ≡ old.committed
-      → new.present ≡ record old.present { area = (F (start old.present.area)).area }
-      → new.drafted ≡ drafts_with (F (start old.present.area)).sends old.present.area.links
+      → new.present ≡ record old.present { area = (F (with_no_sends old.present.area)).area }
+      → new.drafted ≡ drafts_with (F (with_no_sends old.present.area)).sends old.present.area.links
       old.drafted
       → Makes (on_area F) old new
   makes_on_area old new committed is drafts = record {
@@ -171,11 +172,12 @@ module _ (F : Outcome → Outcome) (appends : Appends F) (keeps : KeepsInterface
     interfaces = ap (λ (r : Router). interfaces_of r.area.links) is ∙ keeps old.present.area;
     part = λ p first made. record {
       router = is ∙ ap (λ (r : Router). record r {
-        area = (F (start r.area)).area;
+        area = (F (with_no_sends r.area)).area;
       }) made.router ∙ router_on_area p;
       drafts =
           drafts
-          ∙ (λ i. drafts_with (F (start (made.router i).area)).sends (made.router i).area.links
+          ∙ (λ i. drafts_with (F (with_no_sends (made.router i).area)).sends
+          (made.router i).area.links
           (made.drafts i))
           ∙ drafts_on_area p first;
     };

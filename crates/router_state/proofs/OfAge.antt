@@ -11,12 +11,12 @@ use Rattle.flooding.specs.lsdb.Copies.{is_aged_out, lsa_now}
 use Rattle.flooding.specs.adjacency.Drafts.{Drafted}
 use Rattle.flooding.specs.received.Flooding.{flood, flood_to}
 use Rattle.flooding.specs.received.Links.{Area}
-use Rattle.flooding.specs.received.Outcomes.{Outcome, Send, stepping_sends}
+use Rattle.flooding.specs.received.AreaStates.{AreaState, Send, stepping_sends}
 use Rattle.flooding.proofs.received.Marks.{IsStill, StillThere, all_there, still_all}
 use Rattle.flooding.proofs.received.Marks.{still_marked}
 use Rattle.event_rules.specs.Endings.{flood_aged, flood_if_aged}
 use Rattle.flooding.specs.Drafted.{drafts_with}
-use Rattle.flooding.specs.Links.{flood_new_max_age, flood_new_max_age_copy, start}
+use Rattle.flooding.specs.Links.{flood_new_max_age, flood_new_max_age_copy, with_no_sends}
 use Rattle.flooding.proofs.Sends.{append_none}
 use Rattle.router_state.specs.Aging.{flood_each_new_max_age, outcomes_in_turn}
 use Rattle.router_state.specs.Making.{interfaces_of}
@@ -25,26 +25,26 @@ use Rattle.router_state.proofs.Drafts.{drafted_append, drafted_same}
 
 -- ---- one entry, and the key of one copy
 
-nothing_followed : (o : Outcome) → o ≡ outcomes_in_turn o (start o.area)
+nothing_followed : (o : AreaState) → o ≡ outcomes_in_turn o (with_no_sends o.area)
 nothing_followed o = λ i. record { area = o.area; sends = sym (append_none o.sends) i }
 
 module _ (before moment : ℕ) where
-  by_age : (e : Key × DatabaseCopy) (o : Outcome) (b : Bool)
+  by_age : (e : Key × DatabaseCopy) (o : AreaState) (b : Bool)
       → cond b (flood moment None (lsa_now moment e.1) o) o
-      ≡ outcomes_in_turn o (cond b (flood moment None (lsa_now moment e.1) (start o.area))
-      (start o.area))
+      ≡ outcomes_in_turn o (cond b (flood moment None (lsa_now moment e.1) (with_no_sends o.area))
+      (with_no_sends o.area))
   by_age e o true = refl
   by_age e o false = nothing_followed o
 
-  aged_by_key : (e : Key × DatabaseCopy) (o : Outcome) → IsStill o.area.database e.0 e.1
+  aged_by_key : (e : Key × DatabaseCopy) (o : AreaState) → IsStill o.area.database e.0 e.1
       → flood_if_aged before moment o e
       ≡ outcomes_in_turn o (flood_new_max_age before moment e.0 o.area)
   aged_by_key e o still =
       by_age e o (has_just_aged_out before moment e.1)
       ∙ ap (λ (c : Option DatabaseCopy). outcomes_in_turn o
-      (flood_new_max_age_copy before moment c (start o.area))) (sym still.1)
+      (flood_new_max_age_copy before moment c (with_no_sends o.area))) (sym still.1)
 
-  still_aged : (e : Key × DatabaseCopy) (es : List (Key × DatabaseCopy)) (o : Outcome) (b : Bool)
+  still_aged : (e : Key × DatabaseCopy) (es : List (Key × DatabaseCopy)) (o : AreaState) (b : Bool)
       → AllByRecursion (StillThere o.area.database) es
       → AllByRecursion (StillThere (cond b (flood moment None (lsa_now moment e.1) o)
       o).area.database) es
@@ -55,17 +55,17 @@ module _ (before moment : ℕ) where
   abbrev keys_of : List (Key × DatabaseCopy) → List Key
   keys_of es = map (λ e. e.0) (filter (λ e. is_aged_out moment e.1) es)
 
-  abbrev going_on : List Key → Outcome → Outcome
+  abbrev going_on : List Key → AreaState → AreaState
   going_on keys o = outcomes_in_turn o (flood_each_new_max_age before moment keys o.area)
 
-  by_test : (e : Key × DatabaseCopy) (es : List (Key × DatabaseCopy)) (o : Outcome)
+  by_test : (e : Key × DatabaseCopy) (es : List (Key × DatabaseCopy)) (o : AreaState)
       → IsStill o.area.database e.0 e.1 → (b : Bool) → is_aged_out moment e.1 ≡ b
       → going_on (keys_of es) (flood_if_aged before moment o e)
       ≡ going_on (map (λ e. e.0) (cond b (e ∷ filter (λ e. is_aged_out moment e.1) es)
       (filter (λ e. is_aged_out moment e.1) es))) o
   by_test e es o still true is =
-      let p : Outcome = flood_new_max_age before moment e.0 o.area in
-      let q : Outcome = flood_each_new_max_age before moment (keys_of es) p.area in
+      let p : AreaState = flood_new_max_age before moment e.0 o.area in
+      let q : AreaState = flood_each_new_max_age before moment (keys_of es) p.area in
       ap (going_on (keys_of es)) (aged_by_key e o still) ∙ (λ i. record {
         area = q.area;
         sends = append_assoc o.sends p.sends q.sends i;
@@ -74,7 +74,7 @@ module _ (before moment : ℕ) where
       ap (λ b. going_on (keys_of es) (cond (b && not (is_aged_out before e.1))
       (flood moment None (lsa_now moment e.1) o) o)) is
 
-  ages_by_keys : (es : List (Key × DatabaseCopy)) (o : Outcome)
+  ages_by_keys : (es : List (Key × DatabaseCopy)) (o : AreaState)
       → AllByRecursion (StillThere o.area.database) es
       → fold (flood_if_aged before moment) o es ≡ going_on (keys_of es) o
   ages_by_keys [] o h = nothing_followed o
@@ -85,21 +85,22 @@ module _ (before moment : ℕ) where
 
   pub ages_are : (a : Area) → flood_each_new_max_age before moment (max_age_keys moment a.database)
       a
-      ≡ flood_aged before moment (start a)
-  ages_are a = sym (ages_by_keys (finite.entries a.database) (start a)
+      ≡ flood_aged before moment (with_no_sends a)
+  ages_are a = sym (ages_by_keys (finite.entries a.database) (with_no_sends a)
       (still_all a.database (finite.entries a.database) (all_there a.database)))
 
 -- ---- what is sent after something else is drafted after it
 
 module _ (before moment : ℕ) (a : Area) (ds : List Drafted) where
   kept_by_test : (lsa : Lsa) (b : Bool)
-      → interfaces_of (cond b (flood moment None lsa (start a)) (start a)).area.links
+      → interfaces_of (cond b (flood moment None lsa (with_no_sends a))
+      (with_no_sends a)).area.links
       ≡ interfaces_of a.links
   kept_by_test lsa true = keeps_neighbors moment (flood_to moment None lsa) a
   kept_by_test lsa false = refl
 
   kept_by_copy : (c : Option DatabaseCopy)
-      → interfaces_of (flood_new_max_age_copy before moment c (start a)).area.links
+      → interfaces_of (flood_new_max_age_copy before moment c (with_no_sends a)).area.links
       ≡ interfaces_of a.links
   kept_by_copy None = refl
   kept_by_copy (Some c) = kept_by_test (lsa_now moment c) (has_just_aged_out before moment c)
@@ -109,7 +110,7 @@ module _ (before moment : ℕ) (a : Area) (ds : List Drafted) where
       (drafts_with (flood_new_max_age before moment key a).sends a.links ds)
       ≡ drafts_with ((flood_new_max_age before moment key a).sends ++ more) a.links ds
   drafted_after more key =
-      let p : Outcome = flood_new_max_age before moment key a in
+      let p : AreaState = flood_new_max_age before moment key a in
       drafted_same more p.area.links a.links (drafts_with p.sends a.links ds)
       (kept_by_copy (finite.get a.database key))
       ∙ drafted_append 1 p.sends more a.links ds

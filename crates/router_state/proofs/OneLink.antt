@@ -9,9 +9,9 @@ use Rattle.flooding.specs.adjacency.Contents.{Content, Step}
 use Rattle.flooding.specs.adjacency.Contents as neighbor
 use Rattle.flooding.specs.adjacency.Neighbors.{Neighbor}
 use Rattle.flooding.specs.received.Links.{Area, Link, change_link, link_at}
-use Rattle.flooding.specs.received.Outcomes.{Outcome, sends_at, one_neighbor, only_at, sending}
-use Rattle.flooding.specs.received.Outcomes.{sent_on, step_on, stepped_links, stepping_sends}
-use Rattle.flooding.specs.Links.{start, with_neighbor}
+use Rattle.flooding.specs.received.AreaStates.{AreaState, sends_at, one_neighbor, only_at, sending}
+use Rattle.flooding.specs.received.AreaStates.{sent_on, step_on, stepped_links, stepping_sends}
+use Rattle.flooding.specs.Links.{with_no_sends, with_neighbor}
 use Rattle.flooding.specs.Steps.{one_link, sent_by}
 use Rattle.flooding.proofs.Only.{sends_only, sent_acts, sent_rests, set_only, step_acts, step_rests}
 use Rattle.flooding.proofs.Sends.{other_number, same_number}
@@ -41,13 +41,14 @@ module _ (moment k : ℕ) (a : Area) (first : 1 ≤ k) (last : k ≤ length a.li
       ∙ found a.links (k - 1) (first_of a.links some) (omega (arith, first, last))
 
   -- this is sent at the interface, and this is the link afterwards
-  abbrev pub leaves : List Content → Link → Outcome
+  abbrev pub leaves : List Content → Link → AreaState
   leaves cs l = sending moment (sends_at k cs) (record {
     area = record { links = set a.links (k - 1) l; database = a.database };
     sends = [];
   })
 
-  pub stays : (cs : List Content) → leaves cs link ≡ sending moment (sends_at k cs) (start a)
+  pub stays : (cs : List Content) → leaves cs link
+      ≡ sending moment (sends_at k cs) (with_no_sends a)
   stays cs =
       ap (λ (ls : List Link). sending moment (sends_at k cs) (record {
         area = record { links = ls; database = a.database };
@@ -65,7 +66,7 @@ module _ (moment k : ℕ) (a : Area) (first : 1 ≤ k) (last : k ≤ length a.li
       (sym (ap (λ b. cond b (change link) link) (same_number k))))
 
   pub one_link_is : (A : Database → Link → Link) (S : Database → Link → List Content)
-      → one_link moment k A S (start a) ≡ leaves (S a.database link) (A a.database link)
+      → one_link moment k A S (with_no_sends a) ≡ leaves (S a.database link) (A a.database link)
   one_link_is A S = λ i.
       sending moment (sends_at k (sent_by (S a.database) (link_is i))) (record {
         area = record { links = changed (A a.database) i; database = a.database };
@@ -92,7 +93,7 @@ module _ (moment k : ℕ) (a : Area) (first : 1 ≤ k) (last : k ≤ length a.li
       ∙ ap (sends_at k) (sym (sent_acts f k link link.neighbor))
 
   pub one_neighbor_is : (f : Neighbor → Step)
-      → one_neighbor moment k f (start a)
+      → one_neighbor moment k f (with_no_sends a)
       ≡ leaves (neighbor.sent_on f link.neighbor)
       (with_neighbor (neighbor.step_on f link.neighbor) link)
   one_neighbor_is f = λ i.
@@ -104,8 +105,8 @@ module _ (moment k : ℕ) (a : Area) (first : 1 ≤ k) (last : k ≤ length a.li
   -- a step of the neighbor that may read the database
   pub steps : (f : Database → Neighbor → Step)
       → one_link moment k (λ db l. with_neighbor (neighbor.step_on (f db) l.neighbor) l)
-      (λ db l. neighbor.sent_on (f db) l.neighbor) (start a)
-      ≡ one_neighbor moment k (f a.database) (start a)
+      (λ db l. neighbor.sent_on (f db) l.neighbor) (with_no_sends a)
+      ≡ one_neighbor moment k (f a.database) (with_no_sends a)
   steps f =
       one_link_is (λ db l. with_neighbor (neighbor.step_on (f db) l.neighbor) l)
       (λ db l. neighbor.sent_on (f db) l.neighbor) ∙ sym (one_neighbor_is (f a.database))

@@ -9,7 +9,7 @@ use Rattle.flooding.proofs.adjacency.Floods.{drafting-none}
 use Rattle.flooding.specs.received.Links.{Area, Link}
 use Rattle.event_rules.specs.Hellos.{accepts}
 use Rattle.event_rules.specs.Packets.{accept_hello, receive_hello, receive_hello_on}
-use Rattle.flooding.specs.Links.{start, with_neighbor}
+use Rattle.flooding.specs.Links.{with_no_sends, with_neighbor}
 use Rattle.flooding.specs.Steps.{one_link}
 use Rattle.router_state.specs.ReceivedHellos.{after_received_hello, hello_step}
 use Rattle.router_state.specs.ReceivedHellos.{sent_at_received_hello}
@@ -49,8 +49,8 @@ module _ (own moment k from : ℕ) (h : Hello) (a : Area) (first : 1 ≤ k) (las
         (sent_by own moment from h (link moment k a first last) b)
         (after_by own moment from h (link moment k a first last) b)
         ≡ cond b (accept_hello moment k (hello_step own moment from h (link moment k a first last))
-        (start a))
-        (start a)
+        (with_no_sends a))
+        (with_no_sends a)
     by_test true =
         let s : Step = hello_step own moment from h (link moment k a first last) in
         changes_one moment k a first last (with_neighbor (Some s.neighbor)) s.sends
@@ -58,12 +58,12 @@ module _ (own moment k from : ℕ) (h : Hello) (a : Area) (first : 1 ≤ k) (las
 
     pub hears : one_link moment k (λ (db : Database) (l : Link). after_received_hello own moment
         from h l) (λ (db : Database) (l : Link). sent_at_received_hello own moment from h l)
-        (start a)
-        ≡ receive_hello own moment k from h (start a)
+        (with_no_sends a)
+        ≡ receive_hello own moment k from h (with_no_sends a)
     hears =
         one_link_is moment k a first last
         (λ (db : Database) (l : Link). after_received_hello own moment from h l)
         (λ (db : Database) (l : Link). sent_at_received_hello own moment from h l)
         ∙ by_test (accepts own from h (link moment k a first last))
-        ∙ ap (λ (o : Option Link). receive_hello_on own moment k from h o (start a))
+        ∙ ap (λ (o : Option Link). receive_hello_on own moment k from h o (with_no_sends a))
         (sym (link_is moment k a first last))

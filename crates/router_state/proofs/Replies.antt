@@ -11,9 +11,9 @@ use Rattle.flooding.specs.adjacency.Contents as neighbor
 use Rattle.flooding.specs.adjacency.Neighbors.{Neighbor, is_exchange_or_later}
 use Rattle.flooding.specs.adjacency.Steps.{after_request, answer_to_request, lsas_of}
 use Rattle.flooding.specs.received.Links.{Area, Link, neighbor_at, neighbor_on}
-use Rattle.flooding.specs.received.Outcomes.{sends_at, one_neighbor, sending}
+use Rattle.flooding.specs.received.AreaStates.{sends_at, one_neighbor, sending}
 use Rattle.event_rules.specs.Packets.{neighbor_is_exchange_or_later, is_there, receive_request}
-use Rattle.flooding.specs.Links.{start, with_neighbor}
+use Rattle.flooding.specs.Links.{with_no_sends, with_neighbor}
 use Rattle.router_state.proofs.OneLink.{leaves, link, link_is, one_neighbor_is, stays}
 use mathlib.Core.Bool.{false≢true}
 
@@ -41,7 +41,7 @@ module _ (moment k : ℕ) (a : Area) (keys : List Key) (first : 1 ≤ k) (last :
           sends = map Updates (lsas_of moment a.database keys);
         }) (mismatch_step moment n)).neighbor) l)
         ≡ cond b (sending moment (sends_at k (map Updates (lsas_of moment a.database keys)))
-        (start a)) (one_neighbor moment k (mismatch_step moment) (start a))
+        (with_no_sends a)) (one_neighbor moment k (mismatch_step moment) (with_no_sends a))
     answers_by n l same is true =
         ap (λ (o : Option Neighbor). leaves moment k a first last
         (map Updates (lsas_of moment a.database keys)) (with_neighbor o l)) (sym is)
@@ -60,7 +60,7 @@ module _ (moment k : ℕ) (a : Area) (keys : List Key) (first : 1 ≤ k) (last :
         → neighbor_is_exchange_or_later o ≡ true → leaves moment k a first last
         (neighbor.sent_on (after_request moment a.database keys) o)
         (with_neighbor (neighbor.step_on (after_request moment a.database keys) o) l)
-        ≡ receive_request moment k keys (start a)
+        ≡ receive_request moment k keys (with_no_sends a)
     by_neighbor None l same is exchanges = absurd (false≢true exchanges)
     by_neighbor (Some n) l same is exchanges =
         ap (λ (s : Step). leaves moment k a first last s.sends (with_neighbor (Some s.neighbor) l))
@@ -68,8 +68,8 @@ module _ (moment k : ℕ) (a : Area) (keys : List Key) (first : 1 ≤ k) (last :
         ∙ answers_by n l same is (list_all (is_there a.database) keys)
 
     pub answers : neighbor_is_exchange_or_later (neighbor_at k a.links) ≡ true
-        → one_neighbor moment k (after_request moment a.database keys) (start a)
-        ≡ receive_request moment k keys (start a)
+        → one_neighbor moment k (after_request moment a.database keys) (with_no_sends a)
+        ≡ receive_request moment k keys (with_no_sends a)
     answers exchanges =
         one_neighbor_is moment k a first last (after_request moment a.database keys)
         ∙ by_neighbor (link moment k a first last).neighbor (link moment k a first last) refl refl

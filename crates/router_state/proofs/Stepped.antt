@@ -7,9 +7,9 @@ use Rattle.flooding.specs.adjacency.Contents.{Content, Step}
 use Rattle.flooding.specs.adjacency.Contents as neighbor
 use Rattle.flooding.specs.adjacency.Neighbors.{Neighbor}
 use Rattle.flooding.specs.received.Links.{Area, Link}
-use Rattle.flooding.specs.received.Outcomes.{Send, each_neighbor, marked_database, sends_at}
-use Rattle.flooding.specs.received.Outcomes.{sent_on, step_on}
-use Rattle.flooding.specs.Links.{start, with_neighbor}
+use Rattle.flooding.specs.received.AreaStates.{Send, each_neighbor, marked_database, sends_at}
+use Rattle.flooding.specs.received.AreaStates.{sent_on, step_on}
+use Rattle.flooding.specs.Links.{with_no_sends, with_neighbor}
 use Rattle.flooding.specs.Steps.{all_links}
 
 pub step_is : (f : Neighbor → Step) (o : Option Neighbor) → neighbor.step_on f o ≡ step_on f o
@@ -48,8 +48,9 @@ module _ (F : Link → Neighbor → Step) where
 
 -- of every link, by a step that may read the database
 pub all_are : (moment : ℕ) (F : Database → Link → Neighbor → Step) (a : Area)
-    → all_links moment (λ (d : Database). after (F d)) (λ (d : Database). sends (F d)) (start a)
-    ≡ each_neighbor moment (λ number link n. F a.database link n) (start a)
+    → all_links moment (λ (d : Database). after (F d)) (λ (d : Database). sends (F d))
+    (with_no_sends a)
+    ≡ each_neighbor moment (λ number link n. F a.database link n) (with_no_sends a)
 all_are moment F a =
     λ i. record {
       area = record {

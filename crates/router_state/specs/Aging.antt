@@ -6,20 +6,20 @@ use Rattle.words.specs.Numbers.{Moment}
 use Rattle.words.specs.declared.key.Key.{Key}
 use Rattle.flooding.specs.lsdb.Copies.{Database}
 use Rattle.flooding.specs.received.Links.{Area, Link}
-use Rattle.flooding.specs.received.Outcomes.{Outcome}
-use Rattle.flooding.specs.Links.{flood_new_max_age, start, without_acknowledged}
+use Rattle.flooding.specs.received.AreaStates.{AreaState}
+use Rattle.flooding.specs.Links.{flood_new_max_age, with_no_sends, without_acknowledged}
 
 abbrev pub without_each : List Link → Database → List Key → Database
 without_each links db keys = fold (without_acknowledged links) db keys
 
 -- what was sent first, and what was sent after it
-abbrev pub outcomes_in_turn : Outcome → Outcome → Outcome
+abbrev pub outcomes_in_turn : AreaState → AreaState → AreaState
 outcomes_in_turn p q = record { area = q.area; sends = p.sends ++ q.sends }
 
 -- the copies of these keys that have reached MaxAge since the moment `before` are flooded in turn
 abbrev pub flood_each_new_max_age : (before : Moment) → (moment : Moment) → List Key → Area
-    → Outcome
-flood_each_new_max_age before moment [] a = start a
+    → AreaState
+flood_each_new_max_age before moment [] a = with_no_sends a
 flood_each_new_max_age before moment (key ∷ keys) a =
     outcomes_in_turn (flood_new_max_age before moment key a)
     (flood_each_new_max_age before moment keys (flood_new_max_age before moment key a).area)

@@ -31,7 +31,7 @@ is_accepted_before_exchange (body.Request keys) = false
 is_accepted_before_exchange (body.Update lsas) = false
 is_accepted_before_exchange (body.Acknowledgment headers) = false
 
--- it is heard, and doesn't wait for Exchange before that
+-- it is heard, and isn't discarded because the neighbor is before Exchange
 abbrev pub is_processed : RouterNumber → Packet → Option Neighbor → Bool
 is_processed own packet n =
     is_heard own packet n && (neighbor_is_exchange_or_later n || is_accepted_before_exchange

@@ -1,6 +1,6 @@
 //! Copies that have reached MaxAge (RFC 2328, section 14).
 ghost use Rattle.flooding.specs.Doing.{AreaDoes};
-ghost use Rattle.flooding.specs.Links.{start};
+ghost use Rattle.flooding.specs.Links.{with_no_sends};
 ghost use Rattle.event_rules.specs.Endings.{flood_aged, remove_aged};
 ghost use Rattle.router_state.specs.Aging.{flood_each_new_max_age, without_each};
 
@@ -11,7 +11,7 @@ use words::{Key, Second};
 // Removes the copies of these keys that are on no retransmission list.
 fn remove_each(area: &mut Area, keys: &[Key]) -> Result<(), AllocError>
     ensures { AreaDoes
-        (λ a. start (record a { database = without_each a.links a.database keys.now }))
+        (λ a. with_no_sends (record a { database = without_each a.links a.database keys.now }))
         area.old area.new result }
 {
     for i in 0..keys.len() {
@@ -29,10 +29,10 @@ fn remove_each(area: &mut Area, keys: &[Key]) -> Result<(), AllocError>
 /// # Errors
 /// `AllocError` if an allocation is refused.
 pub fn remove_aged(area: &mut Area, alloc: Global, moment: Second) -> Result<(), AllocError>
-    ensures { AreaDoes (λ a. remove_aged moment (start a)) area.old area.new result }
+    ensures { AreaDoes (λ a. remove_aged moment (with_no_sends a)) area.old area.new result }
 {
-    let exchanging = any_exchange_or_loading(area.links());
-    if exchanging {
+    let synchronizing = any_exchange_or_loading(area.links());
+    if synchronizing {
         return Ok(());
     }
     let keys = area.database().max_age_keys(alloc, moment)?;
@@ -69,7 +69,7 @@ pub fn flood_aged(
     before: Second,
     moment: Second,
 ) -> Result<(), AllocError>
-    ensures { AreaDoes (λ a. flood_aged before moment (start a)) area.old area.new result }
+    ensures { AreaDoes (λ a. flood_aged before moment (with_no_sends a)) area.old area.new result }
 {
     if before.count() == moment.count() {
         return Ok(());

@@ -118,9 +118,9 @@ fn is_processed(packet: &Packet, router: &Router, interface: usize) -> bool
         (neighbor_at interface router.now.present.area.links) }
 {
     let heard = is_heard(packet, router, interface);
-    let exchanging = is_exchange_or_later(router, interface);
+    let exchange_or_later = is_exchange_or_later(router, interface);
     let early = is_accepted_before_exchange(&packet.body);
-    heard && (exchanging || early)
+    heard && (exchange_or_later || early)
 }
 
 /// Processes a packet that was received at the interface with this number (RFC 2328, section 8.2).

@@ -88,8 +88,8 @@ impl NeighborSlot {
         ensures { SlotUpdates delay (after_request moment database.now.present keys.now) self.old
             self.new draft.old draft.new result }
     {
-        let exchanging = self.is_exchange_or_later();
-        if exchanging {
+        let exchange_or_later = self.is_exchange_or_later();
+        if exchange_or_later {
             let there = are_there(database, keys);
             if there {
                 return draft_copies(alloc, moment, delay, database, keys, draft);

@@ -78,7 +78,8 @@ fn repeats_description(state: NeighborState, is_master: bool) -> bool
     }
 }
 
-// Selects the keys that are still on the request list.
+// Selects the keys that are still on the request list. All outstanding ones are: the test is there
+// for the prover.
 #[derive(Drop)]
 struct StillRequested<'a> {
     requests: &'a KeyedMap<ListEntry>,

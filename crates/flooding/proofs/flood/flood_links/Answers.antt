@@ -3,7 +3,7 @@ use Rattle.adjacency.specs.lsdb.Copies.{lsa_now}
 use Rattle.adjacency.specs.Contents as neighbor
 use Rattle.adjacency.specs.Drafts.{drafting}
 use Rattle.adjacency.specs.Floods.{flood_step, is_any}
-use Rattle.received.specs.Outcomes.{stepped_links, stepping_sends}
+use Rattle.received.specs.AreaStates.{stepped_links, stepping_sends}
 use Rattle.flooding.specs.Drafted.{drafted_from}
 use Rattle.flooding.specs.Links.{committed_link, draft_of, present, with_neighbor}
 use Rattle.flooding.proofs.Doing.{on_err}
@@ -14,7 +14,7 @@ use Rattle.flooding.proofs.flood.flood_links.Goals as goal
 
 pub loop-i-init : goal.loop-i-init
 loop-i-init c = record {
-  floods = begins c.args.moment c.args.received_at (lsa_now c.args.moment c.args.copy.now)
+  floods = begins c.args.moment c.args.incoming (lsa_now c.args.moment c.args.copy.now)
       c.args.links.now;
   committed = refl;
 }
@@ -34,18 +34,18 @@ loop-i-preserved c =
     let lsa = lsa_now c.args.moment c.args.copy.now in
     let P = map present c.args.links.now in
     let D = map draft_of c.args.links.now in
-    let F = step c.args.moment c.args.received_at lsa in
+    let F = step c.args.moment c.args.incoming lsa in
     let old = get_or c.loop-i.links c.loop-i.i c.index-links-i.result in
     let stepping = ap (λ b. neighbor.step_on (flood_step c.args.moment b lsa) old.present.neighbor)
-    c.is_received_at-came_in.ensures ∙ step_is c.args.moment c.args.received_at lsa (c.loop-i.i + 1)
+    c.is_incoming-came_in.ensures ∙ step_is c.args.moment c.args.incoming lsa (c.loop-i.i + 1)
     old.present old.present.neighbor in
     let sending = ap (λ b. neighbor.sent_on (flood_step c.args.moment b lsa) old.present.neighbor)
-    c.is_received_at-came_in.ensures ∙ sent_is c.args.moment c.args.received_at lsa (c.loop-i.i + 1)
+    c.is_incoming-came_in.ensures ∙ sent_is c.args.moment c.args.incoming lsa (c.loop-i.i + 1)
     old.present old.present.neighbor in
     record {
-      floods = finishes_next present draft_of (after_step c.args.moment c.args.received_at lsa)
-          (after_draft c.args.moment c.args.received_at lsa)
-          (counts c.args.moment c.args.received_at lsa)
+      floods = finishes_next present draft_of (after_step c.args.moment c.args.incoming lsa)
+          (after_draft c.args.moment c.args.incoming lsa)
+          (counts c.args.moment c.args.incoming lsa)
           c.loop-i.i c.loop-i.links c.loop-i.sent
           (stepped_links F P) (drafted_from 1 (stepping_sends F P) P D)
           (is_any (stepping_sends F P))
@@ -66,19 +66,19 @@ returns-clause-does c =
     let lsa = lsa_now c.args.moment c.args.copy.now in
     let P = map present c.args.links.now in
     let D = map draft_of c.args.links.now in
-    let F = step c.args.moment c.args.received_at lsa in
+    let F = step c.args.moment c.args.incoming lsa in
     record {
-      links = finished_items present draft_of (after_step c.args.moment c.args.received_at lsa)
-          (after_draft c.args.moment c.args.received_at lsa)
-          (counts c.args.moment c.args.received_at lsa)
+      links = finished_items present draft_of (after_step c.args.moment c.args.incoming lsa)
+          (after_draft c.args.moment c.args.incoming lsa)
+          (counts c.args.moment c.args.incoming lsa)
           c.loop-i.i c.loop-i.links c.loop-i.sent
           (stepped_links F P) (drafted_from 1 (stepping_sends F P) P D)
           (is_any (stepping_sends F P))
           (omega (arith, c.loop-i-test.false, c.loop-i.auto.i-end, c.loop-i.auto.links))
           c.loop-i.invariant.floods;
-      drafts = finished_drafts present draft_of (after_step c.args.moment c.args.received_at lsa)
-          (after_draft c.args.moment c.args.received_at lsa)
-          (counts c.args.moment c.args.received_at lsa)
+      drafts = finished_drafts present draft_of (after_step c.args.moment c.args.incoming lsa)
+          (after_draft c.args.moment c.args.incoming lsa)
+          (counts c.args.moment c.args.incoming lsa)
           c.loop-i.i c.loop-i.links c.loop-i.sent
           (stepped_links F P) (drafted_from 1 (stepping_sends F P) P D)
           (is_any (stepping_sends F P))
@@ -92,9 +92,9 @@ returns-clause-sent c =
     let lsa = lsa_now c.args.moment c.args.copy.now in
     let P = map present c.args.links.now in
     let D = map draft_of c.args.links.now in
-    let F = step c.args.moment c.args.received_at lsa in
-    finished_counts present draft_of (after_step c.args.moment c.args.received_at lsa)
-    (after_draft c.args.moment c.args.received_at lsa) (counts c.args.moment c.args.received_at lsa)
+    let F = step c.args.moment c.args.incoming lsa in
+    finished_counts present draft_of (after_step c.args.moment c.args.incoming lsa)
+    (after_draft c.args.moment c.args.incoming lsa) (counts c.args.moment c.args.incoming lsa)
     c.loop-i.i c.loop-i.links c.loop-i.sent
     (stepped_links F P) (drafted_from 1 (stepping_sends F P) P D)
     (is_any (stepping_sends F P))

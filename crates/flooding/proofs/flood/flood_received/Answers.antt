@@ -4,7 +4,7 @@ use Rattle.adjacency.specs.Floods.{is_any}
 use Rattle.adjacency.specs.lsdb.Copies.{copy_of, lsa_now}
 use Rattle.adjacency.specs.lsdb.Headers.{Header, Lsa}
 use Rattle.received.specs.Flooding.{flood_to}
-use Rattle.received.specs.Outcomes.{stepped_links, stepping_sends}
+use Rattle.received.specs.AreaStates.{stepped_links, stepping_sends}
 use Rattle.flooding.specs.Doing.{LinksDo}
 use Rattle.flooding.specs.Links.{present}
 use Rattle.flooding.proofs.Installed.{at_once}
@@ -14,7 +14,7 @@ pub returns : goal.returns
 returns c =
     let m = c.args.moment in
     let lsa = c.args.lsa.now in
-    let sender = c.args.received_at in
+    let sender = c.args.incoming in
     let P = map present c.args.links.now in
     let same : lsa_now m (copy_of lsa (record {
       age = c.header-header.result.age;

@@ -1,7 +1,7 @@
 use Rattle.std.proofs.Common.{false, map, refl, ◌∙◌, arith}
 use Rattle.flooding.specs.Drafted.{drafts_with}
 use Rattle.flooding.specs.Links.{committed_link, draft_of, present}
-use Rattle.received.specs.Outcomes.{sends_of}
+use Rattle.received.specs.AreaStates.{sends_of}
 use Rattle.flooding.proofs.Changes.{after, after_draft, begins, counts}
 use Rattle.flooding.proofs.Doing.{on_err}
 use Rattle.flooding.proofs.Finish.{finished_drafts, finished_items, finishes_next}

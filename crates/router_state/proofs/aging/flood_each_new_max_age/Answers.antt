@@ -1,6 +1,6 @@
 use Rattle.std.proofs.Common.{◌+◌, get_or, refl, sym, ap, ◌∙◌, arith}
 use Rattle.flooding.specs.received.Links.{Area}
-use Rattle.flooding.specs.received.Outcomes.{Outcome}
+use Rattle.flooding.specs.received.AreaStates.{AreaState}
 use Rattle.flooding.specs.Drafted.{drafts_with}
 use Rattle.flooding.specs.Links.{flood_new_max_age}
 use Rattle.flooding.proofs.Acknowledged.{from}
@@ -23,9 +23,9 @@ loop-i-preserved c =
     let key = get_or keys i c.index-keys-i.result in
     let a : Area = c.loop-i.area.present in
     let ds = c.loop-i.area.drafted in
-    let p : Outcome = flood_new_max_age b m key a in
+    let p : AreaState = flood_new_max_age b m key a in
     let later = from (i + 1) keys in
-    let rest : Outcome = flood_each_new_max_age b m later p.area in
+    let rest : AreaState = flood_each_new_max_age b m later p.area in
     let does = c.in_ok-flood_new_max_age.ensures in
     let is = does.area ∙ ap (λ k. (flood_new_max_age b m k a).area) c.index-keys-i.is in
     let drafts = does.drafts

@@ -2,11 +2,11 @@ use Rattle.std.proofs.Common.{map, ap, ◌∙◌}
 use Rattle.std.specs.Prelude.{None}
 use Rattle.std.specs.FinMap as finite
 use Rattle.keyed_map.proofs.Helds.{on_ok}
-use Rattle.received.specs.Outcomes.{Outcome}
+use Rattle.received.specs.AreaStates.{AreaState}
 use Rattle.flooding.specs.Drafted.{drafts_with}
 use Rattle.flooding.specs.Kept.{RouterArea}
 use Rattle.flooding.specs.Links.{age_outcome, area_of, draft_of, flooded_copy, present}
-use Rattle.flooding.specs.Links.{committed_link, start}
+use Rattle.flooding.specs.Links.{committed_link, with_no_sends}
 use Rattle.flooding.proofs.Installed.{aged_is}
 use Rattle.flooding.proofs.Marking.{area_is}
 use Rattle.flooding.proofs.area.Area.age_prematurely.Goals as goal
@@ -17,15 +17,15 @@ returns c =
     let k = c.args.key.now in
     let ls = c.self.inside.links.items in
     let whole =
-    ap (λ e. flooded_copy m None (finite.get e k) (start (area_of ls e)))
+    ap (λ e. flooded_copy m None (finite.get e k) (with_no_sends (area_of ls e)))
     c.in_ok-age_prematurely.ensures.ok
     ∙ aged_is m k (area_of ls c.self.inside.database.present) in
     record {
-      area = on_ok c.flood.result (λ is. is ∙ ap (λ (o : Outcome). o.area) whole
+      area = on_ok c.flood.result (λ is. is ∙ ap (λ (o : AreaState). o.area) whole
           ∙ ap (λ (v : RouterArea). (age_outcome m k v.present).area) c.self.view_is)
           c.flood.ensures.area;
       drafts = on_ok c.flood.result (λ is.
-          is ∙ ap (λ (o : Outcome). drafts_with o.sends (map present ls) (map draft_of ls)) whole
+          is ∙ ap (λ (o : AreaState). drafts_with o.sends (map present ls) (map draft_of ls)) whole
           ∙ ap (λ (v : RouterArea). drafts_with (age_outcome m k v.present).sends
           v.present.links v.drafted) c.self.view_is) c.flood.ensures.drafts;
       committed = c.flood.ensures.committed

@@ -9,11 +9,12 @@ use Rattle.adjacency.specs.Contents.{Acknowledges, no_sends}
 use Rattle.adjacency.specs.Neighbors.{Neighbor}
 use Rattle.adjacency.specs.Retransmissions.{remove_retransmission}
 use Rattle.received.specs.Links.{Area, Link}
-use Rattle.received.specs.Outcomes.{one_neighbor, only_at, sends_at, stepped_links, stepping_sends}
+use Rattle.received.specs.AreaStates.{one_neighbor, only_at, sends_at, stepped_links}
+use Rattle.received.specs.AreaStates.{stepping_sends}
 use Rattle.received.specs.Updates.{acknowledge_directly, after_case, send_copy}
 use Rattle.flooding.specs.Cases.{case_of, is_to_be_installed}
 use Rattle.flooding.specs.Kept.{KeptLink, RouterArea}
-use Rattle.flooding.specs.Links.{area_of, start}
+use Rattle.flooding.specs.Links.{area_of, with_no_sends}
 use Rattle.flooding.proofs.Doing.{area_rests, area_same}
 use Rattle.flooding.proofs.Lent.{lent_do, lent_number}
 use Rattle.flooding.proofs.Marking.{mismatch_alone, on_links_alone, removal_alone}
@@ -27,10 +28,12 @@ returns-in-NothingToFlush c =
     let old = c.args.self.now in
     let cs = Acknowledges c.header-header.result ∷ [] in
     area_same (on_links_alone (λ (ls : List Link). ls) (λ (ls : List Link). sends_at n cs))
-    (λ (a : Area). after_case (case_of c.args.case) m n lsa (start a)) old _
+    (λ (a : Area). after_case (case_of c.args.case) m n lsa (with_no_sends a)) old _
     c.draft_direct_acknowledgment.result
-    (ap (λ (h : Header). acknowledge_directly m n h (start old.present)) c.header-header.ensures
-    ∙ ap (λ k. after_case (case_of k) m n lsa (start old.present)) (sym c.in-NothingToFlush.is))
+    (ap (λ (h : Header). acknowledge_directly m n h (with_no_sends old.present))
+    c.header-header.ensures
+    ∙ ap (λ k. after_case (case_of k) m n lsa (with_no_sends old.present))
+    (sym c.in-NothingToFlush.is))
     (lent_do (λ (ls : List Link). ls) (λ (ls : List Link). sends_at n cs)
     c.self.inside.links.items c.deref_mut.result.now c.draft_direct_acknowledgment.new.links
     c.self.inside.links.len c.self.inside.database old c.draft_direct_acknowledgment.result
@@ -43,8 +46,8 @@ returns-in-TooSoon c =
     let n = c.args.interface in
     let lsa = c.args.lsa.now in
     let old = c.args.self.now in
-    area_rests (λ (a : Area). after_case (case_of c.args.case) m n lsa (start a)) old _
-    (ap (λ k. after_case (case_of k) m n lsa (start old.present)) (sym c.in-TooSoon.is))
+    area_rests (λ (a : Area). after_case (case_of c.args.case) m n lsa (with_no_sends a)) old _
+    (ap (λ k. after_case (case_of k) m n lsa (with_no_sends old.present)) (sym c.in-TooSoon.is))
 
 pub returns-in-Newer : goal.returns-in-Newer
 returns-in-Newer c = absurd (false≢true
@@ -68,12 +71,13 @@ returns-in-BadRequest c =
     ap (λ (ls : List KeptLink). area_of ls d) lend.ensures.value
     ∙ ap (λ (v : RouterArea). v.present) it.view_is in
     area_same (on_links_alone (stepped_links F) (stepping_sends F))
-    (λ (a : Area). after_case (case_of c.args.case) m n lsa (start a)) old _ c.bad_request.result
+    (λ (a : Area). after_case (case_of c.args.case) m n lsa (with_no_sends a)) old _
+    c.bad_request.result
     (subst (λ (a : Area). on_links_alone (stepped_links F) (stepping_sends F) a
-    ≡ one_neighbor m n (mismatch_step m) (start a)) there
+    ≡ one_neighbor m n (mismatch_step m) (with_no_sends a)) there
     (mismatch_alone lent (n - 1) n (omega (arith, c.requires.first, c.requires.last, count))
     (omega (arith, c.requires.first)) m d)
-    ∙ ap (λ k. after_case (case_of k) m n lsa (start old.present)) (sym c.in-BadRequest.is))
+    ∙ ap (λ k. after_case (case_of k) m n lsa (with_no_sends old.present)) (sym c.in-BadRequest.is))
     (lent_do (stepped_links F) (stepping_sends F) it.inside.links.items lent c.bad_request.new.links
     it.inside.links.len it.inside.database old c.bad_request.result lend.ensures.value
     lend.ensures.len it.view_is c.bad_request.ensures)
@@ -97,16 +101,17 @@ returns-in-ImpliedAcknowledgment c =
     ap (λ (ls : List KeptLink). area_of ls d) lend.ensures.value
     ∙ ap (λ (v : RouterArea). v.present) it.view_is in
     area_same (on_links_alone (stepped_links F) (λ (ls : List Link). []))
-    (λ (a : Area). after_case (case_of c.args.case) m n lsa (start a)) old _
+    (λ (a : Area). after_case (case_of c.args.case) m n lsa (with_no_sends a)) old _
     c.remove_retransmission.result
     (subst (λ (a : Area). on_links_alone (stepped_links F) (λ (ls : List Link). []) a
-    ≡ one_neighbor m n (λ (x : Neighbor). no_sends (remove_retransmission key x)) (start a)) there
+    ≡ one_neighbor m n (λ (x : Neighbor). no_sends (remove_retransmission key x)) (with_no_sends a))
+    there
     (removal_alone lent (n - 1) n (omega (arith, c.requires.first, c.requires.last, count))
     (omega (arith, c.requires.first)) m d key)
     ∙ ap (λ (h : Header). one_neighbor m n
-    (λ (x : Neighbor). no_sends (remove_retransmission (key_of h) x)) (start old.present))
+    (λ (x : Neighbor). no_sends (remove_retransmission (key_of h) x)) (with_no_sends old.present))
     c.header-header.ensures
-    ∙ ap (λ k. after_case (case_of k) m n lsa (start old.present))
+    ∙ ap (λ k. after_case (case_of k) m n lsa (with_no_sends old.present))
     (sym c.in-ImpliedAcknowledgment.is))
     (lent_do (stepped_links F) (λ (ls : List Link). []) it.inside.links.items lent
     c.remove_retransmission.new.links it.inside.links.len it.inside.database old
@@ -124,9 +129,10 @@ returns-in-Duplicate c =
     let call = c.draft_direct_acknowledgment-in-Duplicate in
     let cs = Acknowledges c.header-header.result ∷ [] in
     area_same (on_links_alone (λ (ls : List Link). ls) (λ (ls : List Link). sends_at n cs))
-    (λ (a : Area). after_case (case_of c.args.case) m n lsa (start a)) old _ call.result
-    (ap (λ (h : Header). acknowledge_directly m n h (start old.present)) c.header-header.ensures
-    ∙ ap (λ k. after_case (case_of k) m n lsa (start old.present)) (sym c.in-Duplicate.is))
+    (λ (a : Area). after_case (case_of c.args.case) m n lsa (with_no_sends a)) old _ call.result
+    (ap (λ (h : Header). acknowledge_directly m n h (with_no_sends old.present))
+    c.header-header.ensures
+    ∙ ap (λ k. after_case (case_of k) m n lsa (with_no_sends old.present)) (sym c.in-Duplicate.is))
     (lent_do (λ (ls : List Link). ls) (λ (ls : List Link). sends_at n cs) it.inside.links.items
     lend.result.now call.new.links it.inside.links.len it.inside.database old call.result
     lend.ensures.value lend.ensures.len it.view_is call.ensures)
@@ -137,8 +143,9 @@ returns-in-SequenceWraps c =
     let n = c.args.interface in
     let lsa = c.args.lsa.now in
     let old = c.args.self.now in
-    area_rests (λ (a : Area). after_case (case_of c.args.case) m n lsa (start a)) old _
-    (ap (λ k. after_case (case_of k) m n lsa (start old.present)) (sym c.in-SequenceWraps.is))
+    area_rests (λ (a : Area). after_case (case_of c.args.case) m n lsa (with_no_sends a)) old _
+    (ap (λ k. after_case (case_of k) m n lsa (with_no_sends old.present))
+    (sym c.in-SequenceWraps.is))
 
 pub returns-in-SentJustNow : goal.returns-in-SentJustNow
 returns-in-SentJustNow c =
@@ -146,8 +153,8 @@ returns-in-SentJustNow c =
     let n = c.args.interface in
     let lsa = c.args.lsa.now in
     let old = c.args.self.now in
-    area_rests (λ (a : Area). after_case (case_of c.args.case) m n lsa (start a)) old _
-    (ap (λ k. after_case (case_of k) m n lsa (start old.present)) (sym c.in-SentJustNow.is))
+    area_rests (λ (a : Area). after_case (case_of c.args.case) m n lsa (with_no_sends a)) old _
+    (ap (λ k. after_case (case_of k) m n lsa (with_no_sends old.present)) (sym c.in-SentJustNow.is))
 
 pub returns-in-Older : goal.returns-in-Older
 returns-in-Older c =
@@ -155,10 +162,11 @@ returns-in-Older c =
     let n = c.args.interface in
     let lsa = c.args.lsa.now in
     let old = c.args.self.now in
-    area_same (λ (a : Area). send_copy m n (finite.get a.database c.key-key.result) (start a))
-    (λ (a : Area). after_case (case_of c.args.case) m n lsa (start a)) old
+    area_same (λ (a : Area). send_copy m n (finite.get a.database c.key-key.result)
+    (with_no_sends a))
+    (λ (a : Area). after_case (case_of c.args.case) m n lsa (with_no_sends a)) old
     c.draft_copy.new.self c.draft_copy.result
-    (ap (λ (k : Key). send_copy m n (finite.get old.present.database k) (start old.present))
+    (ap (λ (k : Key). send_copy m n (finite.get old.present.database k) (with_no_sends old.present))
     (c.key-key.ensures ∙ ap key_of c.header-header.ensures)
-    ∙ ap (λ k. after_case (case_of k) m n lsa (start old.present)) (sym c.in-Older.is))
+    ∙ ap (λ k. after_case (case_of k) m n lsa (with_no_sends old.present)) (sym c.in-Older.is))
     c.draft_copy.ensures

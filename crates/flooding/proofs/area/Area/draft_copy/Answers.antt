@@ -7,7 +7,7 @@ use Rattle.received.specs.Links.{Area}
 use Rattle.received.specs.Updates.{send_copy}
 use Rattle.flooding.specs.Drafted.{drafts_with}
 use Rattle.flooding.specs.Kept.{KeptLink, RouterArea}
-use Rattle.flooding.specs.Links.{area_of, draft_of, present, start}
+use Rattle.flooding.specs.Links.{area_of, draft_of, present, with_no_sends}
 use Rattle.flooding.proofs.Doing.{area_rests, on_err}
 use Rattle.flooding.proofs.Lent.{committed_back, given_back}
 use Rattle.flooding.proofs.Marking.{area_is}
@@ -18,9 +18,10 @@ returns-in_default c =
     let a = c.args.self.now.present in
     let k = c.args.key.now in
     area_rests
-    (λ (x : Area). send_copy c.args.moment c.args.interface (finite.get x.database k) (start x))
+    (λ (x : Area). send_copy c.args.moment c.args.interface (finite.get x.database k)
+    (with_no_sends x))
     c.args.self.now _
-    (ap (λ q. send_copy c.args.moment c.args.interface q (start a)) (c.in_default.ensures
+    (ap (λ q. send_copy c.args.moment c.args.interface q (with_no_sends a)) (c.in_default.ensures
     ∙ ap (λ (v : RouterArea). finite.get v.present.database k) c.self.view_is))
 
 pub returns-in_err-draft_update : goal.returns-in_err-draft_update
@@ -50,20 +51,21 @@ returns c =
       area = on_ok c.mark_sent.result (λ is.
           area_is (ap (map present) back ∙ does.links) (is ∙ ap (λ j. mark_sent m j d)
           (c.key-sent_key.ensures ∙ ap key_of c.header-header.ensures))
-          ∙ ap (λ q. (send_copy m n q (start (area_of lent d))).area) c.in-Some.ensures
+          ∙ ap (λ q. (send_copy m n q (with_no_sends (area_of lent d))).area) c.in-Some.ensures
           ∙ ap (λ (ls : List KeptLink). (send_copy m n (finite.get d k)
-          (start (area_of ls d))).area) c.deref_mut.ensures.value
+          (with_no_sends (area_of ls d))).area) c.deref_mut.ensures.value
           ∙ ap (λ (v : RouterArea). (send_copy m n (finite.get v.present.database k)
-          (start v.present)).area) c.self.view_is) c.mark_sent.ensures.ok;
+          (with_no_sends v.present)).area) c.self.view_is) c.mark_sent.ensures.ok;
       drafts = on_ok c.mark_sent.result (λ _.
           ap (map draft_of) back ∙ does.drafts
-          ∙ ap (λ q. drafts_with (send_copy m n q (start (area_of lent d))).sends
+          ∙ ap (λ q. drafts_with (send_copy m n q (with_no_sends (area_of lent d))).sends
           (map present lent) (map draft_of lent)) c.in-Some.ensures
           ∙ ap (λ (ls : List KeptLink). drafts_with (send_copy m n (finite.get d k)
-          (start (area_of ls d))).sends (map present ls) (map draft_of ls))
+          (with_no_sends (area_of ls d))).sends (map present ls) (map draft_of ls))
           c.deref_mut.ensures.value
           ∙ ap (λ (v : RouterArea). drafts_with (send_copy m n
-          (finite.get v.present.database k) (start v.present)).sends v.present.links v.drafted)
+          (finite.get v.present.database k) (with_no_sends v.present)).sends v.present.links
+          v.drafted)
           c.self.view_is) c.mark_sent.ensures.ok;
       committed = area_is (committed_back items lent made len c.deref_mut.ensures.value
           c.deref_mut.ensures.len does.committed) c.mark_sent.ensures.committed

@@ -6,7 +6,8 @@ use Rattle.adjacency.specs.lsdb.Headers.{key_of, lsa_key}
 use Rattle.keyed_map.proofs.Helds.{on_ok}
 use Rattle.flooding.specs.Drafted.{drafts_with}
 use Rattle.flooding.specs.Kept.{KeptLink, RouterArea}
-use Rattle.flooding.specs.Links.{area_of, draft_of, flooded_copy, flooded_key, present, start}
+use Rattle.flooding.specs.Links.{area_of, draft_of, flooded_copy, flooded_key, present}
+use Rattle.flooding.specs.Links.{with_no_sends}
 use Rattle.flooding.proofs.Doing.{area_rests, on_err}
 use Rattle.flooding.proofs.Flooded.{marks_once}
 use Rattle.flooding.proofs.Lent.{committed_back, given_back}
@@ -17,7 +18,7 @@ pub returns-in_default : goal.returns-in_default
 returns-in_default c =
     let a = c.args.self.now.present in
     area_rests (flooded_key c.args.moment None c.args.key.now) c.args.self.now _
-    (ap (λ q. flooded_copy c.args.moment None q (start a)) (c.in_default.ensures
+    (ap (λ q. flooded_copy c.args.moment None q (with_no_sends a)) (c.in_default.ensures
     ∙ ap (λ (v : RouterArea). finite.get v.present.database c.args.key.now) c.self.view_is))
 
 pub returns-in_err-sent : goal.returns-in_err-sent
@@ -51,14 +52,15 @@ returns-then-sent c =
           area_is (ap (map present) back ∙ does.links) (is
           ∙ ap (λ j. mark_sent m j d) (c.key-sent_key.ensures ∙ ap key_of c.header-header.ensures)
           ∙ mark)
-          ∙ ap (λ q. (flooded_copy m None q (start (area_of lent d))).area) c.in-Some.ensures
+          ∙ ap (λ q. (flooded_copy m None q (with_no_sends (area_of lent d))).area)
+          c.in-Some.ensures
           ∙ ap (λ (ls : List KeptLink). (flooded_key m None k (area_of ls d)).area)
           c.deref_mut.ensures.value
           ∙ ap (λ (v : RouterArea). (flooded_key m None k v.present).area) c.self.view_is)
           c.mark_sent.ensures.ok;
       drafts = on_ok c.mark_sent.result (λ _.
           ap (map draft_of) back ∙ does.drafts
-          ∙ ap (λ q. drafts_with (flooded_copy m None q (start (area_of lent d))).sends
+          ∙ ap (λ q. drafts_with (flooded_copy m None q (with_no_sends (area_of lent d))).sends
           (map present lent) (map draft_of lent)) c.in-Some.ensures
           ∙ ap (λ (ls : List KeptLink). drafts_with (flooded_key m None k (area_of ls d)).sends
           (map present ls) (map draft_of ls)) c.deref_mut.ensures.value
@@ -88,13 +90,14 @@ returns c =
     record {
       area =
           area_is (ap (map present) back ∙ does.links) mark
-          ∙ ap (λ q. (flooded_copy m None q (start (area_of lent d))).area) c.in-Some.ensures
+          ∙ ap (λ q. (flooded_copy m None q (with_no_sends (area_of lent d))).area)
+          c.in-Some.ensures
           ∙ ap (λ (ls : List KeptLink). (flooded_key m None k (area_of ls d)).area)
           c.deref_mut.ensures.value
           ∙ ap (λ (v : RouterArea). (flooded_key m None k v.present).area) c.self.view_is;
       drafts =
           ap (map draft_of) back ∙ does.drafts
-          ∙ ap (λ q. drafts_with (flooded_copy m None q (start (area_of lent d))).sends
+          ∙ ap (λ q. drafts_with (flooded_copy m None q (with_no_sends (area_of lent d))).sends
           (map present lent) (map draft_of lent)) c.in-Some.ensures
           ∙ ap (λ (ls : List KeptLink). drafts_with (flooded_key m None k (area_of ls d)).sends
           (map present ls) (map draft_of ls)) c.deref_mut.ensures.value

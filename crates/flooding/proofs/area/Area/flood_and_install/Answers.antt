@@ -7,11 +7,11 @@ use Rattle.adjacency.specs.lsdb.Headers.{Header, key_of, lsa_key}
 use Rattle.keyed_map.proofs.Helds.{on_ok}
 use Rattle.received.specs.Flooding.{flood_to}
 use Rattle.received.specs.Links.{change_link, delay_acknowledgment}
-use Rattle.received.specs.Outcomes.{stepped_links}
+use Rattle.received.specs.AreaStates.{stepped_links}
 use Rattle.received.specs.Updates.{flood_and_install}
 use Rattle.flooding.specs.Drafted.{drafts_with}
 use Rattle.flooding.specs.Kept.{KeptLink, RouterArea}
-use Rattle.flooding.specs.Links.{area_of, draft_of, present, start}
+use Rattle.flooding.specs.Links.{area_of, draft_of, present, with_no_sends}
 use Rattle.flooding.proofs.Doing.{on_err}
 use Rattle.flooding.proofs.Flooded.{marks_once}
 use Rattle.flooding.proofs.Lent.{committed_back, given_back}
@@ -119,9 +119,10 @@ returns-then-sent c =
           (is ∙ ap (mark_sent m c.key-key.result) c.in_ok-install.ensures.ok
           ∙ ap (λ j. mark_sent m j db) (c.key-key.ensures ∙ ap key_of c.header-header.ensures)
           ∙ mark)
-          ∙ ap (λ (ls : List KeptLink). (flood_and_install m k lsa (start (area_of ls d))).area)
+          ∙ ap (λ (ls : List KeptLink). (flood_and_install m k lsa
+          (with_no_sends (area_of ls d))).area)
           c.deref_mut.ensures.value
-          ∙ ap (λ (v : RouterArea). (flood_and_install m k lsa (start v.present)).area)
+          ∙ ap (λ (v : RouterArea). (flood_and_install m k lsa (with_no_sends v.present)).area)
           c.self.view_is)
           c.mark_sent.ensures.ok;
       drafts = on_ok c.mark_sent.result (λ _.
@@ -129,9 +130,10 @@ returns-then-sent c =
           ∙ sym (drafted_none 1 (map present lent2) (map draft_of lent2))
           ∙ ap (map draft_of) again ∙ floods.drafts
           ∙ ap (λ (ls : List KeptLink). drafts_with
-          (flood_and_install m k lsa (start (area_of ls d))).sends
+          (flood_and_install m k lsa (with_no_sends (area_of ls d))).sends
           (map present ls) (map draft_of ls)) c.deref_mut.ensures.value
-          ∙ ap (λ (v : RouterArea). drafts_with (flood_and_install m k lsa (start v.present)).sends
+          ∙ ap (λ (v : RouterArea). drafts_with
+          (flood_and_install m k lsa (with_no_sends v.present)).sends
           v.present.links v.drafted) c.self.view_is) c.mark_sent.ensures.ok;
       committed = area_is (committed_back between lent2 made2 n c.deref_mut-2.ensures.value
           c.deref_mut-2.ensures.len later.committed
@@ -174,18 +176,20 @@ returns c =
           ∙ ap (λ (h : Header). change_link k (delay_acknowledgment h)
           (stepped_links (flood_to m (Some k) lsa) P)) c.header-header.ensures)
           (c.in_ok-install.ensures.ok ∙ mark)
-          ∙ ap (λ (ls : List KeptLink). (flood_and_install m k lsa (start (area_of ls d))).area)
+          ∙ ap (λ (ls : List KeptLink). (flood_and_install m k lsa
+          (with_no_sends (area_of ls d))).area)
           c.deref_mut.ensures.value
-          ∙ ap (λ (v : RouterArea). (flood_and_install m k lsa (start v.present)).area)
+          ∙ ap (λ (v : RouterArea). (flood_and_install m k lsa (with_no_sends v.present)).area)
           c.self.view_is;
       drafts =
           ap (map draft_of) back ∙ later.drafts
           ∙ sym (drafted_none 1 (map present lent2) (map draft_of lent2))
           ∙ ap (map draft_of) again ∙ floods.drafts
           ∙ ap (λ (ls : List KeptLink). drafts_with
-          (flood_and_install m k lsa (start (area_of ls d))).sends
+          (flood_and_install m k lsa (with_no_sends (area_of ls d))).sends
           (map present ls) (map draft_of ls)) c.deref_mut.ensures.value
-          ∙ ap (λ (v : RouterArea). drafts_with (flood_and_install m k lsa (start v.present)).sends
+          ∙ ap (λ (v : RouterArea). drafts_with
+          (flood_and_install m k lsa (with_no_sends v.present)).sends
           v.present.links v.drafted) c.self.view_is;
       committed = area_is (committed_back between lent2 made2 n c.deref_mut-2.ensures.value
           c.deref_mut-2.ensures.len later.committed

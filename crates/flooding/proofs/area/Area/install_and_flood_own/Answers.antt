@@ -4,12 +4,12 @@ use Rattle.std.specs.FinMap as finite
 use Rattle.adjacency.specs.lsdb.Copies.{install_originated}
 use Rattle.adjacency.specs.lsdb.Headers.{key_of}
 use Rattle.received.specs.Flooding.{flood}
-use Rattle.received.specs.Outcomes.{Outcome}
+use Rattle.received.specs.AreaStates.{AreaState}
 use Rattle.keyed_map.proofs.Helds.{on_ok}
 use Rattle.flooding.specs.Drafted.{drafts_with}
 use Rattle.flooding.specs.Kept.{RouterArea}
 use Rattle.flooding.specs.Links.{area_of, draft_of, flooded_copy, originate_outcome, present}
-use Rattle.flooding.specs.Links.{committed_link, start}
+use Rattle.flooding.specs.Links.{committed_link, with_no_sends}
 use Rattle.flooding.proofs.Installed.{at_once, just_installed}
 use Rattle.flooding.proofs.Marking.{area_is}
 use Rattle.flooding.proofs.area.Area.install_and_flood_own.Goals as goal
@@ -23,22 +23,22 @@ returns c =
     let key = c.key-key.ensures ∙ ap key_of c.header-header.ensures in
     let whole : flooded_copy m None
     (finite.get c.install.new.self.present c.key-key.result)
-    (start (area_of ls c.install.new.self.present))
-    ≡ flood m None lsa (start (area_of ls (install_originated m lsa d))) =
-    ap (λ e. flooded_copy m None (finite.get e c.key-key.result) (start (area_of ls e)))
+    (with_no_sends (area_of ls c.install.new.self.present))
+    ≡ flood m None lsa (with_no_sends (area_of ls (install_originated m lsa d))) =
+    ap (λ e. flooded_copy m None (finite.get e c.key-key.result) (with_no_sends (area_of ls e)))
     c.in_ok-install.ensures.ok
     ∙ ap (λ j. flooded_copy m None (finite.get (install_originated m lsa d) j)
-    (start (area_of ls (install_originated m lsa d)))) key
-    ∙ ap (λ o. flooded_copy m None o (start (area_of ls (install_originated m lsa d))))
+    (with_no_sends (area_of ls (install_originated m lsa d)))) key
+    ∙ ap (λ o. flooded_copy m None o (with_no_sends (area_of ls (install_originated m lsa d))))
     (just_installed m lsa None d)
-    ∙ ap (λ l. flood m None l (start (area_of ls (install_originated m lsa d))))
+    ∙ ap (λ l. flood m None l (with_no_sends (area_of ls (install_originated m lsa d))))
     (at_once m lsa None c.prove_age.ensures) in
     record {
-      area = on_ok c.flood.result (λ is. is ∙ ap (λ (o : Outcome). o.area) whole
+      area = on_ok c.flood.result (λ is. is ∙ ap (λ (o : AreaState). o.area) whole
           ∙ ap (λ (v : RouterArea). (originate_outcome m lsa v.present).area) c.self.view_is)
           c.flood.ensures.area;
       drafts = on_ok c.flood.result (λ is.
-          is ∙ ap (λ (o : Outcome). drafts_with o.sends (map present ls) (map draft_of ls)) whole
+          is ∙ ap (λ (o : AreaState). drafts_with o.sends (map present ls) (map draft_of ls)) whole
           ∙ ap (λ (v : RouterArea). drafts_with (originate_outcome m lsa v.present).sends
           v.present.links v.drafted) c.self.view_is) c.flood.ensures.drafts;
       committed = c.flood.ensures.committed

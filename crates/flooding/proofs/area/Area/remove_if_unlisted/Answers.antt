@@ -3,7 +3,7 @@ use Rattle.std.specs.FinMap as finite
 use Rattle.keyed_map.proofs.Helds.{on_ok}
 use Rattle.received.specs.Links.{Area, any_has_retransmission}
 use Rattle.flooding.specs.Kept.{RouterArea}
-use Rattle.flooding.specs.Links.{start, without_acknowledged}
+use Rattle.flooding.specs.Links.{with_no_sends, without_acknowledged}
 use Rattle.flooding.proofs.Doing.{area_rests}
 use Rattle.flooding.proofs.Marking.{area_is}
 use Rattle.flooding.proofs.Sends.{drafted_none}
@@ -14,9 +14,13 @@ returns-then-listed c =
     let a : Area = c.args.self.now.present in
     let k = c.args.key.now in
     area_rests
-    (λ (x : Area). start (record x { database = without_acknowledged x.links x.database k }))
+    (λ (x : Area). with_no_sends (record x {
+      database = without_acknowledged x.links x.database k;
+    }))
     c.args.self.now _
-    (ap (λ b. start (record a { database = cond b a.database (finite.remove a.database k) }))
+    (ap (λ b. with_no_sends (record a {
+      database = cond b a.database (finite.remove a.database k);
+    }))
     (sym c.if-listed.true ∙ c.any_has_retransmission-listed.ensures
     ∙ ap (any_has_retransmission k) c.links.ensures.present))
 

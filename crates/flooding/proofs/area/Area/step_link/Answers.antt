@@ -5,10 +5,10 @@ use Rattle.std.specs.Prelude.{Option, Some}
 use Rattle.keyed_map.proofs.Helds.{on_ok}
 use Rattle.adjacency.specs.Drafts.{Drafted, drafting}
 use Rattle.received.specs.Links.{Link, link_at}
-use Rattle.received.specs.Outcomes.{sends_at}
+use Rattle.received.specs.AreaStates.{sends_at}
 use Rattle.flooding.specs.Drafted.{drafts_with}
 use Rattle.flooding.specs.Kept.{KeptLink, RouterArea}
-use Rattle.flooding.specs.Links.{committed_link, draft_of, present, start}
+use Rattle.flooding.specs.Links.{committed_link, draft_of, present, with_no_sends}
 use Rattle.flooding.specs.Steps.{key_of_update, mark_each, one_link, sent_by}
 use Rattle.flooding.proofs.Doing.{on_err}
 use Rattle.flooding.proofs.Kept.{shows_kept}
@@ -107,7 +107,8 @@ returns g c =
           (map key_of_update (drop (length link.drafted.updates) x.updates))) does.draft
           ∙ marks_behind m delay k (S d link.present) d link.drafted
           ∙ ap (λ (o : Option Link). marks m d (sends_at k (sent_by (S d) o))) here)
-          ∙ ap (λ (v : RouterArea). (one_link m k A S (start v.present)).area) c.self.view_is)
+          ∙ ap (λ (v : RouterArea). (one_link m k A S (with_no_sends v.present)).area)
+          c.self.view_is)
           c.mark_behind.ensures.ok;
       drafts = on_ok c.mark_behind.result
           (λ _.
@@ -116,7 +117,7 @@ returns g c =
           (S d link.present) l.drafted) value)
           ∙ ap (λ (o : Option Link). drafts_with (sends_at k (sent_by (S d) o))
           (map present items) (map draft_of items)) here
-          ∙ ap (λ (v : RouterArea). drafts_with (one_link m k A S (start v.present)).sends
+          ∙ ap (λ (v : RouterArea). drafts_with (one_link m k A S (with_no_sends v.present)).sends
           v.present.links v.drafted) c.self.view_is)
           c.mark_behind.ensures.ok;
       committed = area_is (shows_kept committed_link items i link after value

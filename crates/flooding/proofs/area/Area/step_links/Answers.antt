@@ -3,7 +3,7 @@ use Rattle.std.proofs.lemmas.List.{length-map}
 use Rattle.keyed_map.proofs.Helds.{on_ok}
 use Rattle.flooding.specs.Drafted.{drafts_with}
 use Rattle.flooding.specs.Kept.{KeptLink, RouterArea}
-use Rattle.flooding.specs.Links.{area_of, committed_link, draft_of, present, start}
+use Rattle.flooding.specs.Links.{area_of, committed_link, draft_of, present, with_no_sends}
 use Rattle.flooding.specs.Steps.{all_links, keys_behind, mark_each, update_count, update_count_on}
 use Rattle.flooding.proofs.Doing.{on_err}
 use Rattle.flooding.proofs.Lent.{committed_back, given_back}
@@ -66,16 +66,17 @@ returns g c =
           area_is (ap (map present) back ∙ does.links)
           (is ∙ (λ j. mark_each m d (keys_behind (counts j) (drafts j)))
           ∙ marks_are m (S d) 1 ls ds d count)
-          ∙ ap (λ (xs : List KeptLink). (all_links m A S (start (area_of xs d))).area)
+          ∙ ap (λ (xs : List KeptLink). (all_links m A S (with_no_sends (area_of xs d))).area)
           c.deref_mut.ensures.value
-          ∙ ap (λ (v : RouterArea). (all_links m A S (start v.present)).area) c.self.view_is)
+          ∙ ap (λ (v : RouterArea). (all_links m A S (with_no_sends v.present)).area)
+          c.self.view_is)
           c.mark_all.ensures.ok;
       drafts = on_ok c.mark_all.result (λ _.
           ap (map draft_of) back ∙ does.drafts
           ∙ ap (λ (xs : List KeptLink). drafts_with
-          (all_links m A S (start (area_of xs d))).sends (map present xs) (map draft_of xs))
+          (all_links m A S (with_no_sends (area_of xs d))).sends (map present xs) (map draft_of xs))
           c.deref_mut.ensures.value
-          ∙ ap (λ (v : RouterArea). drafts_with (all_links m A S (start v.present)).sends
+          ∙ ap (λ (v : RouterArea). drafts_with (all_links m A S (with_no_sends v.present)).sends
           v.present.links v.drafted) c.self.view_is)
           c.mark_all.ensures.ok;
       committed = area_is (committed_back items lent made c.self.inside.links.len

@@ -11,13 +11,13 @@ use Rattle.flooding.specs.Links.{neighbor_step}
 use Rattle.flooding.proofs.Shown.{place_becomes}
 use Rattle.flooding.proofs.link.Link.bad_request.Goals as goal
 
-pub returns-then-exchanging : goal.returns-then-exchanging
-returns-then-exchanging c =
+pub returns-then-exchange_or_later : goal.returns-then-exchange_or_later
+returns-then-exchange_or_later c =
     let m = c.args.moment in
     let F = mismatch_step m in
     let o = c.self.inside.slot.present in
     let delay = c.self.inside.interface.delay in
-    let is = sym c.is_exchange_or_later-exchanging.ensures ∙ c.if-exchanging.true in
+    let is = sym c.is_exchange_or_later-exchange_or_later.ensures ∙ c.if-exchange_or_later.true in
     place_becomes (step_on F) (sent_on F) _ c.args.self.now c.enter_exstart.new.self.present
     c.enter_exstart.new.self.committed c.enter_exstart.new.draft c.enter_exstart.result
     c.self.view_is
@@ -44,7 +44,7 @@ returns c =
       last_hello_sent = c.self.inside.last_hello_sent.present;
     } in
     let l = c.args.self.now in
-    let is = sym c.is_exchange_or_later-exchanging.ensures ∙ c.if-exchanging.false in
+    let is = sym c.is_exchange_or_later-exchange_or_later.ensures ∙ c.if-exchange_or_later.false in
     record {
       link =
           ap (λ (k : KeptLink). k.present) (sym c.self.view_is)

@@ -8,7 +8,7 @@ use Rattle.flooding.proofs.neighbor_slot.NeighborSlot.receive_request.Goals as g
 
 pub returns-then-there : goal.returns-then-there
 returns-then-there c =
-    let is = sym c.is_exchange_or_later-exchanging.ensures ∙ c.if-exchanging.true in
+    let is = sym c.is_exchange_or_later-exchange_or_later.ensures ∙ c.if-exchange_or_later.true in
     let all = sym c.are_there-there.ensures ∙ c.if-there.true in
     record {
       ok = on_ok c.draft_copies.result (λ sent. answers_on c.args.moment
@@ -21,9 +21,9 @@ returns-then-there c =
       committed = refl;
     }
 
-pub returns-then-exchanging : goal.returns-then-exchanging
-returns-then-exchanging c =
-    let is = sym c.is_exchange_or_later-exchanging.ensures ∙ c.if-exchanging.true in
+pub returns-then-exchange_or_later : goal.returns-then-exchange_or_later
+returns-then-exchange_or_later c =
+    let is = sym c.is_exchange_or_later-exchange_or_later.ensures ∙ c.if-exchange_or_later.true in
     let some = sym c.are_there-there.ensures ∙ c.if-there.false in
     record {
       ok = on_ok c.enter_exstart.result (λ made. made
@@ -38,7 +38,7 @@ returns-then-exchanging c =
 
 pub returns : goal.returns
 returns c =
-    let is = sym c.is_exchange_or_later-exchanging.ensures ∙ c.if-exchanging.false in
+    let is = sym c.is_exchange_or_later-exchange_or_later.ensures ∙ c.if-exchange_or_later.false in
     nothing_updated _ refl
     (rests_on c.args.moment c.args.database.now.present c.args.keys.now c.args.self.now.present is)
     (rests_sent c.args.moment c.args.database.now.present c.args.keys.now c.args.self.now.present

@@ -3,7 +3,7 @@ use Rattle.std.specs.Prelude.{Option}
 use Rattle.std.specs.FinMap as finite
 use Rattle.flooding.specs.lsdb.Copies.{DatabaseCopy}
 use Rattle.flooding.specs.received.Links.{Area}
-use Rattle.flooding.specs.Links.{start}
+use Rattle.flooding.specs.Links.{with_no_sends}
 use Rattle.event_rules.specs.EventState.{on_area}
 use Rattle.event_rules.specs.Originations.{flush, flush_copy}
 use Rattle.event_rules.specs.Routers.{Router}
@@ -52,6 +52,6 @@ returns c =
     c.args.self.now c.self.inside.area c.age_prematurely.new.self c.age_prematurely.result
     c.self.view_is refl
     c.age_prematurely.ensures
-    (flushed_is m k c.in-Some.copy copy (start a)
+    (flushed_is m k c.in-Some.copy copy (with_no_sends a)
     (c.in-Some.ensures ∙ ap (λ d. finite.get d.present k) c.database.ensures)
     (sym c.if-aged.false ∙ c.is_aged_out-aged.ensures)))

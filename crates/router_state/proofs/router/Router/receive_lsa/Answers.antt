@@ -4,7 +4,7 @@ use Rattle.flooding.specs.adjacency.lsdb.Headers.{Lsa}
 use Rattle.event_rules.specs.received.Updates.{after_case, case_at, goes_on}
 use Rattle.event_rules.specs.Packets.{after_parsed}
 use Rattle.flooding.specs.Cases.{case_of}
-use Rattle.flooding.specs.Links.{start}
+use Rattle.flooding.specs.Links.{with_no_sends}
 use Rattle.router_state.specs.Kept.{KeptRouter}
 use Rattle.router_state.specs.Making.{Makes}
 use Rattle.router_state.specs.Received.{goes_on_at}
@@ -73,7 +73,7 @@ returns-then-newer-clause-does c =
     (area_does (after_case case m n lsa) (keeps_case m n lsa case) (appends_case m n lsa case) _
     c.args.self.now c.self.inside.area c.flood_and_install.new.self _ c.self.view_is refl
     c.in_ok-flood_and_install.ensures
-    (newer_installs m n lsa case newer (start c.self.inside.area.present))).makes
+    (newer_installs m n lsa case newer (with_no_sends c.self.inside.area.present))).makes
     (c.in_ok-receive_self_originated.ensures lsa (sym c.header-header.ensures)).makes)))
 
 pub returns-in_err-carry_out_case-clause-does : goal.returns-in_err-carry_out_case-clause-does
