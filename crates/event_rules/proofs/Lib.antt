@@ -5,3 +5,4 @@ pub mod Rooms
 pub mod Fitting
 pub mod Walk
 pub mod Roomy
+mod Skipped

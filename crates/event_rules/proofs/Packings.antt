@@ -14,7 +14,7 @@ use Rattle.received.specs.lsdb.Keys.{key_cmp, same_key}
 use Rattle.received.proofs.lsdb.Keys.{keys_exact, keys_total}
 use Rattle.packet.specs.declared.model.PacketBody.{PacketBody}
 use Rattle.received.specs.Links.{Link}
-use Rattle.received.specs.Outcomes.{Send, at_interface}
+use Rattle.received.specs.AreaStates.{Send, at_interface}
 use Rattle.event_rules.specs.declared.model.Out.{Out}
 use Rattle.event_rules.specs.Packing.{bodies, fill_on, header_size, in_key_order}
 use Rattle.event_rules.specs.Packing.{is_after}

@@ -21,7 +21,7 @@ use Rattle.packet.specs.Text.{header, hello, key_text, router_id_text, text, typ
 use Rattle.packet.proofs.Records.{key-wide, router_id-wide}
 use Rattle.received.specs.adjacency.Contents.{Content}
 use Rattle.received.specs.Links.{Link}
-use Rattle.received.specs.Outcomes.{Send, at_interface}
+use Rattle.received.specs.AreaStates.{Send, at_interface}
 use Rattle.event_rules.specs.declared.model.Out.{Out}
 use Rattle.event_rules.specs.Packing.{acknowledgments, bodies, descriptions, fill_on}
 use Rattle.event_rules.specs.Packing.{first_key, header_size, hellos, in_key_order, lsa_size}

@@ -40,7 +40,7 @@ use Rattle.received.proofs.adjacency.Roomy.{old_description_roomy, quiet_roomy, 
 use Rattle.received.proofs.adjacency.Roomy.{still_heard_roomy, updates_room}
 use Rattle.received.specs.Holds.{Holds, HoldsOfEach}
 use Rattle.received.specs.Links.{Link, link_at, neighbor_on}
-use Rattle.received.specs.Outcomes.{Outcome, sends_at, on_database, on_links, sends_of}
+use Rattle.received.specs.AreaStates.{AreaState, sends_at, on_database, on_links, sends_of}
 use Rattle.received.proofs.Holding.{each_link_keeps, one_holds}
 use Rattle.received.proofs.Roomy.{FitsIfThere, HasRoomFor, IsRoomyOutcome, SendHasRoom, all_fit}
 use Rattle.received.proofs.Roomy.{case_roomy, changed_fit, changed_roomy, each_roomy, fits_at}
@@ -141,7 +141,7 @@ roomy = record {
 
 -- ---- aging, and self-originated LSAs
 
-ages_roomy : (before moment : ℕ) (es : List (Key × DatabaseCopy)) (o : Outcome)
+ages_roomy : (before moment : ℕ) (es : List (Key × DatabaseCopy)) (o : AreaState)
     → AllByRecursion EntryFits es → IsRoomyOutcome o
     → IsRoomyOutcome (fold (flood_if_aged before moment) o es)
 ages_roomy before moment [] o fits h = h
@@ -151,7 +151,7 @@ ages_roomy before moment (e ∷ es) o fits h =
     (flood_from_nobody moment (lsa_now moment e.1) o) o
     (λ is. flood_roomy moment None (lsa_now moment e.1) o (now_fits moment e.1 fits.0) h) (λ is. h))
 
-flushed_roomy : (moment : ℕ) (key : Key) (c : DatabaseCopy) (o : Outcome)
+flushed_roomy : (moment : ℕ) (key : Key) (c : DatabaseCopy) (o : AreaState)
     → finite.get o.area.database key ≡ Some c → IsRoomyOutcome o
     → IsRoomyOutcome (flood_from_nobody moment (lsa_with_age 3600 c.lsa)
     (on_database (age_prematurely moment key) o))
@@ -192,7 +192,7 @@ exchange_settled moment dead (Some n) h = old_description_roomy moment dead n h
 
 each_link_roomy : (change : Link → Link)
     → ((link : Link) → Holds HasRoomyLists link.neighbor
-    → Holds HasRoomyLists (change link).neighbor) → (o : Outcome) → IsRoomyOutcome o
+    → Holds HasRoomyLists (change link).neighbor) → (o : AreaState) → IsRoomyOutcome o
     → IsRoomyOutcome (on_links (map change) o)
 each_link_roomy change keeps o h =
     on_links_roomy (map change) o (each_link_keeps HasRoomyLists change keeps o.area.links h.lists)
@@ -260,7 +260,7 @@ brings old event = record {
   key = λ tagged tag priced price is. (tt, tt);
 }
 
-hello_heard : (own moment number from : ℕ) (hello : Hello) (link : Option Link) (o : Outcome)
+hello_heard : (own moment number from : ℕ) (hello : Hello) (link : Option Link) (o : AreaState)
     → Holds HasRoomyLists (neighbor_on link) → IsRoomyOutcome o
     → IsRoomyOutcome (receive_hello_on own moment number from hello link o)
 hello_heard own moment number from hello None o here h = h

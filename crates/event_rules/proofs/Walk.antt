@@ -28,8 +28,9 @@ use Rattle.received.proofs.adjacency.Kept.{chosen}
 use Rattle.received.specs.Cases.{Case}
 use Rattle.received.specs.Links.{Area, Link, any_exchange_or_loading, change_link, link_at}
 use Rattle.received.specs.Links.{neighbor_on}
-use Rattle.received.specs.Outcomes.{Outcome, Send, sends_at, on_database, on_links, one_neighbor}
-use Rattle.received.specs.Outcomes.{sending}
+use Rattle.received.specs.AreaStates.{AreaState, Send, sends_at, on_database, on_links}
+use Rattle.received.specs.AreaStates.{one_neighbor}
+use Rattle.received.specs.AreaStates.{sending}
 use Rattle.received.specs.Updates.{after_case, case_at, goes_on}
 use Rattle.event_rules.specs.Commands.{after_redistribute, after_withdraw, announce, announce_as}
 use Rattle.event_rules.specs.Commands.{answered_external, end_want, ls_infinity, is_announced_as}
@@ -78,14 +79,14 @@ pub record OfEvent (i : Invariant) (p : EventState) : Type 0 where
   pub area : i.of_area p.router.area p.sends
   pub announced : i.of_announced p.router.id p.router.announced
 
-abbrev pub OfOutcome : Invariant → Outcome → Type 0
+abbrev pub OfOutcome : Invariant → AreaState → Type 0
 OfOutcome i o = i.of_area o.area o.sends
 
 -- a change keeps the invariant
-abbrev pub Keeps : Invariant → (Outcome → Outcome) → Type 0
-Keeps i f = (o : Outcome) → OfOutcome i o → OfOutcome i (f o)
+abbrev pub Keeps : Invariant → (AreaState → AreaState) → Type 0
+Keeps i f = (o : AreaState) → OfOutcome i o → OfOutcome i (f o)
 
-abbrev pub outcome : EventState → Outcome
+abbrev pub outcome : EventState → AreaState
 outcome p = record { area = p.router.area; sends = p.sends }
 
 -- about the LSAs of a packet that can be parsed
@@ -113,7 +114,7 @@ pub data MayGrow (i : Invariant) (key : Key) (r : Router) : Type 0 where
 pub record IsKeptByParts (i : Invariant) : Type 0 where
   -- aging, and self-originated LSAs
   pub ages : (before moment : ℕ) → Keeps i (flood_aged before moment)
-  pub flushes : (moment : ℕ) (key : Key) (c : DatabaseCopy) (o : Outcome)
+  pub flushes : (moment : ℕ) (key : Key) (c : DatabaseCopy) (o : AreaState)
       → finite.get o.area.database key ≡ Some c → is_aged_out moment c ≡ false → OfOutcome i o
       → OfOutcome i (flood_from_nobody moment (lsa_with_age 3600 c.lsa)
       (on_database (age_prematurely moment key) o))
@@ -132,7 +133,7 @@ pub record IsKeptByParts (i : Invariant) : Type 0 where
       → Keeps i (receive_hello own moment number from h)
   pub description : (own moment number : ℕ) (d : Description)
       → Keeps i (receive_description own moment number d)
-  pub requested : (moment number : ℕ) (keys : List Key) (o : Outcome) → OfOutcome i o
+  pub requested : (moment number : ℕ) (keys : List Key) (o : AreaState) → OfOutcome i o
       → OfOutcome i (sending moment (sends_at number
       (map Content.Updates (requested_lsas moment o.area.database keys))) o)
   pub mismatch : (moment number : ℕ)
@@ -156,7 +157,7 @@ pub record IsKeptByParts (i : Invariant) : Type 0 where
   -- the end
   pub loaded : Keeps i (on_links (map link_loading_done))
   pub requests : (moment : ℕ) → Keeps i (request_all moment)
-  pub removes : (moment : ℕ) (o : Outcome) → OfOutcome i o
+  pub removes : (moment : ℕ) (o : AreaState) → OfOutcome i o
       → OfOutcome i (on_database (λ db. finite.retain_keys db (stays moment o.area)) o)
 
 -- what an event contains: the LSAs of its Link State Update, and the key of what it announces
@@ -174,14 +175,14 @@ module _ (i : Invariant) (kept : IsKeptByParts i) where
   abbrev InProgress : EventState → Type 0
   InProgress p = OfEvent i p
 
-  on_area_kept : (f : Outcome → Outcome) (p : EventState)
+  on_area_kept : (f : AreaState → AreaState) (p : EventState)
       → (i.of_area p.router.area p.sends → OfOutcome i (f (outcome p))) → InProgress p
       → InProgress (on_area f p)
   on_area_kept f p keeps h = record { area = keeps h.area; announced = h.announced }
 
   -- ---- self-originated LSAs
 
-  copy_flushed : (moment : ℕ) (key : Key) (c : Option DatabaseCopy) (o : Outcome)
+  copy_flushed : (moment : ℕ) (key : Key) (c : Option DatabaseCopy) (o : AreaState)
       → finite.get o.area.database key ≡ c → OfOutcome i o → OfOutcome i (flush_copy moment key c o)
   copy_flushed moment key None o is h = h
   copy_flushed moment key (Some c) o is h =
@@ -289,7 +290,7 @@ module _ (i : Invariant) (kept : IsKeptByParts i) where
       (after_lsas moment number rest q) q (λ is. lsas_kept moment number rest q so.1 then_so)
       (λ is. then_so)
 
-  requests_answered : (moment number : ℕ) (keys : List Key) (o : Outcome) → OfOutcome i o
+  requests_answered : (moment number : ℕ) (keys : List Key) (o : AreaState) → OfOutcome i o
       → OfOutcome i (receive_request moment number keys o)
   requests_answered moment number keys o h =
       chosen (OfOutcome i) (list_all (is_there o.area.database) keys)
@@ -344,7 +345,7 @@ module _ (i : Invariant) (kept : IsKeptByParts i) where
       } in
       let so : InProgress renewed = due_kept moment (due_keys moment no_sends.router) no_sends
       (kept.due moment no_sends.router still.announced) still in
-      let o : Outcome = outcome renewed in
+      let o : AreaState = outcome renewed in
       let again : OfOutcome i (send_all_again moment o) = kept.again moment o so.area in
       let acknowledged : OfOutcome i (send_acknowledgments moment (send_all_again moment o)) =
       kept.acknowledges moment (send_all_again moment o) again in
@@ -438,7 +439,7 @@ module _ (i : Invariant) (kept : IsKeptByParts i) where
       (on_router (postpone (router_key p.router.id)) p) p
       (λ is. waits_kept (router_key p.router.id) p h) (λ is. h)
 
-  aged_removed : (moment : ℕ) (o : Outcome) → OfOutcome i o → OfOutcome i (remove_aged moment o)
+  aged_removed : (moment : ℕ) (o : AreaState) → OfOutcome i o → OfOutcome i (remove_aged moment o)
   aged_removed moment o h =
       chosen (OfOutcome i) (any_exchange_or_loading o.area.links) o
       (on_database (λ db. finite.retain_keys db (stays moment o.area)) o) (λ is. h)

@@ -13,7 +13,7 @@ use Rattle.words.specs.declared.route.ExternalType.TheVariants.{Type1, Type2}
 use Rattle.words.specs.declared.route.Route.{Route}
 use Rattle.received.specs.Links.{change_link}
 pub use Rattle.received.specs.Links.{taken_down}
-use Rattle.received.specs.Outcomes.{on_links}
+use Rattle.received.specs.AreaStates.{on_links}
 use Rattle.event_rules.specs.Originations.{external_key, flush, originate_anyway}
 use Rattle.event_rules.specs.EventState.{EventState, on_area, on_router}
 use Rattle.event_rules.specs.Routers.{Router}

@@ -14,7 +14,7 @@ use Rattle.received.specs.adjacency.Adjacencies as adjacencies
 use Rattle.received.specs.adjacency.Neighbors.{Neighbor}
 use Rattle.received.specs.adjacency.Requests.{request_next}
 use Rattle.received.specs.Links.{Area, Link, any_has_retransmission, any_exchange_or_loading}
-use Rattle.received.specs.Outcomes.{Outcome, each_neighbor, on_database, on_links}
+use Rattle.received.specs.AreaStates.{AreaState, each_neighbor, on_database, on_links}
 use Rattle.event_rules.specs.Originations.{originate_or_postpone, postpone, router_body, router_key}
 use Rattle.event_rules.specs.EventState.{EventState, flood_from_nobody, on_area, on_router}
 use Rattle.event_rules.specs.Routers.{Router}
@@ -22,16 +22,17 @@ use Rattle.event_rules.specs.Routers.{Router}
 -- ---- ages (section 14)
 
 -- a copy that has reached MaxAge since the moment `before` is flooded
-abbrev pub flood_if_aged : (before : Moment) → (moment : Moment) → Outcome → (Key × DatabaseCopy)
-    → Outcome
+abbrev pub flood_if_aged : (before : Moment) → (moment : Moment) → AreaState → (Key × DatabaseCopy)
+    → AreaState
 flood_if_aged before moment o e =
     if has_just_aged_out before moment e.1 then flood_from_nobody moment (lsa_now moment e.1) o
     else o
 
-abbrev pub flood_aged : (before : Moment) → (moment : Moment) → Outcome → Outcome
+abbrev pub flood_aged : (before : Moment) → (moment : Moment) → AreaState → AreaState
 flood_aged before moment o = fold (flood_if_aged before moment) o (finite.entries o.area.database)
 
--- the copies that have reached MaxAge are flooded first; nothing was sent before
+-- the copies that have reached MaxAge since the last event are flooded first; nothing was sent
+-- before
 abbrev pub start_event : Moment → Router → EventState
 start_event moment old = on_area (flood_aged old.moment moment) (record {
   router = old;
@@ -88,7 +89,7 @@ postpone_router_lsa before p =
 
 -- ---- Link State Requests (section 10.9)
 
-abbrev pub request_all : Moment → Outcome → Outcome
+abbrev pub request_all : Moment → AreaState → AreaState
 request_all moment o = each_neighbor moment (λ interface link n. request_next moment n) o
 
 -- ---- removal (section 14)
@@ -103,7 +104,7 @@ stays moment a key =
 
 -- copies at MaxAge that are on no retransmission list are removed, unless some neighbor is in
 -- Exchange or Loading
-abbrev pub remove_aged : Moment → Outcome → Outcome
+abbrev pub remove_aged : Moment → AreaState → AreaState
 remove_aged moment o =
     if any_exchange_or_loading o.area.links then o
     else on_database (λ db. finite.retain_keys db (stays moment o.area)) o

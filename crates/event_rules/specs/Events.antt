@@ -37,7 +37,7 @@ OwnPart moment (Occurrence.LinkDown interface) before after =
     after ≡ after_link_down interface before
 
 -- from the router `old`, the event at this moment sends these packets and results in the router
--- `new`
+-- `new`; so it would also of an event that the router refuses (Refusals)
 pub record Happens (old : Router) (moment : Moment) (event : Occurrence)
     (outs : List Out) (new : Router) : Type 0 where
   pub after : EventState

@@ -1,13 +1,13 @@
 -- Laws about events.
-use Rattle.std.specs.Prelude.{◌≡◌, ℕ, true, List, None}
+use Rattle.std.specs.Prelude.{◌≡◌, ℕ, List, ◌∷◌, None}
+use Rattle.words.specs.Numbers.{InterfaceNumber, Moment}
 use Rattle.words.specs.declared.route.Route.{Route}
-use Rattle.received.specs.Cases.{Case}
-use Rattle.received.specs.Updates.{goes_on}
+use Rattle.lsa.specs.Reading.{lsa_in}
 use Rattle.event_rules.specs.declared.model.Out.{Out}
 use Rattle.event_rules.specs.Commands.{after_install}
 use Rattle.event_rules.specs.Events.{Happens}
 use Rattle.event_rules.specs.EventState.{EventState}
-use Rattle.event_rules.specs.Packets.{after_parsed, case_in}
+use Rattle.event_rules.specs.Packets.{after_lsas}
 use Rattle.event_rules.specs.Routers.{Occurrence, Router}
 
 -- an event has only one outcome
@@ -27,6 +27,6 @@ VetoesLeaveTheArea = (answers : List (Route × ℕ)) (before : EventState)
 -- bytes of a Link State Update that encode no LSA are skipped, and the LSAs after them are
 -- processed
 abbrev pub WhatIsNoLsaIsSkipped : Type 0
-WhatIsNoLsaIsSkipped = (moment interface : ℕ) (before : EventState)
-    → (case_in moment interface None before ≡ Case.Unreadable)
-    × (after_parsed moment interface None before ≡ before) × (goes_on Case.Unreadable ≡ true)
+WhatIsNoLsaIsSkipped = (moment : Moment) (interface : InterfaceNumber) (bytes : List ℕ)
+    (rest : List (List ℕ)) (before : EventState) → lsa_in bytes ≡ None
+    → after_lsas moment interface (bytes ∷ rest) before ≡ after_lsas moment interface rest before

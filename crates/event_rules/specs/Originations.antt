@@ -29,7 +29,7 @@ use Rattle.received.specs.adjacency.Adjacencies.{has_passed}
 use Rattle.received.specs.adjacency.Neighbors.{Neighbor, is_full}
 use Rattle.received.specs.adjacency.declared.interface.Interface.{Interface}
 use Rattle.received.specs.Links.{Link}
-use Rattle.received.specs.Outcomes.{Outcome, on_database}
+use Rattle.received.specs.AreaStates.{AreaState, on_database}
 use Rattle.event_rules.specs.EventState.{EventState, flood_from_nobody, on_area, on_router}
 use Rattle.event_rules.specs.Routers.{Router}
 
@@ -117,7 +117,7 @@ new_instance key copy contents = sealed_lsa (record {
   body = contents;
 })
 
-abbrev pub install_and_flood : Moment → Lsa → Outcome → Outcome
+abbrev pub install_and_flood : Moment → Lsa → AreaState → AreaState
 install_and_flood moment lsa o =
     flood_from_nobody moment lsa (on_database (install_originated moment lsa) o)
 
@@ -137,7 +137,7 @@ originate moment key contents p =
 -- ---- flushing (section 14.1)
 
 -- a copy that is younger than MaxAge is set to MaxAge and flooded
-abbrev pub flush_copy : Moment → Key → Option DatabaseCopy → Outcome → Outcome
+abbrev pub flush_copy : Moment → Key → Option DatabaseCopy → AreaState → AreaState
 flush_copy moment key None o = o
 flush_copy moment key (Some c) o =
     if is_aged_out moment c then o
@@ -178,7 +178,8 @@ abbrev pub originate_or_postpone : Moment → Key → EventState → EventState
 originate_or_postpone moment key p =
     originate_body (has_room key p.router) moment key (wanted_body p.router key) p
 
--- even if there is no room; `Redistribute` checks the limits afterwards
+-- even if there is no room: then the event is refused as `Full`, as each is whose result exceeds a
+-- limit (Refusals)
 abbrev pub originate_anyway : Moment → Key → EventState → EventState
 originate_anyway moment key p = originate_body true moment key (wanted_body p.router key) p
 
@@ -223,7 +224,8 @@ originate_or_flush true moment key p = originate_or_postpone moment key p
 originate_or_flush false moment key p = flush moment key p
 
 -- a self-originated LSA that was received and installed: a wanted one is originated again with the
--- next sequence number; any other is flushed
+-- next sequence number, at once or at a Tick, or after its copy was flushed
+-- (`originate_or_postpone`); any other is flushed
 abbrev pub receive_self_originated : Moment → Lsa → EventState → EventState
 receive_self_originated moment lsa p =
     if lsa.header.advertising_router == p.router.id

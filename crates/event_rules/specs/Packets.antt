@@ -20,7 +20,7 @@ pub use Rattle.received.specs.adjacency.Steps.{neighbor_is_exchange_or_later, is
 pub use Rattle.received.specs.adjacency.Steps.{lsas_of as requested_lsas}
 use Rattle.received.specs.Cases.{Case}
 use Rattle.received.specs.Links.{Link, change_link, link_at, neighbor_at}
-use Rattle.received.specs.Outcomes.{Outcome, sends_at, on_links, one_neighbor, sending}
+use Rattle.received.specs.AreaStates.{AreaState, sends_at, on_links, one_neighbor, sending}
 use Rattle.received.specs.Updates.{after_case, case_at, goes_on}
 pub use Rattle.event_rules.specs.Hellos.{accepts, agrees, is_foreign, may_be, names}
 use Rattle.event_rules.specs.Originations.{receive_self_originated}
@@ -31,13 +31,13 @@ use Rattle.event_rules.specs.EventState.{EventState, on_area}
 abbrev pub with_neighbor : Neighbor → Link → Link
 with_neighbor n link = record link { neighbor = Some n }
 
-abbrev pub accept_hello : Moment → InterfaceNumber → Step → Outcome → Outcome
+abbrev pub accept_hello : Moment → InterfaceNumber → Step → AreaState → AreaState
 accept_hello moment interface s o =
     sending moment (sends_at interface s.sends)
     (on_links (change_link interface (with_neighbor s.neighbor)) o)
 
 abbrev pub receive_hello_on : (own : RouterNumber) → Moment → InterfaceNumber
-    → (from : RouterNumber) → Hello → Option Link → Outcome → Outcome
+    → (from : RouterNumber) → Hello → Option Link → AreaState → AreaState
 receive_hello_on own moment interface from h None o = o
 receive_hello_on own moment interface from h (Some link) o =
     if accepts own from h link
@@ -45,14 +45,14 @@ receive_hello_on own moment interface from h (Some link) o =
     (adjacencies.after_hello moment from (names own h) link.neighbor) o else o
 
 abbrev pub receive_hello : (own : RouterNumber) → Moment → InterfaceNumber
-    → (from : RouterNumber) → Hello → Outcome → Outcome
+    → (from : RouterNumber) → Hello → AreaState → AreaState
 receive_hello own moment interface from h o =
     receive_hello_on own moment interface from h (link_at interface o.area.links) o
 
 -- ---- Link State Requests (section 10.7)
 
 -- the LSAs are sent, without being put on the retransmission list; if one is missing, none is sent
-abbrev pub receive_request : Moment → InterfaceNumber → List Key → Outcome → Outcome
+abbrev pub receive_request : Moment → InterfaceNumber → List Key → AreaState → AreaState
 receive_request moment interface keys o =
     if list_all (is_there o.area.database) keys
     then sending moment
@@ -103,12 +103,12 @@ abbrev pub is_from : RouterNumber → Option Neighbor → Bool
 is_from from None = false
 is_from from (Some n) = n.router == from
 
-abbrev pub receive_description : RouterNumber → Moment → InterfaceNumber → Description → Outcome
-    → Outcome
+abbrev pub receive_description : RouterNumber → Moment → InterfaceNumber → Description → AreaState
+    → AreaState
 receive_description own moment interface d o =
     one_neighbor moment interface (after_description own moment o.area.database d) o
 
-abbrev pub receive_acknowledgment : Moment → InterfaceNumber → List Header → Outcome → Outcome
+abbrev pub receive_acknowledgment : Moment → InterfaceNumber → List Header → AreaState → AreaState
 receive_acknowledgment moment interface headers o =
     one_neighbor moment interface (λ n. no_sends (after_acknowledgment moment headers n)) o
 

@@ -17,7 +17,7 @@ use Rattle.packet.specs.Text.{PacketText, canonical}
 use Rattle.received.specs.adjacency.Contents.{Content}
 pub use Rattle.received.specs.adjacency.Drafts.{sent_lsa}
 use Rattle.received.specs.Links.{Link}
-use Rattle.received.specs.Outcomes.{Send, at_interface}
+use Rattle.received.specs.AreaStates.{Send, at_interface}
 use Rattle.event_rules.specs.declared.model.Out.{Out}
 
 -- ---- in the order of the keys; items with the same key stay in their order

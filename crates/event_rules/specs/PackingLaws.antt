@@ -10,7 +10,7 @@ use Rattle.packet.specs.Text.{body_text, closed_fields, lsa_count}
 use Rattle.received.specs.adjacency.Contents.{Content}
 pub use Rattle.received.specs.adjacency.Rooms.{HasRoom}
 use Rattle.received.specs.Links.{Link}
-use Rattle.received.specs.Outcomes.{Send}
+use Rattle.received.specs.AreaStates.{Send}
 use Rattle.event_rules.specs.declared.model.Out.{Out}
 use Rattle.event_rules.specs.Packing.{bodies, header_size, in_key_order, is_after, lsa_size}
 use Rattle.event_rules.specs.Packing.{outs_of}

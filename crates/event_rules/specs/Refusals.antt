@@ -81,11 +81,15 @@ abbrev pub MayLackMemory : Option CoreError → Type 0
 MayLackMemory refusal = (refusal ≡ Some error.ClockBack → ⊥)
     × (refusal ≡ Some error.NoInterface → ⊥)
 
+-- no rule refuses the event
+abbrev pub IsAllowed : Router → Moment → Occurrence → Type 0
+IsAllowed old moment event =
+    (refusal_before_limits old moment event ≡ None) × (WouldExceed old moment event → ⊥)
+
 -- The result is the reason that applies, or `Ok` if none does. `Memory` is only possible if neither
 -- the clock nor the interface is the reason.
 abbrev pub RefusesByRules : {X : Type 0} → Router → ℕ → Occurrence → Result X CoreError → Type 0
-RefusesByRules old moment event (Ok x) =
-    (refusal_before_limits old moment event ≡ None) × (WouldExceed old moment event → ⊥)
+RefusesByRules old moment event (Ok x) = IsAllowed old moment event
 RefusesByRules old moment event (Err error.Full) = WouldExceed old moment event
 RefusesByRules old moment event (Err error.Memory) = MayLackMemory
     (refusal_before_limits old moment event)

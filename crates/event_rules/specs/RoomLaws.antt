@@ -6,7 +6,7 @@ use Rattle.words.specs.Constants.{largest_packet}
 use Rattle.received.specs.adjacency.Neighbors.{Neighbor}
 use Rattle.received.specs.adjacency.Rooms.{AllFit, HasRoom, HasRoomyLists}
 use Rattle.received.specs.Holds.{HoldsOfEach}
-use Rattle.received.specs.Outcomes.{Send}
+use Rattle.received.specs.AreaStates.{Send}
 use Rattle.event_rules.specs.declared.model.Config.{Config}
 use Rattle.event_rules.specs.declared.model.Out.{Out}
 use Rattle.event_rules.specs.Endings.{end_event}

@@ -8,7 +8,8 @@ use Rattle.received.specs.adjacency.Descriptions.{without_old_description}
 use Rattle.received.specs.adjacency.Neighbors.{Neighbor}
 use Rattle.received.specs.adjacency.Retransmissions.{send_again}
 use Rattle.received.specs.Links.{Link}
-use Rattle.received.specs.Outcomes.{Outcome, Stepping, each_neighbor, on_links, sending, sends_of}
+use Rattle.received.specs.AreaStates.{AreaState, Stepping, each_neighbor, on_links, sending}
+use Rattle.received.specs.AreaStates.{sends_of}
 pub use Rattle.event_rules.specs.Hellos.{with_hello_sent, hello_is_due, hello_on, is_due}
 use Rattle.event_rules.specs.Originations.{due_keys, forget_originations, originate_due}
 use Rattle.event_rules.specs.EventState.{EventState, on_area, on_router}
@@ -30,11 +31,11 @@ expire_timers moment link = record link {
 
 -- ---- what is retransmitted
 
-abbrev pub again : ℕ → Outcome → Stepping
+abbrev pub again : ℕ → AreaState → Stepping
 again moment o interface link n =
     send_again moment link.interface.retransmit_interval o.area.database n
 
-abbrev pub send_all_again : Moment → Outcome → Outcome
+abbrev pub send_all_again : Moment → AreaState → AreaState
 send_all_again moment o = each_neighbor moment (again moment o) o
 
 -- ---- delayed acknowledgments
@@ -45,7 +46,7 @@ acknowledgments_on link = map Content.Acknowledges (finite.values link.acknowled
 abbrev pub without_acknowledgments : Link → Link
 without_acknowledgments link = record link { acknowledgments = finite.empty }
 
-abbrev pub send_acknowledgments : Moment → Outcome → Outcome
+abbrev pub send_acknowledgments : Moment → AreaState → AreaState
 send_acknowledgments moment o =
     sending moment (sends_of acknowledgments_on o.area.links)
     (on_links (map without_acknowledgments) o)
@@ -56,7 +57,7 @@ abbrev pub hello_sent_on : Moment → Link → List Content
 hello_sent_on moment link =
     if hello_is_due moment link then Content.SendsHello (hello_on link) ∷ [] else []
 
-abbrev pub send_hellos : Moment → Outcome → Outcome
+abbrev pub send_hellos : Moment → AreaState → AreaState
 send_hellos moment o =
     sending moment (sends_of (hello_sent_on moment) o.area.links)
     (on_links (map (with_hello_sent moment)) o)

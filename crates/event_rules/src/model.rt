@@ -112,7 +112,8 @@ pub enum CoreError {
     /// The database would exceed one of its limits.
     #[error("the database is full")]
     Full,
-    /// An allocation was refused; nothing is wrong with the event.
+    /// An allocation was refused. Neither the moment nor the interface is wrong; whether the event
+    /// would be refused for something else isn't said.
     #[error("out of memory")]
     Memory,
 }

@@ -1,7 +1,7 @@
 -- A router's moment is that of its last event, and never falls.
 use Rattle.std.proofs.Common.{◌≡◌, ℕ, ◌≤◌, Bool, true, false, cond, ◌&&◌, List, [], ◌∷◌, ◌++◌}
-use Rattle.std.proofs.Common.{Option, None, Some, refl, sym, ap, subst, arith, ltb-false}
-use Rattle.std.specs.Prelude.{◌||◌, nat_le, nat_lt, if◌then◌else◌}
+use Rattle.std.proofs.Common.{Option, None, Some, refl, sym, ap, subst, arith, leb-false, ltb-false}
+use Rattle.std.specs.Prelude.{◌<◌, ◌||◌, nat_le, nat_lt, if◌then◌else◌}
 use Rattle.std.specs.FinMap as finite
 use Rattle.words.specs.Constants.{clock_end}
 use Rattle.words.specs.declared.key.Key.{Key}
@@ -15,7 +15,7 @@ use Rattle.event_rules.specs.Events.{Happens, Run, Step, initial}
 use Rattle.event_rules.specs.Originations.{flush, has_max_sequence, has_room, may_originate}
 use Rattle.event_rules.specs.Originations.{originate}
 use Rattle.event_rules.specs.Originations.{originate_body, postpone, router_key, wanted_body}
-use Rattle.event_rules.specs.Refusals.{refusal_before_limits, is_clock_back, of_event}
+use Rattle.event_rules.specs.Refusals.{IsAllowed, refusal_before_limits, is_clock_back, of_event}
 use Rattle.event_rules.specs.Routers.{Occurrence, Router, unannounced_router}
 use Rattle.router_runs.specs.Clocks.{ClockRunsOn, RoutersRefuseClocksThatGoBack, RunOfTaken}
 
@@ -62,6 +62,14 @@ first_of : (a b : Bool) → (a || b) ≡ false → a ≡ false
 first_of true b is = absurd cc
 first_of false b is = refl
 
+second_of : (a b : Bool) → (a || b) ≡ false → b ≡ false
+second_of true b is = absurd cc
+second_of false b is = is
+
+below_the_end : (old : Router) (moment : ℕ) → is_clock_back moment old ≡ false → moment < clock_end
+below_the_end old moment is = leb-false clock_end moment
+    (second_of (nat_lt moment old.moment) (nat_le clock_end moment) is)
+
 pub later_moment : (old : Router) (moment : ℕ) → is_clock_back moment old ≡ false
     → old.moment ≤ moment
 later_moment old moment is =
@@ -90,23 +98,31 @@ taken_run [] old new same = (same, tt)
 taken_run (s ∷ steps) old new (on, (middle, happens, rest)) =
     let later = taken_run steps middle new rest in (
       (middle, happens, later.0),
-      (later_moment old s.moment on, from_middle old s middle steps happens later.1),
+      (
+        later_moment old s.moment (taken_moment old s.moment s.event on.0),
+        from_middle old s middle steps happens later.1,
+      ),
     )
 
-pub one_more : (steps : List Step) (old before after : Router) (s : Step) → Run old steps before
-    → ClockRunsOn old.moment steps → before.moment ≤ s.moment
-    → Happens before s.moment s.event s.outs after
-    → Run old (steps ++ s ∷ []) after × ClockRunsOn old.moment (steps ++ s ∷ [])
-one_more [] old before after s same clock late now = (
+pub one_more : (steps : List Step) (old before after : Router) (s : Step)
+    → RunOfTaken old steps before → IsAllowed before s.moment s.event
+    → Happens before s.moment s.event s.outs after → RunOfTaken old (steps ++ s ∷ []) after
+one_more [] old before after s same on now = (
+  subst (λ (r : Router). IsAllowed r s.moment s.event) same on,
   (after, subst (λ (r : Router). Happens r s.moment s.event s.outs after) same now, refl),
-  (subst (λ (r : Router). r.moment ≤ s.moment) same late, tt),
 )
-one_more (x ∷ steps) old before after s (middle, happens, run) (first, clock) late now =
-    let longer = one_more steps middle before after s run
-    (to_middle old x middle steps happens clock) late now in (
-      (middle, happens, longer.0),
-      (first, from_middle old x middle (steps ++ s ∷ []) happens longer.1),
-    )
+one_more (x ∷ steps) old before after s (first, (middle, happens, run)) on now =
+    (first, (middle, happens, one_more steps middle before after s run on now))
+
+pub before_end : (steps : List Step) (old new : Router) → RunOfTaken old steps new
+    → old.moment < clock_end → new.moment < clock_end
+before_end [] old new same below =
+    subst (λ (r : Router). r.moment < clock_end) (sym same) below
+before_end (s ∷ steps) old new (on, (middle, happens, run)) below =
+    before_end steps middle new run
+    (subst (λ (m : ℕ). m < clock_end)
+    (sym (event_moment old s.moment s.event s.outs middle happens))
+    (below_the_end old s.moment (taken_moment old s.moment s.event on.0)))
 
 itself : (m : ℕ) → m ≤ m
 itself m = omega arith
@@ -134,5 +150,6 @@ clocks_run_on = record {
   event = later_moment;
   run = taken_run;
   more = one_more;
+  before_the_end = before_end;
   later = never_falls;
 }

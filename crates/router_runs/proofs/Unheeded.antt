@@ -20,7 +20,7 @@ use Rattle.packet.specs.declared.model.Packet.{Packet}
 use Rattle.received.specs.Cases.{Case}
 use Rattle.received.specs.Links.{Link, neighbor_at}
 use Rattle.received.specs.Updates.{after_case, case_at, goes_on}
-use Rattle.received.specs.Outcomes.{Outcome, on_links}
+use Rattle.received.specs.AreaStates.{AreaState, on_links}
 use Rattle.event_rules.specs.Commands.{after_redistribute, after_withdraw, announce, announce_as}
 use Rattle.event_rules.specs.Commands.{answered_external, end_want, is_announced_as, is_for}
 use Rattle.event_rules.specs.Endings.{end_event, is_current, originate_router_lsa}
@@ -203,7 +203,8 @@ module _ (answers : List (Route × ℕ)) where
       let quiet : EventState = on_router (forget_originations moment)
       (on_area (on_links (map (expire_timers moment))) p) in
       ap (on_area
-      (λ (o : Outcome). send_hellos moment (send_acknowledgments moment (send_all_again moment o))))
+      (λ (o : AreaState). send_hellos moment
+      (send_acknowledgments moment (send_all_again moment o))))
       (all_due moment (due_keys moment quiet.router) quiet)
 
   announced : (moment : Moment) (key : Key) (e : External) → Overlooks (announce_as moment key e)

@@ -5,8 +5,8 @@
 ghost use Rattle.router_runs.specs.Clocks.{RoutersRefuseClocksThatGoBack};
 
 /// A router refuses an event that is earlier than the one before it, or than its start. So in a run
-/// of events none of which is refused for its moment the clock doesn't go back, whatever they are,
-/// and the router's moment, which is that of the last event, is no earlier than it was.
+/// of events that no rule refuses the clock doesn't go back, nor does it come to its end; and the
+/// router's moment, which is that of the last event, is no earlier than it was.
 pub fn routers_refuse_clocks_that_go_back()
     ensures { RoutersRefuseClocksThatGoBack }
 {}
