@@ -26,7 +26,7 @@ use Rattle.event_rules.specs.Routers.{Occurrence, Router}
 use Rattle.flood_laws.specs.Retransmissions.{AreOfTheDatabase, IsOfCopy}
 use Rattle.flood_laws.specs.InOrder.{AnnouncesItsOwn, IsConsistent, RoutersStayInOrder}
 use Rattle.flood_laws.specs.Keeping.{WhatIsTakenOffWasTold}
-use Rattle.flood_laws.specs.TakenOff.{IsAsked, IsFlooded, IsTakenOff, IsTold, comes_to_max_age}
+use Rattle.flood_laws.specs.TakenOff.{IsAsked, MayLeaveByFlooding, IsTakenOff, IsTold, comes_to_max_age}
 use Rattle.flood_laws.specs.TakenOff.{is_gone_or_stored, listed_instance}
 use Rattle.flood_laws.proofs.Known.{first_own, own_stays}
 use Rattle.flood_laws.proofs.EventWalk.{event_kept_too}
@@ -236,9 +236,9 @@ module _ (old : Router) (moment : ℕ) (event : Occurrence) (outs : List Out) (n
   by_result : Result → IsTold event number before.router name
   by_result (Ended.EndTold told) = told
   by_result (Ended.EndReplaced newer st) =
-      absurd (taken.not_flooded (IsFlooded.Newer newer (stored_new st)))
+      absurd (taken.not_by_flooding (MayLeaveByFlooding.Newer newer (stored_new st)))
   by_result (Ended.EndOriginated own now not_before st) =
-      absurd (taken.not_flooded (IsFlooded.Originated (record {
+      absurd (taken.not_by_flooding (MayLeaveByFlooding.Originated (record {
         own = own;
         now = in_new (λ (r : Router). finite.get r.originated name.key ≡ Some moment) now;
         not_before = not_before;
@@ -251,7 +251,7 @@ module _ (old : Router) (moment : ℕ) (event : Occurrence) (outs : List Out) (n
       in_old at = subst (λ (r : Router). neighbor_at number r.area.links ≡ Some taken.after)
           happens.router at
   by_result (Ended.EndAged comes asked) =
-      absurd (taken.not_flooded (IsFlooded.Aged
+      absurd (taken.not_by_flooding (MayLeaveByFlooding.Aged
       (in_new (λ (r : Router). comes_to_max_age old.moment moment
       (finite.get old.area.database name.key) (finite.get r.area.database name.key) ≡ true)
       (subst (λ (x : Option DatabaseCopy). comes_to_max_age old.moment moment x

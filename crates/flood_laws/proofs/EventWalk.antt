@@ -27,7 +27,8 @@ use Rattle.adjacency.specs.Neighbors.{Neighbor}
 use Rattle.adjacency.proofs.Kept.{chosen}
 use Rattle.received.specs.Cases.{Case}
 use Rattle.received.specs.Links.{Link, any_exchange_or_loading, change_link, neighbor_at}
-use Rattle.received.specs.Outcomes.{Outcome, sends_at, on_database, on_links, one_neighbor, sending}
+use Rattle.received.specs.AreaStates.{AreaState, sends_at, on_database, on_links, one_neighbor}
+use Rattle.received.specs.AreaStates.{sending}
 use Rattle.received.specs.Updates.{after_case, case_at, goes_on}
 use Rattle.event_rules.specs.Commands.{after_redistribute, after_withdraw, announce, announce_as}
 use Rattle.event_rules.specs.Commands.{answered_external, end_want, is_announced_as, is_for}
@@ -83,15 +84,15 @@ came {start} {event} {number} {packet} heard lsa among = record {
 
 -- the property of the links, the database, what was sent and what was originated recently
 abbrev pub Lately : Type 1
-Lately = Outcome → ByKey ℕ → Type 0
+Lately = AreaState → ByKey ℕ → Type 0
 
-abbrev pub KeepsToo : Invariant → Lately → (Outcome → Outcome) → Type 0
-KeepsToo i X f = (o : Outcome) (t : ByKey ℕ) → OfOutcome i o → X o t → X (f o) t
+abbrev pub KeepsToo : Invariant → Lately → (AreaState → AreaState) → Type 0
+KeepsToo i X f = (o : AreaState) (t : ByKey ℕ) → OfOutcome i o → X o t → X (f o) t
 
 pub record IsKeptToo (i : Invariant) (X Y : Lately) (start : EventState) (moment : ℕ)
     (event : Occurrence) : Type 0 where
   -- self-originated LSAs
-  pub flushes : (key : Key) (c : DatabaseCopy) (o : Outcome) (t : ByKey ℕ)
+  pub flushes : (key : Key) (c : DatabaseCopy) (o : AreaState) (t : ByKey ℕ)
       → finite.get o.area.database key ≡ Some c → is_aged_out moment c ≡ false → OfOutcome i o
       → X o t → X (flood_from_nobody moment (lsa_with_age 3600 c.lsa)
       (on_database (age_prematurely moment key) o)) t
@@ -104,7 +105,7 @@ pub record IsKeptToo (i : Invariant) (X Y : Lately) (start : EventState) (moment
       (finite.insert p.router.originated key moment)
   -- packets
   pub case : (number : ℕ) (packet : Packet) → IsHeard start event number packet
-      → (case : Case) (lsa : Lsa) (o : Outcome) (t : ByKey ℕ)
+      → (case : Case) (lsa : Lsa) (o : AreaState) (t : ByKey ℕ)
       → Contains (lsas_brought packet.body) lsa → is_hello packet.body ≡ false
       → case_at moment number lsa o.area ≡ case → OfOutcome i o → X o t
       → X (after_case case moment number lsa o) t
@@ -121,13 +122,13 @@ pub record IsKeptToo (i : Invariant) (X Y : Lately) (start : EventState) (moment
       → IsHeard start event number packet → packet.body ≡ body.Acknowledgment headers
       → OfEvent i start → X (outcome start) start.router.originated
       → X (receive_acknowledgment moment number headers (outcome start)) start.router.originated
-  pub requested : (number : ℕ) (keys : List Key) (o : Outcome) (t : ByKey ℕ) → OfOutcome i o → X o t
-      → X (sending moment (sends_at number
+  pub requested : (number : ℕ) (keys : List Key) (o : AreaState) (t : ByKey ℕ) → OfOutcome i o
+      → X o t → X (sending moment (sends_at number
       (map Content.Updates (requested_lsas moment o.area.database keys))) o) t
   pub mismatch : (number : ℕ) → KeepsToo i X
       (one_neighbor moment number (adjacencies.mismatch_step moment))
   -- a Tick
-  pub forgets : (r : Router) (o : Outcome) → OfOutcome i o → X o r.originated
+  pub forgets : (r : Router) (o : AreaState) → OfOutcome i o → X o r.originated
       → X o (forget_originations moment r).originated
   pub inactive : KeepsToo i X (on_links (map (expire_timers moment)))
   pub again : KeepsToo i X (send_all_again moment)
@@ -138,9 +139,9 @@ pub record IsKeptToo (i : Invariant) (X Y : Lately) (start : EventState) (moment
   -- the end
   pub loaded : KeepsToo i X (on_links (map link_loading_done))
   pub requests : KeepsToo i X (request_all moment)
-  pub removes : (o : Outcome) (t : ByKey ℕ) → OfOutcome i o → X o t
+  pub removes : (o : AreaState) (t : ByKey ℕ) → OfOutcome i o → X o t
       → Y (on_database (λ db. finite.retain_keys db (stays moment o.area)) o) t
-  pub stays : (o : Outcome) (t : ByKey ℕ) → OfOutcome i o → X o t → Y o t
+  pub stays : (o : AreaState) (t : ByKey ℕ) → OfOutcome i o → X o t → Y o t
 
 module _ (i : Invariant) (kept : IsKeptByParts i) (X Y : Lately) (old : Router) (moment : ℕ)
     (event : Occurrence)
@@ -152,7 +153,7 @@ module _ (i : Invariant) (kept : IsKeptByParts i) (X Y : Lately) (old : Router) 
     so : OfEvent i p
     lately : X (outcome p) p.router.originated
 
-  on_area_kept : (f : Outcome → Outcome) (p : EventState)
+  on_area_kept : (f : AreaState → AreaState) (p : EventState)
       → (i.of_area p.router.area p.sends → OfOutcome i (f (outcome p)))
       → (i.of_area p.router.area p.sends → X (outcome p) p.router.originated
       → X (f (outcome p)) p.router.originated) → InProgress p → InProgress (on_area f p)
@@ -163,7 +164,7 @@ module _ (i : Invariant) (kept : IsKeptByParts i) (X Y : Lately) (old : Router) 
 
   -- ---- self-originated LSAs
 
-  copy_flushed : (key : Key) (c : Option DatabaseCopy) (o : Outcome)
+  copy_flushed : (key : Key) (c : Option DatabaseCopy) (o : AreaState)
       → finite.get o.area.database key ≡ c → OfOutcome i o → OfOutcome i (flush_copy moment key c o)
   copy_flushed key None o is h = h
   copy_flushed key (Some c) o is h =
@@ -172,11 +173,11 @@ module _ (i : Invariant) (kept : IsKeptByParts i) (X Y : Lately) (old : Router) 
       (on_database (age_prematurely moment key) o))
       (λ aged. h) (λ young. kept.flushes moment key c o is young h)
 
-  copy_flushed_too : (key : Key) (c : Option DatabaseCopy) (o : Outcome) (t : ByKey ℕ)
+  copy_flushed_too : (key : Key) (c : Option DatabaseCopy) (o : AreaState) (t : ByKey ℕ)
       → finite.get o.area.database key ≡ c → OfOutcome i o → X o t → X (flush_copy moment key c o) t
   copy_flushed_too key None o t is h x = x
   copy_flushed_too key (Some c) o t is h x =
-      chosen (λ (q : Outcome). X q t) (is_aged_out moment c) o
+      chosen (λ (q : AreaState). X q t) (is_aged_out moment c) o
       (flood_from_nobody moment (lsa_with_age 3600 c.lsa)
       (on_database (age_prematurely moment key) o))
       (λ aged. x) (λ young. too.flushes key c o t is young h x)
@@ -289,7 +290,7 @@ module _ (i : Invariant) (kept : IsKeptByParts i) (X Y : Lately) (old : Router) 
         (after_lsas moment number rest q) q (λ is. lsas_kept rest q among.1 other so.1 then_so)
         (λ is. then_so)
 
-    requests_answered : (keys : List Key) (o : Outcome) → OfOutcome i o
+    requests_answered : (keys : List Key) (o : AreaState) → OfOutcome i o
         → OfOutcome i (receive_request moment number keys o)
     requests_answered keys o h =
         chosen (OfOutcome i) (list_all (is_there o.area.database) keys)
@@ -298,10 +299,10 @@ module _ (i : Invariant) (kept : IsKeptByParts i) (X Y : Lately) (old : Router) 
         (one_neighbor moment number (adjacencies.mismatch_step moment) o)
         (λ is. kept.requested moment number keys o h) (λ is. kept.mismatch moment number o h)
 
-    requests_answered_too : (keys : List Key) (o : Outcome) (t : ByKey ℕ) → OfOutcome i o → X o t
+    requests_answered_too : (keys : List Key) (o : AreaState) (t : ByKey ℕ) → OfOutcome i o → X o t
         → X (receive_request moment number keys o) t
     requests_answered_too keys o t h x =
-        chosen (λ (q : Outcome). X q t) (list_all (is_there o.area.database) keys)
+        chosen (λ (q : AreaState). X q t) (list_all (is_there o.area.database) keys)
         (sending moment (sends_at number
         (map Content.Updates (requested_lsas moment o.area.database keys))) o)
         (one_neighbor moment number (adjacencies.mismatch_step moment) o)
@@ -421,7 +422,7 @@ module _ (i : Invariant) (kept : IsKeptByParts i) (X Y : Lately) (old : Router) 
       } in
       let so : InProgress renewed = due_kept (due_keys moment no_sends.router) no_sends
       (kept.due moment no_sends.router still.so.announced) still in
-      let o : Outcome = outcome renewed in
+      let o : AreaState = outcome renewed in
       let t : ByKey ℕ = renewed.router.originated in
       let again : OfOutcome i (send_all_again moment o) = kept.again moment o so.so.area in
       let again_too : X (send_all_again moment o) t = too.again o t so.so.area so.lately in
@@ -540,10 +541,10 @@ module _ (i : Invariant) (kept : IsKeptByParts i) (X Y : Lately) (old : Router) 
       let q : InProgress refilled =
       described_later said.router.area.links (loading_done said)
       (all_loaded said (described old.area.links (loading_done after) (all_loaded after p))) in
-      let o : Outcome = request_all moment (outcome refilled) in
+      let o : AreaState = request_all moment (outcome refilled) in
       let t : ByKey ℕ = refilled.router.originated in
       let area : OfOutcome i o = kept.requests moment (outcome refilled) q.so.area in
       let asked : X o t = too.requests (outcome refilled) t q.so.area q.lately in
-      chosen (λ (r : Outcome). Y r t) (any_exchange_or_loading o.area.links) o
+      chosen (λ (r : AreaState). Y r t) (any_exchange_or_loading o.area.links) o
       (on_database (λ db. finite.retain_keys db (stays moment o.area)) o)
       (λ is. too.stays o t area asked) (λ is. too.removes o t area asked)

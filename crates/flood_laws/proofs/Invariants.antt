@@ -22,7 +22,7 @@ use Rattle.adjacency.proofs.Kept.{chosen, description_kept, filled_kept, hello_k
 use Rattle.adjacency.proofs.Kept.{mismatched_kept, old_description_kept, request_kept}
 use Rattle.received.specs.Holds.{Holds, HoldsOfEach}
 use Rattle.received.specs.Links.{Link, link_at, neighbor_on}
-use Rattle.received.specs.Outcomes.{Outcome, on_database}
+use Rattle.received.specs.AreaStates.{AreaState, on_database}
 use Rattle.received.proofs.Holding.{case_kept, changed_keeps, each_keeps, each_link_keeps}
 use Rattle.received.proofs.Holding.{flood_kept, one_holds, one_keeps}
 use Rattle.event_rules.specs.declared.model.Config.{Config}
@@ -74,10 +74,10 @@ module _ (Q : Fact) (kept : IsKept Q) where
   }
 
   -- of every neighbor, during an event
-  abbrev OnOutcome : Outcome → Type 0
+  abbrev OnOutcome : AreaState → Type 0
   OnOutcome o = HoldsOfEach (Of Q) o.area.links
 
-  ages_kept : (before moment : ℕ) (es : List (Key × DatabaseCopy)) (o : Outcome) → OnOutcome o
+  ages_kept : (before moment : ℕ) (es : List (Key × DatabaseCopy)) (o : AreaState) → OnOutcome o
       → OnOutcome (fold (flood_if_aged before moment) o es)
   ages_kept before moment [] o h = h
   ages_kept before moment (e ∷ es) o h =
@@ -95,7 +95,7 @@ module _ (Q : Fact) (kept : IsKept Q) where
   heard_before from moment None h = kept.begins
   heard_before from moment (Some n) h = h
 
-  hello_heard : (own moment number from : ℕ) (hello : Hello) (link : Option Link) (o : Outcome)
+  hello_heard : (own moment number from : ℕ) (hello : Hello) (link : Option Link) (o : AreaState)
       → Holds (Of Q) (neighbor_on link) → OnOutcome o
       → OnOutcome (receive_hello_on own moment number from hello link o)
   hello_heard own moment number from hello None o here h = h

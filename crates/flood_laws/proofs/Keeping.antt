@@ -31,7 +31,7 @@ use Rattle.adjacency.specs.Contents.{Content}
 use Rattle.adjacency.proofs.Maps.{IfThere, none_in}
 use Rattle.adjacency.proofs.Told.{OfCopy, Telling}
 use Rattle.received.specs.Links.{Link}
-use Rattle.received.specs.Outcomes.{Send, at_interface}
+use Rattle.received.specs.AreaStates.{Send, at_interface}
 use Rattle.event_rules.proofs.Rooms.{both, mapped_all, paired_all}
 use Rattle.event_rules.proofs.Walk.{OfEvent}
 use Rattle.event_rules.specs.declared.model.Config.{Config}

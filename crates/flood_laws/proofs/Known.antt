@@ -22,7 +22,7 @@ use Rattle.adjacency.specs.declared.interface.Interface.{Interface}
 use Rattle.adjacency.proofs.Maps.{AllIn, IfThere, OfEntry, entries_in, none_in, of_entries}
 use Rattle.adjacency.proofs.Told.{OfContent, OfCopy, OfListed, OfOwedIfAny, Telling}
 use Rattle.received.specs.Links.{Link}
-use Rattle.received.specs.Outcomes.{Send}
+use Rattle.received.specs.AreaStates.{Send}
 use Rattle.received.proofs.Told.{OfArea, OfLink, OfLinks, OfSend, OfWaiting}
 use Rattle.event_rules.specs.declared.model.Config.{Config}
 use Rattle.event_rules.specs.declared.model.Out.{Out}

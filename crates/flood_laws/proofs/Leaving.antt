@@ -41,14 +41,16 @@ use Rattle.adjacency.proofs.Kept.{chosen}
 use Rattle.adjacency.proofs.Maps.{OfEntry}
 use Rattle.received.specs.Cases.{Case, case_of_readable, first_case, is_wrapping}
 use Rattle.adjacency.specs.Asked.{is_on_request_list, has_retransmission_of}
-use Rattle.received.specs.Flooding.{flood, flood_to, is_received_at}
+use Rattle.received.specs.Flooding.{flood, flood_to, is_incoming}
 use Rattle.received.specs.Holds.{Holds}
 use Rattle.received.specs.Links.{Area, Link, any_exchange_or_loading, delay_acknowledgment}
 use Rattle.received.specs.Links.{change_link, link_at, neighbor_at, neighbor_on}
-use Rattle.received.specs.Outcomes.{Outcome, Send, Stepping, each_neighbor, sends_at, on_database}
-use Rattle.received.specs.Outcomes.{on_links, one_neighbor, only_at, sending, step_on, sends_of}
-use Rattle.received.specs.Outcomes.{stepped_links, stepping_sends}
-use Rattle.received.specs.Updates.{after_case, case_at, copy_of, flood_and_install, send_copy}
+use Rattle.received.specs.AreaStates.{AreaState, Send, Stepping, each_neighbor, sends_at}
+use Rattle.received.specs.AreaStates.{on_database}
+use Rattle.received.specs.AreaStates.{on_links, one_neighbor, only_at, sending, step_on, sends_of}
+use Rattle.received.specs.AreaStates.{stepped_links, stepping_sends}
+use Rattle.received.specs.Updates.{after_case, case_at, database_copy, flood_and_install}
+use Rattle.received.specs.Updates.{send_copy}
 use Rattle.received.proofs.Marks.{IsStill, changed_by, mark_all, There, all_there}
 use Rattle.event_rules.specs.Commands.{taken_down}
 use Rattle.event_rules.specs.Endings.{link_loading_done, loading_done_on, start_event, stays}
@@ -268,7 +270,7 @@ module _ (old : Router) (moment : ℕ) (event : Occurrence) (number : ℕ) (befo
     HasAged : (c : DatabaseCopy) → finite.get a.database key ≡ Some c → IsLike c
         → is_aged_out moment c ≡ true → IsYoung → Asked → Became a t
 
-  pub record Lately (o : Outcome) (t : ByKey ℕ) : Type 0 where
+  pub record Lately (o : AreaState) (t : ByKey ℕ) : Type 0 where
     became : Became o.area t
     remembers : finite.get old.originated key ≡ Some moment → finite.get t key ≡ Some moment
 
@@ -299,25 +301,25 @@ module _ (old : Router) (moment : ℕ) (event : Occurrence) (number : ℕ) (befo
       HasAged (record c { sent = s.0 }) s.1 (still_like c s.0 like) aged young asked
 
   -- what is sent marks the database
-  sent_became : (more : List Send) (o : Outcome) (t : ByKey ℕ) → Became o.area t
+  sent_became : (more : List Send) (o : AreaState) (t : ByKey ℕ) → Became o.area t
       → Became (sending moment more o).area t
   sent_became more o t h = moved o.area (sending moment more o).area t
       (λ c at. mark_all moment more key c o.area.database at) (λ k. inl k) h
 
-  links_became : (f : List Link → List Link) (o : Outcome) (t : ByKey ℕ)
+  links_became : (f : List Link → List Link) (o : AreaState) (t : ByKey ℕ)
       → (HoldsThere o.area → Holds Owes (neighbor_at number (f o.area.links)) ⊎ Told)
       → Became o.area t → Became (on_links f o).area t
   links_became f o t keeps h = moved o.area (on_links f o).area t (λ c at. (c.sent, at)) keeps h
 
   each_link_became : (g : Link → Link)
       → ((link : Link) → Holds Owes link.neighbor → Holds Owes (g link).neighbor)
-      → (o : Outcome) (t : ByKey ℕ) → Became o.area t → Became (on_links (map g) o).area t
+      → (o : AreaState) (t : ByKey ℕ) → Became o.area t → Became (on_links (map g) o).area t
   each_link_became g keeps o t h = links_became (map g) o t
       (λ k. inl (each_kept_at (Holds Owes) (Holds Owes) (λ n. n) g number keeps o.area.links k)) h
 
   change_became : (place : ℕ) (change : Link → Link)
       → ((link : Link) → Holds Owes link.neighbor → Holds Owes (change link).neighbor)
-      → (o : Outcome) (t : ByKey ℕ) → Became o.area t
+      → (o : AreaState) (t : ByKey ℕ) → Became o.area t
       → Became (on_links (change_link place change) o).area t
   change_became place change keeps o t h =
       links_became (change_link place change) o t
@@ -332,7 +334,7 @@ module _ (old : Router) (moment : ℕ) (event : Occurrence) (number : ℕ) (befo
   step_owed f keeps (Some m) h = keeps m h
 
   each_became : (f : Stepping) → ((link : Link) (m : Neighbor) → Owes m
-      → Owes (f number link m).neighbor) → (o : Outcome) (t : ByKey ℕ) → Became o.area t
+      → Owes (f number link m).neighbor) → (o : AreaState) (t : ByKey ℕ) → Became o.area t
       → Became (each_neighbor moment f o).area t
   each_became f keeps o t h =
       sent_became (stepping_sends f o.area.links) (on_links (stepped_links f) o) t
@@ -341,7 +343,7 @@ module _ (old : Router) (moment : ℕ) (event : Occurrence) (number : ℕ) (befo
       (λ link at. step_owed (f number link) (keeps link) link.neighbor at) o.area.links k)) h)
 
   one_became : (place : ℕ) (f : Neighbor → Step) → ((m : Neighbor) → Owes m → Owes (f m).neighbor)
-      → (o : Outcome) (t : ByKey ℕ) → Became o.area t
+      → (o : AreaState) (t : ByKey ℕ) → Became o.area t
       → Became (one_neighbor moment place f o).area t
   one_became place f keeps o t h =
       each_became (only_at place f)
@@ -353,25 +355,25 @@ module _ (old : Router) (moment : ℕ) (event : Occurrence) (number : ℕ) (befo
   -- ---- flooding
 
   -- a copy of another key is stored in the database
-  put_became : (k : Key) (c : DatabaseCopy) (o : Outcome) (t : ByKey ℕ) → same_key key k ≡ false
+  put_became : (k : Key) (c : DatabaseCopy) (o : AreaState) (t : ByKey ℕ) → same_key key k ≡ false
       → Became o.area t → Became (on_database (λ db. finite.insert db k c) o).area t
   put_became k c o t other h =
       moved o.area (on_database (λ db. finite.insert db k c) o).area t
       (λ d at. (d.sent, put_other o.area.database k key c other ∙ at)) (λ h. inl h) h
 
-  flood_other_became : (sender : Option ℕ) (lsa : Lsa) (o : Outcome) (t : ByKey ℕ)
+  flood_other_became : (sender : Option ℕ) (lsa : Lsa) (o : AreaState) (t : ByKey ℕ)
       → same_key key (lsa_key lsa) ≡ false → Became o.area t
       → Became (flood moment sender lsa o).area t
   flood_other_became sender lsa o t other h =
       each_became (flood_to moment sender lsa)
-      (λ link m at. flooded_other key name Asked moment (is_received_at sender number) lsa m other
+      (λ link m at. flooded_other key name Asked moment (is_incoming sender number) lsa m other
       at) o t h
 
   abbrev OwesOrAsked : Option Neighbor → Type 0
   OwesOrAsked o = Holds Owes o ⊎ Asked
 
   -- flooding this key and instance at MaxAge, which wasn't received from a neighbor
-  flood_same_became : (lsa : Lsa) (o : Outcome) (t : ByKey ℕ) → same_key key (lsa_key lsa) ≡ true
+  flood_same_became : (lsa : Lsa) (o : AreaState) (t : ByKey ℕ) → same_key key (lsa_key lsa) ≡ true
       → record {
         key = key;
         sequence = lsa.header.sequence;
@@ -461,9 +463,9 @@ module _ (old : Router) (moment : ℕ) (event : Occurrence) (number : ℕ) (befo
   never_aged : (b c : Bool) → b ≡ false → b ≡ true → not c ≡ true
   never_aged b c is e = let no_such : true ≡ false = sym e ∙ is in absurd cc
 
-  module _ (c : DatabaseCopy) (o : Outcome) (t : ByKey ℕ)
+  module _ (c : DatabaseCopy) (o : AreaState) (t : ByKey ℕ)
       (at : finite.get o.area.database key ≡ Some c) (young : is_aged_out moment c ≡ false) where
-    abbrev aged_out : Outcome
+    abbrev aged_out : AreaState
     aged_out = on_database (λ db. finite.insert db key (flushed_copy moment c)) o
 
     put_there : finite.get aged_out.area.database key ≡ Some (flushed_copy moment c)
@@ -509,7 +511,7 @@ module _ (old : Router) (moment : ℕ) (event : Occurrence) (number : ℕ) (befo
         let no_such : true ≡ false = sym aged ∙ ap (λ (x : DatabaseCopy). is_aged_out moment x) same
         ∙ young in absurd cc
 
-  flush_became : (k : Key) (c : DatabaseCopy) (o : Outcome) (t : ByKey ℕ)
+  flush_became : (k : Key) (c : DatabaseCopy) (o : AreaState) (t : ByKey ℕ)
       → finite.get o.area.database k ≡ Some c → is_aged_out moment c ≡ false → IsItsOwn o.area
       → Became o.area t → Became (flood_from_nobody moment (lsa_with_age 3600 c.lsa)
       (on_database (age_prematurely moment k) o)).area t
@@ -541,7 +543,7 @@ module _ (old : Router) (moment : ℕ) (event : Occurrence) (number : ℕ) (befo
       sym over ∙ ap (λ (x : Option ℕ). interval_is_over moment x) at ∙ no_time moment in absurd cc
 
   -- what is stored in the database and flooded is there
-  put_stored : (sender : Option ℕ) (lsa : Lsa) (c : DatabaseCopy) (o : Outcome)
+  put_stored : (sender : Option ℕ) (lsa : Lsa) (c : DatabaseCopy) (o : AreaState)
       → same_key key (lsa_key lsa) ≡ true → (c.stored == moment) ≡ true
       → IsStored (flood moment sender lsa
       (on_database (λ db. finite.insert db (lsa_key lsa) c) o)).area
@@ -553,7 +555,7 @@ module _ (old : Router) (moment : ℕ) (event : Occurrence) (number : ℕ) (befo
       (put_same o.area.database (lsa_key lsa) key c same) in
       (record c { sent = s.0 }, s.1, st)
 
-  originate_lately : (k : Key) (lsa : Lsa) (o : Outcome) (t : ByKey ℕ) → lsa_key lsa ≡ k
+  originate_lately : (k : Key) (lsa : Lsa) (o : AreaState) (t : ByKey ℕ) → lsa_key lsa ≡ k
       → k.advertising_router ≡ old.id → interval_is_over moment (finite.get t k) ≡ true → Lately o t
       → Lately (install_and_flood moment lsa o) (finite.insert t k moment)
   originate_lately k lsa o t its_key own over h = by_key (same_key key k) refl
@@ -595,7 +597,7 @@ module _ (old : Router) (moment : ℕ) (event : Occurrence) (number : ℕ) (befo
             remembers = λ before_it. put_other t k key moment other ∙ h.remembers before_it;
           }
 
-  forget_lately : (o : Outcome) (r : Router) → Lately o r.originated
+  forget_lately : (o : AreaState) (r : Router) → Lately o r.originated
       → Lately o (forget_originations moment r).originated
   forget_lately o r h = record {
     became = times_became o.area r.originated (forget_originations moment r).originated
@@ -678,7 +680,7 @@ module _ (old : Router) (moment : ℕ) (event : Occurrence) (number : ℕ) (befo
     brings (body.Update lsas) lsa c = mapped identity_of_lsa (filter_map lsa_in lsas) lsa c
     brings (body.Acknowledgment headers) lsa c = absurd (of_empty lsa c)
 
-    replaces : (lsa : Lsa) (o : Outcome) (t : ByKey ℕ) → Contains (lsas_brought packet.body) lsa
+    replaces : (lsa : Lsa) (o : AreaState) (t : ByKey ℕ) → Contains (lsas_brought packet.body) lsa
         → case_at moment place lsa o.area ≡ Case.Newer → lsa_key lsa ≡ key → (c : DatabaseCopy)
         → finite.get o.area.database key ≡ Some c → IsLike c → BringsNewer old moment event key
     replaces lsa o t among is its_key c at like =
@@ -706,7 +708,7 @@ module _ (old : Router) (moment : ℕ) (event : Occurrence) (number : ℕ) (befo
               (subst (λ (x : Option ℕ). in_this_second moment x ≡ false) like.received found.1);
         }
 
-    install_became : (lsa : Lsa) (o : Outcome) (t : ByKey ℕ)
+    install_became : (lsa : Lsa) (o : AreaState) (t : ByKey ℕ)
         → Contains (lsas_brought packet.body) lsa → case_at moment place lsa o.area ≡ Case.Newer
         → Became o.area t → Became (flood_and_install moment place lsa o).area t
     install_became lsa o t among is h = by_key (same_key key (lsa_key lsa)) refl
@@ -745,7 +747,7 @@ module _ (old : Router) (moment : ℕ) (event : Occurrence) (number : ℕ) (befo
             (flood_other_became (Some place) lsa (on_database (install_flooded moment lsa) o) t
             other (put_became (lsa_key lsa) c o t other h))
 
-    copy_became : (c : Option DatabaseCopy) (o : Outcome) (t : ByKey ℕ) → Became o.area t
+    copy_became : (c : Option DatabaseCopy) (o : AreaState) (t : ByKey ℕ) → Became o.area t
         → Became (send_copy moment place c o).area t
     copy_became None o t h = h
     copy_became (Some c) o t h = sent_became (sends_at place (Updates (lsa_now moment c) ∷ [])) o
@@ -776,7 +778,7 @@ module _ (old : Router) (moment : ℕ) (event : Occurrence) (number : ℕ) (befo
         by_entry e (inl k) = inl k
         by_entry e (inr is) = inr (e, is)
 
-    implied_became : (lsa : Lsa) (o : Outcome) (t : ByKey ℕ)
+    implied_became : (lsa : Lsa) (o : AreaState) (t : ByKey ℕ)
         → Contains (lsas_brought packet.body) lsa → is_hello packet.body ≡ false
         → case_at moment place lsa o.area ≡ Case.ImpliedAcknowledgment → Became o.area t
         → Became (one_neighbor moment place (release lsa) o).area t
@@ -793,7 +795,7 @@ module _ (old : Router) (moment : ℕ) (event : Occurrence) (number : ℕ) (befo
         sender_is e =
             subst (λ n. has_retransmission_of moment lsa.header (neighbor_at n o.area.links) ≡ true)
             (sym (eqb-true number place e))
-            (owed_where_implied moment (copy_of lsa o.area) (neighbor_at place o.area.links)
+            (owed_where_implied moment (database_copy lsa o.area) (neighbor_at place o.area.links)
             (any_exchange_or_loading o.area.links) lsa is)
 
         by_result : IsReleased lsa (neighbor_at number
@@ -805,7 +807,7 @@ module _ (old : Router) (moment : ℕ) (event : Occurrence) (number : ℕ) (befo
             (subst (Contains (instances_advertised packet.body)) so.1
             (brings packet.body lsa among)))
 
-    case_became : (case : Case) (lsa : Lsa) (o : Outcome) (t : ByKey ℕ)
+    case_became : (case : Case) (lsa : Lsa) (o : AreaState) (t : ByKey ℕ)
         → Contains (lsas_brought packet.body) lsa → is_hello packet.body ≡ false
         → case_at moment place lsa o.area ≡ case → Became o.area t
         → Became (after_case case moment place lsa o).area t
@@ -823,11 +825,11 @@ module _ (old : Router) (moment : ℕ) (event : Occurrence) (number : ℕ) (befo
         sent_became (sends_at place (Content.Acknowledges lsa.header ∷ [])) o t h
     case_became Case.SequenceWraps lsa o t among other is h = h
     case_became Case.SentJustNow lsa o t among other is h = h
-    case_became Case.Older lsa o t among other is h = copy_became (copy_of lsa o.area) o t h
+    case_became Case.Older lsa o t among other is h = copy_became (database_copy lsa o.area) o t h
 
     -- ---- other packets
 
-    abbrev begun : Outcome
+    abbrev begun : AreaState
     begun = record { area = start.router.area; sends = start.sends }
 
     hello_became : (own : ℕ) (h : Hello) (t : ByKey ℕ) → Became start.router.area t
@@ -848,7 +850,7 @@ module _ (old : Router) (moment : ℕ) (event : Occurrence) (number : ℕ) (befo
         by_link (Some link) is =
             let s : Step = adjacencies.after_hello moment packet.router (names own h) link.neighbor
             in
-            chosen (λ (o : Outcome). Became o.area t) (accepts own packet.router h link)
+            chosen (λ (o : AreaState). Became o.area t) (accepts own packet.router h link)
             (accept_hello moment place s begun) begun
             (λ e. sent_became (sends_at place s.sends)
             (on_links (change_link place (with_neighbor s.neighbor)) begun) t
@@ -955,25 +957,25 @@ module _ (old : Router) (moment : ℕ) (event : Occurrence) (number : ℕ) (befo
       (adjacencies.has_passed m.last_heard dead moment) None (Some m) (λ e. tt)
       (λ e. old_description_owing key name Asked moment dead m h)
 
-  inactive_became : (o : Outcome) (t : ByKey ℕ) → Became o.area t
+  inactive_became : (o : AreaState) (t : ByKey ℕ) → Became o.area t
       → Became (on_links (map (expire_timers moment)) o).area t
   inactive_became o t h = each_link_became (expire_timers moment)
       (λ link at. run_out_owed link.interface.dead_interval link.neighbor at) o t h
 
-  again_became : (o : Outcome) (t : ByKey ℕ) → Became o.area t
+  again_became : (o : AreaState) (t : ByKey ℕ) → Became o.area t
       → Became (each_neighbor moment (again moment o) o).area t
   again_became o t h = each_became (again moment o)
       (λ link m at. again_owing key name Asked moment link.interface.retransmit_interval
       o.area.database m at) o t h
 
-  acknowledges_became : (o : Outcome) (t : ByKey ℕ) → Became o.area t
+  acknowledges_became : (o : AreaState) (t : ByKey ℕ) → Became o.area t
       → Became (send_acknowledgments moment o).area t
   acknowledges_became o t h =
       sent_became (sends_of acknowledgments_on o.area.links)
       (on_links (map without_acknowledgments) o) t
       (each_link_became without_acknowledgments (λ link at. at) o t h)
 
-  hellos_became : (o : Outcome) (t : ByKey ℕ) → Became o.area t
+  hellos_became : (o : AreaState) (t : ByKey ℕ) → Became o.area t
       → Became (send_hellos moment o).area t
   hellos_became o t h =
       sent_became (sends_of (hello_sent_on moment) o.area.links)
@@ -984,7 +986,7 @@ module _ (old : Router) (moment : ℕ) (event : Occurrence) (number : ℕ) (befo
   filled_on None h = tt
   filled_on (Some m) h = filled_owing key name Asked m h
 
-  pub data Ended (o : Outcome) (t : ByKey ℕ) : Type 0 where
+  pub data Ended (o : AreaState) (t : ByKey ℕ) : Type 0 where
     EndTold : Told → Ended o t
     EndReplaced : BringsNewer old moment event key
         → is_gone_or_stored moment (finite.get o.area.database key) ≡ true → Ended o t
@@ -1018,7 +1020,7 @@ module _ (old : Router) (moment : ℕ) (event : Occurrence) (number : ℕ) (befo
       ∙ chosen (λ (y : Option DatabaseCopy). is_gone_or_stored moment y ≡ true) (stays moment a key)
       (finite.get a.database key) None (λ e. stored_there a st) (λ e. refl)
 
-  ended : (o : Outcome) (t : ByKey ℕ) → Became o.area t → Ended o t
+  ended : (o : AreaState) (t : ByKey ℕ) → Became o.area t → Ended o t
   ended o t (WasTold told) = EndTold told
   ended o t (WasReplaced newer st) = EndReplaced newer (stored_there o.area st)
   ended o t (WasOriginated own now not_before st) =
@@ -1028,7 +1030,7 @@ module _ (old : Router) (moment : ℕ) (event : Occurrence) (number : ℕ) (befo
       EndAged (came_to_max_age (finite.get o.area.database key) young
       (still_aged c (finite.get o.area.database key) at aged)) asked
 
-  removed_ended : (o : Outcome) (t : ByKey ℕ) → Became o.area t
+  removed_ended : (o : AreaState) (t : ByKey ℕ) → Became o.area t
       → Ended (on_database (λ db. finite.retain_keys db (stays moment o.area)) o) t
   removed_ended o t (WasTold told) = EndTold told
   removed_ended o t (WasReplaced newer st) = EndReplaced newer (stored_left o.area st)
@@ -1070,7 +1072,7 @@ module _ (old : Router) (moment : ℕ) (event : Occurrence) (number : ℕ) (befo
       (not from && exceeds_request moment lsa (request_of m lsa)) got
       (no_sends (remove_retransmission (lsa_key lsa) w)) (λ e. met) (λ e. met)) (λ e. h)
 
-  flood_stands : (lsa : Lsa) (o : Outcome) → StandsThere (neighbor_at number o.area.links)
+  flood_stands : (lsa : Lsa) (o : AreaState) → StandsThere (neighbor_at number o.area.links)
       → StandsThere (neighbor_at number (flood_from_nobody moment lsa o).area.links)
   flood_stands lsa o h = stepped_kept StandsThere StandsThere (λ n. n) (flood_to moment None lsa)
       number (λ link at. one link link.neighbor at) o.area.links h
@@ -1078,7 +1080,7 @@ module _ (old : Router) (moment : ℕ) (event : Occurrence) (number : ℕ) (befo
       one : (link : Link) (n : Option Neighbor) → StandsThere n
           → StandsThere (step_on (flood_to moment None lsa number link) n)
       one link None at = at
-      one link (Some m) at = flooding_stands (is_received_at None number) lsa m at
+      one link (Some m) at = flooding_stands (is_incoming None number) lsa m at
 
   like_aged : (c : DatabaseCopy) → is_aged_out moment copy ≡ true → IsLike c
       → is_aged_out moment c ≡ true
@@ -1092,7 +1094,7 @@ module _ (old : Router) (moment : ℕ) (event : Occurrence) (number : ℕ) (befo
       by_age (inr it) = it
 
   age_became : (keys : OwnKeys old.area.database) (e : Key × DatabaseCopy)
-      → There old.area.database e.0 e.1 → (o : Outcome) (t : ByKey ℕ)
+      → There old.area.database e.0 e.1 → (o : AreaState) (t : ByKey ℕ)
       → has_just_aged_out old.moment moment e.1 ≡ true → Became o.area t
       → Became (flood_from_nobody moment (lsa_now moment e.1) o).area t
   age_became keys e at o t just h = by_key (same_key key e.0) refl
@@ -1120,7 +1122,7 @@ module _ (old : Router) (moment : ℕ) (event : Occurrence) (number : ℕ) (befo
           (subst (λ (k : Key). same_key key k ≡ false) (sym its_key) other) h
 
   ages_became : (keys : OwnKeys old.area.database) (es : List (Key × DatabaseCopy))
-      → AllByRecursion (OfEntry (There old.area.database)) es → (o : Outcome) (t : ByKey ℕ)
+      → AllByRecursion (OfEntry (There old.area.database)) es → (o : AreaState) (t : ByKey ℕ)
       → Became o.area t × StandsThere (neighbor_at number o.area.links)
       → Became (fold (flood_if_aged old.moment moment) o es).area t
       × StandsThere (neighbor_at number
@@ -1128,7 +1130,7 @@ module _ (old : Router) (moment : ℕ) (event : Occurrence) (number : ℕ) (befo
   ages_became keys [] all o t h = h
   ages_became keys (e ∷ es) all o t h =
       ages_became keys es all.1 (flood_if_aged old.moment moment o e) t
-      (chosen (λ (p : Outcome). Became p.area t × StandsThere (neighbor_at number p.area.links))
+      (chosen (λ (p : AreaState). Became p.area t × StandsThere (neighbor_at number p.area.links))
       (has_just_aged_out old.moment moment e.1)
       (flood_from_nobody moment (lsa_now moment e.1) o) o
       (λ just. (age_became keys e all.0 o t just h.0, flood_stands (lsa_now moment e.1) o h.1))
@@ -1144,7 +1146,7 @@ module _ (old : Router) (moment : ℕ) (event : Occurrence) (number : ℕ) (befo
       }) old.originated
       × StandsThere (neighbor_at number (start_event moment old).router.area.links)
   begins keys m at stands owes =
-      let o : Outcome = record { area = old.area; sends = [] } in
+      let o : AreaState = record { area = old.area; sends = [] } in
       let like : IsLike copy = record {
         name_is = is_it;
         received = refl;

@@ -30,9 +30,10 @@ use Rattle.adjacency.specs.Retransmissions.{after_acknowledgment}
 use Rattle.adjacency.proofs.Kept.{chosen}
 use Rattle.received.specs.Flooding.{flood_to}
 use Rattle.received.specs.Links.{Link, change_link, link_at}
-use Rattle.received.specs.Outcomes.{Outcome, Send, Stepping, each_neighbor, marked_database}
-use Rattle.received.specs.Outcomes.{sends_at, on_database, on_links, one_neighbor, only_at, sending}
-use Rattle.received.specs.Outcomes.{stepping_sends, sends_of}
+use Rattle.received.specs.AreaStates.{AreaState, Send, Stepping, each_neighbor, marked_database}
+use Rattle.received.specs.AreaStates.{sends_at, on_database, on_links, one_neighbor, only_at}
+use Rattle.received.specs.AreaStates.{sending}
+use Rattle.received.specs.AreaStates.{stepping_sends, sends_of}
 use Rattle.received.proofs.Marks.{changed_by}
 use Rattle.event_rules.specs.declared.model.Out.{Out}
 use Rattle.event_rules.specs.Endings.{end_event, flood_if_aged, stays}
@@ -246,26 +247,26 @@ module _ (id : RouterNumber) where
 
   -- ---- parts of an event
 
-  abbrev OnOutcome : Outcome → Type 0
+  abbrev OnOutcome : AreaState → Type 0
   OnOutcome o = IsWithin o.area.database
 
-  sent_within : (moment : ℕ) (more : List Send) (o : Outcome) → OnOutcome o
+  sent_within : (moment : ℕ) (more : List Send) (o : AreaState) → OnOutcome o
       → OnOutcome (sending moment more o)
   sent_within moment more o h = all_marked moment more o.area.database h
 
-  each_within : (moment : ℕ) (f : Stepping) (o : Outcome) → OnOutcome o
+  each_within : (moment : ℕ) (f : Stepping) (o : AreaState) → OnOutcome o
       → OnOutcome (each_neighbor moment f o)
   each_within moment f o h = all_marked moment (stepping_sends f o.area.links) o.area.database h
 
-  one_within : (moment number : ℕ) (f : Neighbor → Step) (o : Outcome) → OnOutcome o
+  one_within : (moment number : ℕ) (f : Neighbor → Step) (o : AreaState) → OnOutcome o
       → OnOutcome (one_neighbor moment number f o)
   one_within moment number f o h = each_within moment (only_at number f) o h
 
-  flooded : (moment : ℕ) (lsa : Lsa) (o : Outcome) → OnOutcome o
+  flooded : (moment : ℕ) (lsa : Lsa) (o : AreaState) → OnOutcome o
       → OnOutcome (flood_from_nobody moment lsa o)
   flooded moment lsa o h = each_within moment (flood_to moment None lsa) o h
 
-  ages_within : (before moment : ℕ) (es : List (Key × DatabaseCopy)) (o : Outcome) → OnOutcome o
+  ages_within : (before moment : ℕ) (es : List (Key × DatabaseCopy)) (o : AreaState) → OnOutcome o
       → OnOutcome (fold (flood_if_aged before moment) o es)
   ages_within before moment [] o h = h
   ages_within before moment (e ∷ es) o h =
@@ -274,7 +275,7 @@ module _ (id : RouterNumber) where
       (flood_from_nobody moment (lsa_now moment e.1) o) o
       (λ is. flooded moment (lsa_now moment e.1) o h) (λ is. h))
 
-  hello_heard : (own_id moment number from : ℕ) (hello : Hello) (link : Option Link) (o : Outcome)
+  hello_heard : (own_id moment number from : ℕ) (hello : Hello) (link : Option Link) (o : AreaState)
       → OnOutcome o → OnOutcome (receive_hello_on own_id moment number from hello link o)
   hello_heard own_id moment number from hello None o h = h
   hello_heard own_id moment number from hello (Some link) o h =

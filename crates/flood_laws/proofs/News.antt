@@ -34,9 +34,10 @@ use Rattle.adjacency.proofs.Told.{updates_told}
 use Rattle.received.specs.Cases.{Case}
 use Rattle.received.specs.Flooding.{flood_to}
 use Rattle.received.specs.Links.{Area, Link, link_at}
-use Rattle.received.specs.Outcomes.{Outcome, Send, marked_database, sends_at, on_database, on_links}
-use Rattle.received.specs.Outcomes.{only_at, stepping_sends, sends_of}
-use Rattle.received.specs.Updates.{after_case, copy_of, flood_and_install, send_copy}
+use Rattle.received.specs.AreaStates.{AreaState, Send, marked_database, sends_at, on_database}
+use Rattle.received.specs.AreaStates.{on_links}
+use Rattle.received.specs.AreaStates.{only_at, stepping_sends, sends_of}
+use Rattle.received.specs.Updates.{after_case, database_copy, flood_and_install, send_copy}
 use Rattle.received.proofs.Told.{OfArea, OfLink, OfSend, OfWaiting, case_told, change_told}
 use Rattle.received.proofs.Told.{each_told, flood_told, numbered_told, on_database_told}
 use Rattle.received.proofs.Told.{one_neighbor_told, one_told, sending_told}
@@ -205,12 +206,12 @@ module _ (old : Router) (moment : ℕ) (event : Occurrence) where
       → AllLast t (fold (λ (d : Database) (s : Send). marked_database moment d s.content) db more)
   all_marked t more db h k = subst (Last t k) (sym (numbers_marked moment more db k)) (h k)
 
-  pub record Numbers (o : Outcome) (t : ByKey ℕ) : Type 0 where
+  pub record Numbers (o : AreaState) (t : ByKey ℕ) : Type 0 where
     area : OfArea (T t) o.area o.sends
     last : AllLast t o.area.database
     remembers : Follows old.originated t
 
-  pub record Told (o : Outcome) (t : ByKey ℕ) : Type 0 where
+  pub record Told (o : AreaState) (t : ByKey ℕ) : Type 0 where
     pub whole : OfArea (T t) o.area o.sends
 
   -- ---- self-originated LSAs
@@ -289,7 +290,7 @@ module _ (old : Router) (moment : ℕ) (event : Occurrence) where
       by_key true same = put_same t k q moment same
       by_key false other = put_other t k q moment other ∙ at
 
-  originate_numbers : (k : Key) (copy : Option DatabaseCopy) (says : LsaBody) (o : Outcome)
+  originate_numbers : (k : Key) (copy : Option DatabaseCopy) (says : LsaBody) (o : AreaState)
       (t : ByKey ℕ) → finite.get o.area.database k ≡ copy → lsa_key (new_instance k copy says) ≡ k
       → k.advertising_router ≡ old.id → interval_is_over moment (finite.get t k) ≡ true
       → Numbers o t → Numbers (install_and_flood moment (new_instance k copy says) o)
@@ -298,7 +299,7 @@ module _ (old : Router) (moment : ℕ) (event : Occurrence) where
       let lsa : Lsa = new_instance k copy says in
       let u : ByKey ℕ = finite.insert t k moment in
       let c : DatabaseCopy = record { lsa = lsa; stored = moment; received = None; sent = None } in
-      let p : Outcome = on_database (install_originated moment lsa) o in
+      let p : AreaState = on_database (install_originated moment lsa) o in
       let now : finite.get u k ≡ Some moment = put_same t k k moment (itself k) in
       let so : Why u (identity_of_lsa lsa) =
       IsExplained.New (new_one k copy says t u its_key own now
@@ -337,7 +338,7 @@ module _ (old : Router) (moment : ℕ) (event : Occurrence) where
   forget_follows : (r : Router) → Follows r.originated (forget_originations moment r).originated
   forget_follows r q at = kept_time moment r.originated q at
 
-  forget_numbers : (r : Router) (o : Outcome) → Numbers o r.originated
+  forget_numbers : (r : Router) (o : AreaState) → Numbers o r.originated
       → Numbers o (forget_originations moment r).originated
   forget_numbers r o h = record {
     area = area_more r.originated (forget_originations moment r).originated (forget_follows r)
@@ -359,8 +360,9 @@ module _ (old : Router) (moment : ℕ) (event : Occurrence) where
     received (body.Update lsas) lsa c = mapped identity_of_lsa (filter_map lsa_in lsas) lsa c
     received (body.Acknowledgment headers) lsa c = absurd (of_empty lsa c)
 
-    install_last : (lsa : Lsa) (o : Outcome) (t : ByKey ℕ) → Contains (lsas_brought packet.body) lsa
-        → AllLast t o.area.database → AllLast t (flood_and_install moment place lsa o).area.database
+    install_last : (lsa : Lsa) (o : AreaState) (t : ByKey ℕ)
+        → Contains (lsas_brought packet.body) lsa → AllLast t o.area.database
+        → AllLast t (flood_and_install moment place lsa o).area.database
     install_last lsa o t among h =
         all_marked t (stepping_sends (flood_to moment (Some place) lsa) o.area.links)
         (install_flooded moment lsa o.area.database)
@@ -376,13 +378,13 @@ module _ (old : Router) (moment : ℕ) (event : Occurrence) where
             (sym (put_other o.area.database (lsa_key lsa) q (installed_copy moment lsa) other))
             (h q)
 
-    copy_last : (c : Option DatabaseCopy) (o : Outcome) (t : ByKey ℕ) → AllLast t o.area.database
+    copy_last : (c : Option DatabaseCopy) (o : AreaState) (t : ByKey ℕ) → AllLast t o.area.database
         → AllLast t (send_copy moment place c o).area.database
     copy_last None o t h = h
     copy_last (Some c) o t h = all_marked t (sends_at place (Updates (lsa_now moment c) ∷ []))
         o.area.database h
 
-    case_last : (case : Case) (lsa : Lsa) (o : Outcome) (t : ByKey ℕ)
+    case_last : (case : Case) (lsa : Lsa) (o : AreaState) (t : ByKey ℕ)
         → Contains (lsas_brought packet.body) lsa → AllLast t o.area.database
         → AllLast t (after_case case moment place lsa o).area.database
     case_last Case.Unreadable lsa o t among h = h
@@ -400,9 +402,9 @@ module _ (old : Router) (moment : ℕ) (event : Occurrence) where
         all_marked t (sends_at place (Content.Acknowledges lsa.header ∷ [])) o.area.database h
     case_last Case.SequenceWraps lsa o t among h = h
     case_last Case.SentJustNow lsa o t among h = h
-    case_last Case.Older lsa o t among h = copy_last (copy_of lsa o.area) o t h
+    case_last Case.Older lsa o t among h = copy_last (database_copy lsa o.area) o t h
 
-    case_numbers : (case : Case) (lsa : Lsa) (o : Outcome) (t : ByKey ℕ)
+    case_numbers : (case : Case) (lsa : Lsa) (o : AreaState) (t : ByKey ℕ)
         → Contains (lsas_brought packet.body) lsa → Numbers o t
         → Numbers (after_case case moment place lsa o) t
     case_numbers case lsa o t among h = record {
@@ -413,13 +415,13 @@ module _ (old : Router) (moment : ℕ) (event : Occurrence) where
       remembers = h.remembers;
     }
 
-  hello_last : (own place from : ℕ) (h : Hello) (link : Option Link) (o : Outcome) (t : ByKey ℕ)
+  hello_last : (own place from : ℕ) (h : Hello) (link : Option Link) (o : AreaState) (t : ByKey ℕ)
       → AllLast t o.area.database → AllLast t
       (receive_hello_on own moment place from h link o).area.database
   hello_last own place from h None o t last = last
   hello_last own place from h (Some link) o t last =
       let s = adjacencies.after_hello moment from (names own h) link.neighbor in
-      chosen (λ (q : Outcome). AllLast t q.area.database) (accepts own from h link)
+      chosen (λ (q : AreaState). AllLast t q.area.database) (accepts own from h link)
       (accept_hello moment place s o) o (λ e. all_marked t (sends_at place s.sends) o.area.database
       last) (λ e. last)
 
@@ -572,13 +574,13 @@ module _ (old : Router) (moment : ℕ) (event : Occurrence) where
       stays = λ o t its h. record { whole = h.area };
     }
 
-    ages_last : (t : ByKey ℕ) (es : List (Key × DatabaseCopy)) (o : Outcome)
+    ages_last : (t : ByKey ℕ) (es : List (Key × DatabaseCopy)) (o : AreaState)
         → AllLast t o.area.database → AllLast t
         (fold (flood_if_aged old.moment moment) o es).area.database
     ages_last t [] o h = h
     ages_last t (e ∷ es) o h =
         ages_last t es (flood_if_aged old.moment moment o e)
-        (chosen (λ (q : Outcome). AllLast t q.area.database)
+        (chosen (λ (q : AreaState). AllLast t q.area.database)
         (has_just_aged_out old.moment moment e.1)
         (flood_from_nobody moment (lsa_now moment e.1) o) o
         (λ just. all_marked t (stepping_sends (flood_to moment None (lsa_now moment e.1))
@@ -587,7 +589,7 @@ module _ (old : Router) (moment : ℕ) (event : Occurrence) where
     pub begins : Numbers (record { area = start.router.area; sends = start.sends }) old.originated
     begins =
         let t : ByKey ℕ = old.originated in
-        let o : Outcome = record { area = old.area; sends = [] } in
+        let o : AreaState = record { area = old.area; sends = [] } in
         let held : OfArea (T t) old.area [] =
         named_held (Why t) (λ key. Unit {0}) (λ name k. tt) (length old.area.links) old refl
         (of_members (Why t) (instances_stored old) (λ name c. IsExplained.Held c)) in

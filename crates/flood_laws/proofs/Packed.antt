@@ -12,7 +12,7 @@ use Rattle.packet.specs.declared.model.PacketBody.{PacketBody}
 use Rattle.packet.specs.declared.model.PacketBody.TheVariants as body
 use Rattle.adjacency.specs.Contents.{Content}
 use Rattle.received.specs.Links.{Link}
-use Rattle.received.specs.Outcomes.{Send, at_interface}
+use Rattle.received.specs.AreaStates.{Send, at_interface}
 use Rattle.flood_laws.specs.Known.{Bears, IsOutOf, IsTextOf, instances_in_content}
 use Rattle.event_rules.specs.InstanceIdentities.{InstanceIdentity}
 use Rattle.event_rules.specs.Packing.{acknowledgments, bodies, descriptions}

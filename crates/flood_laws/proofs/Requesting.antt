@@ -22,7 +22,7 @@ use Rattle.adjacency.specs.declared.state.NeighborState.TheVariants.{Loading, Fu
 use Rattle.adjacency.proofs.Kept.{chosen}
 use Rattle.received.specs.Holds.{Holds, HoldsOfEach}
 use Rattle.received.specs.Links.{Link, any_exchange_or_loading}
-use Rattle.received.specs.Outcomes.{Outcome, Stepping, on_database, step_on}
+use Rattle.received.specs.AreaStates.{AreaState, Stepping, on_database, step_on}
 use Rattle.event_rules.specs.Endings.{end_event, originate_router_lsa, postpone_router_lsa}
 use Rattle.event_rules.specs.Endings.{link_loading_done, links_differ, loading_done}
 use Rattle.event_rules.specs.Endings.{loading_done_on}
@@ -137,7 +137,7 @@ end_requests old moment p =
     let described : EventState = originate_router_lsa old.area.links moment (loading_done p) in
     let loaded : EventState = loading_done described in
     let refilled : EventState = postpone_router_lsa described.router.area.links loaded in
-    let o : Outcome = record { area = refilled.router.area; sends = refilled.sends } in
+    let o : AreaState = record { area = refilled.router.area; sends = refilled.sends } in
     let before : HoldsOfEach IsLoaded o.area.links =
     chosen (λ (q : EventState). HoldsOfEach IsLoaded q.router.area.links)
     (links_differ described.router.area.links loaded.router.area.links)
@@ -147,8 +147,8 @@ end_requests old moment p =
     let requested : HoldsOfEach IsRequesting (request_all moment o).area.links =
     all_requesting (λ number link n. request_next moment n)
     (λ number link n loaded. requesting moment n loaded) 1 o.area.links before in
-    let q : Outcome = request_all moment o in
-    chosen (λ (r : Outcome). HoldsOfEach IsRequesting r.area.links)
+    let q : AreaState = request_all moment o in
+    chosen (λ (r : AreaState). HoldsOfEach IsRequesting r.area.links)
     (any_exchange_or_loading q.area.links) q
     (on_database (λ db. finite.retain_keys db (stays moment q.area)) q) (λ is. requested)
     (λ is. requested)

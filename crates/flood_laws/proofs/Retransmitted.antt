@@ -40,10 +40,11 @@ use Rattle.received.specs.Holds.{Holds, HoldsOfEach}
 use Rattle.received.specs.Links.{Area, Link, any_has_retransmission, change_link}
 use Rattle.received.specs.Links.{delay_acknowledgment}
 use Rattle.received.specs.Links.{has_retransmission, link_at, neighbor_on}
-use Rattle.received.specs.Outcomes.{Outcome, Send, Stepping, each_neighbor, marked_database}
-use Rattle.received.specs.Outcomes.{sends_at, on_database, on_links, one_neighbor, only_at, sending}
-use Rattle.received.specs.Outcomes.{step_on, stepped_links, stepping_sends, sends_of}
-use Rattle.received.specs.Updates.{after_case, copy_of, flood_and_install, send_copy}
+use Rattle.received.specs.AreaStates.{AreaState, Send, Stepping, each_neighbor, marked_database}
+use Rattle.received.specs.AreaStates.{sends_at, on_database, on_links, one_neighbor, only_at}
+use Rattle.received.specs.AreaStates.{sending}
+use Rattle.received.specs.AreaStates.{step_on, stepped_links, stepping_sends, sends_of}
+use Rattle.received.specs.Updates.{after_case, database_copy, flood_and_install, send_copy}
 use Rattle.received.proofs.Holding.{changed_keeps, each_link_keeps, flood_to_kept, one_holds}
 use Rattle.received.proofs.Marks.{IsStill, StillThere, There, all_there, changed_by, mark_all}
 use Rattle.received.proofs.Marks.{still_all, still_marked}
@@ -289,7 +290,7 @@ pub record IsItsOwn (a : Area) : Type 0 where
   pub keys : OwnKeys a.database
   pub each : HoldsOfEach (Of (OfIt a.database)) a.links
 
-abbrev OfOutcome : Outcome → Type 0
+abbrev OfOutcome : AreaState → Type 0
 OfOutcome o = IsItsOwn o.area
 
 stepped_so : (P R : Neighbor → Type 0) (f : Stepping)
@@ -306,7 +307,7 @@ stepped_so P R f so k (x ∷ xs) h = (one x.neighbor h.0, stepped_so P R f so (k
     one (Some n) here = so k x n here
 
 -- what is sent marks the database
-sending_kept : (moment : ℕ) (more : List Send) (o : Outcome) → OfOutcome o
+sending_kept : (moment : ℕ) (more : List Send) (o : AreaState) → OfOutcome o
     → OfOutcome (sending moment more o)
 sending_kept moment more o h = record {
   keys = own_all_marked moment more o.area.database h.keys;
@@ -315,12 +316,12 @@ sending_kept moment more o h = record {
       (marked_copy moment more o.area.database)) o.area.links h.each;
 }
 
-links_kept : (f : List Link → List Link) (o : Outcome)
+links_kept : (f : List Link → List Link) (o : AreaState)
     → HoldsOfEach (Of (OfIt o.area.database)) (f o.area.links) → OfOutcome o
     → OfOutcome (on_links f o)
 links_kept f o so h = record { keys = h.keys; each = so }
 
-each_kept : (moment : ℕ) (f : Stepping) (o : Outcome)
+each_kept : (moment : ℕ) (f : Stepping) (o : AreaState)
     → ((number : ℕ) (link : Link) (n : Neighbor) → Of (OfIt o.area.database) n
     → Of (OfIt o.area.database) (f number link n).neighbor) → OfOutcome o
     → OfOutcome (each_neighbor moment f o)
@@ -332,7 +333,7 @@ each_kept moment f o keeps h =
           o.area.links h.each;
     })
 
-one_kept : (moment number : ℕ) (f : Neighbor → Step) (o : Outcome)
+one_kept : (moment number : ℕ) (f : Neighbor → Step) (o : AreaState)
     → ((n : Neighbor) → Of (OfIt o.area.database) n → Of (OfIt o.area.database) (f n).neighbor)
     → OfOutcome o → OfOutcome (one_neighbor moment number f o)
 one_kept moment number f o keeps h =
@@ -341,7 +342,7 @@ one_kept moment number f o keeps h =
     (place == number) (f n) (record { neighbor = n; sends = [] }) (λ e. keeps n at) (λ e. at)) h
 
 -- the LSA is in the database already
-flood_kept : (moment : ℕ) (sender : Option ℕ) (lsa : Lsa) (old : Database) (o : Outcome)
+flood_kept : (moment : ℕ) (sender : Option ℕ) (lsa : Lsa) (old : Database) (o : AreaState)
     → OwnKeys o.area.database
     → IsOfCopy o.area.database (lsa_key lsa) (record { header = lsa.header; at = moment })
     → ((q : Key) → eq_by_cmp key_cmp q (lsa_key lsa) ≡ false → (x : ListEntry) → IsOfCopy old q x
@@ -357,7 +358,7 @@ flood_kept moment sender lsa old o keys adds others each =
     })
 
 -- an LSA that was just stored is flooded
-put_kept : (moment : ℕ) (sender : Option ℕ) (lsa : Lsa) (received : Option ℕ) (o : Outcome)
+put_kept : (moment : ℕ) (sender : Option ℕ) (lsa : Lsa) (received : Option ℕ) (o : AreaState)
     → OfOutcome o → OfOutcome (flood moment sender lsa
     (on_database (λ db. finite.insert db (lsa_key lsa) (record {
       lsa = lsa;
@@ -380,8 +381,8 @@ put_kept moment sender lsa received o h =
 
 -- ---- aging, and premature aging
 
-aged_flooded : (moment : ℕ) (e : Key × DatabaseCopy) (o : Outcome) → IsStill o.area.database e.0 e.1
-    → is_aged_out moment e.1 ≡ true → OfOutcome o
+aged_flooded : (moment : ℕ) (e : Key × DatabaseCopy) (o : AreaState)
+    → IsStill o.area.database e.0 e.1 → is_aged_out moment e.1 ≡ true → OfOutcome o
     → OfOutcome (flood_from_nobody moment (lsa_now moment e.1) o)
 aged_flooded moment e o still aged h =
     let db : Database = o.area.database in
@@ -395,14 +396,14 @@ both_aged : (a b : Bool) → (a && b) ≡ true → a ≡ true
 both_aged true b e = refl
 both_aged false b e = e
 
-pub ages_kept : (before moment : ℕ) (es : List (Key × DatabaseCopy)) (o : Outcome)
+pub ages_kept : (before moment : ℕ) (es : List (Key × DatabaseCopy)) (o : AreaState)
     → AllByRecursion (StillThere o.area.database) es → OfOutcome o
     → OfOutcome (fold (flood_if_aged before moment) o es)
 ages_kept before moment [] o still h = h
 ages_kept before moment (e ∷ es) o still h =
     let so : OfOutcome (flood_if_aged before moment o e)
     × AllByRecursion (StillThere (flood_if_aged before moment o e).area.database) es =
-    chosen (λ (p : Outcome). OfOutcome p × AllByRecursion (StillThere p.area.database) es)
+    chosen (λ (p : AreaState). OfOutcome p × AllByRecursion (StillThere p.area.database) es)
     (has_just_aged_out before moment e.1)
     (flood_from_nobody moment (lsa_now moment e.1) o) o
     (λ is. (
@@ -417,7 +418,7 @@ ages_kept before moment (e ∷ es) o still h =
 abbrev aged : ℕ → DatabaseCopy → DatabaseCopy
 aged moment d = record d { lsa = lsa_with_age 3600 d.lsa; stored = moment }
 
-flushes_kept : (moment : ℕ) (key : Key) (c : DatabaseCopy) (o : Outcome)
+flushes_kept : (moment : ℕ) (key : Key) (c : DatabaseCopy) (o : AreaState)
     → finite.get o.area.database key ≡ Some c → OfOutcome o
     → OfOutcome (flood_from_nobody moment (lsa_with_age 3600 c.lsa)
     (on_database (age_prematurely moment key) o))
@@ -449,10 +450,10 @@ flushes_kept moment key c o is h =
 
 -- ---- received LSAs
 
-install_kept : (moment number : ℕ) (lsa : Lsa) (o : Outcome) → OfOutcome o
+install_kept : (moment number : ℕ) (lsa : Lsa) (o : AreaState) → OfOutcome o
     → OfOutcome (flood_and_install moment number lsa o)
 install_kept moment number lsa o h =
-    let flooded : Outcome = flood moment (Some number) lsa
+    let flooded : AreaState = flood moment (Some number) lsa
     (on_database (install_flooded moment lsa) o) in
     let so : OfOutcome flooded = put_kept moment (Some number) lsa (Some moment) o h in
     record {
@@ -462,13 +463,13 @@ install_kept moment number lsa o h =
           (λ link at. at) flooded.area.links so.each;
     }
 
-copy_kept : (moment number : ℕ) (c : Option DatabaseCopy) (o : Outcome) → OfOutcome o
+copy_kept : (moment number : ℕ) (c : Option DatabaseCopy) (o : AreaState) → OfOutcome o
     → OfOutcome (send_copy moment number c o)
 copy_kept moment number None o h = h
 copy_kept moment number (Some c) o h =
     sending_kept moment (sends_at number (Updates (lsa_now moment c) ∷ [])) o h
 
-case_kept : (case : Case) (moment number : ℕ) (lsa : Lsa) (o : Outcome) → OfOutcome o
+case_kept : (case : Case) (moment number : ℕ) (lsa : Lsa) (o : AreaState) → OfOutcome o
     → OfOutcome (after_case case moment number lsa o)
 case_kept Case.Unreadable moment number lsa o h = h
 case_kept Case.NothingToFlush moment number lsa o h =
@@ -485,7 +486,7 @@ case_kept Case.Duplicate moment number lsa o h =
     sending_kept moment (sends_at number (Content.Acknowledges lsa.header ∷ [])) o h
 case_kept Case.SequenceWraps moment number lsa o h = h
 case_kept Case.SentJustNow moment number lsa o h = h
-case_kept Case.Older moment number lsa o h = copy_kept moment number (copy_of lsa o.area) o h
+case_kept Case.Older moment number lsa o h = copy_kept moment number (database_copy lsa o.area) o h
 
 -- ---- Hellos
 
@@ -494,7 +495,7 @@ heard_before : (db : Database) (from moment : ℕ) (o : Option Neighbor) → Hol
 heard_before db from moment None h = (its_kept db).begins
 heard_before db from moment (Some n) h = h
 
-hello_heard : (own moment number from : ℕ) (hello : Hello) (link : Option Link) (o : Outcome)
+hello_heard : (own moment number from : ℕ) (hello : Hello) (link : Option Link) (o : AreaState)
     → Holds (Of (OfIt o.area.database)) (neighbor_on link) → OfOutcome o
     → OfOutcome (receive_hello_on own moment number from hello link o)
 hello_heard own moment number from hello None o here h = h

@@ -28,7 +28,7 @@ use Rattle.adjacency.proofs.Told.{filled_told, hello_told, lsa_now_told, mismatc
 use Rattle.adjacency.proofs.Told.{old_description_told, quiet_told, request_told, still_heard_told}
 use Rattle.adjacency.proofs.Told.{updates_told}
 use Rattle.received.specs.Links.{Link, link_at, neighbor_on}
-use Rattle.received.specs.Outcomes.{Outcome, sends_at, on_database, on_links, sends_of}
+use Rattle.received.specs.AreaStates.{AreaState, sends_at, on_database, on_links, sends_of}
 use Rattle.received.proofs.Told.{OfArea, OfLink, OfLinks, OfOutcome, OfSend, OfWaiting, case_told}
 use Rattle.received.proofs.Told.{change_told, changed_told, each_link_told, each_told, flood_told}
 use Rattle.received.proofs.Told.{numbered_told, on_database_told, on_links_told}
@@ -78,7 +78,7 @@ IsWanted t key copy says =
 module _ (t : Telling) where
   -- ---- aging, and self-originated LSAs
 
-  pub ages_told : (before moment : ℕ) (es : List (Key × DatabaseCopy)) (o : Outcome)
+  pub ages_told : (before moment : ℕ) (es : List (Key × DatabaseCopy)) (o : AreaState)
       → AllByRecursion (OfEntry (OfCopy t)) es → OfOutcome t o
       → OfOutcome t (fold (flood_if_aged before moment) o es)
   ages_told before moment [] o so h = h
@@ -89,7 +89,7 @@ module _ (t : Telling) where
       (λ is. flood_told t moment None (lsa_now moment e.1) o (lsa_now_told t moment e.1 so.0) h)
       (λ is. h))
 
-  pub flushed_told : (moment : ℕ) (key : Key) (c : DatabaseCopy) (o : Outcome)
+  pub flushed_told : (moment : ℕ) (key : Key) (c : DatabaseCopy) (o : AreaState)
       → finite.get o.area.database key ≡ Some c → OfOutcome t o
       → OfOutcome t (flood_from_nobody moment (lsa_with_age 3600 c.lsa)
       (on_database (age_prematurely moment key) o))
@@ -113,7 +113,7 @@ module _ (t : Telling) where
   exchange_settled moment dead (Some n) h = old_description_told t moment dead n h
 
   pub each_link : (change : Link → Link) → ((link : Link) → OfLink t link → OfLink t (change link))
-      → (o : Outcome) → OfOutcome t o → OfOutcome t (on_links (map change) o)
+      → (o : AreaState) → OfOutcome t o → OfOutcome t (on_links (map change) o)
   each_link change keeps o h = on_links_told t (map change) o
       (each_link_told t change keeps o.area.links h.links) (length-map o.area.links change) h
 
@@ -147,8 +147,8 @@ module _ (t : Telling) where
 
   -- ---- a Hello
 
-  pub hello_heard : (own moment number from : ℕ) (hello : Hello) (link : Option Link) (o : Outcome)
-      → OfOwedIfAny t (neighbor_on link) → OfOutcome t o
+  pub hello_heard : (own moment number from : ℕ) (hello : Hello) (link : Option Link)
+      (o : AreaState) → OfOwedIfAny t (neighbor_on link) → OfOutcome t o
       → OfOutcome t (receive_hello_on own moment number from hello link o)
   hello_heard own moment number from hello None o here h = h
   hello_heard own moment number from hello (Some link) o here h =

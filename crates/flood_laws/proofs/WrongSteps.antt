@@ -18,10 +18,10 @@ use Rattle.event_rules.specs.declared.model.Out.{Out}
 use Rattle.event_rules.specs.InstanceIdentities.{InstanceIdentity, instances_advertised}
 use Rattle.event_rules.specs.Routers.{Occurrence, Router}
 use Rattle.flood_laws.specs.NewInstances.{BringsLsa, lsas_brought}
-use Rattle.flood_laws.specs.TakenOff.{IsFlooded, IsTakenOff, IsTold, listed_instance}
+use Rattle.flood_laws.specs.TakenOff.{MayLeaveByFlooding, IsTakenOff, IsTold, listed_instance}
 use Rattle.flood_laws.specs.Worlds.{Keeps}
 use Rattle.flood_laws.specs.WrongSteps.{AcknowledgesAnother, AnotherAcknowledgmentTakesNothingOff}
-use Rattle.flood_laws.specs.WrongSteps.{release_on, remove_retransmission_in, without_entry}
+use Rattle.flood_laws.specs.WrongSteps.{IsOwed, release_on, remove_retransmission_in, without_entry}
 use Rattle.flood_laws.proofs.Leaving.{numbered_kept}
 use Rattle.flood_laws.proofs.Lists.{of_empty}
 
@@ -41,10 +41,7 @@ same_bytes a b bytes others e = ap (bytes_of bytes) e
 module _ (old : Router) (moment number : ℕ) (n : Neighbor) (name : InstanceIdentity)
     (bytes : List ℕ)
     (headers : List Header)
-    (at : AcknowledgesAnother old moment number n name bytes headers) where
-  abbrev new : Router
-  new = without_entry number name.key old
-
+    (at : AcknowledgesAnother n name bytes headers) where
   abbrev event : Occurrence
   event = Occurrence.Packet number bytes
 
@@ -58,6 +55,25 @@ module _ (old : Router) (moment number : ℕ) (n : Neighbor) (name : InstanceIde
       one_packet bytes sent packet at.text
       (subst (λ bs. PacketText bs packet) (sym (same_bytes number other bytes others is)) text)
 
+  pub never_kept : (new : Router) (outs : List Out) (originated : List InstanceIdentity)
+      → IsTakenOff old moment event new number n name
+      → Keeps old moment event outs new originated → ⊥
+  never_kept new outs originated taken_off keeps =
+      let told : IsTold event number n.router name = keeps.taken number n name taken_off in
+      at.another (subst (λ (p : Packet). Contains (instances_advertised p.body) name)
+      (sym (is_it number told.bytes told.packet told.is told.text)) told.told)
+
+module _ (old : Router) (moment number : ℕ) (n : Neighbor) (name : InstanceIdentity)
+    (bytes : List ℕ)
+    (headers : List Header)
+    (at : AcknowledgesAnother n name bytes headers)
+    (owed : IsOwed old moment number n name) where
+  abbrev new : Router
+  new = without_entry number name.key old
+
+  abbrev packet_event : Occurrence
+  packet_event = Occurrence.Packet number bytes
+
   left_there : neighbor_at number new.area.links ≡ Some (remove_retransmission name.key n)
   left_there =
       numbered_kept (λ (o : Option Neighbor). o ≡ Some n)
@@ -67,40 +83,38 @@ module _ (old : Router) (moment number : ℕ) (n : Neighbor) (name : InstanceIde
       (number == number) (release_on name.key link) link
       (λ here. ap (remove_retransmission_in name.key) is)
       (λ away. absurd (eqb-false number number away refl)))
-      old.area.links at.there
+      old.area.links owed.there
 
-  not_flooded : IsFlooded old moment event new number n name.key → ⊥
-  not_flooded (IsFlooded.Newer newer st) =
-      let b : BringsLsa event newer.lsa = newer.brought in
+  not_by_flooding : MayLeaveByFlooding old moment packet_event new number n name.key → ⊥
+  not_by_flooding (MayLeaveByFlooding.Newer newer st) =
+      let b : BringsLsa packet_event newer.lsa = newer.brought in
       of_empty newer.lsa (subst (λ (p : Packet). Contains (lsas_brought p.body) newer.lsa)
-      (sym (is_it b.interface b.bytes b.packet b.is b.text)) b.among)
-  not_flooded (IsFlooded.Originated it st) = it.not_before it.now
-  not_flooded (IsFlooded.Aged comes asked) = let no_such : true ≡ false = sym comes ∙ at.young in
+      (sym (is_it old moment number n name bytes headers at b.interface b.bytes b.packet b.is
+      b.text)) b.among)
+  not_by_flooding (MayLeaveByFlooding.Originated it st) = it.not_before it.now
+  not_by_flooding (MayLeaveByFlooding.Aged comes asked) = let no_such : true ≡ false = sym comes ∙ owed.young in
       absurd cc
 
-  pub taken_off : IsTakenOff old moment event new number n name
+  pub taken_off : IsTakenOff old moment packet_event new number n name
   taken_off = record {
     after = remove_retransmission name.key n;
     adjacent = record {
-      was = at.there;
+      was = owed.there;
       is = left_there;
       same_router = refl;
-      from = at.part;
-      on = at.part;
+      from = owed.part;
+      on = owed.part;
     };
-    stood = at.owed;
-    left = λ owed. let none : None ≡ Some name =
-        sym (ap (listed_instance name.key) (removed n.retransmissions name.key)) ∙ owed in
+    stood = owed.owed;
+    left = λ still. let none : None ≡ Some name =
+        sym (ap (listed_instance name.key) (removed n.retransmissions name.key)) ∙ still in
         absurd cc;
-    not_flooded = not_flooded;
+    not_by_flooding = not_by_flooding;
   }
 
-  pub never_kept : (outs : List Out) (originated : List InstanceIdentity)
-      → Keeps old moment event outs new originated → ⊥
-  never_kept outs originated keeps =
-      let told : IsTold event number n.router name = keeps.taken number n name taken_off in
-      at.another (subst (λ (p : Packet). Contains (instances_advertised p.body) name)
-      (sym (is_it number told.bytes told.packet told.is told.text)) told.told)
-
 pub another_takes_nothing_off : AnotherAcknowledgmentTakesNothingOff
-another_takes_nothing_off = never_kept
+another_takes_nothing_off = record {
+  never = λ old new moment number n name bytes headers at taken_off outs originated keeps.
+      never_kept old moment number n name bytes headers at new outs originated taken_off keeps;
+  one = taken_off;
+}

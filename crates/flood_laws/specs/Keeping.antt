@@ -9,7 +9,7 @@ use Rattle.words.specs.Numbers.{InterfaceNumber, Moment, RouterNumber}
 use Rattle.words.specs.declared.key.Key.{Key}
 use Rattle.words.specs.declared.route.External.{External}
 use Rattle.received.specs.Links.{Link}
-use Rattle.received.specs.Outcomes.{Send, at_interface}
+use Rattle.received.specs.AreaStates.{Send, at_interface}
 use Rattle.event_rules.specs.declared.model.Config.{Config}
 use Rattle.event_rules.specs.declared.model.Out.{Out}
 use Rattle.event_rules.specs.Endings.{end_event}

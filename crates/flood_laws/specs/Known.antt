@@ -9,7 +9,7 @@ use Rattle.lsdb.specs.Headers.{Lsa}
 use Rattle.packet.specs.declared.model.PacketBody.{PacketBody}
 use Rattle.packet.specs.declared.model.PacketBody.TheVariants as packets
 use Rattle.adjacency.specs.Contents.{Content}
-use Rattle.received.specs.Outcomes.{Send}
+use Rattle.received.specs.AreaStates.{Send}
 use Rattle.event_rules.specs.declared.model.Out.{Out}
 use Rattle.event_rules.specs.Events.{Happens}
 use Rattle.event_rules.specs.InstanceIdentities.{InstanceIdentity, identity_of_lsa}

@@ -82,29 +82,30 @@ pub data IsAsked (event : Occurrence) (interface : InterfaceNumber) (before : Ne
 -- How flooding in this event may remove the entry, or replace it by another instance's: a newer
 -- instance was received, or originated, and stored; or the copy reached MaxAge, and a newer
 -- instance may be requested of the neighbor, which then isn't sent this one.
-pub data IsFlooded (old : Router) (moment : Moment) (event : Occurrence) (new : Router)
+pub data MayLeaveByFlooding (old : Router) (moment : Moment) (event : Occurrence) (new : Router)
     (interface : InterfaceNumber) (before : Neighbor) (key : Key) : Type 0 where
   Newer : BringsNewer old moment event key
       → is_gone_or_stored moment (finite.get new.area.database key) ≡ true
-      → IsFlooded old moment event new interface before key
+      → MayLeaveByFlooding old moment event new interface before key
   Originated : Originates old moment new key
       → is_gone_or_stored moment (finite.get new.area.database key) ≡ true
-      → IsFlooded old moment event new interface before key
+      → MayLeaveByFlooding old moment event new interface before key
   Aged : comes_to_max_age old.moment moment (finite.get old.area.database key)
       (finite.get new.area.database key) ≡ true
-      → IsAsked event interface before key → IsFlooded old moment event new interface before key
+      → IsAsked event interface before key
+      → MayLeaveByFlooding old moment event new interface before key
 
 -- ---- what is removed as acknowledged
 
 -- the instance was on the retransmission list of the neighbor at this interface and no longer is,
--- although the adjacency wasn't given up and the LSA wasn't flooded
+-- although the adjacency wasn't given up, and no flooding accounts for it
 pub record IsTakenOff (old : Router) (moment : Moment) (event : Occurrence) (new : Router)
     (interface : InterfaceNumber) (before : Neighbor) (name : InstanceIdentity) : Type 0 where
   pub after : Neighbor
   pub adjacent : StaysAdjacent old new interface before after
   pub stood : owed_instance before name.key ≡ Some name
   pub left : owed_instance after name.key ≡ Some name → ⊥
-  pub not_flooded : IsFlooded old moment event new interface before name.key → ⊥
+  pub not_by_flooding : MayLeaveByFlooding old moment event new interface before name.key → ⊥
 
 -- the event's packet was received at this interface from this router, and has the instance: it is a
 -- Link State Acknowledgment that identifies it, or a Link State Update that contains it

@@ -100,7 +100,8 @@ pub record World : Type 0 where
 abbrev pub Joins : Type 0
 Joins = End → Option End
 
-abbrev pub sent_from : InterfaceNumber → Out → Datagram
+-- what the router at this index sends
+abbrev pub sent_from : (place : ℕ) → Out → Datagram
 sent_from place o = record {
   from = record { router = place; interface = o.interface };
   bytes = o.bytes;
@@ -122,9 +123,9 @@ Brings (Occurrence.Withdraw prefix) names = names ≡ []
 Brings (Occurrence.Install answers) names = names ≡ []
 Brings (Occurrence.LinkDown interface) names = names ≡ []
 
--- the bytes of a packet were sent at the other end of the link at some time; all else may happen at
--- any time
-abbrev pub MayHappen : Joins → World → InterfaceNumber → Occurrence → Type 0
+-- to the router at this index: the bytes of a packet were sent at the other end of the link at some
+-- time; all else may happen at any time
+abbrev pub MayHappen : Joins → World → (place : ℕ) → Occurrence → Type 0
 MayHappen joins w place (Occurrence.Packet interface bytes) =
     (d : Datagram) × Contains w.sent d
     × (joins (record { router = place; interface = interface }) ≡ Some d.from) × (bytes ≡ d.bytes)
@@ -134,7 +135,8 @@ MayHappen joins w place (Occurrence.Withdraw prefix) = Unit {0}
 MayHappen joins w place (Occurrence.Install answers) = Unit {0}
 MayHappen joins w place (Occurrence.LinkDown interface) = Unit {0}
 
--- an event of the router at this index
+-- a step of the router at this index at an event, of which `Keeps` is so; that the step is what the
+-- rules make of the event isn't said
 pub record Lives (joins : Joins) (before : World) (place moment : ℕ) (event : Occurrence)
     (after : World) : Type 0 where
   pub old : Router

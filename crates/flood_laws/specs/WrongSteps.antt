@@ -1,4 +1,4 @@
--- A wrong step, which the properties of a router's step exclude: an acknowledgment of an older
+-- Wrong steps, which the properties of a router's step exclude: an acknowledgment of an older
 -- instance, or of any other than the one on the list, removes the entry (RFC 2328, section 13.7).
 use Rattle.std.specs.Prelude.{◌≡◌, ℕ, true, false, List, map, Option, None, Some}
 use Rattle.std.specs.FinMap as finite
@@ -14,7 +14,7 @@ use Rattle.received.specs.Links.{Link, change_link, neighbor_at}
 use Rattle.event_rules.specs.declared.model.Out.{Out}
 use Rattle.event_rules.specs.InstanceIdentities.{InstanceIdentity, identity_of_header}
 use Rattle.event_rules.specs.Routers.{Occurrence, Router}
-use Rattle.flood_laws.specs.TakenOff.{comes_to_max_age, owed_instance}
+use Rattle.flood_laws.specs.TakenOff.{IsTakenOff, comes_to_max_age, owed_instance}
 use Rattle.flood_laws.specs.Worlds.{Keeps}
 
 -- the key is removed from the retransmission list of the neighbor at this interface, and nothing
@@ -32,27 +32,35 @@ without_entry interface key r =
       area = record r.area { links = change_link interface (release_on key) r.area.links };
     }
 
--- a neighbor in Exchange or later has an instance on its retransmission list whose LSA doesn't
--- reach MaxAge by this moment; and these bytes are a Link State Acknowledgment from it that doesn't
--- identify that instance
-pub record AcknowledgesAnother (old : Router) (moment : Moment) (interface : InterfaceNumber)
-    (n : Neighbor) (name : InstanceIdentity) (bytes : List ℕ) (headers : List Header) : Type 0 where
+-- these bytes are a Link State Acknowledgment from the neighbor that doesn't identify the instance
+pub record AcknowledgesAnother (n : Neighbor) (name : InstanceIdentity) (bytes : List ℕ)
+    (headers : List Header) : Type 0 where
+  pub text : PacketText bytes
+      (record { router = n.router; body = body.Acknowledgment headers })
+  pub another : Contains (map identity_of_header headers) name → ⊥
+
+-- a neighbor in Exchange or later has the instance on its retransmission list; and the copy of its
+-- LSA, if it stays, doesn't come to MaxAge in an event at this moment
+pub record IsOwed (old : Router) (moment : Moment) (interface : InterfaceNumber) (n : Neighbor)
+    (name : InstanceIdentity) : Type 0 where
   pub there : neighbor_at interface old.area.links ≡ Some n
   pub part : is_exchange_or_later n.state ≡ true
   pub owed : owed_instance n name.key ≡ Some name
   pub young : comes_to_max_age old.moment moment (finite.get old.area.database name.key)
       (finite.get old.area.database name.key) ≡ false
-  pub text : PacketText bytes
-      (record { router = n.router; body = body.Acknowledgment headers })
-  pub another : Contains (map identity_of_header headers) name → ⊥
 
--- a step that removes that entry doesn't have the properties of a router's step, whatever it sends
-abbrev pub AnotherAcknowledgmentTakesNothingOff : Type 0
-AnotherAcknowledgmentTakesNothingOff =
-    (old : Router) (moment : Moment) (interface : InterfaceNumber) (n : Neighbor)
-    (name : InstanceIdentity) (bytes : List ℕ) (headers : List Header)
-    → AcknowledgesAnother old moment interface n name bytes headers
-    → (outs : List Out) (originated : List InstanceIdentity)
-    → Keeps old moment (Occurrence.Packet interface bytes) outs
-    (without_entry interface name.key old)
-    originated → ⊥
+pub record AnotherAcknowledgmentTakesNothingOff : Type 0 where
+  -- no step at such a packet in which the instance is taken off, whatever else it does and sends,
+  -- has the properties of a router's step
+  pub never : (old new : Router) (moment : Moment) (interface : InterfaceNumber) (n : Neighbor)
+      (name : InstanceIdentity) (bytes : List ℕ) (headers : List Header)
+      → AcknowledgesAnother n name bytes headers
+      → IsTakenOff old moment (Occurrence.Packet interface bytes) new interface n name
+      → (outs : List Out) (originated : List InstanceIdentity)
+      → Keeps old moment (Occurrence.Packet interface bytes) outs new originated → ⊥
+  -- such a step is the one that removes the entry and changes nothing else, not even the moment
+  pub one : (old : Router) (moment : Moment) (interface : InterfaceNumber) (n : Neighbor)
+      (name : InstanceIdentity) (bytes : List ℕ) (headers : List Header)
+      → AcknowledgesAnother n name bytes headers → IsOwed old moment interface n name
+      → IsTakenOff old moment (Occurrence.Packet interface bytes)
+      (without_entry interface name.key old) interface n name

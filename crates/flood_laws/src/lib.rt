@@ -77,8 +77,7 @@ pub fn what_is_taken_off_was_told()
 /// Each event keeps the Router ID. After it, each instance in the database, on the retransmission
 /// lists and among the delayed acknowledgments, and each in a Link State Update or Acknowledgment
 /// that it sends, was held before, was received in the event's Link State Update, or is a new one
-/// of the router's own LSAs. This requires that the router announces only under its own Router ID,
-/// which holds in every run.
+/// of the router's own LSAs. This requires `InOrder.IsConsistent`, which holds in every run.
 pub fn events_hold_only_what_is_known()
     ensures { EventsHoldOnlyWhatIsKnown }
 {}
@@ -114,9 +113,9 @@ pub fn events_keep_what_is_known()
     ensures { EventsKeepWhatIsKnown }
 {}
 
-/// A step that removes an entry from a retransmission list for an acknowledgment of an older
-/// instance, or of any other than the one on the list, doesn't keep what acknowledgments rely on
-/// (RFC 2328, section 13.7).
+/// No step that takes an entry off a retransmission list for an acknowledgment of an older
+/// instance, or of any other than the one on the list, keeps what acknowledgments rely on, whatever
+/// else it does (RFC 2328, section 13.7).
 pub fn another_acknowledgment_takes_nothing_off()
     ensures { AnotherAcknowledgmentTakesNothingOff }
 {}
