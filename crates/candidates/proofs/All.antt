@@ -15,7 +15,7 @@ use Rattle.routes.specs.declared.root.Root.{Root}
 use Rattle.routes.proofs.Listed.{routes_among}
 use Rattle.candidates.specs.Bodies.{HaveAll, OfContents}
 use Rattle.candidates.specs.Borders.{AreFlagged, Tells}
-use Rattle.candidates.specs.Externals.{AreExternals, OfAdvertised}
+use Rattle.candidates.specs.Externals.{AreExternals, OfExternalAdvertisement}
 use Rattle.candidates.specs.Gathering.{Adds, OfEach}
 use Rattle.candidates.specs.Sources.{IsInner, OfExternal}
 use Rattle.candidates.specs.Ways.{AreWays, Ways}
@@ -65,8 +65,8 @@ module _ (contents : Contents) (root : Root) (ways : Ways) (are : AreWays conten
       (advertised networks : List Route)
       (all_told : AreRoutesAmong (OfContents (Tells root routers) contents)
       advertised) (inside : AreRoutesAmong (OffersInside contents root) networks) where
-    of_external : (o : Offer) → OfEach (OfAdvertised root routers advertised networks) externals o
-        → Offers contents root o
+    of_external : (o : Offer) → OfEach (OfExternalAdvertisement root routers advertised networks)
+        externals o → Offers contents root o
     of_external o (e, among, k) =
         let one = (tell e).0 among in
         External (external_forth contents root ways are routers flagged advertised all_told networks
@@ -78,14 +78,15 @@ module _ (contents : Contents) (root : Root) (ways : Ways) (are : AreWays conten
     of_inner o (inr b) = Between b
 
     by_external : (o : Offer) → OfContents (OfExternal root routers advertised networks) contents o
-        → OfEach (OfAdvertised root routers advertised networks) externals o
+        → OfEach (OfExternalAdvertisement root routers advertised networks) externals o
     by_external o (one, is, k) = let t = told_of root routers advertised networks one o k in
         (t.0, (tell t.0).1 (one, is, t.1), t.2)
 
     pub are_candidates : (first all : List Offer) (routes : List Route)
         → ((o : Offer) → Contains first o ↔ OffersInside contents root o)
-        → Adds first all (OfEach (OfAdvertised root routers advertised networks) externals)
-        → AreRoutesAmong (λ o. Contains all o) routes → AreCandidates contents root routes
+        → Adds first all (OfEach (OfExternalAdvertisement root routers advertised networks)
+        externals) → AreRoutesAmong (λ o. Contains all o) routes
+        → AreCandidates contents root routes
     are_candidates first all routes same more best =
         let put : (o : Offer) → OffersInside contents root o → Contains all o =
         λ o k. (more o).1 (inl ((same o).1 k)) in

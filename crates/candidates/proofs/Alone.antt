@@ -13,7 +13,7 @@ use Rattle.area_graph.specs.Nodes.{Ascend, HasLsa}
 use Rattle.lsa.specs.declared.body.RouterLink.{RouterLink}
 use Rattle.lsa.specs.declared.body.LinkKind.{LinkKind}
 use Rattle.lsa.specs.declared.body.LinkKind.TheVariants.{PointToPoint, Transit}
-use Rattle.candidates.specs.Ways.{AreNear, AreWays}
+use Rattle.candidates.specs.Ways.{DistancesFit, AreWays}
 use Rattle.routes.proofs.Determined.{bit_of_member}
 use Rattle.routes.specs.Answers.{IsNodeAnswer}
 use Rattle.routes.specs.Links.{Leads, LeadsTo}
@@ -107,6 +107,6 @@ near_at : (root : Root) (at : ℕ) (way : Way) → get_or (alone root).ways at N
 near_at root zero way is = omega (arith, ap (λ (w : Way). w.distance) (same_Some _ way is))
 near_at root (suc k) way is = cc
 
-pub alone_near : (root : Root) → AreNear (way_in (alone root))
+pub alone_near : (root : Root) → DistancesFit (way_in (alone root))
 alone_near root = of_beside (λ way. way.distance < 1073741824) (alone root).nodes (alone root).ways
     (near_at root)

@@ -4,27 +4,28 @@ use Rattle.words.specs.Prefixes.{Network}
 use Rattle.words.specs.declared.route.Route.{Route}
 use Rattle.lsa.specs.declared.body.LsaBody.{LsaBody}
 use Rattle.routes.specs.declared.graph.Way.{Way}
-use Rattle.candidates.specs.Borders.{AreBelow, AreCloseBy, IsBoundary, IsFound, IsListed, IsLongest}
-use Rattle.candidates.specs.Borders.{Tells, host, way_by}
+use Rattle.candidates.specs.Borders.{RouteCostsFit, FlaggedDistancesFit, IsBoundary, IsFound}
+use Rattle.candidates.specs.Borders.{IsListed, IsLongest}
+use Rattle.candidates.specs.Borders.{Tells, host, inner_way}
 use Rattle.candidates.specs.Borders.IsBoundary.{Inside, Outside}
-use Rattle.candidates.specs.Gathering.{IsJust, OfEach}
+use Rattle.candidates.specs.Gathering.{IsOnly, OfEach}
 use Rattle.candidates.specs.declared.flagged.Flagged.{Flagged}
 use Rattle.routes.specs.Routes.{AreRoutesAmong}
 use Rattle.routes.specs.declared.offer.Offer.{Offer}
 use Rattle.routes.specs.declared.root.Root.{Root}
 use Rattle.words.specs.declared.key.Key.{Key}
 
-pub below_found : (routes : List Route) (prefix : Network) (route : Route) → AreBelow routes
-    → IsJust (IsFound routes prefix) (Some route) → route.cost < 2147483648
+pub below_found : (routes : List Route) (prefix : Network) (route : Route) → RouteCostsFit routes
+    → IsOnly (IsFound routes prefix) (Some route) → route.cost < 2147483648
 below_found routes prefix route below just = below route ((just route).1 refl).among
 
-pub below_longest : (routes : List Route) (address : ℕ) (route : Route) → AreBelow routes
-    → IsJust (IsLongest routes address) (Some route) → route.cost < 2147483648
+pub below_longest : (routes : List Route) (address : ℕ) (route : Route) → RouteCostsFit routes
+    → IsOnly (IsLongest routes address) (Some route) → route.cost < 2147483648
 below_longest routes address route below just = below route ((just route).1 refl).among
 
 module _ (routers : List Flagged) (advertised : List Route) (router : ℕ) where
-  pub inside : (way : Way) → IsJust (IsListed routers router 2) (Some way)
-      → IsJust (IsBoundary routers advertised router) (Some way)
+  pub inside : (way : Way) → IsOnly (IsListed routers router 2) (Some way)
+      → IsOnly (IsBoundary routers advertised router) (Some way)
   inside way just = λ x. (by_case x, λ e. Inside ((just x).1 e))
     where
       by_case : (x : Way) → IsBoundary routers advertised router x → x ≡ way
@@ -32,9 +33,9 @@ module _ (routers : List Flagged) (advertised : List Route) (router : ℕ) where
       by_case x (Outside none route f e) = absurd (none way ((just way).1 refl))
 
   module _ (prefix : Network) (is_host : prefix ≡ host router)
-      (none : IsJust (IsListed routers router 2) None) where
-    pub no_boundary : IsJust (IsFound advertised prefix) None
-        → IsJust (IsBoundary routers advertised router) None
+      (none : IsOnly (IsListed routers router 2) None) where
+    pub no_boundary : IsOnly (IsFound advertised prefix) None
+        → IsOnly (IsBoundary routers advertised router) None
     no_boundary unfound = λ x b. by_case x b
       where
         by_case : (x : Way) → IsBoundary routers advertised router x → ⊥
@@ -42,8 +43,8 @@ module _ (routers : List Flagged) (advertised : List Route) (router : ℕ) where
         by_case x (Outside others route f e) =
             unfound route (subst (λ p. IsFound advertised p route) (sym is_host) f)
 
-    pub outside : (route : Route) (made : Way) → IsJust (IsFound advertised prefix) (Some route)
-        → made ≡ way_by route → IsJust (IsBoundary routers advertised router) (Some made)
+    pub outside : (route : Route) (made : Way) → IsOnly (IsFound advertised prefix) (Some route)
+        → made ≡ inner_way route → IsOnly (IsBoundary routers advertised router) (Some made)
     outside route made just is = λ x. (
       by_case x,
       λ e. Outside none route
@@ -53,14 +54,15 @@ module _ (routers : List Flagged) (advertised : List Route) (router : ℕ) where
         by_case : (x : Way) → IsBoundary routers advertised router x → x ≡ made
         by_case x (Inside k) = absurd (none x k)
         by_case x (Outside others other f e) =
-            e ∙ ap way_by ((just other).0 (subst (λ p. IsFound advertised p other) (sym is_host) f))
+            e ∙ ap inner_way ((just other).0
+            (subst (λ p. IsFound advertised p other) (sym is_host) f))
             ∙ sym is
 
 -- ---- what is advertised costs little
 
 pub told_below : (root : Root) (routers : List Flagged) (bodies : List (Key × LsaBody))
-    (routes : List Route) → AreCloseBy routers
-    → AreRoutesAmong (OfEach (Tells root routers) bodies) routes → AreBelow routes
+    (routes : List Route) → FlaggedDistancesFit routers
+    → AreRoutesAmong (OfEach (Tells root routers) bodies) routes → RouteCostsFit routes
 told_below root routers bodies routes close all route among =
     let k = (all.each route).0 among in
     let t = k.is_best.offered.2 in

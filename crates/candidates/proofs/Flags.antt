@@ -26,11 +26,12 @@ use Rattle.routes.specs.declared.graph.Way.{Way}
 use Rattle.routes.specs.declared.node.Node.TheVariants.{ARouter}
 use Rattle.routes.proofs.Lists.{of_cons, of_empty}
 use Rattle.candidates.specs.Bodies.{HaveAll}
-use Rattle.candidates.specs.Borders.{AreCloseBy, AreFlagged, AscendByRouter, IsBorderOrBoundaryFlag}
+use Rattle.candidates.specs.Borders.{FlaggedDistancesFit, AreFlagged, AscendByRouter}
+use Rattle.candidates.specs.Borders.{IsBorderOrBoundaryFlag}
 use Rattle.candidates.specs.Borders.{IsListed}
 use Rattle.candidates.specs.Borders.{TellsFlags}
-use Rattle.candidates.specs.Gathering.{IsJust}
-use Rattle.candidates.specs.Ways.{AreNear, Ways}
+use Rattle.candidates.specs.Gathering.{IsOnly}
+use Rattle.candidates.specs.Ways.{DistancesFit, Ways}
 use Rattle.candidates.specs.declared.flagged.Flagged.{Flagged}
 
 -- ---- one after another
@@ -105,7 +106,7 @@ module _ {X : Type 0} (Q : X → Flagged → Type 0) where
 
     pub told_more : (Before : X → X → Type 0)
         → ((y z : X) (r s : Flagged) → Before y z → Q y r → Q z s → r.router < s.router)
-        → AllPairs Before xs → (new : Flagged) → IsJust (Q x) (Some new)
+        → AllPairs Before xs → (new : Flagged) → IsOnly (Q x) (Some new)
         → AreTold Q (take (i + 1) xs) (routers ++ new ∷ [])
     told_more Before up order new just = record {
       each = λ r. (
@@ -174,8 +175,8 @@ module _ (ways : Ways) where
         q.its_router,
       )
 
-  pub are_close : (bodies : List (Key × LsaBody)) (routers : List Flagged) → AreNear ways
-      → AreTold (TellsFlags ways) bodies routers → AreCloseBy routers
+  pub are_close : (bodies : List (Key × LsaBody)) (routers : List Flagged) → DistancesFit ways
+      → AreTold (TellsFlags ways) bodies routers → FlaggedDistancesFit routers
   are_close bodies routers near advertised r among = let p = (advertised.each r).0 among in
       near (ARouter p.0.0.advertising_router) r.way p.2.reached
 
@@ -277,7 +278,7 @@ abbrev pub IsAmong : List Flagged → ℕ → Flagged → Type 0
 IsAmong routers router listed = Contains routers listed × (listed.router ≡ router)
 
 pub just_router : (routers : List Flagged) (router : ℕ) → AscendByRouter routers → (r : Flagged)
-    → IsAmong routers router r → IsJust (IsAmong routers router) (Some r)
+    → IsAmong routers router r → IsOnly (IsAmong routers router) (Some r)
 just_router routers router up r (among, its) = λ other. (
   λ f. one_of_id routers up other r f.0 among (f.1 ∙ sym its),
   λ e. subst (IsAmong routers router) (sym e) (among, its),
@@ -286,7 +287,7 @@ just_router routers router up r (among, its) = λ other. (
 pub router_found : (routers : List Flagged) (router : ℕ) → AscendByRouter routers
     → (at : ℕ) (r : Flagged) → at < length routers
     → HoldsAt (λ (y : Flagged). nat_cmp y.router router ≡ Equal) routers at
-    → r ≡ get_or routers at r → IsJust (IsAmong routers router) (Some r)
+    → r ≡ get_or routers at r → IsOnly (IsAmong routers router) (Some r)
 router_found routers router up at r within holds is =
     let P : Flagged → Type 0 = λ y. nat_cmp y.router router ≡ Equal in
     let among : Contains routers r = (at, within, sym is) in
@@ -299,7 +300,7 @@ router_found routers router up at r within holds is =
 pub router_not_found : (routers : List Flagged) (router : ℕ) (at : ℕ)
     → IsPartitionPoint (λ (y : Flagged). nat_cmp y.router router ≡ Less)
     (λ (y : Flagged). nat_cmp y.router router ≡ Greater) routers at
-    → IsJust (IsAmong routers router) None
+    → IsOnly (IsAmong routers router) None
 router_not_found routers router at parts r f =
     let k = f.0.0 in
     let within : k < length routers = f.0.1 in
@@ -317,17 +318,17 @@ router_not_found routers router at parts r f =
 -- ---- the way to it
 
 module _ (routers : List Flagged) (router flag : ℕ) where
-  pub no_way : IsJust (IsAmong routers router) None → IsJust (IsListed routers router flag) None
+  pub no_way : IsOnly (IsAmong routers router) None → IsOnly (IsListed routers router flag) None
   no_way none = λ way k. none k.listed (k.among, k.its_router)
 
-  pub another_flag : (r : Flagged) → IsJust (IsAmong routers router) (Some r)
-      → (bit_and r.flags flag ≡ flag → ⊥) → IsJust (IsListed routers router flag) None
+  pub another_flag : (r : Flagged) → IsOnly (IsAmong routers router) (Some r)
+      → (bit_and r.flags flag ≡ flag → ⊥) → IsOnly (IsListed routers router flag) None
   another_flag r just other = λ way k.
       let same : k.listed ≡ r = (just k.listed).0 (k.among, k.its_router) in
       other (subst (λ (l : Flagged). bit_and l.flags flag ≡ flag) same k.has_flag)
 
-  pub its_way : (r : Flagged) → IsJust (IsAmong routers router) (Some r)
-      → bit_and r.flags flag ≡ flag → IsJust (IsListed routers router flag) (Some r.way)
+  pub its_way : (r : Flagged) → IsOnly (IsAmong routers router) (Some r)
+      → bit_and r.flags flag ≡ flag → IsOnly (IsListed routers router flag) (Some r.way)
   its_way r just has = λ way. (
     λ k. k.its_way ∙ ap (λ (l : Flagged). l.way) ((just k.listed).0 (k.among, k.its_router)),
     λ e. let a = (just r).1 refl in record {
@@ -339,6 +340,6 @@ module _ (routers : List Flagged) (router flag : ℕ) where
     },
   )
 
-pub is_close : (routers : List Flagged) (router : ℕ) (r : Flagged) → AreCloseBy routers
-    → IsJust (IsAmong routers router) (Some r) → r.way.distance < 1073741824
+pub is_close : (routers : List Flagged) (router : ℕ) (r : Flagged) → FlaggedDistancesFit routers
+    → IsOnly (IsAmong routers router) (Some r) → r.way.distance < 1073741824
 is_close routers router r close just = close r ((just r).1 refl).0

@@ -10,7 +10,7 @@ use Rattle.lsa.specs.declared.body.LsaBody.{LsaBody}
 use Rattle.routes.specs.declared.offer.Offer.{Offer}
 use Rattle.routes.proofs.Lists.{of_empty}
 use Rattle.std.specs.Prelude.{IfSome}
-use Rattle.candidates.specs.Gathering.{Adds, AreCheap, IsJust, OfEach}
+use Rattle.candidates.specs.Gathering.{Adds, OfferCostsFit, IsOnly, OfEach}
 
 pub adds_nothing : (xs : List Offer) (P : Offer → Type 0) → ((o : Offer) → P o → ⊥) → Adds xs xs P
 adds_nothing xs P none o = (
@@ -37,7 +37,7 @@ adds_one xs it o = (
       ],
 )
 
-pub adds_just : (xs ys : List Offer) (P : Offer → Type 0) (given : Option Offer) → IsJust P given
+pub adds_just : (xs ys : List Offer) (P : Offer → Type 0) (given : Option Offer) → IsOnly P given
     → Adds xs ys (λ o. given ≡ Some o) → Adds xs ys P
 adds_just xs ys P None none a o = (
   λ t.
@@ -154,7 +154,7 @@ adds_both xs ys zs P R a b o = (
 -- ---- their costs
 
 pub cheap_more : (xs ys : List Offer) (given : Option Offer) → Adds xs ys (λ o. given ≡ Some o)
-    → IfSome given (λ o. o.cost < 2147483648) → AreCheap xs → AreCheap ys
+    → IfSome given (λ o. o.cost < 2147483648) → OfferCostsFit xs → OfferCostsFit ys
 cheap_more xs ys None a few cheap o t =
     elim ((a o).0 t) [
       | inl old ↦ cheap o old
@@ -166,7 +166,7 @@ cheap_more xs ys (Some it) a few cheap o t =
       | inr e ↦ let same : it ≡ o = cc in subst (λ (x : Offer). x.cost < 2147483648) same few
     ]
 
-pub none_cheap : AreCheap []
+pub none_cheap : OfferCostsFit []
 none_cheap o t = absurd (of_empty o t)
 
 -- ---- gathered from nothing

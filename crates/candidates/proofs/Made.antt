@@ -14,7 +14,7 @@ use Rattle.routes.specs.declared.node.Node.TheVariants.{ARouter}
 use Rattle.routes.specs.declared.offer.Offer.{Offer}
 use Rattle.routes.specs.declared.root.Root.{Root}
 use Rattle.candidates.specs.Borders.{IsCounted, Tells, host}
-use Rattle.candidates.specs.Gathering.{Adds, IsJust, OfEach}
+use Rattle.candidates.specs.Gathering.{Adds, IsOnly, OfEach}
 use Rattle.candidates.specs.Sources.{IsInner, IsStub, OfNetwork, OfRouter, OfSummary, leaving}
 use Rattle.candidates.specs.Sources.IsInner.{ByNetwork, ByRouter, BySummary}
 use Rattle.candidates.specs.Ways.{Ways}
@@ -57,8 +57,8 @@ module _ (root : Root) (ways : Ways) (routers : List Flagged) (one : Key × LsaB
   -- ---- a summary
 
   pub no_summary : (lsa : SummaryLsa) → one.1 ≡ body.NetworkSummary lsa
-      → IsJust (IsCounted root routers one.0.advertising_router lsa) None
-      → IsJust (OfSummary root routers one) None
+      → IsOnly (IsCounted root routers one.0.advertising_router lsa) None
+      → IsOnly (OfSummary root routers one) None
   no_summary lsa its none = λ o k.
       let bodies : body.NetworkSummary k.lsa ≡ body.NetworkSummary lsa = sym k.its ∙ its in
       let same : k.lsa ≡ lsa = cc in
@@ -67,10 +67,10 @@ module _ (root : Root) (ways : Ways) (routers : List Flagged) (one : Key × LsaB
 
   pub of_summary : (lsa : SummaryLsa) (border : Way) (prefix : Network) (made : Offer)
       → one.0.ls_type ≡ 3 → one.1 ≡ body.NetworkSummary lsa
-      → IsJust (IsCounted root routers one.0.advertising_router lsa) (Some border)
-      → IsJust (IsPrefix one.0.link_state_id lsa.mask) (Some prefix)
+      → IsOnly (IsCounted root routers one.0.advertising_router lsa) (Some border)
+      → IsOnly (IsPrefix one.0.link_state_id lsa.mask) (Some prefix)
       → made ≡ inter prefix (border.distance + lsa.metric) border.hops
-      → IsJust (OfSummary root routers one) (Some made)
+      → IsOnly (OfSummary root routers one) (Some made)
   of_summary lsa border prefix made is_type its counted under is = λ o. (
     λ k.
         let bodies : body.NetworkSummary k.lsa ≡ body.NetworkSummary lsa = sym k.its ∙ its in
@@ -97,8 +97,8 @@ module _ (root : Root) (ways : Ways) (routers : List Flagged) (one : Key × LsaB
   -- ---- a summary of an AS boundary router
 
   pub none_told : (lsa : SummaryLsa) → one.1 ≡ body.RouterSummary lsa
-      → IsJust (IsCounted root routers one.0.advertising_router lsa) None
-      → IsJust (Tells root routers one) None
+      → IsOnly (IsCounted root routers one.0.advertising_router lsa) None
+      → IsOnly (Tells root routers one) None
   none_told lsa its none = λ o k.
       let bodies : body.RouterSummary k.lsa ≡ body.RouterSummary lsa = sym k.its ∙ its in
       let same : k.lsa ≡ lsa = cc in
@@ -107,9 +107,9 @@ module _ (root : Root) (ways : Ways) (routers : List Flagged) (one : Key × LsaB
 
   pub of_told : (lsa : SummaryLsa) (border : Way) (made : Offer) → one.0.ls_type ≡ 4
       → one.1 ≡ body.RouterSummary lsa
-      → IsJust (IsCounted root routers one.0.advertising_router lsa) (Some border)
+      → IsOnly (IsCounted root routers one.0.advertising_router lsa) (Some border)
       → made ≡ inter (host one.0.link_state_id) (border.distance + lsa.metric) border.hops
-      → IsJust (Tells root routers one) (Some made)
+      → IsOnly (Tells root routers one) (Some made)
   of_told lsa border made is_type its counted is = λ o. (
     λ k.
         let bodies : body.RouterSummary k.lsa ≡ body.RouterSummary lsa = sym k.its ∙ its in

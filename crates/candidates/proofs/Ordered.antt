@@ -23,7 +23,7 @@ use Rattle.routes.proofs.Networks.{networks_exact, networks_total}
 use Rattle.routes.proofs.OneMore.{never_itself}
 use Rattle.std.specs.Prelude.{slice_index_or}
 use Rattle.candidates.specs.Borders.{Ascend, HasLengths, IsFound, IsMatch, IsLongest}
-use Rattle.candidates.specs.Gathering.{IsJust}
+use Rattle.candidates.specs.Gathering.{IsOnly}
 
 pub network_itself : (a b : Network) → a ≡ b → network_cmp a b ≡ Equal
 network_itself a b e =
@@ -75,7 +75,7 @@ one_for_prefix routes up r s (i, in_i, is_r) (j, in_j, is_s) e =
 
 pub found_at : (routes : List Route) (prefix : Network) → Ascend routes → (at : ℕ) (route : Route)
     → at < length routes → HoldsAt (λ (y : Route). network_cmp y.prefix prefix ≡ Equal) routes at
-    → route ≡ get_or routes at route → IsJust (IsFound routes prefix) (Some route)
+    → route ≡ get_or routes at route → IsOnly (IsFound routes prefix) (Some route)
 found_at routes prefix up at route within holds is =
     let P : Route → Type 0 = λ y. network_cmp y.prefix prefix ≡ Equal in
     let among : Contains routes route = (at, within, sym is) in
@@ -119,7 +119,7 @@ same_prefix address length prefix is n under long =
 pub no_match : (routes : List Route) (address length : ℕ) (prefix : Network) → prefix ≡ record {
   address = network_address length address;
   length = length;
-} → IsJust (IsFound routes prefix) None → IsJust (IsMatch routes address length) None
+} → IsOnly (IsFound routes prefix) None → IsOnly (IsMatch routes address length) None
 no_match routes address length prefix is none = λ route k. none route (record {
   among = k.among;
   is_for = same_prefix address length prefix is route.prefix k.under k.is_long;
@@ -129,8 +129,8 @@ pub one_match : (routes : List Route) (address length : ℕ) (prefix : Network) 
     → prefix ≡ record {
       address = network_address length address;
       length = length;
-    } → IsJust (IsFound routes prefix) (Some found)
-    → IsJust (IsMatch routes address length) (Some found)
+    } → IsOnly (IsFound routes prefix) (Some found)
+    → IsOnly (IsMatch routes address length) (Some found)
 one_match routes address length prefix found is just = λ route. (
   λ k. (just route).0 (record {
     among = k.among;
@@ -169,7 +169,7 @@ at_most_32 routes address lengths size has route among under =
 
 pub unmarked : (routes : List Route) (address n at : ℕ) (lengths : List Bool)
     → HasLengths routes lengths → at ≡ n → slice_index_or lengths at false ≡ false
-    → IsJust (IsMatch routes address n) None
+    → IsOnly (IsMatch routes address n) None
 unmarked routes address n at lengths has is off = λ route k.
     let on : slice_index_or lengths at false ≡ true =
     ap (λ j. slice_index_or lengths j false) (is ∙ sym k.is_long) ∙ has route k.among in
@@ -177,7 +177,7 @@ unmarked routes address n at lengths has is off = λ route k.
     cc
 
 pub shorter_unmatched : (routes : List Route) (address n : ℕ)
-    → IsJust (IsMatch routes address n) None → AreShorter routes address (n + 1)
+    → IsOnly (IsMatch routes address n) None → AreShorter routes address (n + 1)
     → AreShorter routes address n
 shorter_unmatched routes address n none below route among under =
     elim (cases_eq route.prefix.length n) [
@@ -186,8 +186,8 @@ shorter_unmatched routes address n none below route among under =
     ]
 
 pub is_longest : (routes : List Route) (address n : ℕ) (found : Route)
-    → IsJust (IsMatch routes address n) (Some found) → AreShorter routes address (n + 1)
-    → IsJust (IsLongest routes address) (Some found)
+    → IsOnly (IsMatch routes address n) (Some found) → AreShorter routes address (n + 1)
+    → IsOnly (IsLongest routes address) (Some found)
 is_longest routes address n found just below = λ route. (
   λ k.
       let f = (just found).1 refl in
@@ -208,7 +208,7 @@ is_longest routes address n found just below = λ route. (
 )
 
 pub none_long : (routes : List Route) (address : ℕ) → AreShorter routes address 0
-    → IsJust (IsLongest routes address) None
+    → IsOnly (IsLongest routes address) None
 none_long routes address below = λ route k. omega (arith, below route k.among k.under)
 
 -- ---- the lengths that occur

@@ -25,7 +25,7 @@ use Rattle.routes.specs.declared.offer.Offer.{Offer}
 use Rattle.routes.specs.declared.root.Root.{Root}
 use Rattle.routes.proofs.Determined.{AreAlike, alike, as_good}
 use Rattle.candidates.specs.Borders.{AreFlagged, IsBoundary, IsFound, IsOutward, Tells, host}
-use Rattle.candidates.specs.Borders.{way_by}
+use Rattle.candidates.specs.Borders.{inner_way}
 use Rattle.candidates.specs.Borders.IsBoundary.{Inside, Outside}
 use Rattle.candidates.specs.Bodies.{OfContents}
 use Rattle.candidates.specs.Sources.{OfExternal}
@@ -111,7 +111,7 @@ module _ (contents : Contents) (root : Root) (ways : Ways) (are : AreWays conten
 
   module _ (advertised : List Route) (all : AreRoutesAmong Told advertised) where
     between_forth : (router : ℕ) (route : Route) → IsFound advertised (host router) route
-        → IsWayBetween contents root router (as_way (way_by route))
+        → IsWayBetween contents root router (as_way (inner_way route))
     between_forth router route f =
         let k : IsRouteAmong Told route = (all.each route).0 f.among in
         let first : TellsOf router k.first =

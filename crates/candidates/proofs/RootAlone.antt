@@ -24,13 +24,14 @@ use Rattle.routes.specs.declared.offer.Offer.{Offer}
 use Rattle.routes.specs.declared.root.Root.{Root}
 use Rattle.candidates.specs.Alone.{OfOne, list_of}
 use Rattle.candidates.specs.Bodies.{OfContents}
-use Rattle.candidates.specs.Borders.{AreCloseBy, AreFlagged, AscendByRouter, IsCounted, Tells}
+use Rattle.candidates.specs.Borders.{FlaggedDistancesFit, AreFlagged, AscendByRouter, IsCounted}
+use Rattle.candidates.specs.Borders.{Tells}
 use Rattle.candidates.specs.Borders.{TellsFlags}
-use Rattle.candidates.specs.Gathering.{Adds, IsJust}
+use Rattle.candidates.specs.Gathering.{Adds, IsOnly}
 use Rattle.candidates.specs.Reached.{alone, way_in}
 use Rattle.candidates.specs.Sources.{IsInner}
 use Rattle.candidates.specs.Sources.IsInner.{ByNetwork, ByRouter, BySummary}
-use Rattle.candidates.specs.Ways.{AreNear, AreWays, Ways}
+use Rattle.candidates.specs.Ways.{DistancesFit, AreWays, Ways}
 use Rattle.candidates.specs.declared.flagged.Flagged.{Flagged}
 use Rattle.candidates.proofs.Carried.{inner_back, inner_forth}
 use Rattle.candidates.proofs.Flags.{has_one}
@@ -68,7 +69,7 @@ module _ {R : Type 0} (Q : Key × LsaBody → R → Type 0) (key : Key) (says : 
       let same : p.0 ≡ says = cc in
       subst (λ (b : LsaBody). Q (key, b) r) same p.2
 
-  pub just_of_it : (o : Option R) → IsJust (Q (key, says)) o → IsJust (OfOne Q key advertised) o
+  pub just_of_it : (o : Option R) → IsOnly (Q (key, says)) o → IsOnly (OfOne Q key advertised) o
   just_of_it None none = λ r p. none r (by_it r p)
   just_of_it (Some it) just = λ r. (λ p. (just r).0 (by_it r p), λ e. of_it r ((just r).1 e))
 
@@ -105,13 +106,13 @@ module _ (root : Root) (ways : Ways)
   no_network id by way is =
       let it : None ≡ Some way = sym (are_alone (ANetwork id by)) ∙ is in cc
 
-  pub one_close : (key : Key) (advertised : Option LsaBody) (o : Option Flagged) → AreNear ways
-      → IsJust (OfOne (TellsFlags ways) key advertised) o → AreCloseBy (list_of o)
+  pub one_close : (key : Key) (advertised : Option LsaBody) (o : Option Flagged) → DistancesFit ways
+      → IsOnly (OfOne (TellsFlags ways) key advertised) o → FlaggedDistancesFit (list_of o)
   one_close key advertised o near just r among =
       let tells = its o just (of_list o r among) in
       near (ARouter key.advertising_router) r.way tells.2.reached
     where
-      its : (p : Option Flagged) → IsJust (OfOne (TellsFlags ways) key advertised) p → p ≡ Some r
+      its : (p : Option Flagged) → IsOnly (OfOne (TellsFlags ways) key advertised) p → p ≡ Some r
           → OfOne (TellsFlags ways) key advertised r
       its None j is = absurd (cc)
       its (Some it) j is = let same : r ≡ it = cc in (j r).1 same
@@ -124,15 +125,15 @@ module _ (root : Root) (ways : Ways)
     abbrev Told : Flagged → Type 0
     Told = OfOne (TellsFlags ways) its_key advertised
 
-    just_some : (o : Option Flagged) → IsJust Told o → (r : Flagged) → o ≡ Some r → Told r
+    just_some : (o : Option Flagged) → IsOnly Told o → (r : Flagged) → o ≡ Some r → Told r
     just_some None j r is = absurd (cc)
     just_some (Some it) j r is = let same : r ≡ it = cc in (j r).1 same
 
-    just_all : (o : Option Flagged) → IsJust Told o → (r : Flagged) → Told r → o ≡ Some r
+    just_all : (o : Option Flagged) → IsOnly Told o → (r : Flagged) → Told r → o ≡ Some r
     just_all None j r t = absurd (j r t)
     just_all (Some it) j r t = ap (λ x. Some x) (sym ((j r).0 t))
 
-    pub one_flagged : (o : Option Flagged) → IsJust Told o → AreFlagged contents ways (list_of o)
+    pub one_flagged : (o : Option Flagged) → IsOnly Told o → AreFlagged contents ways (list_of o)
     one_flagged o just router flag way is_flag = (
       (λ k.
           let same : root.router ≡ router = is_root router way k.reached in

@@ -21,8 +21,9 @@ use Rattle.routes.specs.declared.graph.Way.{Way}
 use Rattle.routes.specs.declared.offer.Offer.{Offer}
 use Rattle.routes.specs.declared.root.Root.{Root}
 use Rattle.candidates.specs.Borders.{IsOutwardBy}
-use Rattle.candidates.specs.Externals.{AreAdvertisedBy, OfAdvertised, TellsExternal, offer_by}
-use Rattle.candidates.specs.Gathering.{IsJust}
+use Rattle.candidates.specs.Externals.{AreAdvertisedBy, OfExternalAdvertisement, TellsExternal}
+use Rattle.candidates.specs.Externals.{offer_by}
+use Rattle.candidates.specs.Gathering.{IsOnly}
 use Rattle.candidates.specs.Sources.{OfExternal}
 use Rattle.candidates.specs.declared.externals.ExternalAdvertisement.{ExternalAdvertisement}
 use Rattle.candidates.specs.declared.flagged.Flagged.{Flagged}
@@ -30,8 +31,8 @@ use Rattle.candidates.specs.declared.flagged.Flagged.{Flagged}
 -- ---- what one LSA advertises
 
 module _ (one : Key × LsaBody) (lsa : ExternalLsa) (its : one.1 ≡ body.External lsa) where
-  pub no_network : IsJust (IsPrefix one.0.link_state_id lsa.mask) None
-      → IsJust (TellsExternal one) None
+  pub no_network : IsOnly (IsPrefix one.0.link_state_id lsa.mask) None
+      → IsOnly (TellsExternal one) None
   no_network none = λ e k.
       let bodies : body.External k.lsa ≡ body.External lsa = sym k.its ∙ its in
       let same : k.lsa ≡ lsa = cc in
@@ -39,10 +40,10 @@ module _ (one : Key × LsaBody) (lsa : ExternalLsa) (its : one.1 ≡ body.Extern
       k.is_prefix)
 
   pub tells : (made : ExternalAdvertisement) → one.0.ls_type ≡ 5
-      → IsJust (IsPrefix one.0.link_state_id lsa.mask) (Some made.prefix)
+      → IsOnly (IsPrefix one.0.link_state_id lsa.mask) (Some made.prefix)
       → made.originator ≡ one.0.advertising_router → made.kind ≡ lsa.kind
       → made.metric ≡ lsa.metric → made.forwarding ≡ lsa.forwarding → made.tag ≡ lsa.tag
-      → IsJust (TellsExternal one) (Some made)
+      → IsOnly (TellsExternal one) (Some made)
   tells made is_type under by kind metric forwarding tag = λ e. (
     λ k.
         let bodies : body.External k.lsa ≡ body.External lsa = sym k.its ∙ its in
@@ -116,13 +117,14 @@ walk_way w = record { distance = w.distance; hops = w.hops }
 
 module _ (root : Root) (routers : List Flagged) (advertised inner : List Route) where
   module _ (e : ExternalAdvertisement) where
-    pub no_way_out : IsJust (IsOutwardBy routers advertised inner e.originator e.forwarding) None
-        → IsJust (OfAdvertised root routers advertised inner e) None
+    pub no_way_out : IsOnly (IsOutwardBy routers advertised inner e.originator e.forwarding) None
+        → IsOnly (OfExternalAdvertisement root routers advertised inner e) None
     no_way_out none = λ o k. none k.way k.is_way
 
     pub offered_by : (way : Way) (made : Offer) → e.metric < 16777215 → e.originator ≢ root.router
-        → IsJust (IsOutwardBy routers advertised inner e.originator e.forwarding) (Some way)
-        → made ≡ offer_by e way → IsJust (OfAdvertised root routers advertised inner e) (Some made)
+        → IsOnly (IsOutwardBy routers advertised inner e.originator e.forwarding) (Some way)
+        → made ≡ offer_by e way → IsOnly
+        (OfExternalAdvertisement root routers advertised inner e) (Some made)
     offered_by way made low other just is = λ o. (
       λ k. let w : k.way ≡ way = (just k.way).0 k.is_way in
           k.is ∙ ap (λ (x : Way). offer_by e x) w ∙ sym is,
@@ -138,7 +140,7 @@ module _ (root : Root) (routers : List Flagged) (advertised inner : List Route) 
   module _ (one : Key × LsaBody) where
     pub told_of : (o : Offer) → OfExternal root routers advertised inner one o
         → (e : ExternalAdvertisement) × TellsExternal one e
-        × OfAdvertised root routers advertised inner e o
+        × OfExternalAdvertisement root routers advertised inner e o
     told_of o k =
         let e : ExternalAdvertisement = record {
           prefix = k.prefix;
@@ -171,7 +173,7 @@ module _ (root : Root) (routers : List Flagged) (advertised inner : List Route) 
         )
 
     pub of_told_one : (e : ExternalAdvertisement) → TellsExternal one e → (o : Offer)
-        → OfAdvertised root routers advertised inner e o
+        → OfExternalAdvertisement root routers advertised inner e o
         → OfExternal root routers advertised inner one o
     of_told_one e t o k =
         let by = one.0.advertising_router in
@@ -195,21 +197,23 @@ module _ (root : Root) (routers : List Flagged) (advertised inner : List Route) 
               t.metric t.tag;
         }
 
-    pub by_none_told : IsJust (TellsExternal one) None
-        → IsJust (OfExternal root routers advertised inner one) None
+    pub by_none_told : IsOnly (TellsExternal one) None
+        → IsOnly (OfExternal root routers advertised inner one) None
     by_none_told none = λ o k. let t = told_of o k in none t.0 t.1
 
-    pub by_told : (e : ExternalAdvertisement) → IsJust (TellsExternal one) (Some e)
-        → (given : Option Offer) → IsJust (OfAdvertised root routers advertised inner e) given
-        → IsJust (OfExternal root routers advertised inner one) given
+    pub by_told : (e : ExternalAdvertisement) → IsOnly (TellsExternal one) (Some e)
+        → (given : Option Offer) → IsOnly (OfExternalAdvertisement root routers advertised inner e)
+        given → IsOnly (OfExternal root routers advertised inner one) given
     by_told e just None none = λ o k.
         let t = told_of o k in
-        none o (subst (λ (x : ExternalAdvertisement). OfAdvertised root routers advertised inner x
+        none o (subst (λ (x : ExternalAdvertisement). OfExternalAdvertisement root routers
+        advertised inner x
         o)
         ((just t.0).0 t.1) t.2)
     by_told e just (Some it) its = λ o. (
       λ k. let t = told_of o k in (its o).0
-          (subst (λ (x : ExternalAdvertisement). OfAdvertised root routers advertised inner x o)
+          (subst (λ (x : ExternalAdvertisement). OfExternalAdvertisement root routers advertised
+          inner x o)
           ((just t.0).0 t.1) t.2),
       λ same. of_told_one e ((just e).1 refl) o ((its o).1 same),
     )
@@ -252,7 +256,7 @@ module _ (bodies : List (Key × LsaBody)) (i : ℕ) (one : Key × LsaBody)
         | inr same ↦ inr (subst (λ (y : Key × LsaBody). TellsExternal y e) (sym same) p.2)
       ]
 
-  pub told_same : IsJust (TellsExternal one) None → AreAdvertisedBy (take (i + 1) bodies) advertised
+  pub told_same : IsOnly (TellsExternal one) None → AreAdvertisedBy (take (i + 1) bodies) advertised
   told_same none e = (
     (λ t. still e ((are e).0 t)),
     (λ p.
@@ -262,7 +266,7 @@ module _ (bodies : List (Key × LsaBody)) (i : ℕ) (one : Key × LsaBody)
         ]),
   )
 
-  pub told_more : (new : ExternalAdvertisement) → IsJust (TellsExternal one) (Some new)
+  pub told_more : (new : ExternalAdvertisement) → IsOnly (TellsExternal one) (Some new)
       → AreAdvertisedBy (take (i + 1) bodies) (advertised ++ new ∷ [])
   told_more new just e = (
     (λ t.

@@ -57,8 +57,8 @@ abbrev pub AscendByRouter : List Flagged → Type 0
 AscendByRouter routers = AllPairs (λ (a : Flagged) (b : Flagged). a.router < b.router) routers
 
 -- so that the sum of a way and a metric fits in 32 bits
-abbrev pub AreCloseBy : List Flagged → Type 0
-AreCloseBy routers =
+abbrev pub FlaggedDistancesFit : List Flagged → Type 0
+FlaggedDistancesFit routers =
     (router : Flagged) → Contains routers router → router.way.distance < 1073741824
 
 -- what the LSA with this key says of its router, if that is reachable and has a flag
@@ -95,16 +95,16 @@ pub record Tells (root : Root) (routers : List Flagged) (one : Key × LsaBody)
   pub counts : IsCounted root routers one.0.advertising_router lsa border
   pub is : o ≡ inter (host one.0.link_state_id) (border.distance + lsa.metric) border.hops
 
-abbrev pub way_by : Route → Way
-way_by r = record { distance = r.cost; hops = r.hops }
+abbrev pub inner_way : Route → Way
+inner_way r = record { distance = r.cost; hops = r.hops }
 
 -- sorted by their prefixes
 abbrev pub Ascend : List Route → Type 0
 Ascend routes = AllPairs (λ (a : Route) (b : Route). IsBefore a.prefix b.prefix) routes
 
 -- so that their costs plus a metric fit in 32 bits
-abbrev pub AreBelow : List Route → Type 0
-AreBelow routes = (route : Route) → Contains routes route → route.cost < 2147483648
+abbrev pub RouteCostsFit : List Route → Type 0
+RouteCostsFit routes = (route : Route) → Contains routes route → route.cost < 2147483648
 
 -- the route for the prefix is among them
 pub record IsFound (routes : List Route) (prefix : Network) (route : Route) : Type 0 where
@@ -116,7 +116,7 @@ pub data IsBoundary (routers : List Flagged) (advertised : List Route) (router :
     (way : Way) : Type 0 where
   Inside : IsListed routers router 2 way → IsBoundary routers advertised router way
   Outside : ((other : Way) → IsListed routers router 2 other → ⊥) → (route : Route)
-      → IsFound advertised (host router) route → way ≡ way_by route
+      → IsFound advertised (host router) route → way ≡ inner_way route
       → IsBoundary routers advertised router way
 
 -- ---- forwarding addresses
@@ -147,7 +147,7 @@ pub record IsOutwardBy (routers : List Flagged) (advertised inner : List Route) 
   pub reaches : IsBoundary routers advertised originator boundary
   pub direct : forwarding ≡ 0 → way ≡ boundary
   pub forwarded : forwarding ≢ 0
-      → (route : Route) × IsLongest inner forwarding route × (way ≡ way_by route)
+      → (route : Route) × IsLongest inner forwarding route × (way ≡ inner_way route)
 
 -- the same for what an LSA says
 abbrev pub IsOutward : List Flagged → (advertised inner : List Route) → ℕ → ExternalLsa → Way

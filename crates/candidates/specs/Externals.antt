@@ -57,7 +57,8 @@ offer_by e way =
     e.originator (record { distance = way.distance; hops = way.hops })
 
 -- the offer of an external destination: of another router, with a metric below LSInfinity
-pub record OfAdvertised (root : Root) (routers : List Flagged) (advertised inner : List Route)
+pub record OfExternalAdvertisement (root : Root) (routers : List Flagged)
+    (advertised inner : List Route)
     (e : ExternalAdvertisement)
     (o : Offer) : Type 0 where
   pub reachable : e.metric < ls_infinity

@@ -4,9 +4,9 @@ use Rattle.std.specs.List.{Contains}
 use Rattle.routes.specs.declared.offer.Offer.{Offer}
 
 -- the only one of which P holds, or None if there is none
-abbrev pub IsJust : {X : Type 0} → (X → Type 0) → Option X → Type 0
-IsJust {X} P None = (x : X) → P x → ⊥
-IsJust {X} P (Some it) = (x : X) → P x ↔ (x ≡ it)
+abbrev pub IsOnly : {X : Type 0} → (X → Type 0) → Option X → Type 0
+IsOnly {X} P None = (x : X) → P x → ⊥
+IsOnly {X} P (Some it) = (x : X) → P x ↔ (x ≡ it)
 
 -- the new list has exactly the elements of the old one and the offers of which P holds
 abbrev pub Adds : List Offer → List Offer → (Offer → Type 0) → Type 0
@@ -17,5 +17,5 @@ abbrev pub OfEach : {X : Type 0} → (X → Offer → Type 0) → List X → Off
 OfEach {X} Q xs o = (x : X) × Contains xs x × Q x o
 
 -- so that their costs plus a metric fit in 32 bits
-abbrev pub AreCheap : List Offer → Type 0
-AreCheap offers = (o : Offer) → Contains offers o → o.cost < 2147483648
+abbrev pub OfferCostsFit : List Offer → Type 0
+OfferCostsFit offers = (o : Offer) → Contains offers o → o.cost < 2147483648

@@ -1,10 +1,11 @@
--- The results from the LSAs of types 1 to 4 (RFC 2328, sections 16.1 to 16.3), on which external
+-- The results from the LSAs of types 1 to 4 (RFC 2328, sections 16.1 and 16.2), on which external
 -- destinations depend (section 16.4).
 use Rattle.std.specs.Prelude.{◌↔◌}
 use Rattle.std.specs.List.{Contains}
 use Rattle.candidates.specs.declared.inner.InnerRoutes.{InnerRoutes}
 use Rattle.candidates.specs.Bodies.{OfContents}
-use Rattle.candidates.specs.Borders.{AreBelow, AreCloseBy, AreFlagged, Ascend, AscendByRouter}
+use Rattle.candidates.specs.Borders.{RouteCostsFit, FlaggedDistancesFit, AreFlagged, Ascend}
+use Rattle.candidates.specs.Borders.{AscendByRouter}
 use Rattle.candidates.specs.Borders.{HasLengths, Tells}
 use Rattle.candidates.specs.Ways.{Ways}
 use Rattle.routes.specs.Routes.{AreRoutesAmong}
@@ -15,9 +16,9 @@ use Rattle.routes.specs.declared.root.Root.{Root}
 
 -- each list is sorted, and no cost plus a metric exceeds 32 bits
 pub record AreSearchable (inner : InnerRoutes) : Type 0 where
-  pub flagged : AscendByRouter inner.flagged.items × AreCloseBy inner.flagged.items
-  pub advertised : Ascend inner.boundary_routes.items × AreBelow inner.boundary_routes.items
-  pub networks : Ascend inner.networks.items × AreBelow inner.networks.items
+  pub flagged : AscendByRouter inner.flagged.items × FlaggedDistancesFit inner.flagged.items
+  pub advertised : Ascend inner.boundary_routes.items × RouteCostsFit inner.boundary_routes.items
+  pub networks : Ascend inner.networks.items × RouteCostsFit inner.networks.items
   pub lengths : HasLengths inner.networks.items inner.lengths
 
 -- the results from what the LSAs say, given the ways by their links

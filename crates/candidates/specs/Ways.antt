@@ -15,5 +15,5 @@ abbrev pub AreWays : Contents → Root → Ways → Type 0
 AreWays contents root ways = (node : Node) → IsNodeAnswer contents root node (ways node)
 
 -- so that the sum of a way and a metric fits in 32 bits
-abbrev pub AreNear : Ways → Type 0
-AreNear ways = (node : Node) (way : Way) → ways node ≡ Some way → way.distance < 1073741824
+abbrev pub DistancesFit : Ways → Type 0
+DistancesFit ways = (node : Node) (way : Way) → ways node ≡ Some way → way.distance < 1073741824

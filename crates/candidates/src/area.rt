@@ -1,8 +1,8 @@
 //! What networks, stub links and summaries offer (RFC 2328, sections 16.1 and 16.2).
 ghost use Rattle.std.specs.Prelude.{◌≡◌, ◌<◌, IfSome, OnOk};
-ghost use Rattle.candidates.specs.Ways.{AreNear};
-ghost use Rattle.candidates.specs.Borders.{AreCloseBy, AscendByRouter};
-ghost use Rattle.candidates.specs.Gathering.{Adds, AreCheap, IsJust, OfEach};
+ghost use Rattle.candidates.specs.Ways.{DistancesFit};
+ghost use Rattle.candidates.specs.Borders.{FlaggedDistancesFit, AscendByRouter};
+ghost use Rattle.candidates.specs.Gathering.{Adds, OfferCostsFit, IsOnly, OfEach};
 ghost use Rattle.candidates.specs.Sources.{IsInner, IsStub, OfNetwork, OfRouter, OfSummary};
 ghost use Rattle.candidates.specs.Sources.{leaving};
 
@@ -18,7 +18,7 @@ use words::{Address, Key, RouterId};
 
 fn stub_offer(link: &RouterLink, way: Way) -> Option<Offer>
     requires { way.distance < 1073741824 }
-    ensures just { IsJust (IsStub way link.now) result }
+    ensures only { IsOnly (IsStub way link.now) result }
     ensures few { IfSome result (λ o. o.cost < 2147483648) }
 {
     if link.kind != LinkKind::Stub {
@@ -32,7 +32,7 @@ fn push_stubs(links: &[RouterLink], way: Way, offers: &mut Vec<Offer>) -> Result
     requires { way.distance < 1073741824 }
     ensures adds { OnOk result (Adds offers.old.items offers.new.items
         (OfEach (IsStub way) links.now)) }
-    ensures cheap { OnOk result (AreCheap offers.old.items → AreCheap offers.new.items) }
+    ensures cheap { OnOk result (OfferCostsFit offers.old.items → OfferCostsFit offers.new.items) }
 {
     for link in links {
         push_offer(offers, stub_offer(link, way))?;
@@ -62,10 +62,10 @@ fn push_router<W: Ways>(
     body: &LsaBody,
     offers: &mut Vec<Offer>,
 ) -> Result<(), AllocError>
-    requires { AreNear (W.ways ways.now) }
+    requires { DistancesFit (W.ways ways.now) }
     ensures adds { OnOk result (Adds offers.old.items offers.new.items
         (OfRouter root.now (W.ways ways.now) (key.now, body.now))) }
-    ensures cheap { OnOk result (AreCheap offers.old.items → AreCheap offers.new.items) }
+    ensures cheap { OnOk result (OfferCostsFit offers.old.items → OfferCostsFit offers.new.items) }
 {
     if key.ls_type != 1 || key.link_state_id.number() != key.advertising_router.number() {
         return Ok(());
@@ -85,8 +85,8 @@ fn push_router<W: Ways>(
 }
 
 fn network_offer<W: Ways>(ways: &W, key: &Key, body: &LsaBody) -> Option<Offer>
-    ensures just { IsJust (OfNetwork (W.ways ways.now) (key.now, body.now)) result }
-    ensures few { AreNear (W.ways ways.now) → IfSome result (λ o. o.cost < 2147483648) }
+    ensures only { IsOnly (OfNetwork (W.ways ways.now) (key.now, body.now)) result }
+    ensures few { DistancesFit (W.ways ways.now) → IfSome result (λ o. o.cost < 2147483648) }
 {
     if key.ls_type != 2 {
         return None;
@@ -101,8 +101,8 @@ fn network_offer<W: Ways>(ways: &W, key: &Key, body: &LsaBody) -> Option<Offer>
 
 fn summary_offer(root: &Root, routers: &[Flagged], key: &Key, body: &LsaBody) -> Option<Offer>
     requires ascend { AscendByRouter routers.now }
-    requires close { AreCloseBy routers.now }
-    ensures just { IsJust (OfSummary root.now routers.now (key.now, body.now)) result }
+    requires close { FlaggedDistancesFit routers.now }
+    ensures only { IsOnly (OfSummary root.now routers.now (key.now, body.now)) result }
     ensures few { IfSome result (λ o. o.cost < 2147483648) }
 {
     if key.ls_type != 3 {
@@ -128,12 +128,12 @@ pub fn push_inner<W: Ways>(
     body: &LsaBody,
     offers: &mut Vec<Offer>,
 ) -> Result<(), AllocError>
-    requires near { AreNear (W.ways ways.now) }
+    requires near { DistancesFit (W.ways ways.now) }
     requires ascend { AscendByRouter routers.now }
-    requires close { AreCloseBy routers.now }
+    requires close { FlaggedDistancesFit routers.now }
     ensures adds { OnOk result (Adds offers.old.items offers.new.items
         (IsInner root.now (W.ways ways.now) routers.now (key.now, body.now))) }
-    ensures cheap { OnOk result (AreCheap offers.old.items → AreCheap offers.new.items) }
+    ensures cheap { OnOk result (OfferCostsFit offers.old.items → OfferCostsFit offers.new.items) }
 {
     push_router(root, ways, key, body, offers)?;
     push_offer(offers, network_offer(ways, key, body))?;

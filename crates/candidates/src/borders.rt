@@ -3,18 +3,18 @@
 ghost use Rattle.std.specs.Prelude.{◌≡◌, ◌<◌, IfSome};
 ghost use Rattle.words.specs.Constants.{ls_infinity};
 ghost use Rattle.candidates.specs.Borders.{
-  AreBelow,
-  AreCloseBy,
+  RouteCostsFit,
+  FlaggedDistancesFit,
   Ascend,
   AscendByRouter,
   IsBoundary,
   IsCounted,
   Tells,
 };
-ghost use Rattle.candidates.specs.Gathering.{IsJust};
+ghost use Rattle.candidates.specs.Gathering.{IsOnly};
 
 use crate::flagged::{BORDER, BOUNDARY, Flagged, flagged_way};
-use crate::offer::{host, inter, way_by};
+use crate::offer::{host, inner_way, inter};
 use crate::search::find;
 use lsa::{LsaBody, SummaryLsa};
 use routes::{Offer, Root, Way};
@@ -28,8 +28,8 @@ pub fn counted_border(
     lsa: &SummaryLsa,
 ) -> Option<Way>
     requires ascend { AscendByRouter routers.now }
-    requires close { AreCloseBy routers.now }
-    ensures just { IsJust (IsCounted root.now routers.now originator lsa.now) result }
+    requires close { FlaggedDistancesFit routers.now }
+    ensures only { IsOnly (IsCounted root.now routers.now originator lsa.now) result }
     ensures near { IfSome result (λ border. border.distance < 1073741824) }
     ensures metric { IfSome result (λ _. lsa.now.metric < ls_infinity) }
 {
@@ -41,15 +41,10 @@ pub fn counted_border(
 
 /// What the summary-LSA with this key advertises about an AS boundary router, as an offer for the
 /// router's host prefix (RFC 2328, section 16.2).
-pub fn advertised_offer(
-    root: &Root,
-    routers: &[Flagged],
-    key: &Key,
-    body: &LsaBody,
-) -> Option<Offer>
+pub fn boundary_offer(root: &Root, routers: &[Flagged], key: &Key, body: &LsaBody) -> Option<Offer>
     requires ascend { AscendByRouter routers.now }
-    requires close { AreCloseBy routers.now }
-    ensures { IsJust (Tells root.now routers.now (key.now, body.now)) result }
+    requires close { FlaggedDistancesFit routers.now }
+    ensures { IsOnly (Tells root.now routers.now (key.now, body.now)) result }
 {
     if key.ls_type != 4 {
         return None;
@@ -73,17 +68,17 @@ pub fn boundary_way(
     advertised: &[Route],
     router: RouterId,
 ) -> Option<Way>
-    requires routers { AscendByRouter routers.now × AreCloseBy routers.now }
+    requires routers { AscendByRouter routers.now × FlaggedDistancesFit routers.now }
     requires ascend { Ascend advertised.now }
-    requires few { AreBelow advertised.now }
-    ensures just { IsJust (IsBoundary routers.now advertised.now router) result }
+    requires few { RouteCostsFit advertised.now }
+    ensures only { IsOnly (IsBoundary routers.now advertised.now router) result }
     ensures near { IfSome result (λ way. way.distance < 2147483648) }
 {
     match flagged_way(routers, place, router, BOUNDARY) {
         Some(way) => Some(way),
         None => {
             let route = find(advertised, host(router.number()))?;
-            Some(way_by(route))
+            Some(inner_way(route))
         }
     }
 }

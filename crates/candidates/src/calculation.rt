@@ -8,7 +8,7 @@ ghost use Rattle.routes.specs.Candidates.{AreCandidates, Offers};
 ghost use Rattle.routes.specs.declared.offer.Offer.{Offer};
 ghost use Rattle.routes.specs.Contents.{Contents, contents_at};
 ghost use Rattle.candidates.specs.Externals.{AreExternals};
-ghost use Rattle.candidates.specs.Ways.{AreNear, AreWays, Ways as WaysTo};
+ghost use Rattle.candidates.specs.Ways.{DistancesFit, AreWays, Ways as WaysTo};
 
 use crate::externals::{ExternalAdvertisement, Inner};
 use crate::inner::{InnerRoutes, inner_of};
@@ -52,8 +52,9 @@ pub fn candidates(
 
 /// The candidates of a database at a moment, given the ways by its links: one route for each prefix
 /// that anything offers, in the order of the prefixes (RFC 2328, section 16). It takes the time of
-/// one pass over the LSAs, of a binary search for each summary and external destination, and of two
-/// sorts of the offers.
+/// a few passes over the LSAs; of a binary search for each summary and external destination, and
+/// where there is a forwarding address of one more for each prefix length that occurs; and of three
+/// sorts.
 ///
 /// # Errors
 /// `AllocError` if an allocation is refused.
@@ -64,7 +65,7 @@ pub fn routes_of<W: Ways>(
     moment: Second,
     ways: &W,
 ) -> Result<Vec<Route>, AllocError>
-    requires near { AreNear (W.ways ways.now) }
+    requires near { DistancesFit (W.ways ways.now) }
     requires ways { AreWays (contents_at moment db.now.present) root.now (W.ways ways.now) }
     ensures { IfOk result (λ routes. AreCandidates (contents_at moment db.now.present) root.now
         routes.items) }
@@ -112,7 +113,7 @@ pub fn calculate<W: Ways>(
     ways: &W,
     externals: &[ExternalAdvertisement],
 ) -> Result<Calculated, AllocError>
-    requires near { AreNear (W.ways ways.now) }
+    requires near { DistancesFit (W.ways ways.now) }
     requires ways { AreWays (contents_at moment db.now.present) root.now (W.ways ways.now) }
     requires externals { AreExternals (contents_at moment db.now.present) externals.now }
     ensures routes { IfOk result (λ made. AreCandidates (contents_at moment db.now.present) root.now
@@ -135,7 +136,7 @@ fn inner_at<W: Ways>(
     moment: Second,
     ways: &W,
 ) -> Result<InnerRoutes, AllocError>
-    requires near { AreNear (W.ways ways.now) }
+    requires near { DistancesFit (W.ways ways.now) }
     requires ways { AreWays (contents_at moment db.now.present) root.now (W.ways ways.now) }
     ensures searchable { IfOk result (λ inner. AreSearchable inner) }
     ensures inner { IfOk result (λ inner. AreInner (contents_at moment db.now.present) root.now

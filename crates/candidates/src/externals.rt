@@ -1,21 +1,21 @@
 //! What AS-external-LSAs offer (RFC 2328, section 16.4).
 ghost use Rattle.std.specs.Prelude.{◌≡◌, ◌<◌, IfSome};
 ghost use Rattle.candidates.specs.Borders.{
-  AreBelow,
-  AreCloseBy,
+  RouteCostsFit,
+  FlaggedDistancesFit,
   Ascend,
   AscendByRouter,
   HasLengths,
   IsOutwardBy,
 };
-ghost use Rattle.candidates.specs.Externals.{OfAdvertised, TellsExternal};
-ghost use Rattle.candidates.specs.Gathering.{IsJust};
+ghost use Rattle.candidates.specs.Externals.{OfExternalAdvertisement, TellsExternal};
+ghost use Rattle.candidates.specs.Gathering.{IsOnly};
 ghost use Rattle.candidates.specs.Sources.{OfExternal};
 
 use crate::borders::boundary_way;
 use crate::flagged::Flagged;
 use crate::gathering::network_of;
-use crate::offer::{external, way_by};
+use crate::offer::{external, inner_way};
 use crate::search::longest_match;
 use lsa::LsaBody;
 use routes::{Offer, Root, Way};
@@ -50,7 +50,7 @@ pub struct ExternalAdvertisement {
 
 /// What the AS-external-LSA with this key advertises, if it is one and its mask gives a network.
 pub fn advertised_external(key: &Key, body: &LsaBody) -> Option<ExternalAdvertisement>
-    ensures { IsJust (TellsExternal (key.now, body.now)) result }
+    ensures { IsOnly (TellsExternal (key.now, body.now)) result }
 {
     if key.ls_type != 5 {
         return None;
@@ -77,11 +77,13 @@ fn outward_way(
     originator: RouterId,
     forwarding: Address,
 ) -> Option<Way>
-    requires flagged { AscendByRouter inner.now.flagged.now × AreCloseBy inner.now.flagged.now }
-    requires routers { Ascend inner.now.boundary_routes.now × AreBelow inner.now.boundary_routes.now }
-    requires networks { Ascend inner.now.networks.now × AreBelow inner.now.networks.now }
+    requires flagged { AscendByRouter inner.now.flagged.now
+        × FlaggedDistancesFit inner.now.flagged.now }
+    requires routers { Ascend inner.now.boundary_routes.now
+        × RouteCostsFit inner.now.boundary_routes.now }
+    requires networks { Ascend inner.now.networks.now × RouteCostsFit inner.now.networks.now }
     requires lengths { HasLengths inner.now.networks.now inner.now.lengths.now }
-    ensures just { IsJust (IsOutwardBy inner.now.flagged.now inner.now.boundary_routes.now
+    ensures only { IsOnly (IsOutwardBy inner.now.flagged.now inner.now.boundary_routes.now
         inner.now.networks.now originator forwarding) result }
     ensures near { IfSome result (λ way. way.distance < 2147483648) }
 {
@@ -90,23 +92,25 @@ fn outward_way(
         return Some(boundary);
     }
     let route = longest_match(inner.networks, inner.lengths, forwarding)?;
-    Some(way_by(route))
+    Some(inner_way(route))
 }
 
 /// The offer of an AS-external-LSA that advertises this. The search for its originator begins at
 /// index `place`.
-pub fn offer_advertised(
+pub fn offer_of_external(
     root: &Root,
     inner: &Inner<'_>,
     place: usize,
     advertised: &ExternalAdvertisement,
 ) -> Option<Offer>
-    requires flagged { AscendByRouter inner.now.flagged.now × AreCloseBy inner.now.flagged.now }
-    requires routers { Ascend inner.now.boundary_routes.now × AreBelow inner.now.boundary_routes.now }
-    requires networks { Ascend inner.now.networks.now × AreBelow inner.now.networks.now }
+    requires flagged { AscendByRouter inner.now.flagged.now
+        × FlaggedDistancesFit inner.now.flagged.now }
+    requires routers { Ascend inner.now.boundary_routes.now
+        × RouteCostsFit inner.now.boundary_routes.now }
+    requires networks { Ascend inner.now.networks.now × RouteCostsFit inner.now.networks.now }
     requires lengths { HasLengths inner.now.networks.now inner.now.lengths.now }
-    ensures { IsJust (OfAdvertised root.now inner.now.flagged.now inner.now.boundary_routes.now
-        inner.now.networks.now advertised.now) result }
+    ensures { IsOnly (OfExternalAdvertisement root.now inner.now.flagged.now
+        inner.now.boundary_routes.now inner.now.networks.now advertised.now) result }
 {
     if advertised.metric >= LS_INFINITY || advertised.originator == root.router {
         return None;
@@ -117,13 +121,15 @@ pub fn offer_advertised(
 
 /// What an AS-external-LSA offers.
 pub fn external_offer(root: &Root, inner: &Inner<'_>, key: &Key, body: &LsaBody) -> Option<Offer>
-    requires flagged { AscendByRouter inner.now.flagged.now × AreCloseBy inner.now.flagged.now }
-    requires routers { Ascend inner.now.boundary_routes.now × AreBelow inner.now.boundary_routes.now }
-    requires networks { Ascend inner.now.networks.now × AreBelow inner.now.networks.now }
+    requires flagged { AscendByRouter inner.now.flagged.now
+        × FlaggedDistancesFit inner.now.flagged.now }
+    requires routers { Ascend inner.now.boundary_routes.now
+        × RouteCostsFit inner.now.boundary_routes.now }
+    requires networks { Ascend inner.now.networks.now × RouteCostsFit inner.now.networks.now }
     requires lengths { HasLengths inner.now.networks.now inner.now.lengths.now }
-    ensures { IsJust (OfExternal root.now inner.now.flagged.now inner.now.boundary_routes.now
+    ensures { IsOnly (OfExternal root.now inner.now.flagged.now inner.now.boundary_routes.now
         inner.now.networks.now (key.now, body.now)) result }
 {
     let advertised = advertised_external(key, body)?;
-    offer_advertised(root, inner, 0, &advertised)
+    offer_of_external(root, inner, 0, &advertised)
 }

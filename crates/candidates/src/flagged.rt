@@ -5,14 +5,14 @@ ghost use Rattle.std.specs.Ordering.{nat_cmp};
 ghost use Rattle.lsdb.specs.Bodies.{InOrder};
 ghost use Rattle.candidates.specs.Bodies.{HaveAll};
 ghost use Rattle.candidates.specs.Borders.{
-  AreCloseBy,
+  FlaggedDistancesFit,
   AreFlagged,
   AscendByRouter,
   IsListed,
   TellsFlags,
 };
-ghost use Rattle.candidates.specs.Gathering.{IsJust};
-ghost use Rattle.candidates.specs.Ways.{AreNear};
+ghost use Rattle.candidates.specs.Gathering.{IsOnly};
+ghost use Rattle.candidates.specs.Ways.{DistancesFit};
 ghost use Rattle.routes.specs.Contents.{Contents};
 
 use crate::ways::Ways;
@@ -39,7 +39,7 @@ pub const BOUNDARY: u8 = 2;
 
 /// The router whose LSA has this key, if it has a flag and is reachable.
 pub fn flagged_at<W: Ways>(ways: &W, key: &Key, body: &LsaBody) -> Option<Flagged>
-    ensures { IsJust (TellsFlags (W.ways ways.now) (key.now, body.now)) result }
+    ensures { IsOnly (TellsFlags (W.ways ways.now) (key.now, body.now)) result }
 {
     if key.ls_type != 1 || key.link_state_id.number() != key.advertising_router.number() {
         return None;
@@ -69,12 +69,12 @@ pub fn flagged_routers<W: Ways>(
     ways: &W,
     bodies: &[KeyedBody<'_>],
 ) -> Result<Vec<Flagged>, AllocError>
-    requires near { AreNear (W.ways ways.now) }
+    requires near { DistancesFit (W.ways ways.now) }
     requires order { InOrder bodies.now }
     ensures flagged { IfOk result (λ routers. (contents : Contents) → HaveAll 1 contents bodies.now
         → AreFlagged contents (W.ways ways.now) routers.items) }
     ensures ascend { IfOk result (λ routers. AscendByRouter routers.items) }
-    ensures close { IfOk result (λ routers. AreCloseBy routers.items) }
+    ensures close { IfOk result (λ routers. FlaggedDistancesFit routers.items) }
 {
     let mut routers = Vec::new(alloc);
     for one in bodies {
@@ -120,7 +120,7 @@ fn at_index(routers: &[Flagged], place: usize, router: RouterId) -> Option<Flagg
 // The router among them, found at its expected index or by binary search.
 fn find_router(routers: &[Flagged], place: usize, router: RouterId) -> Option<Flagged>
     requires { AscendByRouter routers.now }
-    ensures { IsJust (λ listed. Contains routers.now listed × (listed.router ≡ router)) result }
+    ensures { IsOnly (λ listed. Contains routers.now listed × (listed.router ≡ router)) result }
 {
     if let Some(listed) = at_index(routers, place, router) {
         return Some(listed);
@@ -134,8 +134,8 @@ fn find_router(routers: &[Flagged], place: usize, router: RouterId) -> Option<Fl
 /// The way to a router with this flag. The search begins at index `place`.
 pub fn flagged_way(routers: &[Flagged], place: usize, router: RouterId, flag: u8) -> Option<Way>
     requires ascend { AscendByRouter routers.now }
-    requires close { AreCloseBy routers.now }
-    ensures just { IsJust (IsListed routers.now router flag) result }
+    requires close { FlaggedDistancesFit routers.now }
+    ensures only { IsOnly (IsListed routers.now router flag) result }
     ensures near { IfSome result (λ way. way.distance < 1073741824) }
 {
     let listed = find_router(routers, place, router)?;

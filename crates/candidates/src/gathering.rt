@@ -1,6 +1,6 @@
 //! Offers in a list, as they are found.
 ghost use Rattle.std.specs.Prelude.{◌≡◌, Some, OnOk};
-ghost use Rattle.candidates.specs.Gathering.{Adds, IsJust};
+ghost use Rattle.candidates.specs.Gathering.{Adds, IsOnly};
 ghost use Rattle.routes.specs.Offers.{IsPrefix};
 
 use routes::Offer;
@@ -22,14 +22,14 @@ pub fn push_offer(offers: &mut Vec<Offer>, offer: Option<Offer>) -> Result<(), A
 
 /// The network of an address under a mask; `None` if a zero bit of the mask is above a one.
 pub fn network_under(address: Address, mask: Address) -> Option<Prefix>
-    ensures { IsJust (IsPrefix address mask) result }
+    ensures { IsOnly (IsPrefix address mask) result }
 {
     Prefix::under_mask(address, mask)
 }
 
 /// The network of a key's Link State ID under a mask.
 pub fn network_of(key: &Key, mask: Address) -> Option<Prefix>
-    ensures { IsJust (IsPrefix key.now.link_state_id mask) result }
+    ensures { IsOnly (IsPrefix key.now.link_state_id mask) result }
 {
     network_under(Address::new(key.link_state_id.number()), mask)
 }

@@ -2,11 +2,11 @@
 ghost use Rattle.std.specs.Prelude.{◌≡◌, ◌≤◌, length, IfOk};
 ghost use Rattle.std.specs.FinMap as finite;
 ghost use Rattle.routes.specs.Contents.{Contents, contents_at};
-ghost use Rattle.candidates.specs.Ways.{AreNear, AreWays};
+ghost use Rattle.candidates.specs.Ways.{DistancesFit, AreWays};
 ghost use Rattle.candidates.specs.AreaGraphs.{IsAreaGraph, IsWalkable};
 ghost use Rattle.candidates.specs.Reached.{way_in};
 
-use crate::reached::{Reached, find, root_alone};
+use crate::reached::{Reached, find, just_root};
 use area_graph::{Slots, graph_of, nodes_of};
 use lsdb::Lsdb;
 use routes::{Node, Root, Vertex, least_ways};
@@ -81,11 +81,11 @@ impl AreaGraph {
         requires { IsWalkable self.now }
         ensures ways { IfOk result (λ reached. (contents : Contents) → IsAreaGraph contents self.now
             → AreWays contents self.now.root (way_in reached)) }
-        ensures near { IfOk result (λ reached. AreNear (way_in reached)) }
+        ensures near { IfOk result (λ reached. DistancesFit (way_in reached)) }
     {
         match find(&self.nodes, &self.slots, &Node::ARouter(self.root.router)) {
             None => {
-                let reached = root_alone(alloc, &self.root)?;
+                let reached = just_root(alloc, &self.root)?;
                 Ok(reached)
             }
             Some(at) => {

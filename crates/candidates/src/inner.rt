@@ -4,12 +4,12 @@ ghost use Rattle.std.specs.Prelude.{◌≡◌, IfOk};
 ghost use Rattle.candidates.specs.Inner.{AreInner, AreSearchable};
 ghost use Rattle.lsdb.specs.Bodies.{InOrder};
 ghost use Rattle.candidates.specs.Bodies.{HaveAll};
-ghost use Rattle.candidates.specs.Ways.{AreNear, AreWays};
+ghost use Rattle.candidates.specs.Ways.{DistancesFit, AreWays};
 ghost use Rattle.routes.specs.Contents.{Contents};
 
 use crate::flagged::{Flagged, flagged_routers};
 use crate::order::routes_of_offers;
-use crate::passes::{advertised_routes, inner_offers};
+use crate::passes::{boundary_routes, inner_offers};
 use crate::search::lengths_of;
 use crate::ways::Ways;
 use lsdb::KeyedBody;
@@ -44,7 +44,7 @@ pub fn inner_of<W: Ways>(
     ways: &W,
     bodies: &[KeyedBody<'_>],
 ) -> Result<InnerRoutes, AllocError>
-    requires near { AreNear (W.ways ways.now) }
+    requires near { DistancesFit (W.ways ways.now) }
     requires order { InOrder bodies.now }
     ensures searchable { IfOk result (λ inner. AreSearchable inner) }
     ensures inner { IfOk result (λ inner. (contents : Contents)
@@ -52,7 +52,7 @@ pub fn inner_of<W: Ways>(
         → AreInner contents root.now (W.ways ways.now) inner) }
 {
     let flagged = flagged_routers(alloc, ways, bodies)?;
-    let advertised = advertised_routes(alloc, root, &flagged, bodies)?;
+    let advertised = boundary_routes(alloc, root, &flagged, bodies)?;
     let mut offers = inner_offers(alloc, root, ways, &flagged, bodies)?;
     let networks = routes_of_offers(alloc, &mut offers)?;
     let lengths = lengths_of(&networks);

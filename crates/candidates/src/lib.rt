@@ -28,7 +28,7 @@ pub use gathering::{network_of, push_offer};
 pub use graph::{AreaGraph, copy_of};
 pub use inner::InnerRoutes;
 pub use order::routes_of_offers;
-pub use reached::{Reached, find};
+pub use reached::{Reached, find, just_root};
 pub use walks::walk;
 pub use way_out::has_no_way_out;
 pub use ways::Ways;

@@ -3,7 +3,7 @@ ghost use Rattle.std.specs.Prelude.{◌≡◌, ◌<◌};
 ghost use Rattle.words.specs.Constants.{ls_infinity};
 ghost use Rattle.routes.specs.Offers.{intra};
 ghost use Rattle.routes.specs.Summaries.{inter};
-ghost use Rattle.candidates.specs.Borders.{host, way_by};
+ghost use Rattle.candidates.specs.Borders.{host, inner_way};
 ghost use Rattle.candidates.specs.Externals.{offer_by};
 
 use crate::externals::ExternalAdvertisement;
@@ -75,9 +75,10 @@ pub fn host(router: u32) -> Prefix
     Prefix::under(Address::new(router), 32).unwrap()
 }
 
-/// The way of a route.
-pub fn way_by(route: Route) -> Way
-    ensures { result ≡ way_by route }
+/// The way of an intra-area or inter-area route. Of a type 2 external one the cost isn't that of a
+/// way.
+pub fn inner_way(route: Route) -> Way
+    ensures { result ≡ inner_way route }
 {
     Way {
         distance: route.cost,

@@ -2,8 +2,8 @@
 ghost use Rattle.std.specs.Prelude.{◌≡◌, ◌↔◌, IfOk};
 ghost use Rattle.std.specs.List.{Contains};
 ghost use Rattle.std.specs.List.Sorted.{IsSorted};
-ghost use Rattle.candidates.specs.Borders.{AreBelow};
-ghost use Rattle.candidates.specs.Gathering.{AreCheap};
+ghost use Rattle.candidates.specs.Borders.{RouteCostsFit};
+ghost use Rattle.candidates.specs.Gathering.{OfferCostsFit};
 ghost use Rattle.routes.specs.Best.{offer_cmp};
 ghost use Rattle.routes.specs.Routes.{AreRoutesAmong};
 ghost use Rattle.routes.specs.declared.offer.Offer.{Offer as OfferValue};
@@ -42,7 +42,8 @@ pub fn sort(offers: &mut Vec<Offer>)
 pub fn routes_of_offers(alloc: Global, offers: &mut Vec<Offer>) -> Result<Vec<Route>, AllocError>
     ensures routes { IfOk result (λ routes. AreRoutesAmong
         (λ o. Contains offers.old.items o) routes.items) }
-    ensures few { IfOk result (λ routes. AreCheap offers.old.items → AreBelow routes.items) }
+    ensures few { IfOk result (λ routes.
+        OfferCostsFit offers.old.items → RouteCostsFit routes.items) }
     ensures same { (o : OfferValue) → Contains offers.new.items o ↔ Contains offers.old.items o }
 {
     sort(offers);

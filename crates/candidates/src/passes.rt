@@ -2,21 +2,21 @@
 ghost use Rattle.std.specs.Prelude.{◌≡◌, [], IfOk, OnOk};
 ghost use Rattle.routes.specs.Routes.{AreRoutesAmong};
 ghost use Rattle.candidates.specs.Borders.{
-  AreBelow,
-  AreCloseBy,
+  RouteCostsFit,
+  FlaggedDistancesFit,
   Ascend,
   AscendByRouter,
   HasLengths,
   Tells,
 };
-ghost use Rattle.candidates.specs.Gathering.{Adds, AreCheap, OfEach};
-ghost use Rattle.candidates.specs.Externals.{AreAdvertisedBy, OfAdvertised};
+ghost use Rattle.candidates.specs.Gathering.{Adds, OfferCostsFit, OfEach};
+ghost use Rattle.candidates.specs.Externals.{AreAdvertisedBy, OfExternalAdvertisement};
 ghost use Rattle.candidates.specs.Sources.{IsInner};
-ghost use Rattle.candidates.specs.Ways.{AreNear};
+ghost use Rattle.candidates.specs.Ways.{DistancesFit};
 
 use crate::area::push_inner;
-use crate::borders::advertised_offer;
-use crate::externals::{ExternalAdvertisement, Inner, advertised_external, offer_advertised};
+use crate::borders::boundary_offer;
+use crate::externals::{ExternalAdvertisement, Inner, advertised_external, offer_of_external};
 use crate::flagged::{Flagged, slots_of};
 use crate::gathering::push_offer;
 use crate::order::routes_of_offers;
@@ -30,24 +30,24 @@ use words::Route;
 ///
 /// # Errors
 /// `AllocError` if an allocation is refused.
-pub fn advertised_routes(
+pub fn boundary_routes(
     alloc: Global,
     root: &Root,
     routers: &[Flagged],
     bodies: &[KeyedBody<'_>],
 ) -> Result<Vec<Route>, AllocError>
     requires ascend { AscendByRouter routers.now }
-    requires close { AreCloseBy routers.now }
+    requires close { FlaggedDistancesFit routers.now }
     ensures routes { IfOk result (λ routes. AreRoutesAmong
         (OfEach (Tells root.now routers.now) bodies.now)
         routes.items) }
-    ensures few { IfOk result (λ routes. AreBelow routes.items) }
+    ensures few { IfOk result (λ routes. RouteCostsFit routes.items) }
 {
     let mut offers = Vec::new(alloc);
     for one in bodies {
         push_offer(
             &mut offers,
-            advertised_offer(root, routers, one.key(), one.body()),
+            boundary_offer(root, routers, one.key(), one.body()),
         )?;
     }
     let routes = routes_of_offers(alloc, &mut offers)?;
@@ -65,12 +65,12 @@ pub fn inner_offers<W: Ways>(
     routers: &[Flagged],
     bodies: &[KeyedBody<'_>],
 ) -> Result<Vec<Offer>, AllocError>
-    requires near { AreNear (W.ways ways.now) }
+    requires near { DistancesFit (W.ways ways.now) }
     requires ascend { AscendByRouter routers.now }
-    requires close { AreCloseBy routers.now }
+    requires close { FlaggedDistancesFit routers.now }
     ensures adds { IfOk result (λ offers. Adds [] offers.items
         (OfEach (IsInner root.now (W.ways ways.now) routers.now) bodies.now)) }
-    ensures cheap { IfOk result (λ offers. AreCheap offers.items) }
+    ensures cheap { IfOk result (λ offers. OfferCostsFit offers.items) }
 {
     let mut offers = Vec::new(alloc);
     for one in bodies {
@@ -110,18 +110,20 @@ pub fn push_externals(
     externals: &[ExternalAdvertisement],
     offers: &mut Vec<Offer>,
 ) -> Result<(), AllocError>
-    requires flagged { AscendByRouter inner.now.flagged.now × AreCloseBy inner.now.flagged.now }
-    requires routers { Ascend inner.now.boundary_routes.now × AreBelow inner.now.boundary_routes.now }
-    requires networks { Ascend inner.now.networks.now × AreBelow inner.now.networks.now }
+    requires flagged { AscendByRouter inner.now.flagged.now
+        × FlaggedDistancesFit inner.now.flagged.now }
+    requires routers { Ascend inner.now.boundary_routes.now
+        × RouteCostsFit inner.now.boundary_routes.now }
+    requires networks { Ascend inner.now.networks.now × RouteCostsFit inner.now.networks.now }
     requires lengths { HasLengths inner.now.networks.now inner.now.lengths.now }
     ensures { OnOk result (Adds offers.old.items offers.new.items
-        (OfEach (OfAdvertised root.now inner.now.flagged.now inner.now.boundary_routes.now
-        inner.now.networks.now) externals.now)) }
+        (OfEach (OfExternalAdvertisement root.now inner.now.flagged.now
+        inner.now.boundary_routes.now inner.now.networks.now) externals.now)) }
 {
     let slots = slots_of(alloc, inner.flagged)?;
     for advertised in externals {
         let place = slots.expected_at(advertised.originator.number());
-        push_offer(offers, offer_advertised(root, inner, place, advertised))?;
+        push_offer(offers, offer_of_external(root, inner, place, advertised))?;
     }
     Ok(())
 }

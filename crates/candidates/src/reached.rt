@@ -101,7 +101,7 @@ pub fn find(nodes: &[Node], slots: &Slots, node: &Node) -> Option<usize>
 ///
 /// # Errors
 /// `AllocError` if an allocation is refused.
-pub fn root_alone(alloc: Global, root: &Root) -> Result<Reached, AllocError>
+pub fn just_root(alloc: Global, root: &Root) -> Result<Reached, AllocError>
     ensures { IfOk result (λ reached. reached ≡ alone root.now) }
 {
     let mut nodes = Vec::new(alloc);

@@ -2,12 +2,12 @@
 //! neighbor is Full: its own router-LSA tells all of them, so no other LSA is visited.
 ghost use Rattle.std.specs.Prelude.{◌≡◌, IfOk, OnOk, option_copied};
 ghost use Rattle.candidates.specs.Alone.{OfOne, list_of};
-ghost use Rattle.candidates.specs.Borders.{AreCloseBy, AscendByRouter, TellsFlags};
-ghost use Rattle.candidates.specs.Gathering.{Adds, AreCheap, IsJust};
+ghost use Rattle.candidates.specs.Borders.{FlaggedDistancesFit, AscendByRouter, TellsFlags};
+ghost use Rattle.candidates.specs.Gathering.{Adds, OfferCostsFit, IsOnly};
 ghost use Rattle.candidates.specs.Inner.{AreInner, AreSearchable};
 ghost use Rattle.candidates.specs.Reached.{alone, way_in};
 ghost use Rattle.candidates.specs.Sources.{IsInner};
-ghost use Rattle.candidates.specs.Ways.{AreNear, AreWays};
+ghost use Rattle.candidates.specs.Ways.{DistancesFit, AreWays};
 ghost use Rattle.routes.specs.Contents.{contents_at};
 ghost use Rattle.routes.specs.declared.node.Node.{Node as NodeAt};
 
@@ -25,7 +25,7 @@ use words::{Key, Second, router_key};
 
 // The router whose LSA has this key and body, if it has a flag and is reachable.
 fn flagged_by<W: Ways>(ways: &W, key: &Key, body: Option<&LsaBody>) -> Option<Flagged>
-    ensures { IsJust (OfOne (TellsFlags (W.ways ways.now)) key.now (option_copied body.entry))
+    ensures { IsOnly (OfOne (TellsFlags (W.ways ways.now)) key.now (option_copied body.entry))
         result }
 {
     match body {
@@ -54,13 +54,13 @@ fn push_by<W: Ways>(
     body: Option<&LsaBody>,
     offers: &mut Vec<Offer>,
 ) -> Result<(), AllocError>
-    requires near { AreNear (W.ways ways.now) }
+    requires near { DistancesFit (W.ways ways.now) }
     requires ascend { AscendByRouter routers.now }
-    requires close { AreCloseBy routers.now }
+    requires close { FlaggedDistancesFit routers.now }
     ensures adds { OnOk result (Adds offers.old.items offers.new.items
         (OfOne (IsInner root.now (W.ways ways.now) routers.now) key.now
         (option_copied body.entry))) }
-    ensures cheap { OnOk result (AreCheap offers.old.items → AreCheap offers.new.items) }
+    ensures cheap { OnOk result (OfferCostsFit offers.old.items → OfferCostsFit offers.new.items) }
 {
     match body {
         None => Ok(()),
@@ -79,7 +79,7 @@ pub fn inner_alone<W: Ways>(
     moment: Second,
     ways: &W,
 ) -> Result<InnerRoutes, AllocError>
-    requires near { AreNear (W.ways ways.now) }
+    requires near { DistancesFit (W.ways ways.now) }
     requires alone { (node : NodeAt) → W.ways ways.now node ≡ way_in (alone root.now) node }
     requires ways { AreWays (contents_at moment db.now.present) root.now (W.ways ways.now) }
     ensures searchable { IfOk result (λ inner. AreSearchable inner) }

@@ -1,14 +1,14 @@
 //! Routes looked up in a list that is sorted by prefix.
 ghost use Rattle.std.specs.Prelude.{◌≡◌, ◌<◌, ◌≤◌};
 ghost use Rattle.candidates.specs.Borders.{Ascend, HasLengths, IsFound, IsLongest, IsMatch};
-ghost use Rattle.candidates.specs.Gathering.{IsJust};
+ghost use Rattle.candidates.specs.Gathering.{IsOnly};
 
 use words::{Address, Prefix, Route};
 
 /// The route for a prefix, by binary search.
 pub fn find(routes: &[Route], prefix: Prefix) -> Option<Route>
     requires { Ascend routes.now }
-    ensures { IsJust (IsFound routes.now prefix) result }
+    ensures { IsOnly (IsFound routes.now prefix) result }
 {
     match routes.binary_search_by(|route| route.prefix.compare(&prefix)) {
         Ok(at) => Some(routes[at]),
@@ -37,7 +37,7 @@ fn match_of_length(
     requires ascend { Ascend routes.now }
     requires lengths { HasLengths routes.now lengths.now }
     requires length { length ≤ 32 }
-    ensures { IsJust (IsMatch routes.now address length) result }
+    ensures { IsOnly (IsMatch routes.now address length) result }
 {
     if !lengths[usize::from(length)] {
         return None;
@@ -51,7 +51,7 @@ fn match_of_length(
 pub fn longest_match(routes: &[Route], lengths: &[bool; 33], address: Address) -> Option<Route>
     requires ascend { Ascend routes.now }
     requires lengths { HasLengths routes.now lengths.now }
-    ensures { IsJust (IsLongest routes.now address) result }
+    ensures { IsOnly (IsLongest routes.now address) result }
 {
     let mut length = 33;
     while length > 0 {

@@ -2,11 +2,11 @@
 ghost use Rattle.std.specs.Prelude.{◌≤◌, length, IfOk};
 ghost use Rattle.std.specs.FinMap as finite;
 ghost use Rattle.routes.specs.Contents.{contents_at};
-ghost use Rattle.candidates.specs.Ways.{AreNear, AreWays};
+ghost use Rattle.candidates.specs.Ways.{DistancesFit, AreWays};
 ghost use Rattle.candidates.specs.Reached.{way_in};
 
 use crate::graph::AreaGraph;
-use crate::reached::{Reached, root_alone};
+use crate::reached::{Reached, just_root};
 use crate::way_out::has_no_way_out;
 use lsdb::Lsdb;
 use routes::Root;
@@ -29,10 +29,10 @@ pub fn walk(alloc: Global, db: &Lsdb, root: &Root, moment: Second) -> Result<Rea
     requires size { finite.len db.now.present ≤ 16384 }
     ensures ways { IfOk result (λ reached. AreWays (contents_at moment db.now.present) root.now
         (way_in reached)) }
-    ensures near { IfOk result (λ reached. AreNear (way_in reached)) }
+    ensures near { IfOk result (λ reached. DistancesFit (way_in reached)) }
 {
     if has_no_way_out(db, root, moment) {
-        let reached = root_alone(alloc, root)?;
+        let reached = just_root(alloc, root)?;
         Ok(reached)
     } else {
         walk_on(alloc, db, root, moment)
@@ -45,7 +45,7 @@ fn walk_on(alloc: Global, db: &Lsdb, root: &Root, moment: Second) -> Result<Reac
     requires size { finite.len db.now.present ≤ 16384 }
     ensures ways { IfOk result (λ reached. AreWays (contents_at moment db.now.present) root.now
         (way_in reached)) }
-    ensures near { IfOk result (λ reached. AreNear (way_in reached)) }
+    ensures near { IfOk result (λ reached. DistancesFit (way_in reached)) }
 {
     let graph = AreaGraph::new(alloc, db, root, moment)?;
     let reached = graph.walk(alloc)?;

@@ -11,7 +11,7 @@ use Rattle.std.proofs.lemmas.Bool.{cases_eq}
 use mathlib.Core.Bool.{false≢true}
 use Rattle.keyed_map.specs.Keys.{key_cmp}
 use Rattle.keyed_map.proofs.Keys.{keys_exact}
-use Rattle.routes.specs.lsdb.Changes.{HaveNoMaxAge, HaveOneAge, IsUpTo, ContentsAgree}
+use Rattle.routes.specs.lsdb.Changes.{HaveNoMaxAge, HaveSameStoredAge, IsUpTo, ContentsAgree}
 use Rattle.routes.specs.lsdb.Copies.{Database, DatabaseCopy, max_age_keys, is_aged_out}
 use Rattle.routes.specs.Contents.{contents_at, contents_of}
 use Rattle.kept_routes.specs.Ages.{HaveNotJustAgedOut}
@@ -109,7 +109,8 @@ younger false b later is = refl
 module _ (before moment : ℕ) (order : before ≤ moment) (a b : DatabaseCopy)
     (body : a.lsa.body ≡ b.lsa.body) where
   -- copies of the same age both have MaxAge, or neither has
-  says_of_one_age : HaveOneAge a b → (is_aged_out moment b ≡ true → is_aged_out before b ≡ true)
+  says_of_one_age : HaveSameStoredAge a b
+      → (is_aged_out moment b ≡ true → is_aged_out before b ≡ true)
       → contents_of before (Some a) ≡ contents_of moment (Some b)
   says_of_one_age same old =
       let first : is_aged_out before a ≡ is_aged_out before b =

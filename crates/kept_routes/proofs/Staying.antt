@@ -25,7 +25,7 @@ use Rattle.candidates.specs.Borders.{IsFlagged}
 use Rattle.candidates.specs.Ways.{AreWays, Ways}
 use Rattle.candidates.specs.Reached.{way_in}
 use Rattle.routes.specs.lsdb.Changes.{ContentsAgree}
-use Rattle.routes.specs.lsdb.Unchanged.{IsContentUnchanged}
+use Rattle.routes.specs.lsdb.Unchanged.{IsUnchangedApartFromAging}
 use Rattle.kept_routes.specs.Externals.{AreOldOrLeftOut, IsUnreached, AreOfferingLsasUnchanged}
 use Rattle.kept_routes.specs.Externals.{OfferTheSame}
 use Rattle.kept_routes.specs.Externals.{OffersNothing}
@@ -135,7 +135,7 @@ module _ (before moment : ℕ) (old new : Database) (walk : KeptWalk) where
 
   module _ (order : before ≤ moment)
       (says : (key : Key) → Counts key
-      → IsContentUnchanged before moment (finite.get old key) (finite.get new key))
+      → IsUnchangedApartFromAging before moment (finite.get old key) (finite.get new key))
       (aged : AreOldOrLeftOut before moment new walk (max_age_keys moment new)) where
     counted : (key : Key) → Counts key → was key ≡ is key
     counted key counts =

@@ -12,7 +12,7 @@ ghost use Rattle.kept_routes.specs.Externals.{IsUnreached, AreOfferingLsasUnchan
 ghost use Rattle.kept_routes.specs.Externals.{OfferTheSame, OffersNothing, first_named};
 ghost use Rattle.kept_routes.specs.Kept.{IsWalkOf};
 
-use crate::sameness::is_old;
+use crate::sameness::has_not_just_aged_out;
 use crate::walks::Routes;
 use lsa::{LsaBody, RouterLsa};
 use routes::{KeyRule, Lsdb, Node};
@@ -159,11 +159,11 @@ pub fn offering_lsas_are_unchanged(
         return Ok(true);
     }
     let keys = db.max_age_keys(alloc, moment)?;
-    are_old_or_left_out(alloc, &rule, before, &keys)
+    have_not_just_aged_out_or_are_left_out(alloc, &rule, before, &keys)
 }
 
 // Whether the copies with these keys that have MaxAge, if they count, had it before the event.
-fn are_old_or_left_out(
+fn have_not_just_aged_out_or_are_left_out(
     alloc: Global,
     rule: &OfNoAccount<'_>,
     before: Second,
@@ -173,7 +173,7 @@ fn are_old_or_left_out(
         rule.now.db.now.present rule.now.walk.now keys.now) }
 {
     for key in keys {
-        if !is_old_or_left_out(alloc, rule, before, key)? {
+        if !has_not_just_aged_out_or_is_left_out(alloc, rule, before, key)? {
             return Ok(false);
         }
     }
@@ -181,7 +181,7 @@ fn are_old_or_left_out(
 }
 
 // Whether the copy with this key, if it counts and has MaxAge, had it before the event.
-fn is_old_or_left_out(
+fn has_not_just_aged_out_or_is_left_out(
     alloc: Global,
     rule: &OfNoAccount<'_>,
     before: Second,
@@ -190,7 +190,7 @@ fn is_old_or_left_out(
     ensures { IfOk result (λ is. IsTrue is ↔ IsOldOrLeftOut before rule.now.moment
         rule.now.db.now.present rule.now.walk.now key.now) }
 {
-    if is_old(rule.db, None, before, rule.moment, key) {
+    if has_not_just_aged_out(rule.db, None, before, rule.moment, key) {
         return Ok(true);
     }
     rule.leaves_out(alloc, key)

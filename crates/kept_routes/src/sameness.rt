@@ -32,7 +32,7 @@ pub fn lsas_are_unchanged(
     requires { before ≤ moment }
     ensures same { IfOk result (λ same. IsTrue same → HaveSameContents last_type
         (contents_at before db.now.committed) (contents_at moment db.now.present)) }
-    // It is true whenever that is correct.
+    // It is true exactly if no LSA changed so; what they say may be the same without that.
     ensures left { IfOk result (λ same. IsTrue same
         ↔ AreLsasUnchanged last_type before moment db.now.committed db.now.present) }
 {
@@ -44,16 +44,22 @@ pub fn lsas_are_unchanged(
         return Ok(true);
     }
     let keys = db.max_age_keys(alloc, moment)?;
-    Ok(are_old(db, last_type, before, moment, &keys))
+    Ok(have_not_just_aged_out(db, last_type, before, moment, &keys))
 }
 
 // Whether the copies with these keys, of the types up to this one, that have MaxAge had it at the
 // moment `before`.
-fn are_old(db: &Lsdb, last_type: Option<u32>, before: Second, moment: Second, keys: &[Key]) -> bool
+fn have_not_just_aged_out(
+    db: &Lsdb,
+    last_type: Option<u32>,
+    before: Second,
+    moment: Second,
+    keys: &[Key],
+) -> bool
     ensures { IsTrue result ↔ HaveNotJustAgedOut last_type before moment db.now.present keys.now }
 {
     for key in keys {
-        if !is_old(db, last_type, before, moment, key) {
+        if !has_not_just_aged_out(db, last_type, before, moment, key) {
             return false;
         }
     }
@@ -62,7 +68,7 @@ fn are_old(db: &Lsdb, last_type: Option<u32>, before: Second, moment: Second, ke
 
 // Whether the copy with this key, if it has MaxAge and a type up to this one, had it at the moment
 // `before`.
-pub(crate) fn is_old(
+pub(crate) fn has_not_just_aged_out(
     db: &Lsdb,
     last_type: Option<u32>,
     before: Second,

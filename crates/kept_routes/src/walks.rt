@@ -13,7 +13,8 @@ ghost use Rattle.candidates.specs.Externals.{AreExternals};
 
 use candidates::laws::every_offer_has_a_candidate;
 use candidates::{
-    Calculated, ExternalAdvertisement, Reached, Ways, calculate, copy_of, routes_of, walk,
+    Calculated, ExternalAdvertisement, Reached, Ways, calculate, copy_of, just_root, routes_of,
+    walk,
 };
 use routes::{Lsdb, Node, Root, Way};
 use std::alloc::{AllocError, Global};
@@ -57,6 +58,22 @@ impl Routes {
             root: own,
             reached,
             walks: 1,
+        })
+    }
+
+    /// What is kept before any walk: the root alone, which no database is asked about.
+    ///
+    /// # Errors
+    /// `AllocError` if an allocation is refused.
+    pub fn without_walk(alloc: Global, root: Root) -> Result<Routes, AllocError>
+        ensures root { IfOk result (λ kept. kept.root ≡ root) }
+        ensures walks { IfOk result (λ kept. kept.walks ≡ 0) }
+    {
+        let reached = just_root(alloc, &root)?;
+        Ok(Routes {
+            root,
+            reached,
+            walks: 0,
         })
     }
 

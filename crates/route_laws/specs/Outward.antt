@@ -109,7 +109,7 @@ pub record NoPacketReturnsOnItsWayOut : Type 0 where
   pub better : (contents : Contents) (prefix : Network) (stops : List Stop)
       → IsPassedFurther contents prefix stops
       → AllPairs (λ (a : Stop) (b : Stop). IsBetter b.route a.route) stops
-  -- no router is in the list twice
+  -- no root, a router with its addresses, is in the list twice
   pub no_twice : (contents : Contents) (prefix : Network) (stops : List Stop)
       → IsPassedFurther contents prefix stops
       → AllPairs (λ (a : Stop) (b : Stop). a.root ≢ b.root) stops

@@ -63,8 +63,8 @@ pub fn each_hop_leads_to_an_originator()
     every_offer_has_a_candidate();
 }
 
-/// A packet by a route of any kind visits no router twice before it reaches the originator of the
-/// LSA that the route comes from.
+/// A packet by a route of any kind visits no router, with the same addresses, twice before it
+/// reaches the originator of the LSA that the route comes from.
 pub fn no_packet_returns_on_its_way_out()
     ensures { NoPacketReturnsOnItsWayOut }
 {

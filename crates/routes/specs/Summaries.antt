@@ -66,7 +66,7 @@ pub record OffersBetween (contents : Contents) (root : Root) (o : Offer) : Type 
 abbrev pub OffersInside : Contents → Root → Offer → Type 0
 OffersInside contents root o = OffersWithin contents root o ⊎ OffersBetween contents root o
 
--- ---- AS boundary routers (section 16.4)
+-- ---- AS boundary routers (section 16.2)
 
 -- an area border router advertises a way with this cost to the router
 pub record IsAdvertised (contents : Contents) (root : Root) (router distance : ℕ)

@@ -14,9 +14,9 @@ returns g c =
           c.push_offer-2.new.offers.items
           c.in_ok-push_router.ensures.adds
           (adds_just _ _ (OfNetwork (g.W.Ways.ways c.args.ways.now) one) c.network_offer.result
-          c.network_offer.ensures.just c.in_ok-push_offer.ensures)
+          c.network_offer.ensures.only c.in_ok-push_offer.ensures)
           (adds_just _ _ (OfSummary c.args.root.now c.args.routers.now one) c.summary_offer.result
-          c.summary_offer.ensures.just c.in_ok-push_offer-2.ensures);
+          c.summary_offer.ensures.only c.in_ok-push_offer-2.ensures);
       cheap = λ cheap.
           cheap_more c.push_offer.new.offers.items c.push_offer-2.new.offers.items
           c.summary_offer.result c.in_ok-push_offer-2.ensures c.summary_offer.ensures.few

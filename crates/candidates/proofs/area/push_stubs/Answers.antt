@@ -16,7 +16,7 @@ loop-link-preserved c = (
       c.link-item.is c.loop-link-test.true
       c.loop-link.invariant.0
       (adds_just c.loop-link.offers.items c.push_offer.new.offers.items
-      (IsStub c.args.way c.link-item.result) c.stub_offer.result c.stub_offer.ensures.just
+      (IsStub c.args.way c.link-item.result) c.stub_offer.result c.stub_offer.ensures.only
       c.in_ok-push_offer.ensures),
   λ cheap. cheap_more c.loop-link.offers.items c.push_offer.new.offers.items c.stub_offer.result
       c.in_ok-push_offer.ensures c.stub_offer.ensures.few (c.loop-link.invariant.1 cheap),

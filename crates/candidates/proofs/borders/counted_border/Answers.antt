@@ -4,13 +4,13 @@ use Rattle.candidates.specs.declared.flagged.Flagged.{Flagged}
 use Rattle.routes.specs.declared.graph.Way.{Way}
 use Rattle.routes.specs.declared.root.Root.{Root}
 use Rattle.candidates.specs.Borders.{IsCounted, IsListed}
-use Rattle.candidates.specs.Gathering.{IsJust}
+use Rattle.candidates.specs.Gathering.{IsOnly}
 use Rattle.candidates.proofs.borders.counted_border.Goals as goal
 
 counted : (root : Root) (routers : List Flagged) (originator : ℕ) (lsa : SummaryLsa)
     (found : Option Way) → lsa.metric < 16777215 → originator ≢ root.router
-    → IsJust (IsListed routers originator 1) found
-    → IsJust (IsCounted root routers originator lsa) found
+    → IsOnly (IsListed routers originator 1) found
+    → IsOnly (IsCounted root routers originator lsa) found
 counted root routers originator lsa None reachable another none = λ way k. none way k.reaches
 counted root routers originator lsa (Some it) reachable another just =
     λ way. (
@@ -22,6 +22,6 @@ counted root routers originator lsa (Some it) reachable another just =
       }),
     )
 
-pub returns-clause-just : goal.returns-clause-just
-returns-clause-just c = counted _ _ _ _ _ (omega (arith, c.if-lsa-ge-LS_INFINITY.false))
-    (search rules) c.flagged_way.ensures.just
+pub returns-clause-only : goal.returns-clause-only
+returns-clause-only c = counted _ _ _ _ _ (omega (arith, c.if-lsa-ge-LS_INFINITY.false))
+    (search rules) c.flagged_way.ensures.only

@@ -3,10 +3,11 @@ use Rattle.std.proofs.Common.{◌∙◌}
 use Rattle.std.specs.List.{Contains}
 use Rattle.std.specs.Prelude.{◌↔◌}
 use Rattle.words.specs.declared.route.Route.{Route}
-use Rattle.candidates.specs.Borders.{AreBelow, AreCloseBy, Ascend, AscendByRouter, HasLengths}
+use Rattle.candidates.specs.Borders.{RouteCostsFit, FlaggedDistancesFit, Ascend, AscendByRouter}
+use Rattle.candidates.specs.Borders.{HasLengths}
 use Rattle.candidates.specs.declared.flagged.Flagged.{Flagged}
 use Rattle.candidates.specs.Gathering.{Adds, OfEach}
-use Rattle.candidates.specs.Externals.{OfAdvertised}
+use Rattle.candidates.specs.Externals.{OfExternalAdvertisement}
 use Rattle.routes.specs.Summaries.{OffersInside}
 use Rattle.routes.specs.declared.offer.Offer.{Offer}
 use Rattle.candidates.proofs.All.{are_candidates}
@@ -18,17 +19,17 @@ use Rattle.candidates.proofs.calculation.with_externals.Goals as goal
 
 pub push_externals-requires-clause-routers : goal.push_externals-requires-clause-routers
 push_externals-requires-clause-routers c =
-    let P : List Route → Type 0 = λ xs. Ascend xs × AreBelow xs in
+    let P : List Route → Type 0 = λ xs. Ascend xs × RouteCostsFit xs in
     subst P (sym c.deref-2.ensures.value) c.requires.advertised
 
 pub push_externals-requires-clause-flagged : goal.push_externals-requires-clause-flagged
 push_externals-requires-clause-flagged c =
-    let P : List Flagged → Type 0 = λ xs. AscendByRouter xs × AreCloseBy xs in
+    let P : List Flagged → Type 0 = λ xs. AscendByRouter xs × FlaggedDistancesFit xs in
     subst P (sym c.deref-3.ensures.value) c.requires.flagged
 
 pub push_externals-requires-clause-networks : goal.push_externals-requires-clause-networks
 push_externals-requires-clause-networks c =
-    let P : List Route → Type 0 = λ xs. Ascend xs × AreBelow xs in
+    let P : List Route → Type 0 = λ xs. Ascend xs × RouteCostsFit xs in
     subst P (sym c.deref-4.ensures.value) c.requires.networks
 
 pub push_externals-requires-clause-lengths : goal.push_externals-requires-clause-lengths
@@ -48,7 +49,7 @@ returns c contents ways are inner tell =
     let Q : List Flagged → List Route → List Route → Type 0 =
     λ routers advertised networks. Adds c.extend_from_slice.new.self.items
     c.push_externals.new.offers.items
-    (OfEach (OfAdvertised root routers advertised networks) externals)
+    (OfEach (OfExternalAdvertisement root routers advertised networks) externals)
     in
     let first : Q it.flagged.items c.deref-2.result.now c.deref-4.result.now =
     subst (λ (rs : List Flagged). Q rs c.deref-2.result.now c.deref-4.result.now)

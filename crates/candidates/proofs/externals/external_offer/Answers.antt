@@ -7,5 +7,5 @@ returns-in_err-advertised c = rw c.from_residual.ensures
 
 pub returns : goal.returns
 returns c = by_told _ _ _ _ _ c.in_ok-advertised.advertised c.in_ok-advertised.ensures
-    c.offer_advertised.result
-    c.offer_advertised.ensures
+    c.offer_of_external.result
+    c.offer_of_external.ensures

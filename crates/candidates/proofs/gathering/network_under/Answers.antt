@@ -3,14 +3,14 @@ use Rattle.std.specs.Prelude.{IfSome, IfNone, ℕ}
 use Rattle.words.specs.Prefixes.{IsNetwork, IsUnder, Network, mask_of}
 use Rattle.routes.specs.Offers.{IsPrefix}
 use Rattle.routes.proofs.Prefixes.{one_prefix}
-use Rattle.candidates.specs.Gathering.{IsJust}
+use Rattle.candidates.specs.Gathering.{IsOnly}
 use Rattle.candidates.proofs.gathering.network_under.Goals as goal
 
 just : (address mask : ℕ) (found : Option Network)
     → IfSome found (λ network. (mask ≡ mask_of network.length) × IsNetwork network
     × IsUnder address network) → IfNone found
     ((length : ℕ) → length ≤ 32 → mask ≡ mask_of length → ⊥)
-    → IsJust (IsPrefix address mask) found
+    → IsOnly (IsPrefix address mask) found
 just address mask None some none = λ p is. none p.length is.0 is.1
 just address mask (Some n) some none = λ p. (
   λ is. sym (one_prefix address mask n.length p some.1.1 some.0 is)

@@ -1,6 +1,6 @@
 use Rattle.std.proofs.Common.{List, [], arith, sym, subst}
 use Rattle.words.specs.declared.route.Route.{Route}
-use Rattle.candidates.specs.Borders.{AreCloseBy, HasLengths, Tells}
+use Rattle.candidates.specs.Borders.{FlaggedDistancesFit, HasLengths, Tells}
 use Rattle.candidates.specs.Gathering.{Adds, OfEach}
 use Rattle.candidates.specs.Sources.{IsInner}
 use Rattle.candidates.specs.declared.flagged.Flagged.{Flagged}
@@ -9,13 +9,13 @@ use Rattle.candidates.proofs.All.{of_inside, of_networks, of_told}
 use Rattle.candidates.proofs.Each.{fewer}
 use Rattle.candidates.proofs.inner.inner_of.Goals as goal
 
-pub advertised_routes-requires-clause-close : goal.advertised_routes-requires-clause-close
-advertised_routes-requires-clause-close g c =
-    subst AreCloseBy (sym c.deref.ensures.value) c.in_ok-flagged.ensures.close
+pub boundary_routes-requires-clause-close : goal.boundary_routes-requires-clause-close
+boundary_routes-requires-clause-close g c =
+    subst FlaggedDistancesFit (sym c.deref.ensures.value) c.in_ok-flagged.ensures.close
 
 pub inner_offers-requires-clause-close : goal.inner_offers-requires-clause-close
 inner_offers-requires-clause-close g c =
-    subst AreCloseBy (sym c.deref-2.ensures.value) c.in_ok-flagged.ensures.close
+    subst FlaggedDistancesFit (sym c.deref-2.ensures.value) c.in_ok-flagged.ensures.close
 
 pub returns-clause-searchable : goal.returns-clause-searchable
 returns-clause-searchable g c = record {

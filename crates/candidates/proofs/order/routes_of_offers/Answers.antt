@@ -1,8 +1,8 @@
 use Rattle.std.proofs.Common.{◌≡◌, List, arith, subst}
 use Rattle.std.specs.List.{Contains}
 use Rattle.std.specs.Prelude.{◌↔◌}
-use Rattle.candidates.specs.Borders.{AreBelow}
-use Rattle.candidates.specs.Gathering.{AreCheap}
+use Rattle.candidates.specs.Borders.{RouteCostsFit}
+use Rattle.candidates.specs.Gathering.{OfferCostsFit}
 use Rattle.words.specs.declared.route.Route.{Route}
 use Rattle.routes.specs.Routes.{AreRoutesAmong}
 use Rattle.routes.specs.declared.offer.Offer.{Offer}
@@ -18,8 +18,8 @@ whole offers sorted view routes is same all =
     routes_among (λ o. Contains sorted o) (λ o. Contains offers o) routes (λ o t. (same o).0 t)
     (λ o t. (same o).1 t) (subst D is all)
 
-below : (offers : List Offer) (routes : List Route) → AreCheap offers
-    → AreRoutesAmong (λ o. Contains offers o) routes → AreBelow routes
+below : (offers : List Offer) (routes : List Route) → OfferCostsFit offers
+    → AreRoutesAmong (λ o. Contains offers o) routes → RouteCostsFit routes
 below offers routes cheap all route among =
     let k = (all.each route).0 among in
     omega (arith, k.cost, cheap k.first k.is_best.offered)

@@ -11,8 +11,9 @@ use Rattle.routes.specs.Contents.{Contents, contents_at}
 use Rattle.routes.specs.Summaries.{OffersInside}
 use Rattle.routes.specs.declared.offer.Offer.{Offer}
 use Rattle.candidates.specs.Alone.{OfOne}
-use Rattle.candidates.specs.Borders.{AreCloseBy, AreFlagged, AscendByRouter, HasLengths, TellsFlags}
-use Rattle.candidates.specs.Gathering.{Adds, AreCheap, IsJust}
+use Rattle.candidates.specs.Borders.{FlaggedDistancesFit, AreFlagged, AscendByRouter, HasLengths}
+use Rattle.candidates.specs.Borders.{TellsFlags}
+use Rattle.candidates.specs.Gathering.{Adds, OfferCostsFit, IsOnly}
 use Rattle.candidates.specs.Sources.{IsInner}
 use Rattle.candidates.specs.declared.flagged.Flagged.{Flagged}
 use Rattle.candidates.proofs.RootAlone.{none_told, one_ascends, one_close, one_flagged, own_inside}
@@ -26,18 +27,18 @@ push_by-requires-clause-ascend g c =
 
 pub push_by-requires-clause-close : goal.push_by-requires-clause-close
 push_by-requires-clause-close g c =
-    subst AreCloseBy (sym (c.deref.ensures.value ∙ c.in_ok-flagged.ensures))
+    subst FlaggedDistancesFit (sym (c.deref.ensures.value ∙ c.in_ok-flagged.ensures))
     (one_close c.args.root.now (g.W.Ways.ways c.args.ways.now) c.requires.alone
     c.router_key-key.result _ c.flagged_by.result c.requires.near c.flagged_by.ensures)
 
-none_cheap : (offers : List Offer) → offers ≡ [] → AreCheap offers
+none_cheap : (offers : List Offer) → offers ≡ [] → OfferCostsFit offers
 none_cheap offers none o among = absurd (of_empty o (subst (λ xs. Contains xs o) none among))
 
 pub returns-clause-searchable : goal.returns-clause-searchable
 returns-clause-searchable g c = record {
   flagged = (
     subst AscendByRouter (sym c.in_ok-flagged.ensures) (one_ascends c.flagged_by.result),
-    subst AreCloseBy (sym c.in_ok-flagged.ensures)
+    subst FlaggedDistancesFit (sym c.in_ok-flagged.ensures)
         (one_close c.args.root.now (g.W.Ways.ways c.args.ways.now) c.requires.alone
         c.router_key-key.result _ c.flagged_by.result c.requires.near c.flagged_by.ensures),
   );
@@ -63,8 +64,8 @@ returns-clause-inner g c =
     let advertised : Option LsaBody = option_copied c.body_at-body.result in
     let own : advertised ≡ contents own_key = c.body_at-body.ensures ∙ ap contents
     c.router_key-key.ensures in
-    let just : IsJust (OfOne (TellsFlags ways) own_key advertised) c.flagged_by.result =
-    subst (λ (k : Key). IsJust (OfOne (TellsFlags ways) k advertised) c.flagged_by.result)
+    let just : IsOnly (OfOne (TellsFlags ways) own_key advertised) c.flagged_by.result =
+    subst (λ (k : Key). IsOnly (OfOne (TellsFlags ways) k advertised) c.flagged_by.result)
     c.router_key-key.ensures c.flagged_by.ensures in
     let routers = c.in_ok-flagged.flagged.items in
     let flagged : AreFlagged contents ways routers =

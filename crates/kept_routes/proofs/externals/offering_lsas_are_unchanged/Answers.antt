@@ -11,20 +11,20 @@ returns-clause-same c =
     let new = c.args.db.now.present in
     let walk = c.args.walk.now in
     let keys = c.deref.ensures.value ∙ c.in_ok-keys.ensures in
-    IfOk-weaker c.are_old_or_left_out.result _ _ (λ are is t.
+    IfOk-weaker c.have_not_just_aged_out_or_are_left_out.result _ _ (λ are is t.
     offer_the_same c.args.before c.args.moment old new walk c.requires.order
     (c.in_ok-others_are_unchanged.ensures.same c.if-not-branch.false)
     (subst (AreOldOrLeftOut c.args.before c.args.moment new walk) keys (is.0 t))
-    c.requires.walk) c.are_old_or_left_out.ensures
+    c.requires.walk) c.have_not_just_aged_out_or_are_left_out.ensures
 
 pub returns-clause-left : goal.returns-clause-left
 returns-clause-left c =
     let old = c.args.db.now.committed in
     let new = c.args.db.now.present in
     let walk = c.args.walk.now in
-    IfOk-weaker c.are_old_or_left_out.result _ _ (λ are is left.
+    IfOk-weaker c.have_not_just_aged_out_or_are_left_out.result _ _ (λ are is left.
     is.1 (others_are_old c.args.before c.args.moment old new walk c.deref.result.now left))
-    c.are_old_or_left_out.ensures
+    c.have_not_just_aged_out_or_are_left_out.ensures
 
 pub returns-then-not-branch-clause-left : goal.returns-then-not-branch-clause-left
 returns-then-not-branch-clause-left c left =

@@ -12,7 +12,7 @@ returns-clause-same c = λ t.
     (all_left c.args.last_type c.args.before c.args.moment old new
     (c.in_ok-is_unchanged.ensures.0 c.if-not-branch.false)
     (subst (HaveNotJustAgedOut c.args.last_type c.args.before c.args.moment new) keys
-    (c.are_old.ensures.0 t)))
+    (c.have_not_just_aged_out.ensures.0 t)))
 
 pub returns-clause-left : goal.returns-clause-left
 returns-clause-left c =
@@ -22,8 +22,9 @@ returns-clause-left c =
       (λ t. all_left c.args.last_type c.args.before c.args.moment old new
           (c.in_ok-is_unchanged.ensures.0 c.if-not-branch.false)
           (subst (HaveNotJustAgedOut c.args.last_type c.args.before c.args.moment new) keys
-          (c.are_old.ensures.0 t))),
-      (λ left. c.are_old.ensures.1 (olds_all c.args.last_type c.args.before c.args.moment old new
+          (c.have_not_just_aged_out.ensures.0 t))),
+      (λ left. c.have_not_just_aged_out.ensures.1
+          (olds_all c.args.last_type c.args.before c.args.moment old new
           c.deref.result.now left)),
     )
 

@@ -1,7 +1,7 @@
 use Rattle.std.proofs.Common.{◌≡◌, ◌<◌, ℕ, List, None, get_or, slice_get, Some, sym, subst, ◌∙◌}
 use Rattle.area_graph.proofs.Whole.{is_graph_of, placed}
 use Rattle.area_graph.specs.Nodes.{HasLsa}
-use Rattle.candidates.specs.Ways.{AreNear, AreWays}
+use Rattle.candidates.specs.Ways.{DistancesFit, AreWays}
 use Rattle.routes.specs.Graphs.{Graph, IsAnswer}
 use Rattle.routes.specs.declared.graph.Way.{Way}
 use Rattle.routes.specs.declared.node.Node.{Node}
@@ -46,7 +46,7 @@ returns-in_ok-slots-in-Some-clause-ways c contents is =
 
 pub returns-in_ok-slots-in-Some-clause-near : goal.returns-in_ok-slots-in-Some-clause-near
 returns-in_ok-slots-in-Some-clause-near c =
-    let P : NodeWays → Type 0 = λ reached. AreNear (way_in reached) in
+    let P : NodeWays → Type 0 = λ reached. DistancesFit (way_in reached) in
     subst P (sym c.new.ensures) (of_beside (λ (way : Way). way.distance < 1073741824)
     c.in_ok-nodes-in-Some.nodes.items c.in_ok-ways-in-Some.ways.items
     c.in_ok-ways-in-Some.ensures.near)

@@ -8,7 +8,7 @@ use Rattle.candidates.specs.Borders.{Tells}
 use Rattle.candidates.specs.Gathering.{Adds, OfEach}
 use Rattle.candidates.proofs.Boundaries.{told_below}
 use Rattle.candidates.proofs.Gathered.{adds_just, all_of_them, all_such, of_one, one_more, such}
-use Rattle.candidates.proofs.passes.advertised_routes.Goals as goal
+use Rattle.candidates.proofs.passes.boundary_routes.Goals as goal
 
 pub loop-one-preserved : goal.loop-one-preserved
 loop-one-preserved c =
@@ -19,7 +19,7 @@ loop-one-preserved c =
     (of_one Q c.loop-one.offers.items c.push_offer.new.offers.items c.one-item.result
     c.key.result.now c.body.result.now c.key.ensures c.body.ensures
     (adds_just c.loop-one.offers.items c.push_offer.new.offers.items
-    (Q (c.key.result.now, c.body.result.now)) c.advertised_offer.result c.advertised_offer.ensures
+    (Q (c.key.result.now, c.body.result.now)) c.boundary_offer.result c.boundary_offer.ensures
     c.in_ok-push_offer.ensures))
 
 routes_of_these : (P : Offer → Type 0) (offers : List Offer) (routes : List Route)
