@@ -20,7 +20,7 @@ use Rattle.routes.specs.declared.root.Root.{Root}
 use Rattle.routes.proofs.Lists.{first_is, of_cons, of_empty}
 use Rattle.routes.proofs.OneMore.{never_itself, same_offers}
 use Rattle.candidates.specs.Bodies.{OfContents}
-use Rattle.candidates.specs.Gathering.{Adds, IsJust, OfEach}
+use Rattle.candidates.specs.Gathering.{Adds, IsOnly, OfEach}
 use Rattle.candidates.specs.Sources.{OfExternal}
 use Rattle.candidates.proofs.Outward.{external_back, external_forth}
 use Rattle.candidates.specs.declared.inner.InnerRoutes.{InnerRoutes}
@@ -165,23 +165,23 @@ module _ (moment : ℕ) (db : Database) (root : Root) (inner : InnerRoutes) (pre
 
 -- the only offer of which Q holds, if P holds of the same ones
 pub just_such : (P Q : Offer → Type 0) (o : Option Offer) → ((x : Offer) → P x → Q x)
-    → ((x : Offer) → Q x → P x) → IsJust Q o → IsJust P o
+    → ((x : Offer) → Q x → P x) → IsOnly Q o → IsOnly P o
 just_such P Q None forth back none = λ x p. none x (forth x p)
 just_such P Q (Some it) forth back just =
     λ x. ((λ p. (just x).0 (forth x p)), (λ e. back x ((just x).1 e)))
 
 -- the offer, if it is to the destination
 pub just_to : (P : Offer → Type 0) (prefix : Network) (offer : Offer) (o : Option Offer)
-    → IsJust P (Some offer) → IsJust (IsTo prefix offer) o
-    → IsJust (λ x. P x × (x.prefix ≡ prefix)) o
+    → IsOnly P (Some offer) → IsOnly (IsTo prefix offer) o
+    → IsOnly (λ x. P x × (x.prefix ≡ prefix)) o
 just_to P prefix offer o just to =
     just_such (λ x. P x × (x.prefix ≡ prefix)) (IsTo prefix offer) o (λ x p. ((just x).0 p.0, p.1))
     (λ x t. ((just x).1 t.0, t.1)) to
 
 pub just_its : (moment : ℕ) (db : Database) (root : Root) (inner : InnerRoutes) (prefix : Network)
     (key : Key) (says : LsaBody) (o : Option Offer) → contents_at moment db key ≡ Some says
-    → IsJust (SaysTo root inner prefix (key, says)) o
-    → IsJust (OffersTo (contents_at moment db) root inner prefix key) o
+    → IsOnly (SaysTo root inner prefix (key, says)) o
+    → IsOnly (OffersTo (contents_at moment db) root inner prefix key) o
 just_its moment db root inner prefix key says o is just =
     just_such (OffersTo (contents_at moment db) root inner prefix key)
     (SaysTo root inner prefix (key, says)) o

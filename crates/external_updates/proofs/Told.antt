@@ -3,9 +3,9 @@ use Rattle.std.proofs.Common.{◌≡◌, Option, None, Some, ap, sym}
 use Rattle.lsa.specs.declared.body.LsaBody.{LsaBody}
 use Rattle.lsa.specs.declared.body.LsaBody.TheVariants as body
 use Rattle.lsa.specs.declared.body.ExternalLsa.{ExternalLsa}
-use Rattle.candidates.specs.Gathering.{IsJust}
+use Rattle.candidates.specs.Gathering.{IsOnly}
 
-pub just_is : {X : Type 0} (P : X → Type 0) (o : Option X) (x : X) → IsJust P o → P x → o ≡ Some x
+pub just_is : {X : Type 0} (P : X → Type 0) (o : Option X) (x : X) → IsOnly P o → P x → o ≡ Some x
 just_is P None x none p = absurd (none x p)
 just_is {X} P (Some it) x just p = ap (λ (y : X). Some y) (sym ((just x).0 p))
 

@@ -21,7 +21,7 @@ use words::{Key, Prefix, Second};
 ///
 /// # Errors
 /// `AllocError` if an allocation is refused.
-pub fn changed_keys(
+pub fn possibly_changed_keys(
     alloc: Global,
     db: &Lsdb,
     before: Second,

@@ -3,7 +3,7 @@ ghost use Rattle.std.specs.Prelude.{◌≡◌, IfOk, OnOk, slice_get};
 ghost use Rattle.candidates.specs.Inner.{AreSearchable};
 ghost use Rattle.external_updates.specs.Destinations.{HaveAllUnder, IsBestTo, IsTo, Knows};
 ghost use Rattle.external_updates.specs.Destinations.{OffersTo, SaysTo};
-ghost use Rattle.candidates.specs.Gathering.{Adds, IsJust, OfEach};
+ghost use Rattle.candidates.specs.Gathering.{Adds, IsOnly, OfEach};
 ghost use Rattle.routes.specs.Contents.{contents_at};
 
 use crate::keys::lies_under;
@@ -15,7 +15,7 @@ use words::{Key, Prefix, Route, Second};
 
 // The offer, if it is to the destination.
 fn to(prefix: Prefix, offer: &Offer) -> Option<Offer>
-    ensures { IsJust (IsTo prefix offer.now) result }
+    ensures { IsOnly (IsTo prefix offer.now) result }
 {
     if offer.prefix == prefix {
         return Some(*offer);
@@ -43,7 +43,7 @@ fn offer_to(
     lsa_body: &LsaBody,
 ) -> Option<Offer>
     requires { AreSearchable inner.now }
-    ensures { IsJust (SaysTo root.now inner.now prefix (key.now, lsa_body.now)) result }
+    ensures { IsOnly (SaysTo root.now inner.now prefix (key.now, lsa_body.now)) result }
 {
     let by = Inner {
         boundary_routes: &inner.boundary_routes,
@@ -67,7 +67,7 @@ fn external_to(
     key: &Key,
 ) -> Option<Offer>
     requires { AreSearchable inner.now }
-    ensures { IsJust (OffersTo (contents_at moment db.now.present) root.now inner.now prefix
+    ensures { IsOnly (OffersTo (contents_at moment db.now.present) root.now inner.now prefix
         key.now)
         result }
 {

@@ -9,7 +9,7 @@ ghost use Rattle.candidates.specs.Borders.{Ascend};
 ghost use Rattle.routes.specs.Candidates.{AreCandidates};
 ghost use Rattle.routes.specs.Contents.{Contents, contents_at};
 
-use crate::changes::{changed_keys, networks_told};
+use crate::changes::{networks_told, possibly_changed_keys};
 use crate::destination::best_to;
 use crate::keys::keys_under;
 use crate::placing::place;
@@ -21,16 +21,16 @@ use words::{Key, Prefix, Route, Second};
 
 // The maximum number of keys of changed LSAs that are followed, unless one for each 32 candidates
 // is more: beyond that, recalculating everything may be cheaper. At 10,000 candidates that costs
-// some 2.8 milliseconds, the route to one destination 6 microseconds, and one that is added or
-// removed up to 17 more, since those after it move. A key is counted
-// twice if its LSA changed and is at MaxAge.
+// some 2.8 milliseconds, the route to one destination 6 microseconds, and one that differs, is
+// added or removed copies the page that it is in, of at most 256. A key is counted twice if its
+// LSA changed and is at MaxAge.
 const FEW_CHANGED: usize = 64;
 
 /// The outcome for candidates that were to follow an event.
 #[derive(Clone, Copy)]
 pub enum Followed {
-    /// Too many LSAs changed, or too many may advertise one destination: the candidates are
-    /// useless.
+    /// Too many LSAs changed, or too many may advertise one destination, since their Link State IDs
+    /// are in it (64 or more are in 0.0.0.0/0 of most networks): the candidates are useless.
     TooMany,
     /// They are the current candidates, and each of them was one before.
     NoneNew,
@@ -138,7 +138,7 @@ fn renew_all(
 ///
 /// # Errors
 /// `AllocError` if an allocation is refused.
-pub fn update_externals(
+pub fn follow_externals(
     alloc: Global,
     db: &Lsdb,
     root: &Root,
@@ -155,7 +155,7 @@ pub fn update_externals(
     ensures { IfOk result (λ done. HaveFollowed (contents_at moment db.now.present) root.now
         routes.old routes.new done) }
 {
-    let keys = changed_keys(alloc, db, before, moment)?;
+    let keys = possibly_changed_keys(alloc, db, before, moment)?;
     let most = FEW_CHANGED.max(routes.len() / 32);
     if keys.len() > most {
         return Ok(Followed::TooMany);

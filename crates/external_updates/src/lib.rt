@@ -9,5 +9,5 @@ mod keys;
 pub mod laws;
 mod placing;
 
-pub use changes::changed_keys;
-pub use follow::{Followed, update_externals};
+pub use changes::possibly_changed_keys;
+pub use follow::{Followed, follow_externals};

@@ -76,9 +76,11 @@ fn replace(
             Ok(true)
         }
         Some(route) => {
-            let stood = stands_at(routes, at, &route);
+            if stands_at(routes, at, &route) {
+                return Ok(true);
+            }
             routes.replace(at, route)?;
-            Ok(stood)
+            Ok(false)
         }
     }
 }

@@ -1,7 +1,8 @@
-use Rattle.std.proofs.Common.{◌≡◌, true, false, List, Option, None, Some, subst, sym}
+use Rattle.std.proofs.Common.{◌≡◌, true, false, List, Option, None, Some, set, subst, sym}
 use Rattle.std.proofs.Common.{◌∙◌}
 use Rattle.std.specs.List.{Contains}
 use Rattle.std.specs.Prelude.{IfSome}
+use Rattle.std.proofs.lemmas.List.{set-get_or}
 use Rattle.std.proofs.lemmas.Option.{get_or_from_slice_get, same_Some}
 use Rattle.words.specs.declared.route.Route.{Route}
 use Rattle.external_updates.specs.Placing.{IsPlaced}
@@ -40,21 +41,44 @@ returns-in_ok-replace-in-Some-clause-placed c =
     (written_over old prefix c.requires.ascend c.args.at c.requires.there route its) in
     subst (λ (o : Option Route). IsPlaced old new prefix o) (sym c.in-Some.is) placed
 
-pub stands_at-stood-requires : goal.stands_at-stood-requires
-stands_at-stood-requires c = c.requires.there.within
+pub stands_at-requires : goal.stands_at-requires
+stands_at-requires c = c.requires.there.within
 
-pub returns-in_ok-replace-in-Some-clause-stood : goal.returns-in_ok-replace-in-Some-clause-stood
-returns-in_ok-replace-in-Some-clause-stood c on r is =
+pub returns-then-stands_at-clause-placed : goal.returns-then-stands_at-clause-placed
+returns-then-stands_at-clause-placed c =
+    let old = c.args.routes.now in
+    let prefix = c.args.prefix in
+    let at = c.args.at in
+    let route : Route = c.in-Some.route in
+    let its = subst (λ (o : Option Route). IfSome o (λ r. r.prefix ≡ prefix)) c.in-Some.is
+    c.requires.its in
+    let there = c.stands_at.ensures.0 c.if-stands_at.true in
+    let same : set old at route ≡ old =
+    subst (λ (x : Route). set old at x ≡ old) (get_or_from_slice_get old at route route there)
+    (set-get_or old at route) in
+    let placed = subst (λ (ys : List Route). IsPlaced old ys prefix (Some route)) same
+    (written_over old prefix c.requires.ascend at c.requires.there route its) in
+    subst (λ (o : Option Route). IsPlaced old old prefix o) (sym c.in-Some.is) placed
+
+pub returns-then-stands_at-clause-stood : goal.returns-then-stands_at-clause-stood
+returns-then-stands_at-clause-stood c on r is =
     let old = c.args.routes.now in
     let at = c.args.at in
     let route : Route = c.in-Some.route in
-    let there = c.stands_at-stood.ensures.0 on in
+    let there = c.stands_at.ensures.0 c.if-stands_at.true in
     let among : Contains old route = (
       at,
       c.requires.there.within,
       get_or_from_slice_get old at route route there,
     ) in
     subst (λ (x : Route). Contains old x) (same_Some route r (sym c.in-Some.is ∙ is)) among
+
+pub returns-then-stands_at-clause-another : goal.returns-then-stands_at-clause-another
+returns-then-stands_at-clause-another c off = absurd (let no : true ≡ false = off in cc)
+
+pub returns-in_ok-replace-in-Some-clause-stood : goal.returns-in_ok-replace-in-Some-clause-stood
+returns-in_ok-replace-in-Some-clause-stood c on r is =
+    absurd (let no : false ≡ true = on in cc)
 
 pub returns-in_ok-remove-in-None-clause-another : goal.returns-in_ok-remove-in-None-clause-another
 returns-in_ok-remove-in-None-clause-another c off = absurd (let no : true ≡ false = off in cc)
@@ -71,5 +95,6 @@ returns-in_ok-replace-in-Some-clause-another c off =
       c.in-Some.is,
       λ t.
           let there = stands_there old prefix c.requires.ascend at c.requires.there route t its in
-          absurd (let no : true ≡ false = sym (c.stands_at-stood.ensures.1 there) ∙ off in cc),
+          absurd (let no : true ≡ false = sym (c.stands_at.ensures.1 there) ∙ c.if-stands_at.false
+          in cc),
     )

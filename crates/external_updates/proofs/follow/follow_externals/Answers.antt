@@ -4,7 +4,7 @@ use Rattle.words.specs.declared.key.Key.{Key}
 use Rattle.routes.specs.Contents.{contents_at}
 use Rattle.external_updates.specs.Changes.{AreAllAdvertised, OthersHaveSameContents}
 use Rattle.external_updates.proofs.Halfway.{all_done}
-use Rattle.external_updates.proofs.follow.update_externals.Goals as goal
+use Rattle.external_updates.proofs.follow.follow_externals.Goals as goal
 
 pub renew_all-requires-clause-ascend : goal.renew_all-requires-clause-ascend
 renew_all-requires-clause-ascend c = c.requires.routes.ascending

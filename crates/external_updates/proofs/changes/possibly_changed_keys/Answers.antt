@@ -4,7 +4,7 @@ use Rattle.std.specs.List.{Contains}
 use Rattle.std.proofs.lemmas.List.Elements.{Contains-append_left, Contains-append_right}
 use Rattle.routes.specs.lsdb.Copies.{is_aged_out}
 use Rattle.kept_routes.proofs.Aging.{among_aged, says_same}
-use Rattle.external_updates.proofs.changes.changed_keys.Goals as goal
+use Rattle.external_updates.proofs.changes.possibly_changed_keys.Goals as goal
 
 pub returns-then-count : goal.returns-then-count
 returns-then-count c key none =
