@@ -166,15 +166,18 @@ fn candidates_are_compared_with_answers(rt: HostRuntime) -> Result<(), Fail> {
     let alloc = rt.alloc();
     let offered = offered().ok_or("lengths of 24")?;
     for case in PAGED_CASES {
-        let (name, candidates, answered, lacks, exact) = *case;
+        let (name, candidates, answered, lacks, only_candidates) = *case;
         let candidates = chosen(alloc, &offered, candidates)?;
         let answers = RouteAnswers::all_in(chosen(alloc, &offered, answered)?);
         let found = compare(&candidates, &answers)?;
-        assert!(rt; found.lacks == lacks && found.exact == exact, "{name}");
+        assert!(rt;
+            found.lacks == lacks && found.only_candidates == only_candidates,
+            "{name}"
+        );
         let each = kept_out(alloc, &offered, answered)?;
         let found = compare(&candidates, &each)?;
         assert!(rt;
-            found.lacks == lacks && found.exact == exact,
+            found.lacks == lacks && found.only_candidates == only_candidates,
             "{name}, one by one"
         );
     }

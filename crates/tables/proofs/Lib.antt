@@ -1,6 +1,7 @@
 pub mod Ordered
 pub mod Halving
 pub mod Adjacent
+mod KeptOut
 pub mod LetIn
 pub mod InTurn
 pub mod InPages

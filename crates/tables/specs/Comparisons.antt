@@ -8,11 +8,11 @@ use Rattle.routes.specs.declared.root.Root.{Root}
 use Rattle.tables.specs.Parts.{AreAnswersAmong}
 use Rattle.tables.specs.declared.shared.Comparison.{Comparison}
 
--- whether some candidate has no answer, both ways; and if it says so, each answered route is a
+-- `lacks` if and only if some candidate has no answer; if `only_candidates`, each answered route is a
 -- candidate
 pub record IsComparison (answers : RouteWords) (candidates : List Route) (found : Comparison) :
     Type 0
   where
     pub lacks : (contents : Contents) (root : Root) → AreCandidates contents root candidates
         → IsTrue found.lacks ↔ IsStale contents root answers
-    pub exact : IsTrue found.exact → AreAnswersAmong answers candidates
+    pub only_candidates : IsTrue found.only_candidates → AreAnswersAmong answers candidates

@@ -39,7 +39,8 @@ pub fn table_among(
     answers: &RouteAnswers,
 ) -> Result<Vec<Route>, AllocError>
     ensures { IfOk result (λ table. (contents : Contents) (root : Root)
-        → AreCandidates contents root candidates.now → IsTable contents root answers.now table.items) }
+        → AreCandidates contents root candidates.now
+        → IsTable contents root answers.now table.items) }
 {
     match answers.kept() {
         KeptAnswers::Each(each) => table(alloc, candidates, each),
@@ -55,8 +56,8 @@ pub fn table_among(
 pub struct Comparison {
     /// Some candidate's equal route has no answer.
     pub lacks: bool,
-    /// Each answered route is known to be a candidate.
-    pub exact: bool,
+    /// Each answered route is known to be a candidate; false leaves it open.
+    pub only_candidates: bool,
 }
 
 /// Whether some candidate's equal route has no answer, as [`is_stale`] tells, and whether each
@@ -96,7 +97,7 @@ fn compare_each(
     let lacks = is_stale(alloc, &routes, answers)?;
     Ok(Comparison {
         lacks,
-        exact: false,
+        only_candidates: false,
     })
 }
 
@@ -106,10 +107,10 @@ fn compare_in_turn(candidates: &Pages<Route>, answers: &[(Route, u64)]) -> Optio
 {
     let met = answered_in_pages(candidates, answers);
     if met >= candidates.len() {
-        let exact = answers.len() == candidates.len();
+        let only_candidates = answers.len() == candidates.len();
         return Some(Comparison {
             lacks: false,
-            exact,
+            only_candidates,
         });
     }
     let behind = candidates.part_from(met);
@@ -118,7 +119,7 @@ fn compare_in_turn(candidates: &Pages<Route>, answers: &[(Route, u64)]) -> Optio
     }
     Some(Comparison {
         lacks: true,
-        exact: false,
+        only_candidates: false,
     })
 }
 
@@ -147,10 +148,10 @@ fn compare_all_in(candidates: &Pages<Route>, answered: &Pages<Route>) -> Option<
 {
     let met = met_in_turn(candidates, answered);
     if met >= candidates.len() {
-        let exact = answered.len() == candidates.len();
+        let only_candidates = answered.len() == candidates.len();
         return Some(Comparison {
             lacks: false,
-            exact,
+            only_candidates,
         });
     }
     let behind = candidates.part_from(met);
@@ -159,7 +160,7 @@ fn compare_all_in(candidates: &Pages<Route>, answered: &Pages<Route>) -> Option<
     }
     Some(Comparison {
         lacks: true,
-        exact: false,
+        only_candidates: false,
     })
 }
 

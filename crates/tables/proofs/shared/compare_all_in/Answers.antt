@@ -28,7 +28,7 @@ returns-then-met-len c =
         (λ lacks. absurd (none_lacks (all_in answered) candidates met whole
             (are_met answered candidates met each) lacks)),
       );
-      exact = λ on.
+      only_candidates = λ on.
           let as_long = eqb-true c.len-then-met-len.result c.len-then-met-len-2.result on in
           let f : Route → Route × ℕ = λ x. (x, 0) in
           let few : length (all_in answered) ≤ length candidates =
@@ -61,5 +61,5 @@ returns c =
           (are_met answered candidates met c.met_in_turn-met.ensures.each) behind in
           tells_stale (all_in answered) candidates true ((λ t. lacks), (λ any. refl)) contents root
           are;
-      exact = λ on. absurd (false≢true on);
+      only_candidates = λ on. absurd (false≢true on);
     }

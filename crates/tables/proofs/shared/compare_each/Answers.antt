@@ -10,5 +10,5 @@ returns c = record {
       let same = c.deref.ensures.value ∙ c.in_ok-routes.ensures in
       c.in_ok-lacks.ensures contents root
       (subst (λ (rs : List Route). AreCandidates contents root rs) (sym same) are);
-  exact = λ on. absurd (false≢true on);
+  only_candidates = λ on. absurd (false≢true on);
 }

@@ -24,7 +24,7 @@ returns-then-met-len c =
         (λ t. absurd (false≢true t)),
         (λ lacks. absurd (none_lacks answers candidates met whole each lacks)),
       );
-      exact = λ on.
+      only_candidates = λ on.
           let as_long = eqb-true (length answers) c.len-then-met-len.result on in
           let few : length answers ≤ length candidates =
           omega (arith, as_long, c.len-then-met-len.ensures) in
@@ -47,5 +47,5 @@ returns c =
           let lacks = one_lacks answers candidates met route inside here are.ascending
           c.answered_in_pages-met.ensures behind in
           tells_stale answers candidates true ((λ t. lacks), (λ any. refl)) contents root are;
-      exact = λ on. absurd (false≢true on);
+      only_candidates = λ on. absurd (false≢true on);
     }
