@@ -9,7 +9,7 @@ use Rattle.candidates.specs.Externals.{AreExternals}
 use Rattle.candidates.specs.declared.externals.ExternalAdvertisement.{ExternalAdvertisement}
 use Rattle.routes.specs.Contents.{Contents}
 use Rattle.candidates.specs.declared.graph.AreaGraph.{AreaGraph}
-use Rattle.area_routes.specs.Kept.{AreOffersOf, ExternalsHaveSameContents, KeptRoutes}
+use Rattle.area_routes.specs.Kept.{AreWalkAndCandidatesOf, ExternalsHaveSameContents, KeptRoutes}
 use Rattle.area_routes.specs.Kept.{KnowsExternals}
 
 -- it is unchanged while they say the same
@@ -45,7 +45,8 @@ externals_after old new false kept next last same followed stays forgotten knows
 -- candidates and walk don't depend on what is kept of them, nor on the graph
 pub same_but : (router : RouterNumber) (area : Area) (moment : Moment) (kept : KeptRoutes)
     (externals : Option (Vec ExternalAdvertisement)) (graph : Option AreaGraph)
-    → AreOffersOf router area moment kept → AreOffersOf router area moment (record kept {
+    → AreWalkAndCandidatesOf router area moment kept
+    → AreWalkAndCandidatesOf router area moment (record kept {
       externals = externals;
       graph = graph;
     })

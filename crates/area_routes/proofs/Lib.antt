@@ -9,3 +9,4 @@ pub mod Candidates
 pub mod Matches
 pub mod AfterExternals
 pub mod Externals
+mod Unwalked

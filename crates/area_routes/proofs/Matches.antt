@@ -6,7 +6,7 @@ use Rattle.std.specs.List.{Contains}
 use Rattle.std.proofs.lemmas.Option.{same_Some}
 use Rattle.words.specs.declared.route.Route.{Route}
 use Rattle.area_routes.specs.Kept.{HaveAnother, KnowsMatching}
-use Rattle.area_routes.specs.declared.matching.Matching.TheVariants.{Exact, Lacking}
+use Rattle.area_routes.specs.declared.matching.Matching.TheVariants.{OnlyCandidates, Lacking}
 use Rattle.external_updates.specs.Placing.{AreAllAmong, HasAnother}
 use Rattle.routes.specs.Candidates.{AreCandidates}
 use Rattle.routes.specs.Contents.{Contents}
@@ -26,7 +26,7 @@ found_lacking contents root answers candidates found are is on =
 
 -- if each answered route was a candidate, one that wasn't a candidate has no answer
 pub another_lacks : (answers : RouteWords) (kept : Option (List Route)) (now : List Route)
-    → HaveAnother kept now → KnowsMatching answers kept Exact
+    → HaveAnother kept now → KnowsMatching answers kept OnlyCandidates
     → KnowsMatching answers (Some now) Lacking
 another_lacks answers None now another knows = absurd knows
 another_lacks answers (Some before) now (r, among, none) knows =

@@ -9,7 +9,7 @@ use Rattle.words.specs.declared.route.Route.{Route}
 use Rattle.flooding.specs.received.Links.{Area}
 use Rattle.area_routes.specs.Offers.{root_by}
 use Rattle.area_routes.specs.declared.matching.Matching.{Matching}
-use Rattle.area_routes.specs.declared.matching.Matching.TheVariants.{Exact, Lacking, Unknown}
+use Rattle.area_routes.specs.declared.matching.Matching.TheVariants.{OnlyCandidates, Lacking, Unknown}
 use Rattle.candidates.specs.Inner.{AreInner, AreSearchable}
 use Rattle.candidates.specs.declared.inner.InnerRoutes.{InnerRoutes}
 use Rattle.external_updates.specs.Placing.{AreAllAmong, HasAnother}
@@ -34,7 +34,8 @@ pub record KeptRoutes : Type 0 where
   pub behind : Bool
   -- the graph of the area, if one was built and has followed each event since
   pub graph : Option AreaGraph
-  -- the candidates, if calculated since an LSA that they depend on changed
+  -- the candidates, if they are known: calculated since an LSA of types 1 to 4 changed, and
+  -- followed over each change of AS-external-LSAs since
   pub candidates : Option (List Route)
   -- the results from the LSAs of types 1 to 4, if candidates were calculated since one of those
   -- changed
@@ -86,18 +87,18 @@ abbrev pub ExternalsHaveSameContents : (old : Contents) → (new : Contents) →
 ExternalsHaveSameContents old new = (key : Key) → key.ls_type ≡ 5 → old key ≡ new key
 
 -- none of the keys is that of an AS-external-LSA
-abbrev pub AreOfOthers : List Key → Type 0
-AreOfOthers keys = (key : Key) → Contains keys key → key.ls_type ≢ 5
+abbrev pub AreNotExternal : List Key → Type 0
+AreNotExternal keys = (key : Key) → Contains keys key → key.ls_type ≢ 5
 
 -- if each candidate is known to be among the answers, each is
 abbrev pub KnowsAnswered : Contents → Root → RouteWords → KeptRoutes → Type 0
 KnowsAnswered contents root answers kept = kept.answered ≡ true → IsStale contents root answers → ⊥
 
--- what is known of the answers and of the candidates that are kept, if any: with `Exact` each
--- answered route is one of these, with `Lacking` some of these has no answer
+-- what is known of the answers and of the candidates that are kept, if any: with `OnlyCandidates`
+-- each answered route is one of these, with `Lacking` some of these has no answer
 abbrev pub KnowsMatching : RouteWords → (kept : Option (List Route)) → Matching → Type 0
 KnowsMatching answers kept Unknown = Unit {0}
-KnowsMatching answers kept Exact = MatchOption kept ⊥ (AreAnswersAmong answers)
+KnowsMatching answers kept OnlyCandidates = MatchOption kept ⊥ (AreAnswersAmong answers)
 KnowsMatching answers kept Lacking = MatchOption kept ⊥ (LacksAnswers answers)
 
 -- from what the LSAs said to what they say, no candidate appears that may lack an answer
@@ -158,7 +159,7 @@ pub record KeepsWalkUnlessChanged (before : Moment) (moment : Moment) (router : 
   pub lags : kept.behind ≡ true → next.behind ≡ true
 
 -- walk, candidates and the results from the LSAs of types 1 to 4 are the router's at the moment
-pub record AreOffersOf (router : RouterNumber) (area : Area) (moment : Moment)
+pub record AreWalkAndCandidatesOf (router : RouterNumber) (area : Area) (moment : Moment)
     (kept : KeptRoutes) : Type 0 where
   pub walk : KnowsWalk (contents_at moment area.database) (root_by router area.links) kept
   pub candidates : KnowsCandidates (contents_at moment area.database) (root_by router area.links)

@@ -8,7 +8,7 @@ ghost use Rattle.routes.specs.Candidates.{AreCandidates};
 ghost use Rattle.routes.specs.Contents.{contents_at};
 
 use candidates::InnerRoutes;
-use external_updates::{Followed, update_externals};
+use external_updates::{Followed, follow_externals};
 use flooding::Area;
 use kept_routes::Routes;
 use pages::Pages;
@@ -56,7 +56,7 @@ fn follow_from(
     let mut candidates = routes;
     let db = area.database();
     let root = walk.root();
-    let Ok(done) = update_externals(alloc, db, root, before, moment, inner, &mut candidates) else {
+    let Ok(done) = follow_externals(alloc, db, root, before, moment, inner, &mut candidates) else {
         return None;
     };
     match done {

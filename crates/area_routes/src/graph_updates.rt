@@ -11,7 +11,7 @@ use crate::lookups::are_costly;
 use crate::surroundings::Surroundings;
 use area_graph::NETWORK_LSA;
 use candidates::AreaGraph;
-use external_updates::changed_keys;
+use external_updates::possibly_changed_keys;
 use kept_routes::lsas_are_unchanged;
 use routes::{Lsdb, Root, Vertex};
 use std::alloc::{AllocError, Global};
@@ -86,8 +86,9 @@ fn renewed(
 /// The graph of a database after an event, from the graph before it: from what the committed
 /// database said at the moment `before` to what the database says at this moment. `None` if it has
 /// to be rebuilt: if a router or network was added or removed, or if many LSAs changed. It takes
-/// the time of two lookups for each link of the routers and networks whose LSAs changed, and of
-/// those that these named or name: at most as many as there are nodes, and 64 more.
+/// the time of two lookups, and of a pass over the LSA at the other end, for each link of the
+/// routers and networks whose LSAs changed, and of those that these named or name (of one that is
+/// named before and after twice): of at most as many links as there are nodes, and 64 more.
 ///
 /// # Errors
 /// `AllocError` if an allocation is refused.
@@ -107,7 +108,7 @@ pub fn update_graph(
     if lsas_are_unchanged(alloc, db, Some(NETWORK_LSA), before, moment)? {
         return Ok(Some(graph));
     }
-    let keys = changed_keys(alloc, db, before, moment)?;
+    let keys = possibly_changed_keys(alloc, db, before, moment)?;
     let at = Surroundings {
         db,
         moment,

@@ -3,7 +3,7 @@ ghost use Rattle.std.specs.Prelude.{◌≡◌, ◌≤◌, length, IfOk, IfSome};
 ghost use Rattle.std.specs.FinMap as finite;
 ghost use Rattle.area_routes.specs.Kept.{IsGraphFrom};
 ghost use Rattle.area_routes.specs.Offers.{root_by};
-ghost use Rattle.candidates.specs.Ways.{AreNear, AreWays};
+ghost use Rattle.candidates.specs.Ways.{DistancesFit, AreWays};
 ghost use Rattle.routes.specs.Contents.{contents_at};
 ghost use Rattle.candidates.specs.AreaGraphs.{IsAreaGraph};
 ghost use Rattle.candidates.specs.Reached.{way_in};
@@ -57,7 +57,7 @@ pub fn walk_by(
         (IsGraphFrom (contents_at moment area.now.present.database) root.now) }
     ensures ways { IfOk result (λ reached. AreWays (contents_at moment area.now.present.database)
         root.now (way_in reached)) }
-    ensures near { IfOk result (λ reached. AreNear (way_in reached)) }
+    ensures near { IfOk result (λ reached. DistancesFit (way_in reached)) }
 {
     match kept {
         Some(graph) => {

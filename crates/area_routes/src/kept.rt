@@ -3,25 +3,28 @@ ghost use Rattle.std.specs.Prelude.{◌≡◌, ◌+◌, ◌≤◌, ◌↔◌, �
 ghost use Rattle.std.specs.Prelude.{IfOk, IfSome, IsSome, IsTrue, OnErr, OnOk, true};
 ghost use Rattle.std.specs.FinMap as finite;
 ghost use Rattle.area_routes.specs.Kept.{AreKept, AreRoutesOf, AreCandidateInputsUnchanged};
-ghost use Rattle.area_routes.specs.Kept.{AreOffersOf, BringsAnother, BringsNoneNew};
+ghost use Rattle.area_routes.specs.Kept.{AreWalkAndCandidatesOf, BringsAnother, BringsNoneNew};
 ghost use Rattle.area_routes.specs.Kept.{ExternalsHaveSameContents, KnowsExternals, KnowsGraph};
 ghost use Rattle.area_routes.specs.Kept.{KeepsWalkUnlessChanged};
 ghost use Rattle.area_routes.specs.Kept.{KnowsAnswered, KnowsCandidates, KnowsInner, KnowsMatching};
 ghost use Rattle.area_routes.specs.Kept.{KnowsWalk};
 ghost use Rattle.area_routes.specs.Offers.{AreCandidatesOf, AreOffered, IsStaleOf, IsTableOf};
 ghost use Rattle.area_routes.specs.Offers.{root_by};
-ghost use Rattle.area_routes.specs.declared.matching.Matching.TheVariants.{Exact, Lacking, Unknown};
+ghost use Rattle.area_routes.specs.declared.matching.Matching.TheVariants.{Lacking, OnlyCandidates};
+ghost use Rattle.area_routes.specs.declared.matching.Matching.TheVariants.{Unknown};
 ghost use Rattle.kept_routes.specs.Kept.{IsWalkOf};
 ghost use Rattle.kept_routes.specs.Sameness.{HaveSameContents};
 ghost use Rattle.routes.specs.Contents.{contents_at};
 ghost use Rattle.routes.specs.Tables.{RouteWords};
+ghost use Rattle.words.specs.Numbers.{Moment, RouterNumber};
+ghost use Rattle.flooding.specs.received.Links.{Area as AreaValue};
 
 use crate::calculating::{Made, calculated, kept_or};
 use crate::following::followed;
 use crate::graphs::{graph_after, graph_at, walk_by};
 use crate::matching::{Matching, matching_after, matching_by};
 use crate::root::{is_root_of, root_of};
-use crate::unchanged::{area_lsas_are_unchanged, externals_stay, leaves_candidates};
+use crate::unchanged::{area_lsas_are_unchanged, candidates_stay, externals_stay};
 use candidates::{AreaGraph, Calculated, ExternalAdvertisement, InnerRoutes};
 use external_updates::laws::inner_routes_are_kept;
 use flooding::Area;
@@ -32,7 +35,7 @@ use routes::Root;
 use std::alloc::{AllocError, Global};
 use std::marker::Model;
 use tables::{compare, rows_of, table_among, table_of};
-use words::{Route, RouterId, Second, TableRow};
+use words::{Route, RouterId, Second, Sequence, TableRow};
 
 /// The candidates of a router, and the rows of its table, at one moment.
 #[derive(Drop)]
@@ -47,7 +50,8 @@ pub struct Offered {
 /// section 16.1). The candidates that were calculated, and the knowledge that each has an answer,
 /// are valid while all LSAs say the same, apart from AS-external-LSAs that offer nothing (section
 /// 16.4). If only a few other AS-external-LSAs change, only the candidates for the destinations
-/// that these advertise are recalculated (section 16.6); and if none of these is a new route, as
+/// that these advertise are recalculated (section 16.6), unless the Link State IDs of 64 or more
+/// are in one of them, as in 0.0.0.0/0; and if none of these is a new route, as
 /// when an AS-external-LSA is removed, all candidates have answers if they had before. If one is a
 /// new route, and each answered route was a candidate, it has no answer, so that none is searched.
 /// [`update`](AreaRoutes::update), which is a part of each event, makes no walk. If it leaves no
@@ -65,7 +69,8 @@ pub struct AreaRoutes {
     behind: bool,
     // the graph of the area, if one was built and has followed each event since
     graph: Option<AreaGraph>,
-    // the candidates, if they were calculated since an LSA that they depend on changed
+    // the candidates, if they are known: calculated since an LSA of types 1 to 4 changed, and
+    // followed over each change of AS-external-LSAs since
     candidates: Option<Pages<Route>>,
     // the results from the LSAs of types 1 to 4, if calculated since one of these changed
     inner: Option<InnerRoutes>,
@@ -120,16 +125,52 @@ impl AreaRoutes {
         let root = root_of(alloc, router, area)?;
         let db = area.database();
         let walk = Routes::new(alloc, db, &root, moment)?;
-        Ok(AreaRoutes {
+        Ok(AreaRoutes::of_walk(walk, false))
+    }
+
+    /// The routes of any router, at any moment, before a walk: the first call that needs one makes
+    /// it. Nothing is calculated.
+    ///
+    /// # Errors
+    /// `AllocError` if an allocation is refused.
+    pub fn without_walk(alloc: Global, router: RouterId) -> Result<AreaRoutes, AllocError>
+        ensures routes { IfOk result (λ made. (id : RouterNumber) (area : AreaValue)
+            (moment : Moment) → AreRoutesOf id area moment made) }
+        ensures walks { IfOk result (λ made. made.walk.walks ≡ 0) }
+        ensures answered { IfOk result (λ made. made.answered ≡ false) }
+        ensures matching { IfOk result (λ made. made.matching ≡ Unknown) }
+    {
+        let root = Root {
+            router,
+            addresses: Sequence::from_vec(Vec::new(alloc)),
+        };
+        let walk = Routes::without_walk(alloc, root)?;
+        Ok(AreaRoutes::of_walk(walk, true))
+    }
+
+    // A walk, of which nothing else is kept.
+    fn of_walk(walk: Routes, behind: bool) -> AreaRoutes
+        ensures { result ≡ record {
+          walk = walk;
+          behind = behind;
+          graph = None;
+          candidates = None;
+          inner = None;
+          externals = None;
+          answered = false;
+          matching = Unknown;
+        } }
+    {
+        AreaRoutes {
             walk,
-            behind: false,
+            behind,
             graph: None,
             candidates: None,
             inner: None,
             externals: None,
             answered: false,
             matching: Matching::Unknown,
-        })
+        }
     }
 
     /// Updates the routes over an event, from the area when it was last committed, at the moment
@@ -168,14 +209,14 @@ impl AreaRoutes {
               externals = self.new.externals;
               graph = self.new.graph;
             }) }
-        // If candidates are kept over the event, and each was one before, what is known of the
-        // answers is unchanged: they needn't be searched when AS-external-LSAs are removed.
+        // If candidates are kept over the event, and each was one before, it stays known, if it
+        // was, that each has an answer: none is searched when AS-external-LSAs are removed.
         ensures none_new { OnOk result (BringsNoneNew self.old self.new
             → self.new.answered ≡ self.old.answered) }
         // If one of them is new, and each answered route was a candidate, it is known that some
         // candidate has no answer: none is searched when an AS-external-LSA brings a route.
         ensures lacking { OnOk result (BringsAnother self.old self.new
-            → self.old.matching ≡ Exact → self.new.matching ≡ Lacking) }
+            → self.old.matching ≡ OnlyCandidates → self.new.matching ≡ Lacking) }
         ensures err { OnErr result (self.new ≡ self.old) }
     {
         let stay = self.externals_stay(alloc, area, before, moment);
@@ -240,8 +281,9 @@ impl AreaRoutes {
         moment: Second,
     ) -> Result<(), AllocError>
         requires order { before ≤ moment }
-        requires routes { AreOffersOf router area.now.committed before self.old }
-        ensures routes { OnOk result (AreOffersOf router area.now.present moment self.new) }
+        requires routes { AreWalkAndCandidatesOf router area.now.committed before self.old }
+        ensures routes { OnOk result
+            (AreWalkAndCandidatesOf router area.now.present moment self.new) }
         ensures answered { OnOk result ((answers : RouteWords)
             → KnowsAnswered (contents_at before area.now.committed.database)
             (root_by router area.now.committed.links) answers self.old
@@ -259,7 +301,7 @@ impl AreaRoutes {
             → KnowsMatching answers self.old.candidates self.old.matching
             → KnowsMatching answers self.new.candidates self.new.matching) }
         ensures lacking { OnOk result (BringsAnother self.old self.new
-            → self.old.matching ≡ Exact → self.new.matching ≡ Lacking) }
+            → self.old.matching ≡ OnlyCandidates → self.new.matching ≡ Lacking) }
         ensures graph { self.new.graph ≡ self.old.graph }
         ensures externals { self.new.externals ≡ self.old.externals }
         ensures err { OnErr result (self.new ≡ self.old) }
@@ -277,10 +319,10 @@ impl AreaRoutes {
         }
         if is_root_of(self.walk.root(), router, area) {
             if area_lsas_are_unchanged(alloc, area, Some(2), before, moment)? {
-                if leaves_candidates(alloc, area, &self.walk, before, moment)? {
+                if candidates_stay(alloc, area, &self.walk, before, moment)? {
                     return Ok(());
                 }
-                self.update_offers(alloc, area, before, moment);
+                self.update_candidates(alloc, area, before, moment);
                 return Ok(());
             }
         }
@@ -296,7 +338,7 @@ impl AreaRoutes {
     // AS-external-LSAs change, and few of them, candidates that are kept follow these: if none is
     // new, and each was known to have an answer, each still has. If an allocation is refused,
     // nothing is known of candidates any more.
-    fn update_offers(&mut self, alloc: Global, area: &Area, before: Second, moment: Second)
+    fn update_candidates(&mut self, alloc: Global, area: &Area, before: Second, moment: Second)
         requires order { before ≤ moment }
         requires walk { IsWalkOf (contents_at moment area.now.present.database) self.old.walk }
         requires candidates { KnowsCandidates (contents_at before area.now.committed.database)
@@ -324,13 +366,13 @@ impl AreaRoutes {
             → KnowsMatching answers self.old.candidates self.old.matching
             → KnowsMatching answers self.new.candidates self.new.matching }
         ensures lacking { BringsAnother self.old self.new
-            → self.old.matching ≡ Exact → self.new.matching ≡ Lacking }
+            → self.old.matching ≡ OnlyCandidates → self.new.matching ≡ Lacking }
     {
         // For the prover alone, by what the call ensures.
         inner_routes_are_kept();
         if let Ok(same) = area_lsas_are_unchanged(alloc, area, Some(4), before, moment) {
             if same {
-                self.update_externals(alloc, area, before, moment);
+                self.follow_externals(alloc, area, before, moment);
                 return;
             }
         }
@@ -342,7 +384,7 @@ impl AreaRoutes {
 
     // Updates the candidates if only AS-external-LSAs change: follows them, or forgets the
     // candidates.
-    fn update_externals(&mut self, alloc: Global, area: &Area, before: Second, moment: Second)
+    fn follow_externals(&mut self, alloc: Global, area: &Area, before: Second, moment: Second)
         requires order { before ≤ moment }
         requires same { HaveSameContents (Some 4) (contents_at before area.now.committed.database)
             (contents_at moment area.now.present.database) }
@@ -372,7 +414,7 @@ impl AreaRoutes {
             → KnowsMatching answers self.old.candidates self.old.matching
             → KnowsMatching answers self.new.candidates self.new.matching }
         ensures lacking { BringsAnother self.old self.new
-            → self.old.matching ≡ Exact → self.new.matching ≡ Lacking }
+            → self.old.matching ≡ OnlyCandidates → self.new.matching ≡ Lacking }
     {
         let kept = self.candidates.take();
         let next = followed(alloc, area, &self.walk, before, moment, &self.inner, kept);

@@ -1,7 +1,7 @@
 //! How the answers match the candidates that are kept.
 ghost use Rattle.std.specs.Prelude.{◌≡◌, IsTrue, List, Option, Some, false};
 ghost use Rattle.area_routes.specs.Kept.{HaveAnother, KnowsMatching};
-ghost use Rattle.area_routes.specs.declared.matching.Matching.TheVariants.{Exact, Lacking};
+ghost use Rattle.area_routes.specs.declared.matching.Matching.TheVariants.{OnlyCandidates, Lacking};
 ghost use Rattle.routes.specs.Tables.{RouteWords};
 ghost use Rattle.tables.specs.Parts.{AreAnswersAmong, LacksAnswers};
 ghost use Rattle.words.specs.declared.route.Route.{Route as RouteValue};
@@ -14,7 +14,7 @@ pub enum Matching {
     /// Nothing.
     Unknown,
     /// Each answered route is among the candidates.
-    Exact,
+    OnlyCandidates,
     /// Some candidate has no answer.
     Lacking,
 }
@@ -23,16 +23,16 @@ pub enum Matching {
 pub fn matching_by(found: Comparison) -> Matching
     ensures matches { (answers : RouteWords) (candidates : List RouteValue)
         → (IsTrue found.lacks → LacksAnswers answers candidates)
-        → (IsTrue found.exact → AreAnswersAmong answers candidates)
+        → (IsTrue found.only_candidates → AreAnswersAmong answers candidates)
         → KnowsMatching answers (Some candidates) result }
     ensures lacking { IsTrue found.lacks → result ≡ Lacking }
-    ensures exact { found.lacks ≡ false → IsTrue found.exact → result ≡ Exact }
+    ensures only_candidates { found.lacks ≡ false → IsTrue found.only_candidates → result ≡ OnlyCandidates }
 {
     if found.lacks {
         return Matching::Lacking;
     }
-    if found.exact {
-        return Matching::Exact;
+    if found.only_candidates {
+        return Matching::OnlyCandidates;
     }
     Matching::Unknown
 }
@@ -45,14 +45,14 @@ pub fn matching_after(matching: Matching, none_new: bool) -> Matching
         → (none_new ≡ false → HaveAnother kept now)
         → KnowsMatching answers kept matching
         → KnowsMatching answers (Some now) result }
-    ensures lacking { matching ≡ Exact → none_new ≡ false → result ≡ Lacking }
+    ensures lacking { matching ≡ OnlyCandidates → none_new ≡ false → result ≡ Lacking }
 {
     if none_new {
         return Matching::Unknown;
     }
     match matching {
         Matching::Unknown => Matching::Unknown,
-        Matching::Exact => Matching::Lacking,
+        Matching::OnlyCandidates => Matching::Lacking,
         Matching::Lacking => Matching::Unknown,
     }
 }

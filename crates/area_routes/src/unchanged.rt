@@ -1,19 +1,19 @@
 //! What an event leaves unchanged.
 ghost use Rattle.std.specs.Prelude.{◌≡◌, ◌≤◌, ◌↔◌, IfOk, IsTrue};
-ghost use Rattle.area_routes.specs.Kept.{AreOfOthers, ExternalsHaveSameContents};
+ghost use Rattle.area_routes.specs.Kept.{AreNotExternal, ExternalsHaveSameContents};
 ghost use Rattle.kept_routes.specs.Externals.{AreOfferingLsasUnchanged, OfferTheSame};
 ghost use Rattle.kept_routes.specs.Kept.{IsWalkOf};
 ghost use Rattle.kept_routes.specs.Sameness.{AreLsasUnchanged, HaveSameContents};
 ghost use Rattle.routes.specs.Contents.{contents_at};
 
-use external_updates::changed_keys;
+use external_updates::possibly_changed_keys;
 use flooding::Area;
 use kept_routes::{Routes, lsas_are_unchanged, offering_lsas_are_unchanged};
 use std::alloc::{AllocError, Global};
 use words::{Key, Second};
 
-/// Whether the event leaves the candidates by this walk unchanged.
-pub fn leaves_candidates(
+/// Whether the event certainly leaves the candidates by this walk unchanged; false leaves it open.
+pub fn candidates_stay(
     alloc: Global,
     area: &Area,
     walk: &Routes,
@@ -34,8 +34,9 @@ pub fn leaves_candidates(
     Ok(same)
 }
 
-/// Whether the LSAs of the types up to this one, or of all types, say what they said before the
-/// event.
+/// Whether no LSA of the types up to this one, or of all types, was added or removed, came to
+/// MaxAge or changed its contents: then they say what they said before the event. False leaves it
+/// open, as where one leaves that was at MaxAge before.
 pub fn area_lsas_are_unchanged(
     alloc: Global,
     area: &Area,
@@ -55,8 +56,8 @@ pub fn area_lsas_are_unchanged(
     Ok(same)
 }
 
-/// Whether all AS-external-LSAs say what they said before the event; false if an allocation is
-/// refused.
+/// Whether all AS-external-LSAs certainly say what they said before the event. False leaves it
+/// open: an allocation may have been refused, and one that was at MaxAge before counts as changed.
 pub fn externals_stay(alloc: Global, area: &Area, before: Second, moment: Second) -> bool
     requires { before ≤ moment }
     ensures { IsTrue result → ExternalsHaveSameContents
@@ -64,15 +65,15 @@ pub fn externals_stay(alloc: Global, area: &Area, before: Second, moment: Second
         (contents_at moment area.now.present.database) }
 {
     let db = area.database();
-    if let Ok(keys) = changed_keys(alloc, db, before, moment) {
-        return are_of_others(&keys);
+    if let Ok(keys) = possibly_changed_keys(alloc, db, before, moment) {
+        return are_not_external(&keys);
     }
     false
 }
 
 // Whether none of these keys is that of an AS-external-LSA.
-fn are_of_others(keys: &[Key]) -> bool
-    ensures { IsTrue result ↔ AreOfOthers keys.now }
+fn are_not_external(keys: &[Key]) -> bool
+    ensures { IsTrue result ↔ AreNotExternal keys.now }
 {
     for key in keys {
         if key.ls_type == 5 {

@@ -17,7 +17,7 @@ use Rattle.packet.specs.declared.model.Packet.{Packet}
 use Rattle.flood_laws.specs.adjacency.Neighbors.{Neighbor}
 use Rattle.event_rules.specs.received.Cases.{Case}
 use Rattle.event_rules.specs.received.Links.{Link, neighbor_at}
-use Rattle.event_rules.specs.received.Outcomes.{on_links}
+use Rattle.event_rules.specs.received.AreaStates.{on_links}
 use Rattle.event_rules.specs.received.Updates.{case_at, goes_on}
 use Rattle.event_rules.specs.declared.model.CoreError.{CoreError}
 use Rattle.event_rules.specs.declared.model.CoreError.TheVariants as error

@@ -5,7 +5,7 @@ use Rattle.std.specs.List.{AllByRecursion, enumerate_from, flat_map}
 use Rattle.flood_laws.specs.adjacency.Drafts.{Drafted}
 use Rattle.flood_laws.specs.adjacency.Rooms.{HasRoom}
 use Rattle.event_rules.specs.received.Links.{Link}
-use Rattle.event_rules.specs.received.Outcomes.{Send}
+use Rattle.event_rules.specs.received.AreaStates.{Send}
 use Rattle.event_rules.specs.declared.model.Out.{Out}
 use Rattle.event_rules.specs.Packing.{outs_at}
 use Rattle.flood_laws.specs.Keeping.{AreTextsAt}

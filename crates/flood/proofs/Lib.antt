@@ -13,4 +13,4 @@ mod Replayed
 mod Unheeded
 mod Forgotten
 mod Noted
-pub mod Late
+pub mod Allowed

@@ -1,13 +1,13 @@
 -- A journal with one more event.
-use Rattle.std.proofs.Common.{◌≡◌, ◌≤◌, ℕ, ◌+◌, List, [], ◌∷◌, ◌++◌, map, Ok, sym, subst}
+use Rattle.std.proofs.Common.{◌≡◌, ℕ, ◌+◌, List, [], ◌∷◌, ◌++◌, map, sym, subst}
 use Rattle.std.proofs.Common.{refl, ap, ◌∙◌}
 use Rattle.std.proofs.lemmas.List.{length-append, map-append}
 use Rattle.std.proofs.lemmas.List.Sums.{fold-append}
 use Rattle.event_rules.specs.declared.model.Out.{Out}
 use Rattle.event_rules.specs.Events.{Happens, Run, Step}
-use Rattle.event_rules.specs.Refusals.{RefusesByRules}
+use Rattle.event_rules.specs.Refusals.{IsAllowed}
 use Rattle.event_rules.specs.Routers.{Occurrence, Router}
-use Rattle.router_runs.proofs.Clocks.{later_moment, one_more, taken_moment}
+use Rattle.router_runs.proofs.Clocks.{one_more}
 use Rattle.flood.specs.Occurrences.{occurrence_of}
 use Rattle.flood.specs.declared.book.entry.JournalEntry.{JournalEntry}
 use Rattle.flood.specs.Bytes.{bytes_of, with_event}
@@ -42,24 +42,17 @@ replays_on start journal before after e outs (steps, same, run) now = (
   run_on steps start before after (step e outs) run now,
 )
 
--- an event that is taken is no earlier than the router's last one
-pub late_enough : {X : Type 0} (r : Router) (moment : ℕ) (event : Occurrence) (x : X)
-    → RefusesByRules {X = X} r moment event (Ok x) → r.moment ≤ moment
-late_enough r moment event x answers =
-    later_moment r moment (taken_moment r moment event answers.0)
-
--- one event more, which is no earlier, leads on
+-- one event more, which no rule refuses, leads on
 pub leads_on : (origin : Router) (taken : ℕ) (before after : Router) (e : JournalEntry)
-    (outs : List Out) → IsAfterEvents origin taken before → before.moment ≤ e.moment
+    (outs : List Out) → IsAfterEvents origin taken before
+    → IsAllowed before e.moment (occurrence_of e.event)
     → Happens before e.moment (occurrence_of e.event) outs after
     → IsAfterEvents origin (taken + 1) after
-leads_on origin taken before after e outs (steps, run, many, clock) late now =
-    let longer = one_more steps origin before after (step e outs) run clock late now in (
-      steps ++ step e outs ∷ [],
-      longer.0,
-      length-append steps (step e outs ∷ []) ∙ ap (λ n. n + 1) many,
-      longer.1,
-    )
+leads_on origin taken before after e outs (steps, run, many) on now = (
+  steps ++ step e outs ∷ [],
+  one_more steps origin before after (step e outs) run on now,
+  length-append steps (step e outs ∷ []) ∙ ap (λ n. n + 1) many,
+)
 
 -- the bytes of a journal with one more event
 pub bytes_with : (journal : List JournalEntry) (e : JournalEntry)

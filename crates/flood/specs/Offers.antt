@@ -25,7 +25,8 @@ IsStaleNow r = IsStaleOf r.id r.area r.moment r.answers
 
 -- From one router to the next no walk is made (here: one calculation of all shortest paths), and
 -- the one that is kept stays valid, unless an LSA of type 1 or 2 was added or removed, has reached
--- MaxAge or has another body, or the addresses of the router's interfaces differ.
+-- MaxAge, has another body or took the place of a copy at MaxAge, or the addresses of the router's
+-- interfaces differ.
 abbrev pub WalkStaysUnlessChanged : (old : Router) → (new : Router) → KeptRoutes → KeptRoutes
     → Type 0
 WalkStaysUnlessChanged old new kept next =

@@ -5,7 +5,7 @@ use Rattle.std.specs.FinMap as finite
 use Rattle.words.specs.Numbers.{Moment}
 use Rattle.event_rules.specs.Events.{Run, Step}
 use Rattle.event_rules.specs.Routers.{Occurrence, Router}
-use Rattle.router_runs.specs.Clocks.{ClockRunsOn}
+use Rattle.router_runs.specs.Clocks.{RunOfTaken}
 use Rattle.flood.specs.declared.event.Event.{Event}
 use Rattle.flood.specs.declared.event.Event.TheVariants as event
 use Rattle.flood.specs.Occurrences.{is_install, occurrence_of}
@@ -28,12 +28,11 @@ Replays start journal now =
     (steps : List Step) × (map step_occurrence steps ≡ map entry_occurrence journal)
     × Run start steps now
 
--- this many events, one after the other, lead from one router to the other, whatever they sent;
--- none is earlier than the one before it, and the first no earlier than the router's last moment
+-- this many events, none of which the rules refuse, lead from one router to the other, one after
+-- the other, whatever they sent
 abbrev pub IsAfterEvents : (origin : Router) → (taken : ℕ) → (now : Router) → Type 0
 IsAfterEvents origin taken now =
-    (steps : List Step) × Run origin steps now × (length steps ≡ taken)
-    × ClockRunsOn origin.moment steps
+    (steps : List Step) × RunOfTaken origin steps now × (length steps ≡ taken)
 
 -- what contracts see of a book
 pub record BookView : Type 0 where

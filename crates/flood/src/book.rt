@@ -52,8 +52,8 @@ pub const MAX_TAKEN: u64 = 1 << 63;
 #[derive(Drop)]
 pub struct Book<L: Origin> {
     alloc: Global,
-    // The router at the start. None if that is the router of now: a copy of this one is made when
-    // an event comes.
+    // The router at the start. None if that is the router of now, as after a mark: a copy of this
+    // one is made when an event comes.
     start: Option<Core>,
     current: Core,
     journal: Vec<JournalEntry>,

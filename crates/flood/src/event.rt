@@ -18,8 +18,8 @@ pub enum Event {
     Redistribute(TagAnswer, PriceAnswer),
     /// The external destination with this prefix is to be withdrawn.
     Withdraw(Prefix),
-    /// The routes that were offered, each with the answer whether it is kept out of the routing
-    /// table.
+    /// Routes, each with the answer whether it is kept out of the routing table: of a turn those
+    /// that were offered. No rule asks whether they were, or who answered.
     Install(VetoAnswers),
     /// The neighbor at the interface with this number goes Down (LLDown, RFC 2328, section 10.3).
     /// The interface stays up: it goes on sending Hellos, and its network stays announced.

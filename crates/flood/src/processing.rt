@@ -86,8 +86,8 @@ pub fn process_event(
     ensures committed { router.new.committed ≡ router.old.committed }
     ensures kept { OnOk result (AreKeptNow router.new.present routes.new) }
     // Shortest paths aren't calculated here, and the walk that is kept stays valid unless an LSA of
-    // type 1 or 2 was added or removed, has reached MaxAge or has another body, or the
-    // interfaces' addresses differ.
+    // type 1 or 2 was added or removed, has reached MaxAge, has another body or took the place of
+    // a copy at MaxAge, or the interfaces' addresses differ.
     ensures walks { OnOk result (WalkStaysUnlessChanged router.old.present router.new.present
         routes.old routes.new) }
     ensures err { OnErr result (routes.new ≡ routes.old) }

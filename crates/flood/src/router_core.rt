@@ -160,7 +160,7 @@ impl Core {
         early_refusal(&self.router, moment, event)
     }
 
-    /// A copy of the router, with a walk of its own.
+    /// A copy of the router, for which no routes are calculated before it is asked for some.
     ///
     /// # Errors
     /// `AllocError` if an allocation is refused.
@@ -168,7 +168,7 @@ impl Core {
         ensures { IfOk result (λ copy. copy ≡ self.now) }
     {
         let router = self.router.copy(self.alloc)?;
-        match AreaRoutes::new(self.alloc, router.id(), router.area(), router.moment()) {
+        match AreaRoutes::without_walk(self.alloc, router.id()) {
             Ok(routes) => Ok(Core {
                 alloc: self.alloc,
                 router,
@@ -284,9 +284,10 @@ impl Core {
     }
 
     /// Whether some candidate is in none of the answers of the last `Install`, so that programs
-    /// have to be asked again. No candidate is visited if an earlier call found none, or the
-    /// answers were on all candidates when they came, and no event since then has changed the body
-    /// of an LSA. If there is no valid walk, one is made and kept. `turns` asks this after each
+    /// have to be asked again. No candidate is visited if the answer is known from an earlier call,
+    /// or because the answers were on all candidates when they came. It stays known over events in
+    /// which no LSA is added or removed, comes to MaxAge or gets another body, and over those that
+    /// change few AS-external-LSAs. If there is no valid walk, one is made and kept. `turns` asks this after each
     /// event, so a change of the topology has the shortest paths calculated at once, without a
     /// delay that would join several changes.
     ///
@@ -310,8 +311,8 @@ impl Core {
     /// The number of walks, calculations of all shortest paths, that were made and kept since the
     /// start or the copy; it saturates. [`step`](Core::step) makes none. [`stale`](Core::stale)
     /// makes at most one, and only if since the last one an LSA of type 1 or 2 was added or
-    /// removed, has reached MaxAge or has another body, or the addresses of the interfaces
-    /// differ.
+    /// removed, has reached MaxAge, has another body or took the place of a copy at MaxAge, or the
+    /// addresses of the interfaces differ.
     pub fn walks(&self) -> u64 {
         self.routes.walks()
     }

@@ -13,13 +13,13 @@ use Rattle.candidates.specs.Reached.{way_in}
 use Rattle.area_routes.proofs.Candidates.{stay_answered}
 use Rattle.area_routes.proofs.following.follow_from.Goals as goal
 
-pub update_externals-requires-clause-same : goal.update_externals-requires-clause-same
-update_externals-requires-clause-same c =
+pub follow_externals-requires-clause-same : goal.follow_externals-requires-clause-same
+follow_externals-requires-clause-same c =
     subst (λ (d : RouterDatabase). HaveSameContents (Some 4) (contents_at c.args.before d.committed)
     (contents_at c.args.moment d.present)) (sym c.database-db.ensures) c.requires.same
 
-pub update_externals-requires-clause-inner : goal.update_externals-requires-clause-inner
-update_externals-requires-clause-inner c =
+pub follow_externals-requires-clause-inner : goal.follow_externals-requires-clause-inner
+follow_externals-requires-clause-inner c =
     let contents = contents_at c.args.moment c.args.area.now.present.database in
     let known : Knows contents c.args.walk.now.root c.args.inner.now = record {
       ways = way_in c.args.walk.now.reached;
@@ -32,8 +32,8 @@ update_externals-requires-clause-inner c =
     c.args.inner.now) (sym c.database-db.ensures)
     (subst (λ (r : Root). Knows contents r c.args.inner.now) (sym c.root-root.ensures) known)
 
-pub update_externals-requires-clause-routes : goal.update_externals-requires-clause-routes
-update_externals-requires-clause-routes c =
+pub follow_externals-requires-clause-routes : goal.follow_externals-requires-clause-routes
+follow_externals-requires-clause-routes c =
     let contents = contents_at c.args.before c.args.area.now.committed.database in
     subst (λ (d : RouterDatabase). AreCandidates (contents_at c.args.before d.committed)
     c.root-root.result.now c.args.routes) (sym c.database-db.ensures)
@@ -42,7 +42,7 @@ update_externals-requires-clause-routes c =
 
 pub returns-in-SomeNew-clause-candidates : goal.returns-in-SomeNew-clause-candidates
 returns-in-SomeNew-clause-candidates c =
-    let items = c.update_externals.new.routes in
+    let items = c.follow_externals.new.routes in
     let here = c.database-db.result.now in
     let done = subst (λ (f : Followed). HaveFollowed (contents_at c.args.moment here.present)
     c.root-root.result.now c.args.routes items f) c.in-SomeNew.is c.in-Ok.ensures in
@@ -53,7 +53,7 @@ returns-in-SomeNew-clause-candidates c =
 
 pub returns-in-NoneNew-clause-candidates : goal.returns-in-NoneNew-clause-candidates
 returns-in-NoneNew-clause-candidates c =
-    let items = c.update_externals.new.routes in
+    let items = c.follow_externals.new.routes in
     let here = c.database-db.result.now in
     let done = subst (λ (f : Followed). HaveFollowed (contents_at c.args.moment here.present)
     c.root-root.result.now c.args.routes items f) c.in-NoneNew.is c.in-Ok.ensures in
@@ -64,7 +64,7 @@ returns-in-NoneNew-clause-candidates c =
 
 pub returns-in-NoneNew-clause-none_new : goal.returns-in-NoneNew-clause-none_new
 returns-in-NoneNew-clause-none_new c on =
-    let items = c.update_externals.new.routes in
+    let items = c.follow_externals.new.routes in
     let here = c.database-db.result.now in
     let old = contents_at c.args.before c.args.area.now.committed.database in
     let new = contents_at c.args.moment c.args.area.now.present.database in
@@ -78,7 +78,7 @@ returns-in-SomeNew-clause-none_new c on = absurd (false≢true on)
 
 pub returns-in-SomeNew-clause-another : goal.returns-in-SomeNew-clause-another
 returns-in-SomeNew-clause-another c off =
-    let items = c.update_externals.new.routes in
+    let items = c.follow_externals.new.routes in
     let here = c.database-db.result.now in
     let done = subst (λ (f : Followed). HaveFollowed (contents_at c.args.moment here.present)
     c.root-root.result.now c.args.routes items f) c.in-SomeNew.is c.in-Ok.ensures in
@@ -89,7 +89,7 @@ returns-in-NoneNew-clause-another c off = absurd (false≢true (sym off))
 
 pub returns-in-NoneNew-clause-among : goal.returns-in-NoneNew-clause-among
 returns-in-NoneNew-clause-among c on =
-    let items = c.update_externals.new.routes in
+    let items = c.follow_externals.new.routes in
     let here = c.database-db.result.now in
     let done = subst (λ (f : Followed). HaveFollowed (contents_at c.args.moment here.present)
     c.root-root.result.now c.args.routes items f) c.in-NoneNew.is c.in-Ok.ensures in

@@ -8,5 +8,5 @@ pub returns-in-Ok : goal.returns-in-Ok
 returns-in-Ok c stay key is =
     subst (λ (d : RouterDatabase). contents_at c.args.before d.committed key
     ≡ contents_at c.args.moment d.present key) c.database-db.ensures
-    (c.in-Ok.ensures key (λ among. c.are_of_others.ensures.0 stay key
+    (c.in-Ok.ensures key (λ among. c.are_not_external.ensures.0 stay key
     (subst (λ ks. Contains ks key) (sym c.deref.ensures.value) among) is))

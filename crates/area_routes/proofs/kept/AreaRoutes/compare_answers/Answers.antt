@@ -37,7 +37,7 @@ returns-in-Some-clause-matching c =
     subst (λ (o : Option (List Route)). KnowsMatching answers o c.matching_by-self-inside.result)
     (sym c.in-Some.is)
     (c.matching_by-self-inside.ensures.matches answers candidates
-    (found_lacking contents root answers candidates c.in_ok-found.found kept found) found.exact)
+    (found_lacking contents root answers candidates c.in_ok-found.found kept found) found.only_candidates)
 
 pub calculated-requires-clause-walk : goal.calculated-requires-clause-walk
 calculated-requires-clause-walk c =
@@ -82,7 +82,7 @@ returns-clause-matching c =
     let found = c.in_ok-found-2.ensures in
     c.matching_by-self-inside-2.ensures.matches answers candidates
     (found_lacking contents root answers candidates c.in_ok-found-2.found are found)
-    found.exact
+    found.only_candidates
 
 pub returns-clause-inner : goal.returns-clause-inner
 returns-clause-inner c =

@@ -3,7 +3,8 @@ use Rattle.std.specs.Prelude.{IfSome}
 use Rattle.std.specs.Global.{Vec}
 use Rattle.candidates.specs.Externals.{AreExternals}
 use Rattle.candidates.specs.declared.externals.ExternalAdvertisement.{ExternalAdvertisement}
-use Rattle.area_routes.specs.Kept.{AreOffersOf, KeptRoutes, KeepsWalkUnlessChanged, KnowsAnswered}
+use Rattle.area_routes.specs.Kept.{AreWalkAndCandidatesOf, KeptRoutes, KeepsWalkUnlessChanged}
+use Rattle.area_routes.specs.Kept.{KnowsAnswered}
 use Rattle.area_routes.specs.Kept.{KnowsMatching}
 use Rattle.area_routes.specs.Offers.{root_by}
 use Rattle.area_routes.proofs.Externals.{both_else, externals_after, same_but}
@@ -28,8 +29,8 @@ returns-clause-routes c =
     let last = c.update_graph.new.self in
     let same = both_else next middle last c.keep_externals.ensures.others
     c.update_graph.ensures.others in
-    let offers : AreOffersOf router area c.args.moment last =
-    subst (λ (k : KeptRoutes). AreOffersOf router area c.args.moment k) (sym same)
+    let offers : AreWalkAndCandidatesOf router area c.args.moment last =
+    subst (λ (k : KeptRoutes). AreWalkAndCandidatesOf router area c.args.moment k) (sym same)
     (same_but router area c.args.moment next last.externals last.graph
     c.in_ok-update_routes.ensures.routes) in
     let advertised = externals_after old new c.externals_stay-stay.result c.args.self.now next

@@ -11,8 +11,8 @@ use Rattle.routes.specs.Contents.{contents_at}
 use Rattle.routes.specs.declared.root.Root.{Root}
 use Rattle.area_routes.proofs.kept.AreaRoutes.update_routes.Goals as goal
 
-pub leaves_candidates-requires-clause-walk : goal.leaves_candidates-requires-clause-walk
-leaves_candidates-requires-clause-walk c =
+pub candidates_stay-requires-clause-walk : goal.candidates_stay-requires-clause-walk
+candidates_stay-requires-clause-walk c =
     let old = contents_at c.args.before c.args.area.now.committed.database in
     let on = ap (λ (k : KeptRoutes). k.behind) (sym c.self.view_is) ∙ c.if-self.false in
     subst (λ (k : KeptRoutes). IsWalkOf old k.walk) (sym c.self.view_is)
@@ -34,7 +34,7 @@ returns-then-branch-2-clause-routes c =
     ∙ c.requires.routes.walk.root serves in
     let same : OfferTheSame old new was =
     subst (OfferTheSame old new) began
-    (c.in_ok-leaves_candidates.ensures.same c.if-branch-2.true) in
+    (c.in_ok-candidates_stay.ensures.same c.if-branch-2.true) in
     record {
       walk = still_walks old new was is kept serves begins c.requires.routes.walk
           (c.walks_are_kept.ensures old new kept.walk
@@ -62,7 +62,7 @@ returns-then-branch-2-clause-answered c answers knows =
     ∙ c.requires.routes.walk.root serves in
     let same : OfferTheSame old new was =
     subst (OfferTheSame old new) began
-    (c.in_ok-leaves_candidates.ensures.same c.if-branch-2.true) in
+    (c.in_ok-candidates_stay.ensures.same c.if-branch-2.true) in
     still_answered old new was is kept serves begins c.requires.routes.walk answers
     (λ stale. (c.candidates_are_kept.ensures.stale old new was answers same).1 stale) knows
 
@@ -78,23 +78,23 @@ returns-then-branch-2-clause-walks c = record {
   lags = λ on. on;
 }
 
-pub update_offers-requires-clause-walk : goal.update_offers-requires-clause-walk
-update_offers-requires-clause-walk c =
+pub update_candidates-requires-clause-walk : goal.update_candidates-requires-clause-walk
+update_candidates-requires-clause-walk c =
     let old = contents_at c.args.before c.args.area.now.committed.database in
     let new = contents_at c.args.moment c.args.area.now.present.database in
     let on = ap (λ (k : KeptRoutes). k.behind) (sym c.self.view_is) ∙ c.if-self.false in
     c.walks_are_kept.ensures old new c.args.self.now.walk
     (c.in_ok-area_lsas_are_unchanged.ensures.same c.if-branch.true) (c.requires.routes.walk.walk on)
 
-pub update_offers-requires-clause-candidates : goal.update_offers-requires-clause-candidates
-update_offers-requires-clause-candidates c =
+pub update_candidates-requires-clause-candidates : goal.update_candidates-requires-clause-candidates
+update_candidates-requires-clause-candidates c =
     let old = contents_at c.args.before c.args.area.now.committed.database in
     let on = ap (λ (k : KeptRoutes). k.behind) (sym c.self.view_is) ∙ c.if-self.false in
     subst (λ (r : Root). KnowsCandidates old r c.args.self.now)
     (sym (c.requires.routes.walk.root on)) c.requires.routes.candidates
 
-pub update_offers-requires-clause-inner : goal.update_offers-requires-clause-inner
-update_offers-requires-clause-inner c =
+pub update_candidates-requires-clause-inner : goal.update_candidates-requires-clause-inner
+update_candidates-requires-clause-inner c =
     let old = contents_at c.args.before c.args.area.now.committed.database in
     let on = ap (λ (k : KeptRoutes). k.behind) (sym c.self.view_is) ∙ c.if-self.false in
     subst (λ (r : Root). KnowsInner old r c.args.self.now) (sym (c.requires.routes.walk.root on))
@@ -109,8 +109,8 @@ returns-then-branch-clause-routes c =
     let walks = c.walks_are_kept.ensures old new c.args.self.now.walk
     (c.in_ok-area_lsas_are_unchanged.ensures.same c.if-branch.true) (c.requires.routes.walk.walk on)
     in
-    let next = c.update_offers.new.self in
-    let same : next.walk ≡ c.args.self.now.walk = c.update_offers.ensures.walk in
+    let next = c.update_candidates.new.self in
+    let same : next.walk ≡ c.args.self.now.walk = c.update_candidates.ensures.walk in
     let begins : c.args.self.now.walk.root ≡ is =
     ap (λ (k : KeptRoutes). k.walk.root) (sym c.self.view_is) ∙ sym c.root.ensures
     ∙ c.is_root_of.ensures.0 c.if-is_root_of.true in
@@ -120,8 +120,8 @@ returns-then-branch-clause-routes c =
         root = λ off. ap (λ (w : KeptWalk). w.root) same ∙ begins;
       };
       candidates = subst (λ (r : Root). KnowsCandidates new r next) begins
-          c.update_offers.ensures.candidates;
-      inner = subst (λ (r : Root). KnowsInner new r next) begins c.update_offers.ensures.inner;
+          c.update_candidates.ensures.candidates;
+      inner = subst (λ (r : Root). KnowsInner new r next) begins c.update_candidates.ensures.inner;
     }
 
 pub returns-then-branch-clause-answered : goal.returns-then-branch-clause-answered
@@ -136,11 +136,11 @@ returns-then-branch-clause-answered c answers knows =
     ∙ c.is_root_of.ensures.0 c.if-is_root_of.true in
     let knew = subst (λ (r : Root). KnowsAnswered old r answers kept)
     (sym (c.requires.routes.walk.root on)) knows in
-    subst (λ (r : Root). KnowsAnswered new r answers c.update_offers.new.self) begins
-    (c.update_offers.ensures.answered answers knew)
+    subst (λ (r : Root). KnowsAnswered new r answers c.update_candidates.new.self) begins
+    (c.update_candidates.ensures.answered answers knew)
 
 pub returns-then-branch-clause-none_new : goal.returns-then-branch-clause-none_new
-returns-then-branch-clause-none_new c brings = c.update_offers.ensures.none_new brings
+returns-then-branch-clause-none_new c brings = c.update_candidates.ensures.none_new brings
 
 pub returns-then-branch-2-clause-none_new : goal.returns-then-branch-2-clause-none_new
 returns-then-branch-2-clause-none_new c brings = refl
@@ -153,7 +153,7 @@ returns-clause-none_new c brings = absurd (let no = brings.are in cc)
 
 pub returns-then-branch-clause-matching : goal.returns-then-branch-clause-matching
 returns-then-branch-clause-matching c answers knows =
-    c.update_offers.ensures.matching answers knows
+    c.update_candidates.ensures.matching answers knows
 
 pub returns-then-branch-2-clause-matching : goal.returns-then-branch-2-clause-matching
 returns-then-branch-2-clause-matching c answers knows = knows
@@ -165,7 +165,7 @@ pub returns-clause-matching : goal.returns-clause-matching
 returns-clause-matching c answers knows = tt
 
 pub returns-then-branch-clause-lacking : goal.returns-then-branch-clause-lacking
-returns-then-branch-clause-lacking c brings exact = c.update_offers.ensures.lacking brings exact
+returns-then-branch-clause-lacking c brings exact = c.update_candidates.ensures.lacking brings exact
 
 pub returns-then-branch-2-clause-lacking : goal.returns-then-branch-2-clause-lacking
 returns-then-branch-2-clause-lacking c brings exact =
@@ -180,14 +180,14 @@ returns-clause-lacking c brings exact = absurd (let no = brings.are in cc)
 
 pub returns-then-branch-clause-walks : goal.returns-then-branch-clause-walks
 returns-then-branch-clause-walks c = record {
-  walk = c.update_offers.ensures.walk;
-  serves = λ on stayed. c.update_offers.ensures.behind ∙ on;
+  walk = c.update_candidates.ensures.walk;
+  serves = λ on stayed. c.update_candidates.ensures.behind ∙ on;
   falls = λ not. absurd (not (record {
     root = ap (λ (k : KeptRoutes). k.walk.root) (sym c.self.view_is) ∙ sym c.root.ensures
         ∙ c.is_root_of.ensures.0 c.if-is_root_of.true;
     lsas = c.in_ok-area_lsas_are_unchanged.ensures.left.0 c.if-branch.true;
   }));
-  lags = λ on. c.update_offers.ensures.behind ∙ on;
+  lags = λ on. c.update_candidates.ensures.behind ∙ on;
 }
 
 pub returns-then-branch-clause-candidates : goal.returns-then-branch-clause-candidates
@@ -198,4 +198,4 @@ returns-then-branch-clause-candidates c on stayed =
     let left = subst (λ (k : KeptRoutes). AreOfferingLsasUnchanged before moment
     area.committed.database
     area.present.database k.walk) (sym c.self.view_is) stayed.lsas in
-    absurd (false≢true (sym c.if-branch-2.false ∙ c.in_ok-leaves_candidates.ensures.left left))
+    absurd (false≢true (sym c.if-branch-2.false ∙ c.in_ok-candidates_stay.ensures.left left))

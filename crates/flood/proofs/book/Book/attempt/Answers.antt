@@ -2,12 +2,11 @@ use Rattle.std.proofs.Common.{◌≡◌, ◌<◌, ◌^◌, ◌+◌, List, [], �
 use Rattle.std.proofs.Common.{ap, ◌∙◌, arith, rules}
 use Rattle.std.proofs.lemmas.List.{length-append}
 use Rattle.event_rules.specs.Routers.{Router}
-use Rattle.flood.specs.Occurrences.{occurrence_of}
 use Rattle.flood.specs.declared.book.entry.JournalEntry.{JournalEntry}
 use Rattle.flood.specs.Bytes.{bytes_of, with_event}
 use Rattle.flood.specs.Replay.{BookView, Replays, entry, start_of}
 use Rattle.flood.proofs.Noted.{where_ok}
-use Rattle.flood.proofs.Replayed.{bytes_with, late_enough, leads_on, replays_on}
+use Rattle.flood.proofs.Replayed.{bytes_with, leads_on, replays_on}
 use Rattle.flood.proofs.book.Book.attempt.Goals as goal
 
 pub invariant_of-self-in-Ok : goal.invariant_of-self-in-Ok
@@ -29,9 +28,7 @@ invariant_of-self-in-Ok g c =
           (sym (ap (λ o. start_of o after) held))
           (replays_on from journal _ _ last _ kept.replays c.in-Ok.ensures.ok)));
       leads = leads_on _ c.self.inside.taken c.self.inside.current after last _ kept.leads
-          (late_enough c.self.inside.current c.args.moment (occurrence_of c.args.event)
-          c.in-Ok.outs c.in-Ok.ensures.refused)
-          c.in-Ok.ensures.ok;
+          c.in-Ok.ensures.refused c.in-Ok.ensures.ok;
       weighed =
           c.with_event-self-inside.ensures ∙ (ap (λ n. with_event n c.args.event) kept.weighed
           ∙ (sym (bytes_with journal last) ∙ ap bytes_of (sym grown)));

@@ -1,13 +1,13 @@
 use mathlib.Core.Bool.{false≢true}
 use Rattle.routes.specs.Contents.{contents_at}
 use Rattle.area_routes.proofs.Candidates.{inner_carried}
-use Rattle.area_routes.proofs.kept.AreaRoutes.update_offers.Goals as goal
+use Rattle.area_routes.proofs.kept.AreaRoutes.update_candidates.Goals as goal
 
-pub update_externals-requires-clause-same : goal.update_externals-requires-clause-same
-update_externals-requires-clause-same c = c.in-Ok.ensures.same c.if-same.true
+pub follow_externals-requires-clause-same : goal.follow_externals-requires-clause-same
+follow_externals-requires-clause-same c = c.in-Ok.ensures.same c.if-same.true
 
-pub update_externals-requires-clause-inner : goal.update_externals-requires-clause-inner
-update_externals-requires-clause-inner c =
+pub follow_externals-requires-clause-inner : goal.follow_externals-requires-clause-inner
+follow_externals-requires-clause-inner c =
     let old = contents_at c.args.before c.args.area.now.committed.database in
     let new = contents_at c.args.moment c.args.area.now.present.database in
     let kept = c.args.self.now in

@@ -15,7 +15,7 @@ use Rattle.kept_routes.specs.Kept.{IsWalkOf}
 use Rattle.routes.specs.Candidates.{AreCandidates}
 use Rattle.routes.specs.Contents.{contents_at}
 use Rattle.routes.specs.declared.root.Root.{Root}
-use Rattle.area_routes.proofs.kept.AreaRoutes.update_externals.Goals as goal
+use Rattle.area_routes.proofs.kept.AreaRoutes.follow_externals.Goals as goal
 
 pub followed-next-requires-clause-walk : goal.followed-next-requires-clause-walk
 followed-next-requires-clause-walk c =

@@ -3,8 +3,8 @@ use Rattle.std.specs.List.{Contains}
 use Rattle.std.proofs.lemmas.List.{take_all, take_more}
 use Rattle.std.proofs.lemmas.List.Elements.{Contains-push_cases}
 use Rattle.words.specs.declared.key.Key.{Key}
-use Rattle.area_routes.specs.Kept.{AreOfOthers}
-use Rattle.area_routes.proofs.unchanged.are_of_others.Goals as goal
+use Rattle.area_routes.specs.Kept.{AreNotExternal}
+use Rattle.area_routes.proofs.unchanged.are_not_external.Goals as goal
 
 pub loop-key-init : goal.loop-key-init
 loop-key-init c key among = absurd (omega (arith, among.1))
@@ -31,7 +31,7 @@ returns-then-key-eq5 c = (
 
 pub returns : goal.returns
 returns c = (
-  (λ t. subst AreOfOthers (take_all c.loop-key.key-index c.args.keys.now
+  (λ t. subst AreNotExternal (take_all c.loop-key.key-index c.args.keys.now
       (omega (arith, c.loop-key-test.false))) c.loop-key.invariant),
   (λ all. refl),
 )
