@@ -31,8 +31,9 @@ use Rattle.adjacency.proofs.Kept.{chosen}
 use Rattle.adjacency.proofs.Maps.{AllIn, IfThere, retained_in}
 use Rattle.received.specs.Flooding.{flood_to}
 use Rattle.received.specs.Links.{Link, any_exchange_or_loading, link_at, neighbor_at}
-use Rattle.received.specs.Outcomes.{Outcome, on_database, on_links, one_neighbor, only_at, sends_at}
-use Rattle.received.specs.Outcomes.{sending, stepping_sends, sends_of}
+use Rattle.received.specs.AreaStates.{AreaState, on_database, on_links, one_neighbor, only_at}
+use Rattle.received.specs.AreaStates.{sends_at}
+use Rattle.received.specs.AreaStates.{sending, stepping_sends, sends_of}
 use Rattle.event_rules.specs.Commands.{after_redistribute, after_withdraw, announce, announce_as}
 use Rattle.event_rules.specs.Commands.{answered_external, end_want, is_announced_as, is_for}
 use Rattle.event_rules.specs.Commands.{unannounce}
@@ -69,7 +70,7 @@ use Rattle.own_lsa_laws.proofs.Standing.{Fits, IsWanted, Standing, Terms, aged_a
 use Rattle.own_lsa_laws.proofs.Standing.{closed_at, flushed_age, marked, recast, same_itself, wants}
 
 -- the state after a change of links and database
-abbrev pub with_outcome : EventState → Outcome → EventState
+abbrev pub with_outcome : EventState → AreaState → EventState
 with_outcome p o = record { router = record p.router { area = o.area }; sends = o.sends }
 
 module _ (moment : ℕ) (t : Terms) where
@@ -86,7 +87,7 @@ module _ (moment : ℕ) (t : Terms) where
     copies = so.copies;
   }
   hello_kept number from h (Some link) p so =
-      chosen (λ (q : Outcome). So (with_outcome p q)) (accepts p.router.id from h link)
+      chosen (λ (q : AreaState). So (with_outcome p q)) (accepts p.router.id from h link)
       (accept_hello moment number (adjacencies.after_hello moment from (names p.router.id h)
       link.neighbor) (outcome p)) (outcome p)
       (λ is. record {
@@ -101,7 +102,7 @@ module _ (moment : ℕ) (t : Terms) where
   request_kept : (number : ℕ) (keys : List Key) (p : EventState) → So p
       → So (on_area (receive_request moment number keys) p)
   request_kept number keys p so =
-      chosen (λ (q : Outcome). So (with_outcome p q))
+      chosen (λ (q : AreaState). So (with_outcome p q))
       (list_all (is_there p.router.area.database) keys)
       (sending moment (sends_at number
       (map Content.Updates (requested_lsas moment p.router.area.database keys))) (outcome p))
@@ -356,8 +357,8 @@ tick_kept moment t p tells h =
     let u : Terms = full (among [] t) in
     let so : InProgress moment u renewed =
     due_kept moment t (due_keys moment first.router) first tells h in
-    let o : Outcome = send_all_again moment (outcome renewed) in
-    let acknowledged : Outcome = send_acknowledgments moment o in
+    let o : AreaState = send_all_again moment (outcome renewed) in
+    let acknowledged : AreaState = send_acknowledgments moment o in
     record {
       externals = so.externals;
       earlier = so.earlier;
@@ -375,8 +376,8 @@ pub tick_faces : (moment : ℕ) (p : EventState) → faces (after_tick moment p)
 tick_faces moment p =
     let first : EventState = run_down moment p in
     let renewed : EventState = originate_due moment (due_keys moment first.router) first in
-    let o : Outcome = send_all_again moment (outcome renewed) in
-    let acknowledged : Outcome = send_acknowledgments moment o in
+    let o : AreaState = send_all_again moment (outcome renewed) in
+    let acknowledged : AreaState = send_acknowledgments moment o in
     mapped_faces (with_hello_sent moment) (λ link. refl) acknowledged.area.links
     ∙ mapped_faces without_acknowledgments (λ link. refl) o.area.links
     ∙ each_faces moment (again moment (outcome renewed)) (again_so moment (outcome renewed))
@@ -592,7 +593,7 @@ module _ (moment : ℕ) (p : EventState)
   flushed_settled None is last = absurd cc
   flushed_settled (Some c) is last =
       let lsa : Lsa = lsa_with_age 3600 c.lsa in
-      chosen (λ (o : Outcome). Q (with_outcome p o)) (is_aged_out moment c) (outcome p)
+      chosen (λ (o : AreaState). Q (with_outcome p o)) (is_aged_out moment c) (outcome p)
       (flood_from_nobody moment lsa (on_database (age_prematurely moment own) (outcome p)))
       (λ aged. inl filled)
       (λ young.
@@ -680,10 +681,10 @@ later_faces before p = chosen (StaysFaced p) (links_differ before p.router.area.
 abbrev pub Rests : (Key → Type 0) → ℕ → EventState → Type 0
 Rests may_wait moment p = InProgress moment (told (text_of p) may_wait) p
 
-removed_faces : (moment : ℕ) (o : Outcome) → faces (remove_aged moment o).area.links
+removed_faces : (moment : ℕ) (o : AreaState) → faces (remove_aged moment o).area.links
     ≡ faces o.area.links
 removed_faces moment o =
-    chosen (λ (q : Outcome). faces q.area.links ≡ faces o.area.links)
+    chosen (λ (q : AreaState). faces q.area.links ≡ faces o.area.links)
     (any_exchange_or_loading o.area.links) o
     (on_database (λ db. finite.retain_keys db (stays moment o.area)) o) (λ is. refl)
     (λ is. refl)
@@ -715,12 +716,12 @@ ended_kept old moment t p before agrees h =
     let so : InProgress moment v refilled =
     later_kept moment u said said_text said_text settled said_so in
     let r : Router = refilled.router in
-    let o : Outcome = request_all moment (outcome refilled) in
+    let o : AreaState = request_all moment (outcome refilled) in
     let asked : AllIn (FitsAt moment v r) o.area.database =
     sent_kept moment v r (stepping_sends (λ number link n. request_next moment n) r.area.links)
     r.area.database so.copies in
     let left : AllIn (FitsAt moment v r) (remove_aged moment o).area.database =
-    chosen (λ (q : Outcome). AllIn (FitsAt moment v r) q.area.database)
+    chosen (λ (q : AreaState). AllIn (FitsAt moment v r) q.area.database)
     (any_exchange_or_loading o.area.links) o
     (on_database (λ db. finite.retain_keys db (stays moment o.area)) o)
     (λ is. asked) (λ is. retained_in (FitsAt moment v r) o.area.database (stays moment o.area)

@@ -30,9 +30,10 @@ use Rattle.adjacency.specs.Retransmissions.{next_retransmissions, remove_retrans
 use Rattle.adjacency.specs.Retransmissions.{repeats_description, request_again, update_again}
 use Rattle.adjacency.proofs.Kept.{chosen}
 use Rattle.received.specs.Cases.{Case}
-use Rattle.received.specs.Flooding.{flood, flood_to, is_received_at}
+use Rattle.received.specs.Flooding.{flood, flood_to, is_incoming}
 use Rattle.received.specs.Links.{Link, delay_acknowledgment}
-use Rattle.received.specs.Outcomes.{Outcome, Stepping, each_neighbor, on_database, only_at, step_on}
+use Rattle.received.specs.AreaStates.{AreaState, Stepping, each_neighbor, on_database, only_at}
+use Rattle.received.specs.AreaStates.{step_on}
 use Rattle.received.specs.Updates.{after_case, goes_on, send_copy}
 use Rattle.event_rules.specs.Endings.{flood_if_aged}
 use Rattle.event_rules.specs.EventState.{EventState, flood_from_nobody, on_area, on_router}
@@ -156,7 +157,7 @@ stepped_faces f so k (x ∷ xs) = let here = one x.neighbor in λ i. here i
       full = cond (is_full ((so k x n).1 i)) (Some ((so k x n).0 i)) None;
     }
 
-pub each_faces : (moment : ℕ) (f : Stepping) → LeavesStates f → (o : Outcome)
+pub each_faces : (moment : ℕ) (f : Stepping) → LeavesStates f → (o : AreaState)
     → faces (each_neighbor moment f o).area.links ≡ faces o.area.links
 each_faces moment f so o = stepped_faces f so 1 o.area.links
 
@@ -183,39 +184,39 @@ flooded_so moment from lsa n =
 flood_so : (moment : ℕ) (sender : Option ℕ) (lsa : Lsa) → LeavesStates (flood_to moment sender lsa)
 flood_so moment sender lsa number link n =
     chosen (λ (s : Step). IsAsBefore n s.neighbor) (is_exchange_or_later n.state)
-    (flooded_in_exchange moment (is_received_at sender number) lsa n) (no_sends n)
-    (λ e. flooded_so moment (is_received_at sender number) lsa n) (λ e. (refl, refl))
+    (flooded_in_exchange moment (is_incoming sender number) lsa n) (no_sends n)
+    (λ e. flooded_so moment (is_incoming sender number) lsa n) (λ e. (refl, refl))
 
-pub flood_faces : (moment : ℕ) (sender : Option ℕ) (lsa : Lsa) (o : Outcome)
+pub flood_faces : (moment : ℕ) (sender : Option ℕ) (lsa : Lsa) (o : AreaState)
     → faces (flood moment sender lsa o).area.links ≡ faces o.area.links
 flood_faces moment sender lsa o = each_faces moment (flood_to moment sender lsa)
     (flood_so moment sender lsa) o
 
 -- LSAs that reach MaxAge are flooded
-pub ages_faces : (before moment : ℕ) (es : List (Key × DatabaseCopy)) (o : Outcome)
+pub ages_faces : (before moment : ℕ) (es : List (Key × DatabaseCopy)) (o : AreaState)
     → faces (fold (flood_if_aged before moment) o es).area.links ≡ faces o.area.links
 ages_faces before moment [] o = refl
 ages_faces before moment (e ∷ es) o =
     ages_faces before moment es (flood_if_aged before moment o e)
-    ∙ chosen (λ (q : Outcome). faces q.area.links ≡ faces o.area.links)
+    ∙ chosen (λ (q : AreaState). faces q.area.links ≡ faces o.area.links)
     (has_just_aged_out before moment e.1) (flood_from_nobody moment (lsa_now moment e.1) o) o
     (λ is. flood_faces moment None (lsa_now moment e.1) o) (λ is. refl)
 
 -- ---- received LSAs
 
-copy_faces : (moment number : ℕ) (c : Option DatabaseCopy) (o : Outcome)
+copy_faces : (moment number : ℕ) (c : Option DatabaseCopy) (o : AreaState)
     → faces (send_copy moment number c o).area.links ≡ faces o.area.links
 copy_faces moment number None o = refl
 copy_faces moment number (Some c) o = refl
 
 -- except after a bad request, which ends the Link State Update
-pub case_faces : (case : Case) (moment number : ℕ) (lsa : Lsa) (o : Outcome) → goes_on case ≡ true
+pub case_faces : (case : Case) (moment number : ℕ) (lsa : Lsa) (o : AreaState) → goes_on case ≡ true
     → faces (after_case case moment number lsa o).area.links ≡ faces o.area.links
 case_faces Case.Unreadable moment number lsa o on = refl
 case_faces Case.NothingToFlush moment number lsa o on = refl
 case_faces Case.TooSoon moment number lsa o on = refl
 case_faces Case.Newer moment number lsa o on =
-    let p : Outcome = on_database (λ db. finite.insert db (lsa_key lsa) (record {
+    let p : AreaState = on_database (λ db. finite.insert db (lsa_key lsa) (record {
       lsa = lsa;
       stored = moment;
       received = Some moment;
@@ -244,9 +245,10 @@ flushed_faces : (moment : ℕ) (key : Key) (c : Option DatabaseCopy) (p : EventS
     → StaysFaced p (on_area (flush_copy moment key c) p)
 flushed_faces moment key None p = refl
 flushed_faces moment key (Some c) p =
-    let o : Outcome = record { area = p.router.area; sends = p.sends } in
-    let aged : Outcome = on_database (age_prematurely moment key) o in
-    chosen (λ (q : Outcome). faces q.area.links ≡ faces p.router.area.links) (is_aged_out moment c)
+    let o : AreaState = record { area = p.router.area; sends = p.sends } in
+    let aged : AreaState = on_database (age_prematurely moment key) o in
+    chosen (λ (q : AreaState). faces q.area.links ≡ faces p.router.area.links)
+    (is_aged_out moment c)
     o (flood_from_nobody moment (lsa_with_age 3600 c.lsa) aged)
     (λ is. refl) (λ is. flood_faces moment None (lsa_with_age 3600 c.lsa) aged)
 
@@ -322,7 +324,7 @@ updated_so moment interval db n =
     })
     (no_sends n) (λ e. (refl, refl)) (λ e. (refl, refl))
 
-pub again_so : (moment : ℕ) (o : Outcome) → LeavesStates (again moment o)
+pub again_so : (moment : ℕ) (o : AreaState) → LeavesStates (again moment o)
 again_so moment o number link n =
     let interval : ℕ = link.interface.retransmit_interval in
     let first : Neighbor = (describe_again moment interval n).neighbor in

@@ -26,7 +26,7 @@ use Rattle.adjacency.proofs.Kept.{chosen}
 use Rattle.adjacency.proofs.Maps.{AllIn}
 use Rattle.received.specs.Cases.{Case}
 use Rattle.received.specs.Flooding.{flood_to}
-use Rattle.received.specs.Outcomes.{Outcome, Send, on_database, only_at, stepping_sends}
+use Rattle.received.specs.AreaStates.{AreaState, Send, on_database, only_at, stepping_sends}
 use Rattle.received.specs.Updates.{after_case, case_at, goes_on, send_copy}
 use Rattle.event_rules.specs.Endings.{flood_if_aged}
 use Rattle.event_rules.specs.EventState.{EventState, flood_from_nobody, on_area, on_router}
@@ -170,9 +170,9 @@ flushed moment t key p found is h = by_copy found is
           p.router.area.database key others (λ c there fits. absurd cc) h.copies;
     }
     by_copy (Some c) there =
-        let o : Outcome = record { area = p.router.area; sends = p.sends } in
+        let o : AreaState = record { area = p.router.area; sends = p.sends } in
         let lsa : Lsa = lsa_with_age 3600 c.lsa in
-        chosen (λ (q : Outcome). InProgress moment (full t) (record {
+        chosen (λ (q : AreaState). InProgress moment (full t) (record {
           router = record p.router { area = q.area };
           sends = q.sends;
         })) (is_aged_out moment c) o
@@ -622,14 +622,14 @@ lsas_kept moment number t (bytes ∷ rest) p tells h =
 
 -- whatever the moment for the copies
 pub ages_kept : (at before moment : ℕ) (t : Terms) (r : Router) (es : List (Key × DatabaseCopy))
-    (o : Outcome) → AllIn (FitsAt at t r) o.area.database
+    (o : AreaState) → AllIn (FitsAt at t r) o.area.database
     → AllIn (FitsAt at t r) (fold (flood_if_aged before moment) o es).area.database
 ages_kept at before moment t r [] o all = all
 ages_kept at before moment t r (e ∷ es) o all =
     let more : List Send = stepping_sends (flood_to moment None (lsa_now moment e.1)) o.area.links
     in
     ages_kept at before moment t r es (flood_if_aged before moment o e)
-    (chosen (λ (q : Outcome). AllIn (FitsAt at t r) q.area.database)
+    (chosen (λ (q : AreaState). AllIn (FitsAt at t r) q.area.database)
     (has_just_aged_out before moment e.1) (flood_from_nobody moment (lsa_now moment e.1) o) o
     (λ is. marked (FitsAt at t r) (λ key c sent fits. fits) moment more o.area.database all)
     (λ is. all))

@@ -1,9 +1,10 @@
 -- The premises of the law about own LSAs, met by the events that lead to a running router.
-use Rattle.std.proofs.Common.{ℕ, ◌≤◌, Bool, List, Option, subst}
+use Rattle.std.proofs.Common.{ℕ, Bool, List, Option, subst}
 use Rattle.words.specs.Numbers.{Moment}
 use Rattle.event_rules.specs.declared.model.Config.{Config}
 use Rattle.event_rules.specs.declared.model.Out.{Out}
 use Rattle.event_rules.specs.Events.{Happens, Step, initial}
+use Rattle.event_rules.specs.Refusals.{IsAllowed}
 use Rattle.event_rules.specs.Routers.{Occurrence, Router}
 use Rattle.router_runs.specs.Clocks.{ClockRunsOn, RoutersRefuseClocksThatGoBack}
 use Rattle.own_lsa_laws.specs.OwnCopies.{EndsWithTick, NobodySpeaksForThisRouter, SpeaksForItself}
@@ -19,27 +20,30 @@ from_start clocks c steps = subst (λ (m : ℕ). ClockRunsOn m steps) (clocks.st
 
 always : NobodySpeaksForThisRouter → RoutersRefuseClocksThatGoBack → (c : Config) (taken : ℕ)
     (r : Router) → IsAfterEvents (initial c) taken r → SpeaksForItself r
-always law clocks c taken r (steps, run, many, clock) =
-    law.always c steps r (from_start clocks c steps clock) run
+always law clocks c taken r (steps, run, many) =
+    let on = clocks.run steps (initial c) r run in
+    law.always c steps r (from_start clocks c steps on.1) on.0
 
 ends : RoutersRefuseClocksThatGoBack → (c : Config) (taken : ℕ) (moment : Moment) (old new : Router)
-    (outs : List Out) → IsAfterEvents (initial c) taken old → old.moment ≤ moment
+    (outs : List Out) → IsAfterEvents (initial c) taken old
+    → IsAllowed old moment Occurrence.Tick
     → Happens old moment Occurrence.Tick outs new → EndsWithTick c moment new
-ends clocks c taken moment old new outs (steps, run, many, clock) later happens = record {
-  steps = steps;
-  before = old;
-  outs = outs;
-  run = run;
-  clock = from_start clocks c steps clock;
-  later = later;
-  tick = happens;
-}
+ends clocks c taken moment old new outs (steps, run, many) on happens =
+    let since = clocks.run steps (initial c) old run in record {
+      steps = steps;
+      before = old;
+      outs = outs;
+      run = since.0;
+      clock = from_start clocks c steps since.1;
+      later = clocks.event old moment (clocks.taken old moment Occurrence.Tick on.0);
+      tick = happens;
+    }
 
 ticked : NobodySpeaksForThisRouter → RoutersRefuseClocksThatGoBack → (c : Config) (events : ℕ)
     (moment : Moment) (outs : List Out) (stale : Option Bool)
     → IsTakenBySome (initial c) events moment event.Tick outs stale → IsTicked c moment outs
-ticked law clocks c events moment outs stale (taken, old, new, least, leads, later, happens, left) =
-    let its_end = ends clocks c taken moment old new outs leads later happens in record {
+ticked law clocks c events moment outs stale (taken, old, new, least, leads, on, happens, left) =
+    let its_end = ends clocks c taken moment old new outs leads on happens in record {
       taken = taken;
       old = old;
       new = new;

@@ -20,7 +20,7 @@ use Rattle.lsdb.proofs.Keys.{keys_total}
 use Rattle.adjacency.specs.Contents.{Content}
 use Rattle.adjacency.proofs.Kept.{chosen}
 use Rattle.adjacency.proofs.Maps.{AllIn, IfThere, inserted_in}
-use Rattle.received.specs.Outcomes.{Send, marked_database}
+use Rattle.received.specs.AreaStates.{Send, marked_database}
 use Rattle.received.proofs.Marks.{changed_by}
 use Rattle.event_rules.specs.Originations.{announced_body, external_body, router_body, router_key}
 use Rattle.event_rules.specs.Originations.{wanted_body}

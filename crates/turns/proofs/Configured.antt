@@ -7,7 +7,7 @@ use Rattle.words.specs.declared.route.TableRow.{TableRow}
 use Rattle.maps.specs.Words.{SeatView}
 use Rattle.hooks.specs.declared.operation.LoaderOperation.{LoaderOperation}
 use Rattle.hooks.specs.Questions.{ExternalAnswer, price_input, tag_input}
-use Rattle.hooks.specs.Vacant.{IsAnsweredByNone}
+use Rattle.hooks.specs.Vacant.{IsAnsweredWithoutSeat}
 use Rattle.flood.specs.event_rules.Routers.{Router}
 use Rattle.flood.specs.declared.event.Event.TheVariants as event
 use Rattle.turns.specs.Laws.{AnswersAreBesideATable}
@@ -18,9 +18,9 @@ pub configured : (offers : Offers) (known now : List LoaderOperation) (seat : Se
     (external : External) (moment : Moment) (tag price : ExternalAnswer)
     → (tag.external ≡ external) × (tag.moment ≡ moment)
     → (price.external ≡ external) × (price.moment ≡ moment)
-    → ((rows : List TableRow) → IsAnsweredByNone known now
+    → ((rows : List TableRow) → IsAnsweredWithoutSeat known now
     (tag_input external moment rows) tag.word)
-    → ((rows : List TableRow) → IsAnsweredByNone known now
+    → ((rows : List TableRow) → IsAnsweredWithoutSeat known now
     (price_input external moment rows) price.word)
     → IsRedistribute offers known now external moment
     (event.Redistribute tag price)

@@ -9,7 +9,7 @@ use Rattle.hooks.specs.Answered.{IsAnswered}
 use Rattle.hooks.specs.Questions.{count_input}
 use Rattle.flood.specs.declared.book.error.BookError.TheVariants as book_error
 use Rattle.flood.specs.declared.event.Event.{Event}
-use Rattle.turns.specs.Turns.{AsksFor, CountsFor, IsDatagramCounted, IsEventOfWork, IsInstalling}
+use Rattle.turns.specs.Turns.{AsksFor, CountsIfReadFor, IsCountedIfRead, IsEventOfWork, IsInstalling}
 use Rattle.turns.specs.Turns.{RefusesQuestions}
 use Rattle.turns.specs.Turns.{Lack, Offers, Refuses, Took}
 use Rattle.turns.specs.declared.turned.TurnError.{TurnError}
@@ -22,7 +22,7 @@ module _ {A : Type 0} (word : A → ℕ) (refuses : Refuses) (before now : List 
   counted : (r : Option A) → IfNone r ((now ≡ before) × (new ≡ old))
       → IfNone r (refuses.lacks (Lack.Reading (count_input number moment packet)))
       → IfSome r (λ a. IsAnswered before now old new (count_input number moment packet)
-      (word a)) → IsDatagramCounted refuses before now old new number moment packet
+      (word a)) → IsCountedIfRead refuses before now old new number moment packet
   counted None unread lacking answered = inl (unread.0, unread.1, lacking)
   counted (Some a) unread lacking answered = inr (word a, answered)
 
@@ -30,10 +30,10 @@ module _ {A : Type 0} (word : A → ℕ) (refuses : Refuses) (before now : List 
       → w ≡ work.Datagram number bytes → IfNone r ((now ≡ before) × (new ≡ old))
       → IfNone r (refuses.lacks (Lack.Reading (count_input number moment packet)))
       → IfSome r (λ a. IsAnswered before now old new (count_input number moment packet)
-      (word a)) → CountsFor refuses before now old new w moment
+      (word a)) → CountsIfReadFor refuses before now old new w moment
   counts r bytes w same is unread lacking answered =
-      let P : List ℕ → Type 0 = λ p. IsDatagramCounted refuses before now old new number moment p in
-      let Q : Work → Type 0 = λ x. CountsFor refuses before now old new x moment in
+      let P : List ℕ → Type 0 = λ p. IsCountedIfRead refuses before now old new number moment p in
+      let Q : Work → Type 0 = λ x. CountsIfReadFor refuses before now old new x moment in
       subst Q (sym is) (subst P same (counted r unread lacking answered))
 
 -- so the programs were asked about it

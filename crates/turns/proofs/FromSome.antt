@@ -1,12 +1,13 @@
 -- What is so of this router is so of some router.
-use Rattle.std.proofs.Common.{◌≡◌, ◌≤◌, ℕ, Bool, List, Option, None, Some, IfErr, IfOk, subst}
-use Rattle.std.proofs.Common.{sym}
+use Rattle.std.proofs.Common.{◌≡◌, ◌≤◌, ℕ, Bool, List, Option, None, Some, IfErr, IfOk}
+use Rattle.std.proofs.Common.{subst, sym}
 use Rattle.std.specs.Prelude.{◌↔◌, Result, Ok, Err, IfSome, IsTrue, MatchResult}
 use Rattle.words.specs.Numbers.{Moment}
 use Rattle.words.specs.declared.route.Route.{Route}
 use Rattle.words.specs.declared.route.TableRow.{TableRow}
 use Rattle.flood.specs.event_rules.declared.model.Out.{Out}
 use Rattle.flood.specs.event_rules.Events.{Happens}
+use Rattle.flood.specs.event_rules.Refusals.{IsAllowed}
 use Rattle.flood.specs.event_rules.Routers.{Router}
 use Rattle.flood.specs.declared.event.Event.{Event}
 use Rattle.flood.specs.Occurrences.{occurrence_of}
@@ -20,17 +21,17 @@ use Rattle.turns.proofs.Tables.{rows_beside}
 
 pub sent_by_some : (origin : Router) (events taken : ℕ) (moment at : Moment) (e : Event)
     (old new : Router) (outs : List Out) (stale : Option Bool) → events ≤ taken
-    → IsAfterEvents origin taken old → at ≡ taken_at e moment old.moment → old.moment ≤ at
-    → Happens old at (occurrence_of e) outs new
+    → IsAfterEvents origin taken old → at ≡ taken_at e moment old.moment
+    → IsAllowed old at (occurrence_of e) → Happens old at (occurrence_of e) outs new
     → IfSome stale (λ is. IsTrue is ↔ IsStaleNow new)
     → IsTakenBySome origin events moment e outs stale
-sent_by_some origin events taken moment at e old new outs stale least leads is late h left = (
+sent_by_some origin events taken moment at e old new outs stale least leads is on h left = (
   taken,
   old,
   new,
   least,
   leads,
-  subst (λ (m : Moment). old.moment ≤ m) is late,
+  subst (λ (m : Moment). IsAllowed old m (occurrence_of e)) is on,
   subst (λ (m : Moment). Happens old m (occurrence_of e) outs new) is h,
   left,
 )

@@ -7,7 +7,7 @@ use Rattle.words.specs.declared.route.TableRow.{TableRow}
 use Rattle.maps.specs.Words.{SeatView}
 use Rattle.hooks.specs.declared.operation.LoaderOperation.{LoaderOperation}
 use Rattle.hooks.specs.Questions.{RouteAnswer, veto_input}
-use Rattle.hooks.specs.Vacant.{IsAnsweredByNone, let_in_answer}
+use Rattle.hooks.specs.Vacant.{IsAnsweredWithoutSeat, let_in_answer}
 use Rattle.turns.specs.Turns.{AreVetoes, IsVetoOn}
 use Rattle.turns.proofs.Vetoes.{is_word}
 
@@ -20,7 +20,7 @@ pub all_let_in : (known now : List LoaderOperation) (seat : SeatView) (moment : 
     (rows : List TableRow) (asked routes : List Route) (answers : List RouteAnswer) → asked ≡ routes
     → answers ≡ map (let_in_answer moment) asked
     → ((route : Route) (rows : List TableRow)
-    → IsAnsweredByNone known now (veto_input route moment rows) 0)
+    → IsAnsweredWithoutSeat known now (veto_input route moment rows) 0)
     → AreVetoes known now moment rows routes answers
 all_let_in known now seat moment rows asked routes answers same are none =
     let on : (route : Route) → IsVetoOn known now moment rows (let_in_answer moment route) =

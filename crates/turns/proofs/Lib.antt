@@ -1,4 +1,5 @@
 mod Away
+mod Clocks
 mod Configured
 mod Counted
 mod FromSome

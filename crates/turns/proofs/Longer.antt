@@ -17,7 +17,7 @@ use Rattle.flood.specs.declared.event.Event.{Event}
 use Rattle.turns.specs.Turns.{AreAnswersAsked, AreBeside, AreVetoes, IsChangedSince, IsEventOfWork}
 use Rattle.turns.specs.Turns.{IsInstall}
 use Rattle.turns.specs.Turns.{IsPriceOn, IsRedistribute, IsTagOn, IsTurned, IsUnchanged}
-use Rattle.turns.specs.Turns.{IsUnrefreshed, IsVetoOn, IsWordOn, Offers, Refuses, RefusesFor}
+use Rattle.turns.specs.Turns.{IsUnrefreshed, IsVetoOn, MayBeWordOn, Offers, Refuses, RefusesFor}
 use Rattle.turns.specs.Turns.{TakesFor, Took}
 use Rattle.turns.specs.declared.turned.TurnOutcome.{TurnOutcome}
 use Rattle.turns.specs.declared.turned.TurnError.{TurnError}
@@ -26,8 +26,8 @@ use Rattle.turns.specs.declared.work.Work.TheVariants as work
 
 module _ (known more now most : List LoaderOperation) (longer : IsPrefix known more)
     (grown : IsPrefix now most) where
-  pub word_longer : (input : Given) (word : ℕ) → IsWordOn more now input word
-      → IsWordOn known most input word
+  pub word_longer : (input : Given) (word : ℕ) → MayBeWordOn more now input word
+      → MayBeWordOn known most input word
   word_longer input word (operations, labels, begins, within, answers) = (
     operations,
     labels,
@@ -140,6 +140,7 @@ module _ (known more now most : List LoaderOperation) (longer : IsPrefix known m
   turned_longer offers took refuses moment w before after turned h = record {
     stale = h.stale;
     outs = takes_longer offers took before moment w turned.outs.items h.stale h.outs;
+    unknown = h.unknown;
     refreshed = refreshed_longer (λ outs. outs.items) offers took refuses moment before _ _ _ _
         turned.refreshed h.refreshed;
   }

@@ -15,11 +15,11 @@ use Rattle.hooks.specs.Answered.{AreAnswered, IsAnswered}
 use Rattle.hooks.specs.Questions.{ExternalAnswer, RouteAnswer}
 use Rattle.hooks.specs.Questions.{price_input, tag_input, veto_input}
 use Rattle.hooks.proofs.Fronts.{prefix_self, prefix_trans}
-use Rattle.turns.specs.Turns.{AreVetoes, IsPriceOn, IsTagOn, IsVetoOn, IsWordOn}
+use Rattle.turns.specs.Turns.{AreVetoes, IsPriceOn, IsTagOn, IsVetoOn, MayBeWordOn}
 use Rattle.turns.proofs.Longer.{veto_longer, vetoes_longer}
 
 pub is_word : {before now : List LoaderOperation} {old new : SeatView} {input : Given} {word : ℕ}
-    → IsAnswered before now old new input word → IsWordOn before now input word
+    → IsAnswered before now old new input word → MayBeWordOn before now input word
 is_word {now = now} h = (now, h.labels, h.begins, prefix_self now, h.answers)
 
 pub is_veto : {before now : List LoaderOperation} {old new : SeatView} (moment : Moment)
@@ -28,7 +28,7 @@ pub is_veto : {before now : List LoaderOperation} {old new : SeatView} (moment :
     → IsAnswered before now old new (veto_input route moment rows) a.word
     → (a.route ≡ route) × IsVetoOn before now moment rows a
 is_veto {before = before} {now = now} moment rows route a asked answered =
-    let P : Route → Type 0 = λ r. IsWordOn before now (veto_input r moment rows) a.word in (
+    let P : Route → Type 0 = λ r. MayBeWordOn before now (veto_input r moment rows) a.word in (
       asked.0,
       record { asked = asked.1; answered = subst P (sym asked.0) (is_word answered) },
     )

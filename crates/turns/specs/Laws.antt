@@ -1,5 +1,6 @@
 -- What the definitions of turns mean, as laws.
-use Rattle.std.specs.Prelude.{◌≡◌, ◌↔◌, ℕ, Bool, List, Option}
+use Rattle.std.specs.Prelude.{◌≡◌, ◌<◌, ◌≤◌, ◌↔◌, ℕ, Bool, List, Option}
+use Rattle.words.specs.Constants.{clock_end}
 use Rattle.words.specs.Numbers.{InterfaceNumber, Moment}
 use Rattle.words.specs.declared.route.External.{External}
 use Rattle.words.specs.declared.route.Route.{Route}
@@ -10,14 +11,15 @@ use Rattle.hooks.specs.declared.operation.LoaderOperation.{LoaderOperation}
 use Rattle.hooks.specs.Questions.{ExternalAnswer}
 use Rattle.flood.specs.declared.event.Event.{Event}
 use Rattle.flood.specs.declared.event.Event.TheVariants as event
-use Rattle.turns.specs.Turns.{AreBeside, IsEventOfWork, IsOfferedBySome, IsTakenBySome, TakesFor}
-use Rattle.turns.specs.Turns.{took_from}
+use Rattle.turns.specs.Turns.{AreBeside, BeganWith, IsAtTheEndOfTheClock, IsEventOfWork}
+use Rattle.turns.specs.Turns.{IsOfferedBySome, IsTakenBySome, TakesFor, took_from}
 use Rattle.turns.specs.declared.work.Work.TheVariants as work
 
 -- A turn for a datagram gives the packet of just these bytes from just this interface, and sends
--- what the router sends at it, whatever programs are loaded.
-abbrev pub CountReachesNoEvent : Type 0
-CountReachesNoEvent =
+-- what the router sends at it, whatever programs are loaded. What a program at `count` leaves in
+-- counters and cells may reach later answers of the others, in the refresh of this turn too.
+abbrev pub EventOfADatagramIsItsPacket : Type 0
+EventOfADatagramIsItsPacket =
     (origin : Router) (known now : List LoaderOperation) (events : ℕ) (moment : Moment)
     (interface : InterfaceNumber) (bytes : List ℕ) (outs : List Out) (stale : Option Bool)
     → TakesFor (IsOfferedBySome origin) (took_from origin) known now events moment
@@ -36,3 +38,11 @@ AnswersAreBesideATable =
     × (tag : ExternalAnswer) × (price : ExternalAnswer)
     × IsOfferedBySome origin candidates rows × AreBeside known now external moment rows tag price
     × (e ≡ event.Redistribute tag price)
+
+-- A book that began before the end of the clock is never at it. So it refuses an `Install` for its
+-- moment only if that is the end of the clock, or past it.
+abbrev pub BooksNeverReachTheEndOfTheClock : Type 0
+BooksNeverReachTheEndOfTheClock =
+    (origin : Router) (moment : Moment) → origin.moment < clock_end
+    → IsAtTheEndOfTheClock (BeganWith origin) (λ b. b.current.moment) moment
+    → clock_end ≤ moment

@@ -1,6 +1,6 @@
 -- What a turn gives to the book, and what comes of it.
 use Rattle.std.specs.Prelude.{◌≡◌, ◌≢◌, ◌⊎◌, ◌↔◌, ℕ, ◌+◌, ◌<◌, ◌≤◌, Bool, true, List, Option}
-use Rattle.std.specs.Prelude.{IfSome, IsTrue, MatchOption, Some}
+use Rattle.std.specs.Prelude.{IfSome, IsTrue, MatchOption, None, Some}
 use Rattle.std.specs.Prelude.{Err, length, map, max, slice_get}
 use Rattle.std.specs.FinMap as finite
 use Rattle.std.specs.List.{All}
@@ -19,6 +19,7 @@ use Rattle.flood.specs.event_rules.declared.model.Out.{Out}
 use Rattle.flood.specs.event_rules.Commands.{is_for}
 use Rattle.flood.specs.event_rules.Events.{Happens}
 use Rattle.flood.specs.event_rules.Originations.{external_key}
+use Rattle.flood.specs.event_rules.Refusals.{IsAllowed}
 use Rattle.flood.specs.event_rules.Routers.{Router}
 use Rattle.hooks.specs.declared.operation.LoaderOperation.{LoaderOperation}
 use Rattle.hooks.specs.Answered.{IsAnswered}
@@ -44,12 +45,12 @@ use Rattle.turns.specs.declared.work.Work.TheVariants as work
 
 -- Four predicates that a `Taker` leaves open: an event was taken at a moment, for a port with this
 -- number of events until then, sent these outs and left the router stale or not (None if that isn't
--- known, for want of memory); the workers were told that the programs are now those that these
+-- known, for want of memory); a change of the programs was counted, which are now those that these
 -- operations leave; the programs at `count` were asked about this input; and this number of changes
 -- of the programs was read, by such a port.
 pub record Took : Type 1 where
   pub taken : (events : ℕ) → Moment → Event → List Out → (stale : Option Bool) → Type 0
-  pub told : List LoaderOperation → Type 0
+  pub change_counted : List LoaderOperation → Type 0
   pub asked : Given → Type 0
   pub changes_read : (events : ℕ) → (changes : ℕ) → Type 0
 
@@ -69,8 +70,8 @@ abbrev pub IsTaken : Took → (events : ℕ) → Moment → Event → List Out �
     → Type 0
 IsTaken took = took.taken
 
-abbrev pub IsTold : Took → List LoaderOperation → Type 0
-IsTold took = took.told
+abbrev pub IsChangeCounted : Took → List LoaderOperation → Type 0
+IsChangeCounted took = took.change_counted
 
 abbrev pub IsAsked : Took → Given → Type 0
 IsAsked took = took.asked
@@ -108,14 +109,14 @@ IsAtTheEndOfTheClock {B = B} began moment_of moment =
 
 -- A book that began with this router says to a port with this number of events until then: the
 -- event that is given at this moment sends these, from a router to which events lead from there, at
--- least as many as the port's, of which none is later; it leaves one that is stale or isn't, if
--- that is known.
+-- least as many as the port's, and no rule refuses it there; it leaves one that is stale or isn't,
+-- if that is known.
 abbrev pub IsTakenBySome : (origin : Router) → (events : ℕ) → Moment → Event → List Out
     → (stale : Option Bool) → Type 0
 IsTakenBySome origin events moment e outs stale =
     (taken : ℕ) × (old : Router) × (new : Router) × (events ≤ taken)
     × IsAfterEvents origin taken old
-    × (old.moment ≤ taken_at e moment old.moment)
+    × IsAllowed old (taken_at e moment old.moment) (occurrence_of e)
     × Happens old (taken_at e moment old.moment) (occurrence_of e) outs new
     × IfSome stale (λ is. IsTrue is ↔ IsStaleNow new)
 
@@ -132,11 +133,11 @@ IsRefusedBySome origin events moment e error =
     × RefusesAt b moment e error
 
 -- All that is said of a book which began with this router. Nothing is known of a question that was
--- asked, or got no reading or no memory, nor of a number of changes that was read or told.
+-- asked, or got no reading or no memory, nor of a change that was counted or a number of them.
 abbrev pub took_from : (origin : Router) → Took
 took_from origin = record {
   taken = IsTakenBySome origin;
-  told = λ operations. Unit {0};
+  change_counted = λ operations. Unit {0};
   asked = λ input. Unit {0};
   changes_read = λ events changes. Unit {0};
 }
@@ -183,10 +184,11 @@ IsListed {B = B} began at interfaces neighbors =
 
 -- ---- answers to questions
 
--- the word that the programs answer to this input, after operations of the loader that begin with
--- all that the asker knew, and that begin all that it knows now
-abbrev pub IsWordOn : (known now : List LoaderOperation) → Given → (word : ℕ) → Type 0
-IsWordOn known now input word =
+-- A word that the programs may answer to this input, whatever counters and cells hold (what a seat
+-- found there, and left, isn't said), after operations of the loader that begin with all that the
+-- asker knew, and that begin all that it knows now.
+abbrev pub MayBeWordOn : (known now : List LoaderOperation) → Given → (word : ℕ) → Type 0
+MayBeWordOn known now input word =
     (operations : List LoaderOperation) × (labels : List Label)
     × IsPrefix known operations × IsPrefix operations now × OperationsAnswer operations input
     labels word
@@ -196,53 +198,54 @@ pub record IsTagOn (known now : List LoaderOperation) (external : External) (mom
     (rows : List TableRow) (a : ExternalAnswer) : Type 0 where
   pub destination : a.external ≡ external
   pub asked : a.moment ≡ moment
-  pub answered : IsWordOn known now (tag_input external moment rows) a.word
+  pub answered : MayBeWordOn known now (tag_input external moment rows) a.word
 
 pub record IsPriceOn (known now : List LoaderOperation) (external : External) (moment : Moment)
     (rows : List TableRow) (a : ExternalAnswer) : Type 0 where
   pub destination : a.external ≡ external
   pub asked : a.moment ≡ moment
-  pub answered : IsWordOn known now (price_input external moment rows) a.word
+  pub answered : MayBeWordOn known now (price_input external moment rows) a.word
 
 -- the answer is on its route, at this moment, beside these rows
 pub record IsVetoOn (known now : List LoaderOperation) (moment : Moment) (rows : List TableRow)
     (a : RouteAnswer) : Type 0 where
   pub asked : a.moment ≡ moment
-  pub answered : IsWordOn known now (veto_input a.route moment rows) a.word
+  pub answered : MayBeWordOn known now (veto_input a.route moment rows) a.word
 
--- the answers are on these routes, in their order
+-- the answers are on these routes, in their order, each by operations of its own
 abbrev pub AreVetoes : (known now : List LoaderOperation) → Moment → List TableRow → List Route
     → List RouteAnswer → Type 0
 AreVetoes known now moment rows routes answers =
     (map (λ a. a.route) answers ≡ routes) × All (IsVetoOn known now moment rows) answers
 
 -- The datagram was counted as one of the interface: an asker's list and its seat are those after a
--- word that the programs answer of it; or they are as before, if it got no reading.
-abbrev pub IsDatagramCounted : Refuses → (before now : List LoaderOperation) → (old new : SeatView)
+-- word that the programs answer of it. Or it wasn't, since it got no reading: they are as before.
+abbrev pub IsCountedIfRead : Refuses → (before now : List LoaderOperation) → (old new : SeatView)
     → InterfaceNumber → Moment → (packet : List ℕ) → Type 0
-IsDatagramCounted refuses before now old new interface moment packet =
+IsCountedIfRead refuses before now old new interface moment packet =
     ((now ≡ before) × (new ≡ old)
     × refuses.lacks (Lack.Reading (count_input interface moment packet)))
     ⊎ ((word : ℕ) × IsAnswered before now old new (count_input interface moment packet) word)
 
--- if the work is a datagram, that is counted
-abbrev pub CountsFor : Refuses → (before now : List LoaderOperation) → (old new : SeatView) → Work
+-- if the work is a datagram, that is counted if it got a reading
+abbrev pub CountsIfReadFor : Refuses → (before now : List LoaderOperation) → (old new : SeatView) → Work
     → Moment → Type 0
-CountsFor refuses before now old new (work.Datagram interface bytes) moment =
-    IsDatagramCounted refuses before now old new interface moment bytes
-CountsFor refuses before now old new work.Tick moment = Unit {0}
-CountsFor refuses before now old new (work.Add external) moment = Unit {0}
-CountsFor refuses before now old new (work.Withdraw prefix) moment = Unit {0}
-CountsFor refuses before now old new (work.Down interface) moment = Unit {0}
-CountsFor refuses before now old new work.Refresh moment = Unit {0}
+CountsIfReadFor refuses before now old new (work.Datagram interface bytes) moment =
+    IsCountedIfRead refuses before now old new interface moment bytes
+CountsIfReadFor refuses before now old new work.Tick moment = Unit {0}
+CountsIfReadFor refuses before now old new (work.Add external) moment = Unit {0}
+CountsIfReadFor refuses before now old new (work.Withdraw prefix) moment = Unit {0}
+CountsIfReadFor refuses before now old new (work.Down interface) moment = Unit {0}
+CountsIfReadFor refuses before now old new work.Refresh moment = Unit {0}
 
--- If the work is a datagram, that is counted, by a port that had such a seat and knew the first of
+-- If the work is a datagram, that is counted if it got a reading, by a port that had such a seat and knew the first of
 -- these operations, and knows the last ones in the end: what it knew as it counted begins them.
+-- Some seat comes of it; that it is the port's isn't said. Of a book this holds of every turn.
 abbrev pub HasCountedFor : Refuses → (before after : List LoaderOperation) → (old : SeatView) → Work
     → Moment → Type 0
 HasCountedFor refuses before after old w moment =
     (known : List LoaderOperation) × (seat : SeatView)
-    × CountsFor refuses before known old seat w moment × IsPrefix known after
+    × CountsIfReadFor refuses before known old seat w moment × IsPrefix known after
 
 -- if the work is a datagram, the programs at `count` were asked about it
 abbrev pub AsksFor : Took → Moment → Work → Type 0
@@ -269,8 +272,8 @@ abbrev pub AreBeside : (known now : List LoaderOperation) → External → Momen
 AreBeside known now external moment rows tag price =
     IsTagOn known now external moment rows tag × IsPriceOn known now external moment rows price
 
--- They are beside the rows of a table that was offered; or beside whatever rows, as they are if no
--- program stands at `tag` and none at `price`: then no table was asked for.
+-- They are beside the rows of a table that was offered; or the same beside whatever rows, as they
+-- are if no program stands at `tag` and none at `price`.
 abbrev pub AreAnswersAsked : Offers → (known now : List LoaderOperation) → External → Moment
     → (tag : ExternalAnswer) → (price : ExternalAnswer) → Type 0
 AreAnswersAsked offers known now external moment tag price =
@@ -331,8 +334,9 @@ abbrev pub AsksOfRoutes : Moment → Given → Type 0
 AsksOfRoutes moment input =
     (route : Route) × (rows : List TableRow) × (input ≡ veto_input route moment rows)
 
--- What a work is refused for before its event is given. A datagram has no question, but is copied;
--- a Tick, a withdrawal and a link's end need neither a reading nor memory.
+-- What a work is refused for before its event is given. A datagram is copied, and so refused for
+-- memory alone: without a reading at `count` it isn't counted, and is taken all the same. A Tick, a
+-- withdrawal and a link's end need neither a reading nor memory.
 abbrev pub RefusesQuestions : Refuses → Work → Moment → TurnError → Type 0
 RefusesQuestions refuses (work.Datagram interface bytes) moment error = LacksMemory refuses error
 RefusesQuestions refuses work.Tick moment error = ⊥
@@ -382,16 +386,18 @@ IsUnchanged took events =
 
 -- What comes of a turn at a port that knew the first of these operations before it and knows the
 -- others after it: the outs of the work's event, and, if a refresh followed, those of its
--- `Install`. It followed if the event left the router stale and only then, unless one wasn't
--- taken, and only if the programs weren't changed meanwhile. The events count in the port's share,
--- which grew from one number to the other: the work's event is among those that count when the
--- refresh is given.
+-- `Install`. A refresh followed only if the event left the router stale, and the programs weren't
+-- changed meanwhile. If none followed a router that was left stale, it was refused, or the programs
+-- were changed; of a book that says nothing. The events count in the port's share, which grew from
+-- one number to the other: the work's event is among those that count when the refresh is given.
 pub record IsTurned (offers : Offers) (took : Took) (refuses : Refuses)
     (known now : List LoaderOperation) (moment : Moment) (w : Work) (before after : ℕ)
     (turned : TurnOutcome)
     : Type 0 where
   pub stale : Option Bool
   pub outs : TakesFor offers took known now before moment w turned.outs.items stale
+  -- whether it is stale isn't known only for want of memory
+  pub unknown : stale ≡ None → refuses.lacks Lack.Memory
   pub refreshed : MatchOption turned.refreshed
       ((after ≡ before + 1)
       × (stale ≡ Some true → IsUnrefreshed offers took refuses known now moment before))

@@ -1,5 +1,5 @@
 //! The book under its lock.
-ghost use Rattle.std.specs.Prelude.{◌≡◌, ◌+◌, ◌<◌, ◌≤◌, ◌⊎◌, List, Err};
+ghost use Rattle.std.specs.Prelude.{◌≡◌, ◌+◌, ◌<◌, ◌≤◌, ◌⊎◌, List, Err, None};
 ghost use Rattle.std.specs.Prelude.{IfErr, IfOk, OnOk, OnErr};
 ghost use mathlib.Core.List.{IsPrefix};
 ghost use Rattle.words.specs.declared.route.TableRow.{TableRow};
@@ -16,7 +16,7 @@ ghost use Rattle.turns.specs.Turns.{
   IsListed,
   IsRefused,
   IsTaken,
-  IsTold,
+  IsChangeCounted,
   Lack,
   IsNumberOfChanges,
 };
@@ -104,10 +104,11 @@ impl<L: Site, B: Taker<L>> Hub<L, B> {
     }
 
     /// Counts a change of the programs, which are now those of the notice. The caller refreshes the
-    /// table next. The refresh of a turn that began before is refused from now on: it may bring
-    /// answers of an earlier program, which would replace those of the caller's.
+    /// table next. The refresh that follows a turn which began before is refused from now on: it may
+    /// bring answers of an earlier program, which would replace those of the caller's. A turn for
+    /// [`Work::Refresh`](crate::Work::Refresh) isn't.
     pub fn count_program_change(&self, notice: &Notice)
-        ensures { IsTold B.took (told_by notice.now) }
+        ensures { IsChangeCounted B.took (told_by notice.now) }
     {
         B::count_change(&self.changes, notice);
     }
@@ -123,6 +124,8 @@ impl<L: Site, B: Taker<L>> Hub<L, B> {
         requires { 0 < mine.old.parts }
         ensures ok { IfOk result (λ r.
             IsTaken B.took mine.old.amount moment event r.outs.items r.stale) }
+        ensures unknown { IfOk result (λ r.
+            r.stale ≡ None → IsLacking B.refuses Lack.Memory) }
         ensures refused { IfErr result (λ error.
             IsRefused B.refuses mine.old.amount moment event error) }
         ensures share { OnOk result (mine.new.amount ≡ mine.old.amount + 1) }
@@ -150,7 +153,7 @@ impl<L: Site, B: Taker<L>> Hub<L, B> {
         ensures ok { IfOk result (λ r.
             IsTaken B.took mine.old.amount moment event r.outs.items r.stale) }
         ensures refused { IfErr result (λ error.
-            IsChangedSince B.took mine.old.amount changes
+            ((error ≡ TurnError.Away) × IsChangedSince B.took mine.old.amount changes)
             ⊎ ((why : BookError) × IsRefused B.refuses mine.old.amount moment event why
             × (error ≡ TurnError.Book why))) }
         ensures unchanged { OnOk result (IsNumberOfChanges B.took mine.old.amount changes) }

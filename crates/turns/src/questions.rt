@@ -6,7 +6,7 @@ ghost use Rattle.hooks.specs.Known.{asker_history, known_to};
 ghost use Rattle.turns.specs.Turns.{
   AreVetoes,
   AsksFor,
-  CountsFor,
+  CountsIfReadFor,
   IsEventOfWork,
   IsInstall,
   IsPriceOn,
@@ -41,7 +41,7 @@ pub fn make_event<L: Site, B: Taker<L>, R: Wait>(
     requires { IsSeatOf L.words seat.old }
     ensures event { IfOk result (λ event.
         IsEventOfWork B.offers (known_to asker.old) (known_to asker.new) work.now moment event) }
-    ensures counted { CountsFor B.refuses (known_to asker.old) (known_to asker.new)
+    ensures counted { CountsIfReadFor B.refuses (known_to asker.old) (known_to asker.new)
         seat.old seat.new work.now moment }
     ensures asked { AsksFor B.took moment work.now }
     ensures err { IfErr result (RefusesQuestions B.refuses work.now moment) }

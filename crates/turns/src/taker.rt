@@ -13,7 +13,7 @@ ghost use Rattle.maps.specs.Words.{IsSeatOf};
 ghost use Rattle.hooks.specs.Answered.{AreAnswered, IsAnswered};
 ghost use Rattle.hooks.specs.Known.{asker_history, known_to, told_by};
 ghost use Rattle.hooks.specs.Questions.{count_input, price_input, tag_input, veto_input};
-ghost use Rattle.hooks.specs.Vacant.{IsAnsweredByNone, let_in_answer};
+ghost use Rattle.hooks.specs.Vacant.{IsAnsweredWithoutSeat, let_in_answer};
 ghost use Rattle.flood.specs.event_rules.Events.{Happens};
 ghost use Rattle.flood.specs.event_rules.Routers.{shown_at};
 ghost use Rattle.flood.specs.declared.event.Event.{Event};
@@ -29,7 +29,7 @@ ghost use Rattle.turns.specs.Turns.{
   IsRefused,
   IsRefusedBySome,
   IsTaken,
-  IsTold,
+  IsChangeCounted,
   IsWantedBySome,
   Lack,
   Refuses,
@@ -100,6 +100,7 @@ pub trait Taker<L: Origin> {
         requires { 0 < mine.old.parts }
         ensures ok { IfOk result (λ t.
             IsTaken took mine.old.amount moment event t.outs.items t.stale) }
+        ensures unknown { IfOk result (λ t. t.stale ≡ None → IsLacking refuses Lack.Memory) }
         ensures refused { IfErr result (λ error.
             IsRefused refuses mine.old.amount moment event error) }
         ensures share { OnOk result (mine.new.amount ≡ mine.old.amount + 1) }
@@ -126,8 +127,8 @@ pub trait Taker<L: Origin> {
         ensures offered { IfOk result (λ c. (rows : List TableRow) × offers c rows) }
         ensures short { OnErr result (IsLacking refuses Lack.Memory) };
 
-    /// Whether this destination is announced now, or will be as soon as its LSA may be originated,
-    /// if the port that has this share asks.
+    /// Whether this destination is announced now, or will be as soon as its LSA may be originated.
+    /// `mine` is the share of the port that asks.
     fn wants(&mut self, mine: &mut Share<L>, prefix: Prefix) -> bool
         ensures wanted { wanted mine.old.amount prefix result }
         ensures share { (mine.new.amount ≡ mine.old.amount) × (mine.new.parts ≡ mine.old.parts) };
@@ -233,7 +234,7 @@ pub trait Taker<L: Origin> {
         ensures known { IsPrefix (known_to asker.old) (known_to asker.new) }
         ensures all { IfSome result (λ answers. answers ≡ map (let_in_answer moment) routes) }
         ensures answered { IfSome result (λ answers.
-            (route : RouteValue) (rows : List TableRow) → IsAnsweredByNone
+            (route : RouteValue) (rows : List TableRow) → IsAnsweredWithoutSeat
             (known_to asker.old) (known_to asker.new) (veto_input route moment rows) 0) };
 
     /// Clones a datagram for its event. It stands here, so that a refusal for memory counts
@@ -247,7 +248,7 @@ pub trait Taker<L: Origin> {
 
     /// Counts one more change of the programs, which are now those of the notice.
     fn count_change(changes: &AtomicU64, notice: &Notice)
-        ensures { IsTold took (told_by notice.now) };
+        ensures { IsChangeCounted took (told_by notice.now) };
 
     /// How many changes were counted, as it is read by the port that has this share.
     fn changes(changes: &AtomicU64, mine: &Share<L>) -> u64

@@ -148,7 +148,7 @@ fn refresh<L: Site, B: Taker<L>, R: Wait>(
         (known_to port.old.asker) (known_to port.new.asker)
         port.old.share.amount moment Work.Refresh outs.items left) }
     ensures refused { IfErr result (λ error.
-        IsChangedSince B.took port.old.share.amount changes
+        ((error ≡ TurnError.Away) × IsChangedSince B.took port.old.share.amount changes)
         ⊎ RefusesFor B.offers B.refuses (known_to port.old.asker) (known_to port.new.asker)
         port.old.share.amount moment Work.Refresh error) }
     ensures unchanged { OnOk result (IsNumberOfChanges B.took port.old.share.amount changes) }

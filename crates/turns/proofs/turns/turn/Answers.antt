@@ -14,6 +14,7 @@ returns-clause-turned g c = record {
         c.in_ok-event.event c.in_ok-event.ensures.event,
     c.in_ok-taken.ensures.ok,
   );
+  unknown = c.in_ok-taken.ensures.unknown;
   refreshed =
       follows (known_to c.args.port.now.asker) _ (known_to c.follow-refreshed.new.port.asker)
       (known_to c.follow-refreshed.new.port.asker) c.in_ok-event.ensures.known (prefix_self _)

@@ -4,7 +4,7 @@ use Rattle.flood.specs.declared.book.error.BookError.{BookError}
 use Rattle.flood.specs.event_rules.Routers.{Router}
 use Rattle.flood.specs.Offers.{IsStaleNow}
 use Rattle.flood.specs.Replay.{BookView}
-use Rattle.flood.proofs.Late.{no_earlier}
+use Rattle.flood.proofs.Allowed.{allowed}
 use Rattle.turns.specs.Turns.{IsRefusedBySome, taken_at}
 use Rattle.turns.proofs.FromSome.{left_stale, refused_by_some, sent_by_some}
 use Rattle.turns.proofs.taker.BookTaker.take.Goals as goal
@@ -28,7 +28,7 @@ returns-in-Ok-clause-ok g c =
     c.audit.ensures.least)
     c.now.ensures.leads
     (c.taken_at-at.ensures ∙ ap (taken_at c.args.event c.args.moment) last)
-    (no_earlier c.audit.new.self c.taken_at-at.result c.args.event c.in-Ok.outs
+    (allowed c.audit.new.self c.taken_at-at.result c.args.event c.in-Ok.outs
     c.in-Ok.ensures.refused) c.in-Ok.ensures.ok
     (left_stale c.apply_with_marks.new.self.current c.is_stale.result c.known-stale.result
     c.is_stale.ensures.stale c.known-stale.ensures)

@@ -2,7 +2,7 @@ use Rattle.std.proofs.Common.{refl, subst}
 use Rattle.flood.specs.declared.event.Event.{Event}
 use Rattle.flood.specs.declared.event.Event.TheVariants as event
 use Rattle.turns.specs.Turns.{IsTakenBySome}
-use Rattle.turns.proofs.laws.count_reaches_no_event.Goals as goal
+use Rattle.turns.proofs.laws.the_event_of_a_datagram_is_its_packet.Goals as goal
 
 pub returns : goal.returns
 returns c origin known now events moment number bytes outs stale = (
