@@ -154,7 +154,6 @@ fn end_router<L: Site, Q: Wait + Drop, C: Seconds + Drop>(
     let Outlet {
         transport,
         clock: _,
-        failed: _,
     } = outlet;
     EndedRouter {
         origin,
@@ -210,7 +209,6 @@ fn run_all<
         outlet: Outlet {
             transport: own,
             clock: SystemSeconds::new(rt),
-            failed: false,
         },
         unrefreshed: false,
         of: PhantomData::<L>,

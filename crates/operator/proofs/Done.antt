@@ -30,15 +30,15 @@ refreshed offers took refuses known now due counted counts (Err error) is done w
     subst (λ (b : Bool). IsRefreshed offers took refuses known now b counted counts) (sym is)
     (error, why, same)
 
--- after a change that was told, by a port that learnt of it and whose share is as it was before
+-- after a change that was counted, by a port that learnt of it and whose share is as it was before
 pub followed : (offers : Offers) (took : Took) (refuses : Refuses) (now told : List LoaderOperation)
     (knew known : List LoaderOperation) (due : Bool) (counted between counts : ℕ) → told ≡ now
-    → took.told told → IsPrefix told knew → IsPrefix knew known → between ≡ counted
+    → took.change_counted told → IsPrefix told knew → IsPrefix knew known → between ≡ counted
     → IsRefreshed offers took refuses knew known due between counts
     → IsFollowed offers took refuses now known due counted counts
 followed offers took refuses now told knew known due counted between counts is tells learnt grown
     same refreshes = record {
-      told = subst (λ (l : List LoaderOperation). took.told l) is tells;
+      changed = subst (λ (l : List LoaderOperation). took.change_counted l) is tells;
       knew = knew;
       learnt = subst (λ (l : List LoaderOperation). IsPrefix l knew) is learnt;
       grown = grown;

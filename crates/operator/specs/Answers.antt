@@ -167,11 +167,11 @@ pub record IsUntouched (c : Change) : Type 0 where
 
 -- ---- answers
 
--- After the programs were changed the workers were told so. Then the port learnt of it, and a
+-- After the programs were changed the change was counted. Then the port learnt of it, and a
 -- refresh of the table was tried, by programs that are no older than the change.
 pub record IsFollowed (offers : Offers) (took : Took) (refuses : Refuses)
     (now known : List LoaderOperation) (due : Bool) (counted counts : ℕ) : Type 0 where
-  pub told : took.told now
+  pub changed : took.change_counted now
   -- those that the port knew when the refresh was tried
   pub knew : List LoaderOperation
   pub learnt : IsPrefix now knew

@@ -168,7 +168,8 @@ impl<L: Site, Q: Wait + Drop, K: Transport + Drop, C: Seconds + Drop> Desk<L, Q,
     }
 
     // Publishes a program at its hook, and refreshes the table, since the answers of `veto` may
-    // have changed.
+    // have changed. `Attached` is answered even if the refresh is refused: the table then stays as
+    // it was until a later line of the console, or an event, brings one that is taken.
     fn publish<B: Taker<L>, R: Wait>(
         &mut self,
         rt: &R,

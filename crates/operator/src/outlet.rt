@@ -1,5 +1,5 @@
 //! Where port 0 sends.
-ghost use Rattle.std.specs.Prelude.{◌≡◌, ◌<◌, ◌≤◌, ◌⊎◌, ◌↔◌, IfErr, OnErr, OnOk, IsTrue};
+ghost use Rattle.std.specs.Prelude.{◌≡◌, ◌≤◌, IfErr, OnErr, OnOk};
 ghost use mathlib.Core.List.{IsPrefix};
 ghost use Rattle.hooks.specs.Known.{known_to};
 ghost use Rattle.worker.specs.Lives.{IsSent, senses_of, standing};
@@ -16,28 +16,23 @@ use worker::{
 pub struct Outlet<K: Transport + Drop, C: Seconds + Drop> {
     pub transport: K,
     pub clock: C,
-    /// Whether the transport failed. What is sent afterwards is lost, and the console goes on.
-    pub failed: bool,
 }
 
-// Sends the outs of a turn, and sets `failed` if the transport fails.
+// Sends the outs of a turn. If the transport fails, it counts that, and the console goes on: what
+// is sent afterwards is lost, and only the program's exit status tells it.
 #[tactic(auto, using(crate::proofs::Done::sent, crate::proofs::Served::never_fewer))]
-fn send<K: Transport>(transport: &mut K, failed: &mut bool, turned: &TurnOutcome)
+fn send<K: Transport>(transport: &mut K, turned: &TurnOutcome)
     ensures sent { K.faults transport.new ≡ K.faults transport.old
         → IsSent K.gives transport.old turned.now transport.new }
     ensures faults { K.faults transport.old ≤ K.faults transport.new }
-    ensures failed { IsTrue failed.new
-        ↔ (IsTrue failed.old ⊎ (K.faults transport.old < K.faults transport.new)) }
 {
-    if send_all(transport, turned).is_err() {
-        *failed = true;
-    }
+    let _failed = send_all(transport, turned).is_err();
 }
 
 impl<K: Transport + Drop, C: Seconds + Drop> Outlet<K, C> {
     /// Takes a turn at port 0 with this work, at the moment that the clock shows, and sends what
     /// comes of it. The router takes this event, and nothing else but the refresh that may follow
-    /// it. If the transport fails, `failed` is set, and the console goes on.
+    /// it. If the transport fails, it counts that, and the console goes on.
     ///
     /// # Errors
     /// Why the turn was refused, as [`turn`](worker::turn) says: the router then took nothing.
@@ -64,9 +59,6 @@ impl<K: Transport + Drop, C: Seconds + Drop> Outlet<K, C> {
             port.old.share.amount)
             (standing self.new.transport self.new.clock (known_to port.new.asker)
             port.new.share.amount) }
-        ensures failed { IsTrue self.new.failed
-            ↔ (IsTrue self.old.failed ⊎ (K.faults self.old.transport < K.faults
-            self.new.transport)) }
     {
         let mut moment = self.clock.second();
         let turned = turn_with_retries(
@@ -78,7 +70,7 @@ impl<K: Transport + Drop, C: Seconds + Drop> Outlet<K, C> {
             &mut moment,
             work,
         )?;
-        send(&mut self.transport, &mut self.failed, &turned);
+        send(&mut self.transport, &turned);
         Ok(())
     }
 }

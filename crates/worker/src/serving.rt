@@ -28,19 +28,6 @@ pub enum Ended {
     Fault,
 }
 
-impl Ended {
-    /// The status of the program: 0, or 3 if a transport failed.
-    pub fn status(self) -> u8
-        ensures quit { self ≡ Quit → result ≡ 0 }
-        ensures fault { self ≡ Fault → result ≡ 3 }
-    {
-        match self {
-            Ended::Quit => 0,
-            Ended::Fault => 3,
-        }
-    }
-}
-
 /// Runs a worker. In each round it takes a Tick's turn if the second has changed, and a turn with
 /// the datagram that its transport received, if one came, and sends what these turns send. Once
 /// before each round it looks at `quit`, and ends with `Quit` if that is set. With `Fault` it ends

@@ -68,7 +68,6 @@ pub fn operate<L: Site, B: Taker<L>, R: Wait, Q: Wait + Drop>(
         outlet: Outlet {
             transport: Script::new(Vec::new(alloc), &quit),
             clock: Times::new(moments),
-            failed: false,
         },
         unrefreshed: false,
         of: PhantomData,

@@ -5,7 +5,7 @@ use std::sync::Wait;
 use std::sync::atomic::AtomicBool;
 use transports::{Answer, Script, Times};
 use words::Sequence;
-use worker::{Hub, Open, Port, Signal, Site, Taker, run};
+use worker::{Ended, Hub, Open, Port, Signal, Site, Taker, run};
 
 /// What the calls of a transport are answered.
 #[derive(Clone, Copy)]
@@ -69,5 +69,9 @@ pub fn serve<L: Site, B: Taker<L>, R: Wait>(
         &mut clock,
         &mut flag,
     );
-    (ended.status(), transport.sent)
+    let status = match ended {
+        Ended::Quit => 0,
+        Ended::Fault => 3,
+    };
+    (status, transport.sent)
 }

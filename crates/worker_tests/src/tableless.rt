@@ -26,7 +26,7 @@ struct Tableless<L: Site> {
 impl<L: Site> Taker<L> for Tableless<L> {
     ghost took = { record {
       taken = λ events moment event outs stale. ⊤;
-      told = λ operations. ⊤;
+      change_counted = λ operations. ⊤;
       asked = λ input. ⊤;
       changes_read = λ events changes. ⊤;
     } };
