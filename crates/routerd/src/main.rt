@@ -23,12 +23,12 @@ use std::{env, fs, io};
 /// The configuration of the router to run. `main` runs it, since it alone has this machine's
 /// threads.
 #[derive(Drop)]
-struct Asked {
+struct DeferredRouter {
     alloc: Global,
     configuration: OnceCell<String>,
 }
 
-impl Routing for Asked {
+impl Routing for DeferredRouter {
     fn route<I: BufRead, O: Write>(&self, text: &str, _input: &mut I, output: &mut O) -> u8 {
         let mut kept = String::new(self.alloc);
         if kept.push_str(text).is_ok() && self.configuration.set(kept).is_ok() {
@@ -49,7 +49,9 @@ fn tell<O: Write>(error: &StartError, output: &mut O) -> u8
 }
 
 // A file in place of a closed standard stream: the null device, opened for reading, so that it is
-// empty and can't be written. `None` if descriptors 0 to 2 are in use.
+// empty and can't be written; or if it can't be opened the root directory, which can be neither read
+// nor written. `None` if descriptors 0 to 2 are in use; or if neither can be opened, which leaves
+// the descriptor free.
 fn stand_in(rt: &HostRuntime) -> Option<File> {
     let file = match fs::open(rt, "/dev/null") {
         Ok(file) => file,
@@ -85,7 +87,7 @@ fn main(rt: HostRuntime) -> ExitCode {
     let mut input = rt.reader();
     let mut output = io::writer(&rt);
     let mut errors = rt.stderr();
-    let asked = Asked {
+    let asked = DeferredRouter {
         alloc: rt.alloc(),
         configuration: OnceCell::new(),
     };
