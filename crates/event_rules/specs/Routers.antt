@@ -29,7 +29,8 @@ pub record Router : Type 0 where
   pub waiting : KeySet
   -- when each self-originated LSA was last originated, kept for MinLSInterval
   pub originated : ByKey Moment
-  -- the routes that the last `Install` offered, with the programs' answers
+  -- the routes and words that the last `Install` brought: of a turn the candidates that were
+  -- offered, and the programs' answers
   pub answers : List (Route × ℕ)
   -- the moment of the last event
   pub moment : Moment
@@ -44,7 +45,8 @@ pub data Occurrence : Type 0 where
   -- destination that it is for
   Redistribute : (tagged : External) (tag : ℕ) (priced : External) (price : ℕ) → Occurrence
   Withdraw : (prefix : Network) → Occurrence
-  -- the routes that were offered, each with the answer for it
+  -- routes, each with a word: of a turn those that were offered, with their answers; no rule asks
+  -- whether they were, or who answered
   Install : (answers : List (Route × ℕ)) → Occurrence
   LinkDown : (interface : InterfaceNumber) → Occurrence
 
