@@ -54,7 +54,7 @@ fn takes<R: Wait + Drop>(
         Step::Veto(word) => trial.veto(of) == word,
         Step::Vetoes(words) => trial.vetoes(alloc, of) == words,
         Step::Configured(words) => trial.configured(of) == words,
-        Step::Vacant(is) => trial.is_veto_vacant() == is,
+        Step::Vacant(is) => trial.asker.is_veto_vacant() == is,
         Step::LetIn(routes) => trial.let_in(alloc, of) == routes,
     }
 }

@@ -189,11 +189,6 @@ impl<R: Wait + Drop> HookTrial<R> {
         }
     }
 
-    /// Whether `veto` has no program.
-    pub fn is_veto_vacant(&mut self) -> Option<bool> {
-        self.asker.is_veto_vacant()
-    }
-
     /// The words of `tag` and `price`, if neither hook has a program.
     pub fn configured(&mut self, of: &Subjects) -> Option<(u64, u64)> {
         let (tag, price) = self.asker.configured(&of.external, Second::new(MOMENT))?;
