@@ -18,7 +18,8 @@ pub enum Verdict {
 }
 
 /// Why a Database Description leads to SeqNumberMismatch: the first of these tests that it fails
-/// (RFC 2328, section 10.6). No code reads it, and no operator learns it: it is there for contracts.
+/// (RFC 2328, section 10.6). No code reads it, and no operator learns it: it is there for
+/// contracts.
 #[derive(Clone, Copy)]
 pub enum Mismatch {
     /// The MS-bits of both sides are the same.

@@ -9,7 +9,8 @@ use Rattle.words.specs.declared.route.Route.{Route}
 use Rattle.flooding.specs.received.Links.{Area}
 use Rattle.area_routes.specs.Offers.{root_by}
 use Rattle.area_routes.specs.declared.matching.Matching.{Matching}
-use Rattle.area_routes.specs.declared.matching.Matching.TheVariants.{OnlyCandidates, Lacking, Unknown}
+use Rattle.area_routes.specs.declared.matching.Matching.TheVariants.{Lacking, OnlyCandidates}
+use Rattle.area_routes.specs.declared.matching.Matching.TheVariants.{Unknown}
 use Rattle.candidates.specs.Inner.{AreInner, AreSearchable}
 use Rattle.candidates.specs.declared.inner.InnerRoutes.{InnerRoutes}
 use Rattle.external_updates.specs.Placing.{AreAllAmong, HasAnother}

@@ -26,7 +26,8 @@ pub fn matching_by(found: Comparison) -> Matching
         → (IsTrue found.only_candidates → AreAnswersAmong answers candidates)
         → KnowsMatching answers (Some candidates) result }
     ensures lacking { IsTrue found.lacks → result ≡ Lacking }
-    ensures only_candidates { found.lacks ≡ false → IsTrue found.only_candidates → result ≡ OnlyCandidates }
+    ensures only_candidates { found.lacks ≡ false → IsTrue found.only_candidates
+        → result ≡ OnlyCandidates }
 {
     if found.lacks {
         return Matching::Lacking;

@@ -121,7 +121,8 @@ fn next_distance(text: &mut String, number: Numeral) -> Result<(), AllocError>
 /// Another word of the line.
 fn next_word(text: &mut String, word: LineWord<'_>) -> Result<(), AllocError>
     requires { IsWhole word }
-    ensures { OnOk result (Adds (string_bytes text.old) (string_bytes text.new) (part word.entry ∷ [])) }
+    ensures { OnOk result (Adds (string_bytes text.old) (string_bytes text.new)
+        (part word.entry ∷ [])) }
 {
     match word {
         LineWord::Exactly(word) => next(text, word),

@@ -19,7 +19,7 @@ use Rattle.candidates.specs.Externals.{AreExternals, OfExternalAdvertisement}
 use Rattle.candidates.specs.Gathering.{Adds, OfEach}
 use Rattle.candidates.specs.Sources.{IsInner, OfExternal}
 use Rattle.candidates.specs.Ways.{AreWays, Ways}
-use Rattle.candidates.specs.declared.externals.ExternalAdvertisement.{ExternalAdvertisement as ExternalTold}
+use Rattle.candidates.specs.declared.externals.ExternalAdvertisement.{ExternalAdvertisement}
 use Rattle.candidates.specs.declared.flagged.Flagged.{Flagged}
 use Rattle.candidates.proofs.Gathered.{all_such, such}
 use Rattle.candidates.proofs.Carried.{inner_back, inner_forth}
@@ -61,7 +61,7 @@ module _ (contents : Contents) (root : Root) (ways : Ways) (are : AreWays conten
 
   -- ---- with external destinations
 
-  module _ (externals : List ExternalTold) (tell : AreExternals contents externals)
+  module _ (externals : List ExternalAdvertisement) (tell : AreExternals contents externals)
       (advertised networks : List Route)
       (all_told : AreRoutesAmong (OfContents (Tells root routers) contents)
       advertised) (inside : AreRoutesAmong (OffersInside contents root) networks) where

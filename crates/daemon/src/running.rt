@@ -319,8 +319,9 @@ fn run_over<
 ///
 /// # Errors
 /// `Configuration` if the text says none, `Bind` if a UDP port can't be bound, `Socket` if the
-/// sockets can't be waited at, `Hooks` if the programs have no places, tried in this order; `Output`
-/// if the output can't be written, `Memory` if memory was refused or a thread couldn't be started.
+/// sockets can't be waited at, `Hooks` if the programs have no places, tried in this order;
+/// `Output` if the output can't be written, `Memory` if memory was refused or a thread couldn't be
+/// started.
 #[tactic(auto, using(crate::proofs::Ended::text_why, crate::proofs::Ended::socket_why, crate::proofs::Ended::later_why))]
 pub fn run_router<
     R: Net + Threads + Wait + Clock + Log + Files + AllocGlobal + Sync + Drop,

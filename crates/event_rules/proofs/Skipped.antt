@@ -10,8 +10,8 @@ use Rattle.event_rules.specs.Laws.{WhatIsNoLsaIsSkipped}
 use Rattle.event_rules.specs.Packets.{after_lsas, after_parsed, case_in}
 
 -- what `after_lsas` does with the LSA that the first bytes encode, if any
-abbrev with_first : Moment → InterfaceNumber → (rest : EventState → EventState) → EventState → Option Lsa
-    → EventState
+abbrev with_first : Moment → InterfaceNumber → (rest : EventState → EventState) → EventState
+    → Option Lsa → EventState
 with_first moment interface rest p lsa =
     let q : EventState = after_parsed moment interface lsa p in
     if goes_on (case_in moment interface lsa p) then rest q else q

@@ -1,7 +1,7 @@
 //! The rules by name, and what an author can do about them.
 //!
-//! Each text is an arm of a `match`: a proof writes out a table with all of its texts for each state
-//! of a function that names it.
+//! Each text is an arm of a `match`: a proof writes out a table with all of its texts for each
+//! state of a function that names it.
 
 use verifier::Rule;
 

@@ -164,8 +164,8 @@ impl Here {
     }
 
     /// Prints the slot, with its statement, which begins a segment, and moves on past its
-    /// instruction. If the verifier refuses it, prints what is wrong there. Returns whether it moved
-    /// on.
+    /// instruction. If the verifier refuses it, prints what is wrong there. Returns whether it
+    /// moved on.
     fn pass(
         &mut self,
         page: &mut Page<'_>,

@@ -287,9 +287,9 @@ impl Core {
     /// have to be asked again. No candidate is visited if the answer is known from an earlier call,
     /// or because the answers were on all candidates when they came. It stays known over events in
     /// which no LSA is added or removed, comes to MaxAge or gets another body, and over those that
-    /// change few AS-external-LSAs. If there is no valid walk, one is made and kept. `turns` asks this after each
-    /// event, so a change of the topology has the shortest paths calculated at once, without a
-    /// delay that would join several changes.
+    /// change few AS-external-LSAs. If there is no valid walk, one is made and kept. `turns` asks
+    /// this after each event, so a change of the topology has the shortest paths calculated at
+    /// once, without a delay that would join several changes.
     ///
     /// # Errors
     /// `AllocError` if an allocation is refused.

@@ -26,8 +26,8 @@ use Rattle.event_rules.specs.Routers.{Occurrence, Router}
 use Rattle.flood_laws.specs.Retransmissions.{AreOfTheDatabase, IsOfCopy}
 use Rattle.flood_laws.specs.InOrder.{AnnouncesItsOwn, IsConsistent, RoutersStayInOrder}
 use Rattle.flood_laws.specs.Keeping.{WhatIsTakenOffWasTold}
-use Rattle.flood_laws.specs.TakenOff.{IsAsked, MayLeaveByFlooding, IsTakenOff, IsTold, comes_to_max_age}
-use Rattle.flood_laws.specs.TakenOff.{is_gone_or_stored, listed_instance}
+use Rattle.flood_laws.specs.TakenOff.{IsAsked, MayLeaveByFlooding, IsTakenOff, IsTold}
+use Rattle.flood_laws.specs.TakenOff.{comes_to_max_age, is_gone_or_stored, listed_instance}
 use Rattle.flood_laws.proofs.Known.{first_own, own_stays}
 use Rattle.flood_laws.proofs.EventWalk.{event_kept_too}
 use Rattle.flood_laws.proofs.Leaving.{Ended, Lately, begins, each_part}

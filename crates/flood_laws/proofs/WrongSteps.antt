@@ -92,8 +92,8 @@ module _ (old : Router) (moment number : ℕ) (n : Neighbor) (name : InstanceIde
       (sym (is_it old moment number n name bytes headers at b.interface b.bytes b.packet b.is
       b.text)) b.among)
   not_by_flooding (MayLeaveByFlooding.Originated it st) = it.not_before it.now
-  not_by_flooding (MayLeaveByFlooding.Aged comes asked) = let no_such : true ≡ false = sym comes ∙ owed.young in
-      absurd cc
+  not_by_flooding (MayLeaveByFlooding.Aged comes asked) =
+      let no_such : true ≡ false = sym comes ∙ owed.young in absurd cc
 
   pub taken_off : IsTakenOff old moment packet_event new number n name
   taken_off = record {

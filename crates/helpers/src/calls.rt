@@ -84,8 +84,8 @@ fn call_counter_read(
 }
 
 fn call_packet_byte(first: Content, second: Content, input: &Input) -> Result<u64, Fault>
-    ensures ok { IfOk result (λ answer. HelperAnswers PacketByte (given_by input.now) (first ∷ []) Silent
-        answer) }
+    ensures ok { IfOk result (λ answer. HelperAnswers PacketByte (given_by input.now)
+        (first ∷ []) Silent answer) }
     ensures err { IfErr result (λ fault. fault_of_call (Some PacketByte) first second
         ≡ Some fault) }
 {
@@ -94,8 +94,8 @@ fn call_packet_byte(first: Content, second: Content, input: &Input) -> Result<u6
 }
 
 fn call_table_cost(first: Content, second: Content, input: &Input) -> Result<u64, Fault>
-    ensures ok { IfOk result (λ answer. HelperAnswers TableCost (given_by input.now) (first ∷ second ∷ [])
-        Silent answer) }
+    ensures ok { IfOk result (λ answer. HelperAnswers TableCost (given_by input.now)
+        (first ∷ second ∷ []) Silent answer) }
     ensures err { IfErr result (λ fault. fault_of_call (Some TableCost) first second ≡ Some fault) }
 {
     let (prefix, length) = numbers_in(first, second)?;

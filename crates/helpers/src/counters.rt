@@ -17,8 +17,8 @@ pub fn counter_add(shared: &Shared, seat: &mut Seat, counter: u64, amount: u64) 
     requires counter { counter < 256 }
     requires amount { amount < 2 ^ 24 }
     ensures { (label : Label) × SeatMakes seat.old (label ∷ []) seat.new
-        × ((input : Given) → HelperAnswers CounterAdd input (Number counter ∷ Number amount ∷ []) label
-        result) }
+        × ((input : Given) → HelperAnswers CounterAdd input
+        (Number counter ∷ Number amount ∷ []) label result) }
 {
     shared.add(seat, counter as usize, amount)
 }

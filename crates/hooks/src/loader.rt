@@ -82,7 +82,8 @@ fn make_room<R: Wait>(
 }
 
 impl<R: Wait + Drop> Loader<R> {
-    ghost use Rattle.hooks.specs.Known.{operations_of, loader_history, told_by, notice_history, IsNew};
+    ghost use Rattle.hooks.specs.Known.{IsNew, loader_history, notice_history, operations_of};
+    ghost use Rattle.hooks.specs.Known.{told_by};
     ghost use Rattle.hooks.specs.declared.error.HookError.TheVariants.{Count};
 
     pub(crate) fn new(alloc: Global, rt: R, askers: usize) -> Result<Loader<R>, AllocError>
@@ -101,8 +102,8 @@ impl<R: Wait + Drop> Loader<R> {
         requires { operations_of self.old ≡ [] }
         ensures same { (operations_of self.new ≡ operations_of self.old)
             × (loader_history self.new ≡ loader_history self.old) }
-        ensures made { IfOk result (λ v. (vec_len v ≡ askers) × All (IsNew (loader_history self.old))
-            v.items) }
+        ensures made { IfOk result (λ v. (vec_len v ≡ askers)
+            × All (IsNew (loader_history self.old)) v.items) }
         ensures count { IfErr result (λ e. e ≢ Count) }
     {
         let Ok(mut list) = Vec::with_capacity(alloc, askers) else {

@@ -106,8 +106,8 @@ pub fn end_without_words<O: Stream, E: Stream>(
     tell_words(&error, output, errors)
 }
 
-// An object of each function of the ELF file that is in the section of a hook, in the folder, if the
-// verifier accepts it. The report on each is in the order of the file.
+// An object of each function of the ELF file that is in the section of a hook, in the folder, if
+// the verifier accepts it. The report on each is in the order of the file.
 fn build<'a, R: WholeFiles + AllocGlobal>(
     rt: &R,
     file: &'a str,

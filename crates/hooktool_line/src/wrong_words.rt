@@ -1,6 +1,7 @@
 //! Words that have no meaning, and what is told of them.
 //!
-//! The texts stand here alone: a proof writes out a text for each state of a function that names it.
+//! The texts stand here alone: a proof writes out a text for each state of a function that names
+//! it.
 
 /// Which word has no meaning.
 #[derive(Clone, Copy)]

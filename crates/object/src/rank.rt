@@ -18,7 +18,10 @@ impl Model for RankTerm {
 
     ghost view = { λ t. record { register = t.register; coefficient = t.coefficient } };
 
-    ghost invariant = { λ t. IsTerm (record { register = t.register; coefficient = t.coefficient }) };
+    ghost invariant = { λ t. IsTerm (record {
+      register = t.register;
+      coefficient = t.coefficient;
+    }) };
 
     ghost inverse = { λ t. record { register = t.register; coefficient = t.coefficient } };
 }

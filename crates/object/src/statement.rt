@@ -33,7 +33,12 @@ impl Model for Statement {
       stack = s.stack;
     }) };
 
-    ghost inverse = { λ s. record { slot = s.slot; rank = s.rank; kinds = s.kinds; stack = s.stack } };
+    ghost inverse = { λ s. record {
+      slot = s.slot;
+      rank = s.rank;
+      kinds = s.kinds;
+      stack = s.stack;
+    } };
 }
 
 /// For the prover alone: tells it that what is stated of each register is in its range.

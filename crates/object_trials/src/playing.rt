@@ -5,8 +5,8 @@ ghost use Rattle.maps.specs.Words.{IsSeatOf, seat_after};
 ghost use Rattle.maps.specs.declared.access.Access.TheVariants.{Cell};
 ghost use Rattle.object_trials.specs.Plays.{compared, judged, points_of};
 ghost use Rattle.object_trials.specs.Stops.{IsNoCapture, IsNoProgram, IsPacketUnread, IsStopped};
-ghost use Rattle.object_trials.specs.Stops.{IsUnasked, IsUnaskedOf, IsUnaskedOfOne, IsUnread, Stops};
-ghost use Rattle.object_trials.specs.Stops.{error_of};
+ghost use Rattle.object_trials.specs.Stops.{IsUnasked, IsUnaskedOf, IsUnaskedOfOne, IsUnread};
+ghost use Rattle.object_trials.specs.Stops.{Stops, error_of};
 
 use crate::answers::{is_any_stuck, last_among, meets};
 use crate::asking::{ask, hook_of};

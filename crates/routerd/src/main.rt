@@ -49,9 +49,9 @@ fn tell<O: Write>(error: &StartError, output: &mut O) -> u8
 }
 
 // A file in place of a closed standard stream: the null device, opened for reading, so that it is
-// empty and can't be written; or if it can't be opened the root directory, which can be neither read
-// nor written. `None` if descriptors 0 to 2 are in use; or if neither can be opened, which leaves
-// the descriptor free.
+// empty and can't be written; or if it can't be opened the root directory, which can be neither
+// read nor written. `None` if descriptors 0 to 2 are in use; or if neither can be opened, which
+// leaves the descriptor free.
 fn stand_in(rt: &HostRuntime) -> Option<File> {
     let file = match fs::open(rt, "/dev/null") {
         Ok(file) => file,

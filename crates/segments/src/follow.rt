@@ -59,8 +59,8 @@ pub fn jump_to<'a, D: Domain>(
         → IsKnown D.contains segment.now state.now start next
         → EntersNext D.contains segment_starts.now segment.now slot start next) }
     ensures named { IfErr result IsOfEdge }
-    ensures plain { IsPlainEdgeIfStated D.contains segment_starts.now segment.now (nat_le to slot) to
-        (HoldsNumber state.now) → IsOk result }
+    ensures plain { IsPlainEdgeIfStated D.contains segment_starts.now segment.now
+        (nat_le to slot) to (HoldsNumber state.now) → IsOk result }
 {
     let Some(target) = stated_at(segment_starts, to) else {
         unreachable!()
@@ -125,9 +125,8 @@ fn take<'a, D: Domain>(
         → next ≡ record now { slot = to }
         → EntersNext D.contains segment_starts.now segment.now slot start next) }
     ensures named { IfErr result IsOfEdge }
-    ensures plain { IsPlainEdgeIfStated D.contains segment_starts.now segment.now (nat_le to slot) to
-        (HoldsNumber state)
-        → IsOk result }
+    ensures plain { IsPlainEdgeIfStated D.contains segment_starts.now segment.now
+        (nat_le to slot) to (HoldsNumber state) → IsOk result }
     ensures keeps { IfOk result (KeepsNumbers state) }
 {
     let Some(values) = taken else {
@@ -237,9 +236,8 @@ fn leave<'a, D: Domain>(
         → IsKnown D.contains segment.now state start now → next ≡ record now { slot = to }
         → EntersNext D.contains segment_starts.now segment.now slot start next) }
     ensures named { IfErr result IsOfEdge }
-    ensures plain { IsPlainEdgeIfStated D.contains segment_starts.now segment.now (nat_le to slot) to
-        (HoldsNumber state)
-        → IsOk result }
+    ensures plain { IsPlainEdgeIfStated D.contains segment_starts.now segment.now
+        (nat_le to slot) to (HoldsNumber state) → IsOk result }
     ensures same { IfOk result (λ after. after.state ≡ state) }
 {
     jump_to(segment_starts, segment, &state, slot, to)?;

@@ -43,7 +43,8 @@ module _ (answers : RouteWords) (up : IsSorted answer_cmp answers) (route : Rout
     (word : 0 < (get_or answers at d).1) where
   pub kept_out : (at ≡ 0) ⊎ ((get_or answers (at - 1) d).0 ≡ route → ⊥) → IsLetIn answers route → ⊥
   kept_out first (k, within, is) =
-      let here : get_or answers k d ≡ (route, 0) = other_default answers k d (route, 0) within ∙ is in
+      let here : get_or answers k d ≡ (route, 0) =
+      other_default answers k d (route, 0) within ∙ is in
       elim (cases_lt k at) [
         | inl before ↦ elim first [
           | inl none ↦ absurd (omega (arith, before, none))
@@ -86,7 +87,8 @@ first_of_all answers up route at x low is out first =
       | inl none ↦ inl none
       | inr other ↦ elim (cases_lt 0 at) [
         | inl some ↦ inr (λ same. other.2 (subst (λ (a : Route × ℕ). a.0 ≡ route)
-            (other_default answers (at - 1) x other.0 (omega (arith, low, some)) ∙ sym other.1) same))
+            (other_default answers (at - 1) x other.0 (omega (arith, low, some))
+            ∙ sym other.1) same))
         | inr none ↦ inl (omega (arith, none))
       ]
     ])

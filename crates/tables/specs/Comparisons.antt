@@ -8,8 +8,8 @@ use Rattle.routes.specs.declared.root.Root.{Root}
 use Rattle.tables.specs.Parts.{AreAnswersAmong}
 use Rattle.tables.specs.declared.shared.Comparison.{Comparison}
 
--- `lacks` if and only if some candidate has no answer; if `only_candidates`, each answered route is a
--- candidate
+-- `lacks` if and only if some candidate has no answer; if `only_candidates`, each answered route is
+-- a candidate
 pub record IsComparison (answers : RouteWords) (candidates : List Route) (found : Comparison) :
     Type 0
   where

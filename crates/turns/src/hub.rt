@@ -104,9 +104,9 @@ impl<L: Site, B: Taker<L>> Hub<L, B> {
     }
 
     /// Counts a change of the programs, which are now those of the notice. The caller refreshes the
-    /// table next. The refresh that follows a turn which began before is refused from now on: it may
-    /// bring answers of an earlier program, which would replace those of the caller's. A turn for
-    /// [`Work::Refresh`](crate::Work::Refresh) isn't.
+    /// table next. The refresh that follows a turn which began before is refused from now on: it
+    /// may bring answers of an earlier program, which would replace those of the caller's. A turn
+    /// for [`Work::Refresh`](crate::Work::Refresh) isn't.
     pub fn count_program_change(&self, notice: &Notice)
         ensures { IsChangeCounted B.took (told_by notice.now) }
     {

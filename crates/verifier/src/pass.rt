@@ -13,8 +13,8 @@ ghost use Rattle.verifier.specs.Kept.{GoesInto, HasRecordedRegion};
 ghost use Rattle.verifier.specs.Pass.{ComesPlainly, HasRank, IsPlainIfLive, IsPlainProgram};
 ghost use Rattle.verifier.specs.Pass.{KeepsPlain};
 ghost use Rattle.segments.specs.Places.{IsWellPlaced, segment_of, segment_start_at};
-ghost use Rattle.segments.specs.Refusals.{IsFirst, IsFirstHere, IsPassedTo, IsWellMade, MayRefuseInstruction};
-ghost use Rattle.segments.specs.Refusals.{MayRefuse};
+ghost use Rattle.segments.specs.Refusals.{IsFirst, IsFirstHere, IsPassedTo, IsWellMade};
+ghost use Rattle.segments.specs.Refusals.{MayRefuse, MayRefuseInstruction};
 ghost use Rattle.segments.specs.Segments.{IsCurrentUnlessStated, IsFine, IsFollowed};
 ghost use Rattle.segments.specs.Stated.{AreSegmentStarts};
 

@@ -1,6 +1,7 @@
 //! What the outcome of a call at a socket says.
 ghost use Rattle.std.specs.Prelude.{◌≡◌, IfErr, IfOk, IsErr, IsFalse, IsTrue, true, false};
-ghost use Rattle.worker.specs.SocketRefusals.{is_lost, is_passing, is_passing_kind, is_passing_number};
+ghost use Rattle.worker.specs.SocketRefusals.{is_lost, is_passing, is_passing_kind};
+ghost use Rattle.worker.specs.SocketRefusals.{is_passing_number};
 
 use std::io::{self, ErrorKind};
 use transports::SocketFault;

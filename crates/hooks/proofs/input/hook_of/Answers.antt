@@ -19,5 +19,6 @@ no_other n least most none =
 pub unreachable-requires : goal.unreachable-requires
 unreachable-requires c =
     let its = c.number_of.ensures.value in
-    no_other c.number_of.result (omega (arith, its, c.requires.0)) (omega (arith, its, c.requires.1))
+    no_other c.number_of.result (omega (arith, its, c.requires.0))
+    (omega (arith, its, c.requires.1))
     (λ hook is. not_none hook (c.in-None.ensures.only hook is))

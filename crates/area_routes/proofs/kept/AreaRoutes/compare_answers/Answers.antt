@@ -37,7 +37,8 @@ returns-in-Some-clause-matching c =
     subst (λ (o : Option (List Route)). KnowsMatching answers o c.matching_by-self-inside.result)
     (sym c.in-Some.is)
     (c.matching_by-self-inside.ensures.matches answers candidates
-    (found_lacking contents root answers candidates c.in_ok-found.found kept found) found.only_candidates)
+    (found_lacking contents root answers candidates c.in_ok-found.found kept found)
+    found.only_candidates)
 
 pub calculated-requires-clause-walk : goal.calculated-requires-clause-walk
 calculated-requires-clause-walk c =
