@@ -1,6 +1,6 @@
 -- What a worker has done when it brings its port back.
-use Rattle.std.specs.Prelude.{ℕ, List}
-use Rattle.hooks.specs.declared.operation.LoaderOperation.{LoaderOperation}
+use Rattle.std.specs.Prelude.{ℕ}
+use Rattle.worker.specs.Askers.{AskerState}
 use Rattle.worker.specs.Lives.{HasLived, HasLivedOn, Hears, Reads, Senses, Shows, Standing}
 use Rattle.worker.specs.Lives.{senses_of, standing}
 use Rattle.worker.specs.Sending.{Gives}
@@ -15,15 +15,14 @@ senses_at gives hears shows origin number =
     senses_of gives hears shows (IsOfferedBySome origin) (took_from origin) (refuses_from origin)
     number
 
--- It lived some rounds from this flag and this standing on, until it found the flag set. Its port
--- knows these operations then, and has given the router this number of events.
+-- It lived some rounds from this flag and this standing on, until it found the flag set. Its port's
+-- asker and seat are in this state then, and the port has given the router this number of events.
 abbrev pub HasServed : {Transport Clock Flag : Type 0} → Senses Transport Clock → Reads Flag
-    → (begun : Flag) → (start : Standing Transport Clock) → (known : List LoaderOperation)
-    → (events : ℕ) → Type 0
-HasServed {Transport = Transport} {Clock = Clock} {Flag = Flag} senses reads begun start known
+    → (begun : Flag) → (start : Standing Transport Clock) → AskerState → (events : ℕ) → Type 0
+HasServed {Transport = Transport} {Clock = Clock} {Flag = Flag} senses reads begun start asker
     events =
     (told : Flag) × (transport : Transport) × (clock : Clock)
-    × HasLived senses reads begun start told (standing transport clock known events)
+    × HasLived senses reads begun start told (standing transport clock asker events)
 
 -- so it lived, and began one more round: of a worker that ended so, its transport failed in that
 abbrev pub HasServedOn : {Transport Clock Flag : Type 0} → Senses Transport Clock → Reads Flag

@@ -1,9 +1,8 @@
 -- What is said at the console, from its first line to its end.
 use Rattle.std.specs.Prelude.{◌≡◌, ◌⊎◌, ℕ, Bool, true, false, List, [], ◌∷◌}
 use Rattle.std.specs.Prelude.{Option, None, Some, Result, Ok, Err, string_bytes}
-use mathlib.Core.List.{IsPrefix}
-use Rattle.maps.specs.Words.{SeatView}
 use Rattle.hooks.specs.declared.operation.LoaderOperation.{LoaderOperation}
+use Rattle.worker.specs.Askers.{AskerState, IsLater}
 use Rattle.worker.specs.TurnError.{TurnError}
 use Rattle.worker.specs.Turns.{Offers, Refuses, Took}
 use Rattle.worker.specs.Work.TheVariants.{Tick}
@@ -18,25 +17,23 @@ use Rattle.daemon.specs.declared.talk.EndedConsole.{EndedConsole}
 use Rattle.daemon.specs.declared.talk.ConsoleEnd.{ConsoleEnd}
 use Rattle.daemon.specs.declared.talk.ConsoleEnd.TheVariants.{Done, InputFailed, OutputFailed}
 
--- Where a conversation stands: the input, the operations that the loader has published and those
--- that the port knows, whether a refresh is due, how many events count, and the port's seat.
+-- Where a conversation stands: the input, the operations that the loader has published, the port's
+-- asker and seat, whether a refresh is due, and how many events count.
 pub record Place (Input : Type 0) : Type 0 where
   pub input : Input
   pub operations : List LoaderOperation
-  pub known : List LoaderOperation
+  pub asker : AskerState
   pub due : Bool
   pub events : ℕ
-  pub seat : SeatView
 
-abbrev pub place : {Input : Type 0} → Input → (operations known : List LoaderOperation)
-    → (due : Bool) → (events : ℕ) → SeatView → Place Input
-place input operations known due events seat = record {
+abbrev pub place : {Input : Type 0} → Input → (operations : List LoaderOperation) → AskerState
+    → (due : Bool) → (events : ℕ) → Place Input
+place input operations asker due events = record {
   input = input;
   operations = operations;
-  known = known;
+  asker = asker;
   due = due;
   events = events;
-  seat = seat;
 }
 
 -- ---- one line
@@ -45,12 +42,11 @@ place input operations known due events seat = record {
 abbrev pub IsObeyedFrom : {Input : Type 0} → Sources → (interfaces : ℕ) → (before : Place Input)
     → (line : List ℕ) → Option Reply → (after : Place Input) → Type 0
 IsObeyedFrom s interfaces before line answer after =
-    (still : Bool) × (knew : List LoaderOperation) × (counted : ℕ) × (seat : SeatView)
-    × IsMadeUp s.offers s.took s.refuses before.due still before.known knew before.events counted
-    before.seat seat
+    (still : Bool) × (between : AskerState) × (counted : ℕ)
+    × IsMadeUp s.offers s.took s.refuses before.due still before.asker between before.events counted
     × IsObeyed s interfaces
-    (change before.operations after.operations knew after.known still after.due counted after.events
-    seat after.seat) line answer
+    (change before.operations after.operations between after.asker still after.due counted
+    after.events) line answer
 
 -- nothing changed but the input
 abbrev pub HasRead : {Input : Type 0} → (before after : Place Input) → Type 0
@@ -119,12 +115,12 @@ pub record HasTalked {Input Output : Type 0} (gives : Gives Input) (fails : Fail
 
 -- a turn for a Tick was taken, and just what it gave the router counts; or it was refused, and
 -- nothing counts
-abbrev pub IsTicked : Offers → Took → Refuses → (known now : List LoaderOperation)
-    → (counted counts : ℕ) → Type 0
-IsTicked offers took refuses known now counted counts =
-    IsDone offers took refuses known now Tick counted counts
+abbrev pub IsTicked : Offers → Took → Refuses → (old new : AskerState) → (counted counts : ℕ)
+    → Type 0
+IsTicked offers took refuses old new counted counts =
+    IsDone offers took refuses old new Tick counted counts
     ⊎ ((counts ≡ counted)
-    × ((error : TurnError) × IsRefusedOnce offers refuses known now counted Tick error))
+    × ((error : TurnError) × IsRefusedOnce offers refuses old new counted Tick error))
 
 -- the first is a Tick's turn, and then line follows line
 pub record Converses {Input Output : Type 0} (gives : Gives Input) (fails : Fails Input)
@@ -132,13 +128,12 @@ pub record Converses {Input Output : Type 0} (gives : Gives Input) (fails : Fail
     (begun : Place Input) (old : Output) (console_end : ConsoleEnd) (now : Place Input)
     (new : Output)
     : Type 0 where
-  pub known : List LoaderOperation
+  pub asker : AskerState
   pub events : ℕ
-  pub seat : SeatView
-  pub learnt : IsPrefix begun.known known
-  pub ticked : IsTicked s.offers s.took s.refuses begun.known known begun.events events
+  pub later : IsLater begun.asker asker
+  pub ticked : IsTicked s.offers s.took s.refuses begun.asker asker begun.events events
   pub talked : HasTalked gives fails takes unwritable s interfaces
-      (record begun { known = known; events = events; seat = seat }) old console_end now new
+      (record begun { asker = asker; events = events }) old console_end now new
 
 -- ---- how it ended
 

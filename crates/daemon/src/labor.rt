@@ -1,6 +1,6 @@
 //! What the threads of the interfaces do.
 ghost use Rattle.std.specs.Prelude.{◌≡◌, false, true};
-ghost use Rattle.hooks.specs.Known.{known_to};
+ghost use Rattle.worker.specs.Askers.{IsLater, asker_state};
 ghost use Rattle.worker.specs.Ends.{has_failed};
 ghost use Rattle.worker.specs.Lives.{standing};
 ghost use Rattle.daemon.specs.Labors.{HasServed, HasServedOn, senses_at};
@@ -63,15 +63,19 @@ pub fn work<
 ) -> (Port<L>, EndedWorker)
     requires { port.number ≡ transport.own }
     ensures number { result.0.number ≡ port.number }
+    ensures later { IsLater (asker_state port.asker port.seat)
+        (asker_state result.0.asker result.0.seat) }
     ensures lived { has_failed result.1.end ≡ false → HasServed
         (senses_at ⟦<Sockets<'x, S, E> as Transport>⟧.gives
         ⟦<Sockets<'x, S, E> as Transport>⟧.hears C.shows L.origin port.number)
-        F.reads quit (standing transport.entry clock (known_to port.asker) port.share.amount)
-        (known_to result.0.asker) result.0.share.amount }
+        F.reads quit (standing transport.entry clock (asker_state port.asker port.seat)
+        port.share.amount)
+        (asker_state result.0.asker result.0.seat) result.0.share.amount }
     ensures lived_on { has_failed result.1.end ≡ true → transport.entry.faults ≡ 0 → HasServedOn
         (senses_at ⟦<Sockets<'x, S, E> as Transport>⟧.gives
         ⟦<Sockets<'x, S, E> as Transport>⟧.hears C.shows L.origin port.number)
-        F.reads quit (standing transport.entry clock (known_to port.asker) port.share.amount) }
+        F.reads quit (standing transport.entry clock (asker_state port.asker port.seat)
+        port.share.amount) }
 {
     let (mut port, mut transport, mut clock, mut quit) = (port, transport, clock, quit);
     let _ended = run(

@@ -1,7 +1,7 @@
 //! The console: lines in, lines out, at port 0.
 ghost use Rattle.std.specs.Prelude.{◌≡◌, true, IfErr, OnOk};
-ghost use mathlib.Core.List.{IsPrefix};
-ghost use Rattle.hooks.specs.Known.{known_to, operations_of};
+ghost use Rattle.hooks.specs.Known.{operations_of};
+ghost use Rattle.worker.specs.Askers.{IsLater, asker_state};
 ghost use Rattle.worker.specs.Turns.{IsListed};
 ghost use Rattle.operator.specs.Answers.{IsAnyFile, IsAnyPath, sources};
 ghost use Rattle.operator.specs.Texts.{reply_text};
@@ -77,9 +77,11 @@ fn tick<L: Site, B: Taker<L>, R: Wait, K: Transport + Drop, C: Seconds + Drop>(
     outlet: &mut Outlet<K, C>,
 )
     ensures ticked { IsTicked B.offers B.took B.refuses
-        (known_to port.old.asker) (known_to port.new.asker)
+        (asker_state port.old.asker port.old.seat)
+        (asker_state port.new.asker port.new.seat)
         port.old.share.amount port.new.share.amount }
-    ensures known { IsPrefix (known_to port.old.asker) (known_to port.new.asker) }
+    ensures later { IsLater (asker_state port.old.asker port.old.seat)
+        (asker_state port.new.asker port.new.seat) }
 {
     match outlet.take(rt, hub, port, &Work::Tick) {
         Ok(()) => {}
@@ -117,10 +119,11 @@ fn answer_next<
     ensures replied { IsReplied I.gives I.fails
         (sources B.offers B.took B.refuses B.wanted (IsListed B.began B.neighbor_at)
         IsAnyFile IsAnyPath) desk.old.interfaces
-        (place console.old.input.now (operations_of desk.old.loader) (known_to port.old.asker)
-        desk.old.unrefreshed port.old.share.amount port.old.seat) result
-        (place console.new.input.now (operations_of desk.new.loader) (known_to port.new.asker)
-        desk.new.unrefreshed port.new.share.amount port.new.seat) }
+        (place console.old.input.now (operations_of desk.old.loader)
+        (asker_state port.old.asker port.old.seat) desk.old.unrefreshed port.old.share.amount)
+        result
+        (place console.new.input.now (operations_of desk.new.loader)
+        (asker_state port.new.asker port.new.seat) desk.new.unrefreshed port.new.share.amount) }
     ensures interfaces { desk.new.interfaces ≡ desk.old.interfaces }
     ensures output { console.new.output.now ≡ console.old.output.now }
 {
@@ -152,19 +155,20 @@ fn obey_next<
     ensures answered { OnOk result ((answer : Answer) × IsReplied I.gives I.fails
         (sources B.offers B.took B.refuses B.wanted (IsListed B.began B.neighbor_at)
         IsAnyFile IsAnyPath) desk.old.interfaces
-        (place console.old.input.now (operations_of desk.old.loader) (known_to port.old.asker)
-        desk.old.unrefreshed port.old.share.amount port.old.seat) (Ok answer)
-        (place console.new.input.now (operations_of desk.new.loader) (known_to port.new.asker)
-        desk.new.unrefreshed port.new.share.amount port.new.seat)
+        (place console.old.input.now (operations_of desk.old.loader)
+        (asker_state port.old.asker port.old.seat) desk.old.unrefreshed port.old.share.amount)
+        (Ok answer)
+        (place console.new.input.now (operations_of desk.new.loader)
+        (asker_state port.new.asker port.new.seat) desk.new.unrefreshed port.new.share.amount)
         × O.takes console.old.output.now (reply_text answer) console.new.output.now) }
     ensures over { IfErr result (λ console_end. IsOver I.gives I.fails O.fails
         (sources B.offers B.took B.refuses B.wanted (IsListed B.began B.neighbor_at)
         IsAnyFile IsAnyPath) desk.old.interfaces
-        (place console.old.input.now (operations_of desk.old.loader) (known_to port.old.asker)
-        desk.old.unrefreshed port.old.share.amount port.old.seat)
+        (place console.old.input.now (operations_of desk.old.loader)
+        (asker_state port.old.asker port.old.seat) desk.old.unrefreshed port.old.share.amount)
         console.old.output.now console_end
-        (place console.new.input.now (operations_of desk.new.loader) (known_to port.new.asker)
-        desk.new.unrefreshed port.new.share.amount port.new.seat)
+        (place console.new.input.now (operations_of desk.new.loader)
+        (asker_state port.new.asker port.new.seat) desk.new.unrefreshed port.new.share.amount)
         console.new.output.now) }
     ensures interfaces { desk.new.interfaces ≡ desk.old.interfaces }
 {
@@ -197,11 +201,11 @@ fn answer_all<
     ensures { HasTalked I.gives I.fails O.takes O.fails
         (sources B.offers B.took B.refuses B.wanted (IsListed B.began B.neighbor_at)
         IsAnyFile IsAnyPath) desk.old.interfaces
-        (place console.old.input.now (operations_of desk.old.loader) (known_to port.old.asker)
-        desk.old.unrefreshed port.old.share.amount port.old.seat)
+        (place console.old.input.now (operations_of desk.old.loader)
+        (asker_state port.old.asker port.old.seat) desk.old.unrefreshed port.old.share.amount)
         console.old.output.now result
-        (place console.new.input.now (operations_of desk.new.loader) (known_to port.new.asker)
-        desk.new.unrefreshed port.new.share.amount port.new.seat)
+        (place console.new.input.now (operations_of desk.new.loader)
+        (asker_state port.new.asker port.new.seat) desk.new.unrefreshed port.new.share.amount)
         console.new.output.now }
 {
     let rt = console.rt;
@@ -233,11 +237,11 @@ pub fn talk<
     ensures conversed { Converses I.gives I.fails O.takes O.fails
         (sources B.offers B.took B.refuses B.wanted (IsListed B.began B.neighbor_at)
         IsAnyFile IsAnyPath) desk.old.interfaces
-        (place console.old.input.now (operations_of desk.old.loader) (known_to port.asker)
-        desk.old.unrefreshed port.share.amount port.seat)
+        (place console.old.input.now (operations_of desk.old.loader)
+        (asker_state port.asker port.seat) desk.old.unrefreshed port.share.amount)
         console.old.output.now result.1.console_end
-        (place console.new.input.now (operations_of desk.new.loader) (known_to result.0.asker)
-        desk.new.unrefreshed result.0.share.amount result.0.seat)
+        (place console.new.input.now (operations_of desk.new.loader)
+        (asker_state result.0.asker result.0.seat) desk.new.unrefreshed result.0.share.amount)
         console.new.output.now }
     ensures output { has_output_failed result.1 ≡ true → HasFailed O.fails }
 {

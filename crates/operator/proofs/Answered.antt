@@ -23,8 +23,8 @@ made IsText (Err refused) answer is told = subst (AreLines IsText) (sym told) tt
 
 -- the counters that were read, or those of them that had been read when memory was refused
 pub read_out : {E : Type 0} (c : Change) (lines : Result (String Global) E) (answer : Reply)
-    → IfOk lines (λ text. IsCountersText c.seat c.seated (string_bytes text))
-    → OnErr lines (HasReadSome c.seat c.seated)
+    → IfOk lines (λ text. IsCountersText c.found.seat c.left.seat (string_bytes text))
+    → OnErr lines (HasReadSome c.found.seat c.left.seat)
     → MatchResult lines (λ text. answer ≡ reply.Lines text) (λ _. answer ≡ reply.Memory)
     → IsAnswerToCounters c answer
 read_out c (Ok text) answer is some told = subst (IsAnswerToCounters c) (sym told) is

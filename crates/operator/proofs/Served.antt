@@ -1,19 +1,20 @@
 -- The turns of a line, put together.
 use Rattle.std.proofs.Common.{◌≡◌, ℕ, ◌<◌, ◌≤◌, Bool, true, false, List, Option, None, Some}
-use Rattle.std.proofs.Common.{Result, Ok, Err, String, Global, refl, sym, subst, arith}
+use Rattle.std.proofs.Common.{Result, Ok, Err, String, Global, ap, refl, sym, subst, arith}
 use Rattle.std.specs.Prelude.{MatchResult, OnErr, OnOk}
 use mathlib.Core.List.{IsPrefix}
-use Rattle.hooks.specs.declared.operation.LoaderOperation.{LoaderOperation}
 use Rattle.hooks.proofs.Fronts.{prefix_self}
+use Rattle.worker.specs.Askers.{AskerState}
 use Rattle.worker.specs.Lives.{Senses, Standing, standing}
 use Rattle.worker.specs.Work.{Work}
 use Rattle.worker.specs.Work.TheVariants as work
 use Rattle.console.specs.Commands.{LineAsks}
 use Rattle.console.specs.declared.command.Command.{Command}
 use Rattle.console.specs.declared.command.Command.TheVariants as commands
-use Rattle.operator.specs.Answers.{IsAnswerTo, IsCarriedOut, IsServed, Change, Sources}
+use Rattle.operator.specs.Answers.{IsAnswerTo, IsCarriedOut, IsServed, Change, Sources, learnt}
 use Rattle.operator.specs.Served.{AreServed, IsCommandServed, IsLineServed, IsServedThen}
-use Rattle.operator.specs.Served.{IsTurnServed, IsUnlessFault, turn_after, turn_due, turn_of}
+use Rattle.operator.specs.Served.{IsTurnServed, IsUnlessFault, IsWithoutTurn, turn_after}
+use Rattle.operator.specs.Served.{turn_due, turn_of}
 use Rattle.operator.specs.declared.reply.Reply.{Reply}
 use Rattle.operator.specs.declared.reply.Reply.TheVariants as reply
 use Rattle.operator.proofs.Answered.{never_unknown}
@@ -28,15 +29,15 @@ never_fewer faults before after (Err error) fine failed = omega (arith, failed)
 module _ {Transport Clock : Type 0} (faults : Transport → ℕ) (senses : Senses Transport Clock) where
   -- a turn that was served, by a port that since learnt nothing and gave no event
   pub served_still : (w : Work) (before : Standing Transport Clock) (transport : Transport)
-      (clock : Clock) (then known : List LoaderOperation) (between events : ℕ) → known ≡ then
+      (clock : Clock) (then asker : AskerState) (between events : ℕ) → asker ≡ then
       → events ≡ between → faults before.transport ≤ faults transport
       → (faults transport ≡ faults before.transport
       → IsServed senses w before (standing transport clock then between))
       → IsUnlessFault faults (IsServed senses w) before
-      (standing transport clock known events)
-  served_still w before transport clock then known between events kept same grown is = (
+      (standing transport clock asker events)
+  served_still w before transport clock then asker between events kept same grown is = (
     grown,
-    λ fine. subst (λ l. IsServed senses w before (standing transport clock l events)) (sym kept)
+    λ fine. subst (λ s. IsServed senses w before (standing transport clock s events)) (sym kept)
         (subst (λ n. IsServed senses w before (standing transport clock then n)) (sym same)
         (is fine)),
   )
@@ -45,14 +46,24 @@ module _ {Transport Clock : Type 0} (faults : Transport → ℕ) (senses : Sense
   pub as_known : (w : Work) (before after : Standing Transport Clock)
       → IsUnlessFault faults (IsServed senses w) before after
       → IsUnlessFault faults (IsTurnServed senses (Some w)) before after
-  as_known w before after is = (is.0, λ fine. (before.known, prefix_self before.known, is.1 fine))
+  as_known w before after is = (
+    is.0,
+    λ fine.
+        (before.asker.known, prefix_self before.asker.known, is.1 fine),
+  )
 
   -- if there is no turn
-  pub unserved_still : (before after : Standing Transport Clock) → after ≡ before
-      → IsUnlessFault faults (IsTurnServed senses None) before after
-  unserved_still before after same =
-      subst (λ a. IsUnlessFault faults (IsTurnServed senses None) before a) (sym same)
-      (omega arith, λ fine. refl)
+  pub unserved_still : (now : Standing Transport Clock)
+      → IsUnlessFault faults (IsTurnServed senses None) now now
+  unserved_still now = (omega arith, λ fine. (refl, refl))
+
+  -- nor if the port's seat read something
+  pub read_still : (transport : Transport) (clock : Clock) (old new : AskerState)
+      (before events : ℕ) → new.known ≡ old.known → events ≡ before
+      → IsUnlessFault faults (IsTurnServed senses None)
+      (standing transport clock old before) (standing transport clock new events)
+  read_still transport clock old new before events known same =
+      (omega arith, λ fine. (ap (λ n. standing transport clock new n) same, known))
 
   -- nor if lines were made of an answer, or there was no memory for them
   pub lines_served : {E : Type 0} (lines : Result (String Global) E) (answer : Reply)
@@ -61,10 +72,10 @@ module _ {Transport Clock : Type 0} (faults : Transport → ℕ) (senses : Sense
       → IsUnlessFault faults (IsTurnServed senses (turn_after answer)) now now
   lines_served (Ok text) answer now is =
       subst (λ t. IsUnlessFault faults (IsTurnServed senses (turn_after t)) now now) (sym is)
-      (unserved_still now now refl)
+      (unserved_still now)
   lines_served (Err error) answer now is =
       subst (λ t. IsUnlessFault faults (IsTurnServed senses (turn_after t)) now now) (sym is)
-      (unserved_still now now refl)
+      (unserved_still now)
 
   -- the turn of a command by other names
   pub served_moved : (command same : Command) (answer told : Reply)
@@ -92,12 +103,13 @@ module _ {Transport Clock : Type 0} (faults : Transport → ℕ) (senses : Sense
       → IsUnlessFault faults (IsTurnServed senses (turn_due due)) now now
   none_due due now is =
       subst (λ d. IsUnlessFault faults (IsTurnServed senses (turn_due d)) now now) (sym is)
-      (unserved_still now now refl)
+      (unserved_still now)
 
   -- what is answered out of memory had no turn
   no_turn : (s : Sources) (n : ℕ) (c : Change) (command : Command)
       (before after : Standing Transport Clock) → IsAnswerTo s n c command reply.Memory
-      → IsTurnServed senses (turn_of command reply.Memory) before after → after ≡ before
+      → IsTurnServed senses (turn_of command reply.Memory) before after
+      → IsWithoutTurn before after
   no_turn s n c (commands.Attach path) before after is served = served
   no_turn s n c (commands.Detach hook) before after is served = served
   no_turn s n c (commands.Add external) before after is served = absurd is.1
@@ -159,16 +171,18 @@ module _ {Transport Clock : Type 0} (faults : Transport → ℕ) (senses : Sense
 
   -- a port that learnt of a change before
   pub served_then : (w : Work) (transport : Transport) (clock : Clock)
-      (after : Standing Transport Clock) (knew learnt : List LoaderOperation) (between events : ℕ)
-      → IsPrefix knew learnt → between ≡ events
-      → IsUnlessFault faults (IsServed senses w) (standing transport clock learnt between)
+      (after : Standing Transport Clock) (found then : AskerState) (between events : ℕ)
+      → IsPrefix found.known then.known → then ≡ learnt found then.known → between ≡ events
+      → IsUnlessFault faults (IsServed senses w) (standing transport clock then between)
       after → IsUnlessFault faults (IsServedThen senses w)
-      (standing transport clock knew events) after
-  served_then w transport clock after knew learnt between events grown same is = (
+      (standing transport clock found events) after
+  served_then w transport clock after found then between events grown there same is = (
     is.0,
     λ fine. (
-      learnt,
+      then.known,
       grown,
-      subst (λ n. IsServed senses w (standing transport clock learnt n) after) same (is.1 fine),
+      subst (λ s. IsServed senses w (standing transport clock s events) after) there
+          (subst (λ n. IsServed senses w (standing transport clock then n) after) same
+          (is.1 fine)),
     ),
   )

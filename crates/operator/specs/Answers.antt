@@ -10,10 +10,10 @@ use Rattle.isa.specs.declared.hook.Hook.{Hook}
 use Rattle.adjacency.specs.declared.state.NeighborState.{NeighborState}
 use Rattle.verifier.specs.Programs.{Program}
 use Rattle.object_verdicts.specs.Verdicts.{Accepts}
-use Rattle.maps.specs.Words.{SeatView}
 use Rattle.hooks.specs.declared.operation.LoaderOperation.{LoaderOperation}
 use Rattle.hooks.specs.declared.operation.LoaderOperation.TheVariants.{Attach, Detach}
 use Rattle.worker.specs.Numbers.{turn_error_number}
+use Rattle.worker.specs.Askers.{AskerState, IsLater}
 use Rattle.worker.specs.Lives.{Senses, Serves, Standing}
 use Rattle.worker.specs.TurnOutcome.{TurnOutcome}
 use Rattle.worker.specs.TurnError.{TurnError}
@@ -69,43 +69,40 @@ sources offers took refuses wanted lists holds unreadable = record {
   unreadable = unreadable;
 }
 
--- What a line changes: the loader's operations, those that the port knows before it and after it,
--- whether a refresh of the table was due still and is due then, how many events count in the port's
--- share, and the port's seat.
+-- What a line changes: the loader's operations, the port's asker and seat as the line found them
+-- and as it left them, whether a refresh of the table was due still and is due then, and how many
+-- events count in the port's share.
 pub record Change : Type 0 where
   pub before : List LoaderOperation
   pub now : List LoaderOperation
-  pub knew : List LoaderOperation
-  pub known : List LoaderOperation
+  pub found : AskerState
+  pub left : AskerState
   pub still : Bool
   pub due : Bool
   pub counted : ℕ
   pub counts : ℕ
-  pub seat : SeatView
-  pub seated : SeatView
 
-abbrev pub change : (before now knew known : List LoaderOperation) → (still due : Bool)
-    → (counted counts : ℕ) → (seat seated : SeatView) → Change
-change before now knew known still due counted counts seat seated = record {
+abbrev pub change : (before now : List LoaderOperation) → (found left : AskerState)
+    → (still due : Bool) → (counted counts : ℕ) → Change
+change before now found left still due counted counts = record {
   before = before;
   now = now;
-  knew = knew;
-  known = known;
+  found = found;
+  left = left;
   still = still;
   due = due;
   counted = counted;
   counts = counts;
-  seat = seat;
-  seated = seated;
 }
 
--- a turn for this work was taken, at some moment, by a port that knew the first of these operations
--- before and knows the others after it, and just what it gave the router counts
-abbrev pub IsDone : Offers → Took → Refuses → (known now : List LoaderOperation) → Work
-    → (counted counts : ℕ) → Type 0
-IsDone offers took refuses known now w counted counts =
-    (moment : Moment) × (turned : TurnOutcome)
-    × IsTurned offers took refuses known now moment w counted counts turned
+-- A turn for this work was taken, at some moment, and just what it gave the router counts. Its port
+-- came by some runs (of tries that were refused) from the first state to where the turn began; the
+-- turn left it in the other state.
+abbrev pub IsDone : Offers → Took → Refuses → (old new : AskerState) → Work → (counted counts : ℕ)
+    → Type 0
+IsDone offers took refuses old new w counted counts =
+    (moment : Moment) × (turned : TurnOutcome) × (begun : AskerState) × IsLater old begun
+    × IsTurned offers took refuses begun new moment w counted counts turned
 
 -- as a worker serves one: a turn for this work was tried at a moment that the clock showed, and the
 -- transport was given what it sends
@@ -115,38 +112,38 @@ IsServed {Clock = Clock} senses w before after =
     (moment : Moment) × (shown : Clock) × (ended : Moment) × senses.shows before.clock moment shown
     × Serves senses moment w (record before { clock = shown }) ended after
 
--- the event of this work was refused for this, or its questions were, at some moment, to a port
--- that knew and knows these operations, with this number of events until then
-abbrev pub IsRefusedOnce : Offers → Refuses → (known now : List LoaderOperation) → (counted : ℕ)
-    → Work → TurnError → Type 0
-IsRefusedOnce offers refuses known now counted w error =
-    (moment : Moment) × RefusesFor offers refuses known now counted moment w error
+-- The event of this work was refused for this, or its questions were, at some moment, to a port
+-- with this number of events until then, which came by some runs (of tries before) from the first
+-- state to where the turn began.
+abbrev pub IsRefusedOnce : Offers → Refuses → (old new : AskerState) → (counted : ℕ) → Work
+    → TurnError → Type 0
+IsRefusedOnce offers refuses old new counted w error =
+    (moment : Moment) × (begun : AskerState) × IsLater old begun
+    × RefusesFor offers refuses begun new counted moment w error
 
 -- a turn for this work was refused, with this number, and no event counts
-abbrev pub IsRefusal : Offers → Refuses → (known now : List LoaderOperation) → Work
-    → (counted counts : ℕ) → (number : ℕ) → Type 0
-IsRefusal offers refuses known now w counted counts number =
-    (error : TurnError) × IsRefusedOnce offers refuses known now counted w error
+abbrev pub IsRefusal : Offers → Refuses → (old new : AskerState) → Work → (counted counts : ℕ)
+    → (number : ℕ) → Type 0
+IsRefusal offers refuses old new w counted counts number =
+    (error : TurnError) × IsRefusedOnce offers refuses old new counted w error
     × (number ≡ turn_error_number error) × (counts ≡ counted)
 
--- a refresh of the table was tried, by a port that knew and knows these operations: it is due still
--- if it was refused, and nothing counts then
-abbrev pub IsRefreshed : Offers → Took → Refuses → (known now : List LoaderOperation) → (due : Bool)
+-- a refresh of the table was tried: it is due still if it was refused, and nothing counts then
+abbrev pub IsRefreshed : Offers → Took → Refuses → (old new : AskerState) → (due : Bool)
     → (counted counts : ℕ) → Type 0
-IsRefreshed offers took refuses known now false counted counts =
-    IsDone offers took refuses known now work.Refresh counted counts
-IsRefreshed offers took refuses known now true counted counts =
-    (error : TurnError) × IsRefusedOnce offers refuses known now counted work.Refresh error
+IsRefreshed offers took refuses old new false counted counts =
+    IsDone offers took refuses old new work.Refresh counted counts
+IsRefreshed offers took refuses old new true counted counts =
+    (error : TurnError) × IsRefusedOnce offers refuses old new counted work.Refresh error
     × (counts ≡ counted)
 
 -- if a refresh of the table is due, it was tried; else nothing was done
-abbrev pub IsMadeUp : Offers → Took → Refuses → (due still : Bool)
-    → (knew known : List LoaderOperation) → (before counted : ℕ) → (seat between : SeatView)
-    → Type 0
-IsMadeUp offers took refuses false still knew known before counted seat between =
-    (still ≡ false) × (known ≡ knew) × (counted ≡ before) × (between ≡ seat)
-IsMadeUp offers took refuses true still knew known before counted seat between =
-    IsRefreshed offers took refuses knew known still before counted × IsPrefix knew known
+abbrev pub IsMadeUp : Offers → Took → Refuses → (due still : Bool) → (old new : AskerState)
+    → (before counted : ℕ) → Type 0
+IsMadeUp offers took refuses false still old new before counted =
+    (still ≡ false) × (new ≡ old) × (counted ≡ before)
+IsMadeUp offers took refuses true still old new before counted =
+    IsRefreshed offers took refuses old new still before counted × IsLater old new
 
 -- ---- what a line leaves as it is
 
@@ -157,31 +154,37 @@ LeavesPrograms c = (c.now ≡ c.before) × (c.due ≡ c.still)
 -- nor did the port learn anything, and no event counts
 pub record IsUnchanged (c : Change) : Type 0 where
   pub programs : LeavesPrograms c
-  pub known : c.known ≡ c.knew
+  pub known : c.left.known ≡ c.found.known
   pub events : c.counts ≡ c.counted
 
 -- nor did the port's seat use the shared words
 pub record IsUntouched (c : Change) : Type 0 where
   pub unchanged : IsUnchanged c
-  pub seat : c.seated ≡ c.seat
+  pub seat : c.left.seat ≡ c.found.seat
 
 -- ---- answers
+
+-- the asker at its seat, once it learnt of these operations
+abbrev pub learnt : AskerState → (known : List LoaderOperation) → AskerState
+learnt asker known = record asker { known = known }
 
 -- After the programs were changed the change was counted. Then the port learnt of it, and a
 -- refresh of the table was tried, by programs that are no older than the change.
 pub record IsFollowed (offers : Offers) (took : Took) (refuses : Refuses)
-    (now known : List LoaderOperation) (due : Bool) (counted counts : ℕ) : Type 0 where
+    (now : List LoaderOperation) (found left : AskerState) (due : Bool) (counted counts : ℕ)
+    : Type 0 where
   pub changed : took.change_counted now
   -- those that the port knew when the refresh was tried
   pub knew : List LoaderOperation
-  pub learnt : IsPrefix now knew
-  pub grown : IsPrefix knew known
-  pub refreshed : IsRefreshed offers took refuses knew known due counted counts
+  pub saw : IsPrefix found.known knew
+  pub learns : IsPrefix now knew
+  pub later : IsLater (learnt found knew) left
+  pub refreshed : IsRefreshed offers took refuses (learnt found knew) left due counted counts
 
 -- so it is of a line's change
 abbrev pub IsFollowedUp : Offers → Took → Refuses → Change → Type 0
 IsFollowedUp offers took refuses c =
-    IsFollowed offers took refuses c.now c.known c.due c.counted c.counts
+    IsFollowed offers took refuses c.now c.found c.left c.due c.counted c.counts
 
 -- the program was published at its hook, with its bound; or memory was refused, and nothing changed
 abbrev pub IsPublished : Offers → Took → Refuses → Change → Program → Reply → Type 0
@@ -221,26 +224,26 @@ IsAnswerToDetach offers took refuses c hook other = ⊥
 
 -- the router took the announcement, and after that announces the destination or doesn't; or the
 -- turn was refused
-abbrev pub IsAnswerToAdd : Offers → Took → Refuses → Wanted → (knew known : List LoaderOperation)
-    → External → (counted counts : ℕ) → Reply → Type 0
-IsAnswerToAdd offers took refuses wanted knew known external counted counts reply.Originated =
-    IsDone offers took refuses knew known (work.Add external) counted counts
+abbrev pub IsAnswerToAdd : Offers → Took → Refuses → Wanted → (old new : AskerState) → External
+    → (counted counts : ℕ) → Reply → Type 0
+IsAnswerToAdd offers took refuses wanted old new external counted counts reply.Originated =
+    IsDone offers took refuses old new (work.Add external) counted counts
     × wanted counts external.prefix true
-IsAnswerToAdd offers took refuses wanted knew known external counted counts reply.Withheld =
-    IsDone offers took refuses knew known (work.Add external) counted counts
+IsAnswerToAdd offers took refuses wanted old new external counted counts reply.Withheld =
+    IsDone offers took refuses old new (work.Add external) counted counts
     × wanted counts external.prefix false
-IsAnswerToAdd offers took refuses wanted knew known external counted counts (reply.Refused number) =
-    IsRefusal offers refuses knew known (work.Add external) counted counts number
-IsAnswerToAdd offers took refuses wanted knew known external counted counts other = ⊥
+IsAnswerToAdd offers took refuses wanted old new external counted counts (reply.Refused number) =
+    IsRefusal offers refuses old new (work.Add external) counted counts number
+IsAnswerToAdd offers took refuses wanted old new external counted counts other = ⊥
 
 -- the router took the withdrawal, or the turn was refused
-abbrev pub IsAnswerToWithdraw : Offers → Took → Refuses → (knew known : List LoaderOperation)
-    → Network → (counted counts : ℕ) → Reply → Type 0
-IsAnswerToWithdraw offers took refuses knew known prefix counted counts reply.Withdrawn =
-    IsDone offers took refuses knew known (work.Withdraw prefix) counted counts
-IsAnswerToWithdraw offers took refuses knew known prefix counted counts (reply.Refused number) =
-    IsRefusal offers refuses knew known (work.Withdraw prefix) counted counts number
-IsAnswerToWithdraw offers took refuses knew known prefix counted counts other = ⊥
+abbrev pub IsAnswerToWithdraw : Offers → Took → Refuses → (old new : AskerState) → Network
+    → (counted counts : ℕ) → Reply → Type 0
+IsAnswerToWithdraw offers took refuses old new prefix counted counts reply.Withdrawn =
+    IsDone offers took refuses old new (work.Withdraw prefix) counted counts
+IsAnswerToWithdraw offers took refuses old new prefix counted counts (reply.Refused number) =
+    IsRefusal offers refuses old new (work.Withdraw prefix) counted counts number
+IsAnswerToWithdraw offers took refuses old new prefix counted counts other = ⊥
 
 -- lines, of this text, or memory was refused
 abbrev pub AreLines : (IsText : List ℕ → Type 0) → Reply → Type 0
@@ -250,8 +253,9 @@ AreLines IsText other = ⊥
 
 -- the counters' lines, as the seat read them; or memory was refused, when it had read some
 abbrev pub IsAnswerToCounters : Change → Reply → Type 0
-IsAnswerToCounters c (reply.Lines lines) = IsCountersText c.seat c.seated (string_bytes lines)
-IsAnswerToCounters c reply.Memory = HasReadSome c.seat c.seated
+IsAnswerToCounters c (reply.Lines lines) =
+    IsCountersText c.found.seat c.left.seat (string_bytes lines)
+IsAnswerToCounters c reply.Memory = HasReadSome c.found.seat c.left.seat
 IsAnswerToCounters c other = ⊥
 
 -- What each command is answered at a router of this number of interfaces. What is shown changes
@@ -264,11 +268,12 @@ IsAnswerTo s interfaces c (commands.Detach hook) answer =
     IsAnswerToDetach s.offers s.took s.refuses c hook answer
 IsAnswerTo s interfaces c (commands.Add external) answer =
     LeavesPrograms c
-    × IsAnswerToAdd s.offers s.took s.refuses s.wanted c.knew c.known external c.counted c.counts
-    answer
+    × IsAnswerToAdd s.offers s.took s.refuses s.wanted c.found c.left external c.counted
+    c.counts answer
 IsAnswerTo s interfaces c (commands.Withdraw prefix) answer =
     LeavesPrograms c
-    × IsAnswerToWithdraw s.offers s.took s.refuses c.knew c.known prefix c.counted c.counts answer
+    × IsAnswerToWithdraw s.offers s.took s.refuses c.found c.left prefix c.counted c.counts
+    answer
 IsAnswerTo s interfaces c commands.Table answer =
     IsUntouched c × AreLines (ShowsTable s.offers) answer
 IsAnswerTo s interfaces c commands.Neighbors answer =

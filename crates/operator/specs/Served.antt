@@ -8,7 +8,7 @@ use Rattle.worker.specs.Work.TheVariants as work
 use Rattle.console.specs.Commands.{LineAsks}
 use Rattle.console.specs.declared.command.Command.{Command}
 use Rattle.console.specs.declared.command.Command.TheVariants as commands
-use Rattle.operator.specs.Answers.{IsServed}
+use Rattle.operator.specs.Answers.{IsServed, learnt}
 use Rattle.operator.specs.declared.reply.Reply.{Reply}
 use Rattle.operator.specs.declared.reply.Reply.TheVariants as reply
 
@@ -43,20 +43,27 @@ turn_due false = None
 abbrev pub IsServedThen : {Transport Clock : Type 0} → Senses Transport Clock → Work
     → (before after : Standing Transport Clock) → Type 0
 IsServedThen senses w before after =
-    (knew : List LoaderOperation) × IsPrefix before.known knew
-    × IsServed senses w (record before { known = knew }) after
+    (knew : List LoaderOperation) × IsPrefix before.asker.known knew
+    × IsServed senses w (record before { asker = learnt before.asker knew }) after
 
--- So was the turn that there is. If there is none, the clock wasn't looked at, nothing was sent,
--- the port learnt nothing, and the router got no event.
+-- there was no turn: the clock wasn't looked at, nothing was sent, the port learnt nothing, and the
+-- router got no event; what the seat did, the answer tells
+abbrev pub IsWithoutTurn : {Transport Clock : Type 0}
+    → (before after : Standing Transport Clock) → Type 0
+IsWithoutTurn before after =
+    (after ≡ record before { asker = after.asker })
+    × (after.asker.known ≡ before.asker.known)
+
+-- so was the turn that there is
 abbrev pub IsTurnServed : {Transport Clock : Type 0} → Senses Transport Clock → Option Work
     → (before after : Standing Transport Clock) → Type 0
 IsTurnServed senses turn before after =
-    MatchOption turn (after ≡ before) (λ w. IsServedThen senses w before after)
+    MatchOption turn (IsWithoutTurn before after) (λ w. IsServedThen senses w before after)
 
 -- the turn of a command was; that which is answered by nothing has none
 abbrev pub IsCommandServed : {Transport Clock : Type 0} → Senses Transport Clock → Command
     → Option Reply → (before after : Standing Transport Clock) → Type 0
-IsCommandServed senses command None before after = after ≡ before
+IsCommandServed senses command None before after = IsWithoutTurn before after
 IsCommandServed senses command (Some answer) before after =
     IsTurnServed senses (turn_of command answer) before after
 
@@ -64,9 +71,9 @@ IsCommandServed senses command (Some answer) before after =
 -- memory for, or that ends the console, has none
 abbrev pub IsLineServed : {Transport Clock : Type 0} → Senses Transport Clock → (line : List ℕ)
     → Option Reply → (before after : Standing Transport Clock) → Type 0
-IsLineServed senses line None before after = after ≡ before
-IsLineServed senses line (Some reply.Unknown) before after = after ≡ before
-IsLineServed senses line (Some reply.Memory) before after = after ≡ before
+IsLineServed senses line None before after = IsWithoutTurn before after
+IsLineServed senses line (Some reply.Unknown) before after = IsWithoutTurn before after
+IsLineServed senses line (Some reply.Memory) before after = IsWithoutTurn before after
 IsLineServed senses line (Some answer) before after =
     (command : Command) × LineAsks line command
     × IsTurnServed senses (turn_of command answer) before after

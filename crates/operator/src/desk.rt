@@ -1,9 +1,7 @@
 //! Lines in, answers out, at port 0.
-ghost use Rattle.std.specs.Prelude.{◌≡◌, ℕ, Bool, List};
-ghost use mathlib.Core.List.{IsPrefix};
-ghost use Rattle.maps.specs.Words.{SeatView};
-ghost use Rattle.hooks.specs.Known.{loader_history, known_to, operations_of};
-ghost use Rattle.hooks.specs.declared.operation.LoaderOperation.{LoaderOperation};
+ghost use Rattle.std.specs.Prelude.{◌≡◌, ℕ, Bool};
+ghost use Rattle.hooks.specs.Known.{loader_history, operations_of};
+ghost use Rattle.worker.specs.Askers.{AskerState, IsLater, asker_state};
 ghost use Rattle.worker.specs.Lives.{senses_of, standing};
 ghost use Rattle.worker.specs.Turns.{IsListed};
 ghost use Rattle.worker.specs.Work.TheVariants as work;
@@ -74,15 +72,16 @@ fn add<L: Site, B: Taker<L>, R: Wait, K: Transport + Drop, C: Seconds + Drop>(
     external: External,
 ) -> Reply
     ensures told { IsAnswerToAdd B.offers B.took B.refuses B.wanted
-        (known_to port.old.asker) (known_to port.new.asker) external
+        (asker_state port.old.asker port.old.seat)
+        (asker_state port.new.asker port.new.seat) external
         port.old.share.amount port.new.share.amount result }
     ensures served { IsUnlessFault K.faults (IsServed
         (senses_of K.gives K.hears C.shows B.offers B.took B.refuses port.old.number)
         (work.Add external))
-        (standing outlet.old.transport outlet.old.clock (known_to port.old.asker)
-        port.old.share.amount)
-        (standing outlet.new.transport outlet.new.clock (known_to port.new.asker)
-        port.new.share.amount) }
+        (standing outlet.old.transport outlet.old.clock
+        (asker_state port.old.asker port.old.seat) port.old.share.amount)
+        (standing outlet.new.transport outlet.new.clock
+        (asker_state port.new.asker port.new.seat) port.new.share.amount) }
 {
     let prefix = external.prefix;
     match outlet.take(rt, hub, port, &Work::Add(external)) {
@@ -106,15 +105,15 @@ fn withdraw<L: Site, B: Taker<L>, R: Wait, K: Transport + Drop, C: Seconds + Dro
     prefix: Prefix,
 ) -> Reply
     ensures told { IsAnswerToWithdraw B.offers B.took B.refuses
-        (known_to port.old.asker) (known_to port.new.asker) prefix
+        (asker_state port.old.asker port.old.seat) (asker_state port.new.asker port.new.seat) prefix
         port.old.share.amount port.new.share.amount result }
     ensures served { IsUnlessFault K.faults (IsServed
         (senses_of K.gives K.hears C.shows B.offers B.took B.refuses port.old.number)
         (work.Withdraw prefix))
-        (standing outlet.old.transport outlet.old.clock (known_to port.old.asker)
-        port.old.share.amount)
-        (standing outlet.new.transport outlet.new.clock (known_to port.new.asker)
-        port.new.share.amount) }
+        (standing outlet.old.transport outlet.old.clock
+        (asker_state port.old.asker port.old.seat) port.old.share.amount)
+        (standing outlet.new.transport outlet.new.clock
+        (asker_state port.new.asker port.new.seat) port.new.share.amount) }
 {
     match outlet.take(rt, hub, port, &Work::Withdraw(prefix)) {
         Ok(()) => Reply::Withdrawn,
@@ -127,17 +126,18 @@ impl<L: Site, Q: Wait + Drop, K: Transport + Drop, C: Seconds + Drop> Desk<L, Q,
     #[tactic(auto, using(crate::proofs::Done::refreshed))]
     fn refresh<B: Taker<L>, R: Wait>(&mut self, rt: &R, hub: &Hub<L, B>, port: &mut Port<L>)
         ensures done { IsRefreshed B.offers B.took B.refuses
-            (known_to port.old.asker) (known_to port.new.asker)
+            (asker_state port.old.asker port.old.seat) (asker_state port.new.asker port.new.seat)
             self.new.unrefreshed port.old.share.amount port.new.share.amount }
-        ensures known { IsPrefix (known_to port.old.asker) (known_to port.new.asker) }
+        ensures later { IsLater (asker_state port.old.asker port.old.seat)
+            (asker_state port.new.asker port.new.seat) }
         ensures number { port.new.number ≡ port.old.number }
         ensures served { IsUnlessFault K.faults (IsServed
             (senses_of K.gives K.hears C.shows B.offers B.took B.refuses port.old.number)
             work.Refresh)
-            (standing self.old.outlet.transport self.old.outlet.clock (known_to port.old.asker)
-            port.old.share.amount)
-            (standing self.new.outlet.transport self.new.outlet.clock (known_to port.new.asker)
-            port.new.share.amount) }
+            (standing self.old.outlet.transport self.old.outlet.clock
+            (asker_state port.old.asker port.old.seat) port.old.share.amount)
+            (standing self.new.outlet.transport self.new.outlet.clock
+            (asker_state port.new.asker port.new.seat) port.new.share.amount) }
         ensures loader { self.new.loader ≡ self.old.loader }
         ensures interfaces { self.new.interfaces ≡ self.old.interfaces }
     {
@@ -149,15 +149,16 @@ impl<L: Site, Q: Wait + Drop, K: Transport + Drop, C: Seconds + Drop> Desk<L, Q,
     // are no older.
     fn follow<B: Taker<L>, R: Wait>(&mut self, rt: &R, hub: &Hub<L, B>, port: &mut Port<L>)
         ensures followed { IsFollowed B.offers B.took B.refuses
-            (operations_of self.old.loader) (known_to port.new.asker) self.new.unrefreshed
+            (operations_of self.old.loader) (asker_state port.old.asker port.old.seat)
+            (asker_state port.new.asker port.new.seat) self.new.unrefreshed
             port.old.share.amount port.new.share.amount }
         ensures served { IsUnlessFault K.faults (IsServedThen
             (senses_of K.gives K.hears C.shows B.offers B.took B.refuses port.old.number)
             work.Refresh)
-            (standing self.old.outlet.transport self.old.outlet.clock (known_to port.old.asker)
-            port.old.share.amount)
-            (standing self.new.outlet.transport self.new.outlet.clock (known_to port.new.asker)
-            port.new.share.amount) }
+            (standing self.old.outlet.transport self.old.outlet.clock
+            (asker_state port.old.asker port.old.seat) port.old.share.amount)
+            (standing self.new.outlet.transport self.new.outlet.clock
+            (asker_state port.new.asker port.new.seat) port.new.share.amount) }
         ensures loader { self.new.loader ≡ self.old.loader }
         ensures interfaces { self.new.interfaces ≡ self.old.interfaces }
     {
@@ -179,17 +180,17 @@ impl<L: Site, Q: Wait + Drop, K: Transport + Drop, C: Seconds + Drop> Desk<L, Q,
     ) -> Reply
         ensures told { IsPublished B.offers B.took B.refuses
             (change (operations_of self.old.loader) (operations_of self.new.loader)
-            (known_to port.old.asker) (known_to port.new.asker)
+            (asker_state port.old.asker port.old.seat) (asker_state port.new.asker port.new.seat)
             self.old.unrefreshed self.new.unrefreshed
-            port.old.share.amount port.new.share.amount port.old.seat port.new.seat)
+            port.old.share.amount port.new.share.amount)
             program result }
         ensures served { IsUnlessFault K.faults (IsTurnServed
             (senses_of K.gives K.hears C.shows B.offers B.took B.refuses port.old.number)
             (turn_after result))
-            (standing self.old.outlet.transport self.old.outlet.clock (known_to port.old.asker)
-            port.old.share.amount)
-            (standing self.new.outlet.transport self.new.outlet.clock (known_to port.new.asker)
-            port.new.share.amount) }
+            (standing self.old.outlet.transport self.old.outlet.clock
+            (asker_state port.old.asker port.old.seat) port.old.share.amount)
+            (standing self.new.outlet.transport self.new.outlet.clock
+            (asker_state port.new.asker port.new.seat) port.new.share.amount) }
         ensures interfaces { self.new.interfaces ≡ self.old.interfaces }
     {
         let hook = program.hook();
@@ -213,17 +214,17 @@ impl<L: Site, Q: Wait + Drop, K: Transport + Drop, C: Seconds + Drop> Desk<L, Q,
             (sources B.offers B.took B.refuses B.wanted (IsListed B.began B.neighbor_at)
             F.holds F.unreadable)
             (change (operations_of self.old.loader) (operations_of self.new.loader)
-            (known_to port.old.asker) (known_to port.new.asker)
+            (asker_state port.old.asker port.old.seat) (asker_state port.new.asker port.new.seat)
             self.old.unrefreshed self.new.unrefreshed
-            port.old.share.amount port.new.share.amount port.old.seat port.new.seat)
+            port.old.share.amount port.new.share.amount)
             path.now result }
         ensures served { IsUnlessFault K.faults (IsTurnServed
             (senses_of K.gives K.hears C.shows B.offers B.took B.refuses port.old.number)
             (turn_after result))
-            (standing self.old.outlet.transport self.old.outlet.clock (known_to port.old.asker)
-            port.old.share.amount)
-            (standing self.new.outlet.transport self.new.outlet.clock (known_to port.new.asker)
-            port.new.share.amount) }
+            (standing self.old.outlet.transport self.old.outlet.clock
+            (asker_state port.old.asker port.old.seat) port.old.share.amount)
+            (standing self.new.outlet.transport self.new.outlet.clock
+            (asker_state port.new.asker port.new.seat) port.new.share.amount) }
         ensures interfaces { self.new.interfaces ≡ self.old.interfaces }
     {
         match read_program(self.alloc, files, path) {
@@ -241,17 +242,17 @@ impl<L: Site, Q: Wait + Drop, K: Transport + Drop, C: Seconds + Drop> Desk<L, Q,
     ) -> Reply
         ensures told { IsAnswerToDetach B.offers B.took B.refuses
             (change (operations_of self.old.loader) (operations_of self.new.loader)
-            (known_to port.old.asker) (known_to port.new.asker)
+            (asker_state port.old.asker port.old.seat) (asker_state port.new.asker port.new.seat)
             self.old.unrefreshed self.new.unrefreshed
-            port.old.share.amount port.new.share.amount port.old.seat port.new.seat)
+            port.old.share.amount port.new.share.amount)
             hook result }
         ensures served { IsUnlessFault K.faults (IsTurnServed
             (senses_of K.gives K.hears C.shows B.offers B.took B.refuses port.old.number)
             (turn_after result))
-            (standing self.old.outlet.transport self.old.outlet.clock (known_to port.old.asker)
-            port.old.share.amount)
-            (standing self.new.outlet.transport self.new.outlet.clock (known_to port.new.asker)
-            port.new.share.amount) }
+            (standing self.old.outlet.transport self.old.outlet.clock
+            (asker_state port.old.asker port.old.seat) port.old.share.amount)
+            (standing self.new.outlet.transport self.new.outlet.clock
+            (asker_state port.new.asker port.new.seat) port.new.share.amount) }
         ensures interfaces { self.new.interfaces ≡ self.old.interfaces }
     {
         if self.loader.detach(hook).is_err() {
@@ -275,17 +276,17 @@ impl<L: Site, Q: Wait + Drop, K: Transport + Drop, C: Seconds + Drop> Desk<L, Q,
             F.holds F.unreadable)
             self.old.interfaces
             (change (operations_of self.old.loader) (operations_of self.new.loader)
-            (known_to port.old.asker) (known_to port.new.asker)
+            (asker_state port.old.asker port.old.seat) (asker_state port.new.asker port.new.seat)
             self.old.unrefreshed self.new.unrefreshed
-            port.old.share.amount port.new.share.amount port.old.seat port.new.seat)
+            port.old.share.amount port.new.share.amount)
             command.now result }
         ensures served { IsUnlessFault K.faults (IsCommandServed
             (senses_of K.gives K.hears C.shows B.offers B.took B.refuses port.old.number)
             command.now result)
-            (standing self.old.outlet.transport self.old.outlet.clock (known_to port.old.asker)
-            port.old.share.amount)
-            (standing self.new.outlet.transport self.new.outlet.clock (known_to port.new.asker)
-            port.new.share.amount) }
+            (standing self.old.outlet.transport self.old.outlet.clock
+            (asker_state port.old.asker port.old.seat) port.old.share.amount)
+            (standing self.new.outlet.transport self.new.outlet.clock
+            (asker_state port.new.asker port.new.seat) port.new.share.amount) }
         ensures interfaces { self.new.interfaces ≡ self.old.interfaces }
     {
         Some(match command {
@@ -303,16 +304,17 @@ impl<L: Site, Q: Wait + Drop, K: Transport + Drop, C: Seconds + Drop> Desk<L, Q,
     // Refreshes the table if an earlier refresh was refused.
     fn make_up<B: Taker<L>, R: Wait>(&mut self, rt: &R, hub: &Hub<L, B>, port: &mut Port<L>)
         ensures made_up { IsMadeUp B.offers B.took B.refuses self.old.unrefreshed
-            self.new.unrefreshed (known_to port.old.asker) (known_to port.new.asker)
-            port.old.share.amount port.new.share.amount port.old.seat port.new.seat }
+            self.new.unrefreshed (asker_state port.old.asker port.old.seat)
+            (asker_state port.new.asker port.new.seat)
+            port.old.share.amount port.new.share.amount }
         ensures number { port.new.number ≡ port.old.number }
         ensures served { IsUnlessFault K.faults (IsTurnServed
             (senses_of K.gives K.hears C.shows B.offers B.took B.refuses port.old.number)
             (turn_due self.old.unrefreshed))
-            (standing self.old.outlet.transport self.old.outlet.clock (known_to port.old.asker)
-            port.old.share.amount)
-            (standing self.new.outlet.transport self.new.outlet.clock (known_to port.new.asker)
-            port.new.share.amount) }
+            (standing self.old.outlet.transport self.old.outlet.clock
+            (asker_state port.old.asker port.old.seat) port.old.share.amount)
+            (standing self.new.outlet.transport self.new.outlet.clock
+            (asker_state port.new.asker port.new.seat) port.new.share.amount) }
         ensures loader { self.new.loader ≡ self.old.loader }
         ensures interfaces { self.new.interfaces ≡ self.old.interfaces }
     {
@@ -336,17 +338,17 @@ impl<L: Site, Q: Wait + Drop, K: Transport + Drop, C: Seconds + Drop> Desk<L, Q,
             F.holds F.unreadable)
             self.old.interfaces
             (change (operations_of self.old.loader) (operations_of self.new.loader)
-            (known_to port.old.asker) (known_to port.new.asker)
+            (asker_state port.old.asker port.old.seat) (asker_state port.new.asker port.new.seat)
             self.old.unrefreshed self.new.unrefreshed
-            port.old.share.amount port.new.share.amount port.old.seat port.new.seat)
+            port.old.share.amount port.new.share.amount)
             line.now result }
         ensures served { IsUnlessFault K.faults (IsLineServed
             (senses_of K.gives K.hears C.shows B.offers B.took B.refuses port.old.number)
             line.now result)
-            (standing self.old.outlet.transport self.old.outlet.clock (known_to port.old.asker)
-            port.old.share.amount)
-            (standing self.new.outlet.transport self.new.outlet.clock (known_to port.new.asker)
-            port.new.share.amount) }
+            (standing self.old.outlet.transport self.old.outlet.clock
+            (asker_state port.old.asker port.old.seat) port.old.share.amount)
+            (standing self.new.outlet.transport self.new.outlet.clock
+            (asker_state port.new.asker port.new.seat) port.new.share.amount) }
         ensures interfaces { self.new.interfaces ≡ self.old.interfaces }
     {
         let read = read_command(self.alloc, line);
@@ -369,25 +371,24 @@ impl<L: Site, Q: Wait + Drop, K: Transport + Drop, C: Seconds + Drop> Desk<L, Q,
         port: &mut Port<L>,
         line: &str,
     ) -> Option<Reply>
-        ensures told { (still : Bool) × (knew : List LoaderOperation) × (counted : ℕ)
-            × (seat : SeatView)
+        ensures told { (still : Bool) × (between : AskerState) × (counted : ℕ)
             × IsMadeUp B.offers B.took B.refuses self.old.unrefreshed still
-            (known_to port.old.asker) knew port.old.share.amount counted port.old.seat seat
+            (asker_state port.old.asker port.old.seat) between port.old.share.amount counted
             × IsObeyed
             (sources B.offers B.took B.refuses B.wanted (IsListed B.began B.neighbor_at)
             F.holds F.unreadable)
             self.old.interfaces
             (change (operations_of self.old.loader) (operations_of self.new.loader)
-            knew (known_to port.new.asker) still self.new.unrefreshed
-            counted port.new.share.amount seat port.new.seat)
+            between (asker_state port.new.asker port.new.seat) still
+            self.new.unrefreshed counted port.new.share.amount)
             line.now result }
         ensures served { IsUnlessFault K.faults (AreServed
             (senses_of K.gives K.hears C.shows B.offers B.took B.refuses port.old.number)
             self.old.unrefreshed line.now result)
-            (standing self.old.outlet.transport self.old.outlet.clock (known_to port.old.asker)
-            port.old.share.amount)
-            (standing self.new.outlet.transport self.new.outlet.clock (known_to port.new.asker)
-            port.new.share.amount) }
+            (standing self.old.outlet.transport self.old.outlet.clock
+            (asker_state port.old.asker port.old.seat) port.old.share.amount)
+            (standing self.new.outlet.transport self.new.outlet.clock
+            (asker_state port.new.asker port.new.seat) port.new.share.amount) }
         ensures interfaces { self.new.interfaces ≡ self.old.interfaces }
     {
         self.make_up(rt, hub, port);
@@ -403,25 +404,24 @@ impl<L: Site, Q: Wait + Drop, K: Transport + Drop, C: Seconds + Drop> Desk<L, Q,
         port: &mut Port<L>,
         line: &str,
     ) -> Option<Reply>
-        ensures told { (still : Bool) × (knew : List LoaderOperation) × (counted : ℕ)
-            × (seat : SeatView)
+        ensures told { (still : Bool) × (between : AskerState) × (counted : ℕ)
             × IsMadeUp B.offers B.took B.refuses self.old.unrefreshed still
-            (known_to port.old.asker) knew port.old.share.amount counted port.old.seat seat
+            (asker_state port.old.asker port.old.seat) between port.old.share.amount counted
             × IsObeyed
             (sources B.offers B.took B.refuses B.wanted (IsListed B.began B.neighbor_at)
             IsAnyFile IsAnyPath)
             self.old.interfaces
             (change (operations_of self.old.loader) (operations_of self.new.loader)
-            knew (known_to port.new.asker) still self.new.unrefreshed
-            counted port.new.share.amount seat port.new.seat)
+            between (asker_state port.new.asker port.new.seat) still
+            self.new.unrefreshed counted port.new.share.amount)
             line.now result }
         ensures served { IsUnlessFault K.faults (AreServed
             (senses_of K.gives K.hears C.shows B.offers B.took B.refuses port.old.number)
             self.old.unrefreshed line.now result)
-            (standing self.old.outlet.transport self.old.outlet.clock (known_to port.old.asker)
-            port.old.share.amount)
-            (standing self.new.outlet.transport self.new.outlet.clock (known_to port.new.asker)
-            port.new.share.amount) }
+            (standing self.old.outlet.transport self.old.outlet.clock
+            (asker_state port.old.asker port.old.seat) port.old.share.amount)
+            (standing self.new.outlet.transport self.new.outlet.clock
+            (asker_state port.new.asker port.new.seat) port.new.share.amount) }
         ensures interfaces { self.new.interfaces ≡ self.old.interfaces }
     {
         self.obey_with(rt, &SystemFiles { rt }, hub, port, line)

@@ -1,7 +1,6 @@
 //! Where port 0 sends.
 ghost use Rattle.std.specs.Prelude.{◌≡◌, ◌≤◌, IfErr, OnErr, OnOk};
-ghost use mathlib.Core.List.{IsPrefix};
-ghost use Rattle.hooks.specs.Known.{known_to};
+ghost use Rattle.worker.specs.Askers.{IsLater, asker_state};
 ghost use Rattle.worker.specs.Lives.{IsSent, senses_of, standing};
 ghost use Rattle.operator.specs.Answers.{IsDone, IsRefusedOnce, IsServed};
 
@@ -36,6 +35,7 @@ impl<K: Transport + Drop, C: Seconds + Drop> Outlet<K, C> {
     ///
     /// # Errors
     /// Why the turn was refused, as [`turn`](worker::turn) says: the router then took nothing.
+    #[tactic(auto, using(crate::proofs::Done::refused))]
     pub fn take<L: Site, B: Taker<L>, R: Wait>(
         &mut self,
         rt: &R,
@@ -44,21 +44,24 @@ impl<K: Transport + Drop, C: Seconds + Drop> Outlet<K, C> {
         work: &Work,
     ) -> Result<(), TurnError>
         ensures taken { OnOk result (IsDone B.offers B.took B.refuses
-            (known_to port.old.asker) (known_to port.new.asker)
+            (asker_state port.old.asker port.old.seat)
+            (asker_state port.new.asker port.new.seat)
             work.now port.old.share.amount port.new.share.amount) }
         ensures refused { IfErr result (λ error.
-            IsRefusedOnce B.offers B.refuses (known_to port.old.asker) (known_to port.new.asker)
+            IsRefusedOnce B.offers B.refuses (asker_state port.old.asker port.old.seat)
+            (asker_state port.new.asker port.new.seat)
             port.old.share.amount work.now error) }
         ensures err { OnErr result (port.new.share.amount ≡ port.old.share.amount) }
-        ensures known { IsPrefix (known_to port.old.asker) (known_to port.new.asker) }
+        ensures later { IsLater (asker_state port.old.asker port.old.seat)
+            (asker_state port.new.asker port.new.seat) }
         ensures number { port.new.number ≡ port.old.number }
         ensures faults { K.faults self.old.transport ≤ K.faults self.new.transport }
         ensures served { K.faults self.new.transport ≡ K.faults self.old.transport → IsServed
             (senses_of K.gives K.hears C.shows B.offers B.took B.refuses port.old.number) work.now
-            (standing self.old.transport self.old.clock (known_to port.old.asker)
-            port.old.share.amount)
-            (standing self.new.transport self.new.clock (known_to port.new.asker)
-            port.new.share.amount) }
+            (standing self.old.transport self.old.clock
+            (asker_state port.old.asker port.old.seat) port.old.share.amount)
+            (standing self.new.transport self.new.clock
+            (asker_state port.new.asker port.new.seat) port.new.share.amount) }
     {
         let mut moment = self.clock.second();
         let turned = turn_with_retries(

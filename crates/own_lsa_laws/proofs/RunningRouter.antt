@@ -57,7 +57,8 @@ pub nobody_speaks : NobodySpeaksForThisRouter → RoutersRefuseClocksThatGoBack
     → NobodySpeaksForTheRunningRouter
 nobody_speaks law clocks = record {
   always = always law clocks;
-  tick = λ c known now events moment outs stale given.
+  tick = λ c old new events moment outs stale given.
       ticked law clocks c events moment outs stale
-      (subst (λ (e : Event). IsTakenBySome (initial c) events moment e outs stale) given.1 given.2);
+      (subst (λ (e : Event). IsTakenBySome (initial c) events moment e outs stale) given.1.0
+      given.2);
 }

@@ -11,9 +11,9 @@ use Rattle.event_rules.specs.Events.{Happens, initial}
 use Rattle.event_rules.specs.Routers.{Occurrence, Router}
 use Rattle.own_lsa_laws.specs.OwnCopies.{HasWantedBody, IsSelfOriginated, SpeaksForItself}
 use Rattle.own_lsa_laws.specs.OwnCopies.{SpeaksForItselfAfterTick}
-use Rattle.hooks.specs.declared.operation.LoaderOperation.{LoaderOperation}
+use Rattle.worker.specs.Askers.{AskerState}
 use Rattle.worker.specs.Replay.{IsAfterEvents}
-use Rattle.worker.specs.Turns.{IsOfferedBySome, TakesFor, took_from}
+use Rattle.worker.specs.Turns.{IsOfferedBySome, TakesFor, refuses_from, took_from}
 use Rattle.worker.specs.Work.TheVariants.{Tick}
 
 -- A Tick at this moment sent these, at a router to which events lead from the one that is made of
@@ -34,8 +34,8 @@ pub record NobodySpeaksForTheRunningRouter : Type 0 where
   pub always : (c : Config) (taken : ℕ) (r : Router) → IsAfterEvents (initial c) taken r
       → SpeaksForItself r
   -- after each Tick that a turn gives to such a book
-  pub tick : (c : Config) (known now : List LoaderOperation) (events : ℕ) (moment : Moment)
+  pub tick : (c : Config) (old new : AskerState) (events : ℕ) (moment : Moment)
       (outs : List Out) (stale : Option Bool)
-      → TakesFor (IsOfferedBySome (initial c)) (took_from (initial c)) known now events moment
-      Tick outs stale
+      → TakesFor (IsOfferedBySome (initial c)) (took_from (initial c)) (refuses_from (initial c))
+      old new events moment Tick outs stale
       → IsTicked c moment outs

@@ -1,10 +1,12 @@
+pub mod Askers
+mod Asked
 mod Away
 mod Clocks
 mod Configured
 mod Counted
+mod Followed
 mod FromSome
 mod LetIn
 mod Tables
-pub mod Longer
-mod Vetoes
+mod Sooner
 mod Unread

@@ -1,5 +1,5 @@
 -- Which question got no reading, of those that were asked in turn.
-use Rattle.std.proofs.Common.{ℕ, ◌<◌, length, List, [], ◌∷◌, Option, Some, None, IfOk, arith}
+use Rattle.std.proofs.Common.{List, [], ◌∷◌, Option, Some, None, IfOk, arith}
 use Rattle.std.specs.List.{Contains}
 use Rattle.std.specs.Prelude.{Result, Ok, Err, IfNone}
 use Rattle.words.specs.Numbers.{Moment}

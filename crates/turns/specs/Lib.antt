@@ -2,6 +2,7 @@
 pub use Rattle.flood.specs.Offers
 -- and which routers events lead to
 pub use Rattle.flood.specs.Replay
+pub mod Askers
 pub mod Turns
 pub mod Laws
 pub mod Numbers

@@ -1,10 +1,8 @@
 -- What a turn gives to the book, and what comes of it.
 use Rattle.std.specs.Prelude.{◌≡◌, ◌≢◌, ◌⊎◌, ◌↔◌, ℕ, ◌+◌, ◌<◌, ◌≤◌, Bool, true, List, Option}
 use Rattle.std.specs.Prelude.{IfSome, IsTrue, MatchOption, None, Some}
-use Rattle.std.specs.Prelude.{Err, length, map, max, slice_get}
+use Rattle.std.specs.Prelude.{Err, length, max, slice_get}
 use Rattle.std.specs.FinMap as finite
-use Rattle.std.specs.List.{All}
-use mathlib.Core.List.{IsPrefix}
 use Rattle.words.specs.Constants.{clock_end}
 use Rattle.words.specs.Numbers.{InterfaceNumber, Moment, RouterNumber}
 use Rattle.words.specs.Prefixes.{Network}
@@ -12,8 +10,6 @@ use Rattle.words.specs.declared.route.External.{External}
 use Rattle.words.specs.declared.route.Route.{Route}
 use Rattle.words.specs.declared.route.TableRow.{TableRow}
 use Rattle.hooks.specs.machine.Given.{Given}
-use Rattle.hooks.specs.machine.Label.{Label}
-use Rattle.maps.specs.Words.{SeatView}
 use Rattle.flood.specs.event_rules.declared.model.CoreError.TheVariants as core_error
 use Rattle.flood.specs.event_rules.declared.model.Out.{Out}
 use Rattle.flood.specs.event_rules.Commands.{is_for}
@@ -22,8 +18,6 @@ use Rattle.flood.specs.event_rules.Originations.{external_key}
 use Rattle.flood.specs.event_rules.Refusals.{IsAllowed}
 use Rattle.flood.specs.event_rules.Routers.{Router}
 use Rattle.hooks.specs.declared.operation.LoaderOperation.{LoaderOperation}
-use Rattle.hooks.specs.Answered.{IsAnswered}
-use Rattle.hooks.specs.Operations.{OperationsAnswer}
 use Rattle.hooks.specs.Questions.{ExternalAnswer, RouteAnswer}
 use Rattle.hooks.specs.Questions.{count_input, price_input, tag_input, veto_input}
 use Rattle.flood.specs.declared.book.error.BookError.{BookError}
@@ -35,6 +29,7 @@ use Rattle.flood.specs.Offers.{IsOffered, IsStaleNow}
 use Rattle.flood.specs.Refusals.{BookRefusesWithMarksByRules}
 use Rattle.flood.specs.Replay.{BookView, IsAfterEvents}
 use Rattle.flood.specs.NeighborState.{NeighborState}
+use Rattle.turns.specs.Askers.{AreVetoes, AskerState, IsAnsweredAt, IsLater}
 use Rattle.turns.specs.declared.turned.TurnOutcome.{TurnOutcome}
 use Rattle.turns.specs.declared.turned.TurnError.{TurnError}
 use Rattle.turns.specs.declared.turned.TurnError.TheVariants as turn_error
@@ -184,68 +179,42 @@ IsListed {B = B} began at interfaces neighbors =
 
 -- ---- answers to questions
 
--- A word that the programs may answer to this input, whatever counters and cells hold (what a seat
--- found there, and left, isn't said), after operations of the loader that begin with all that the
--- asker knew, and that begin all that it knows now.
-abbrev pub MayBeWordOn : (known now : List LoaderOperation) → Given → (word : ℕ) → Type 0
-MayBeWordOn known now input word =
-    (operations : List LoaderOperation) × (labels : List Label)
-    × IsPrefix known operations × IsPrefix operations now × OperationsAnswer operations input
-    labels word
-
 -- the answer is on this destination, at this moment, beside these rows
-pub record IsTagOn (known now : List LoaderOperation) (external : External) (moment : Moment)
+pub record IsTagOn (old new : AskerState) (external : External) (moment : Moment)
     (rows : List TableRow) (a : ExternalAnswer) : Type 0 where
   pub destination : a.external ≡ external
   pub asked : a.moment ≡ moment
-  pub answered : MayBeWordOn known now (tag_input external moment rows) a.word
+  pub answered : IsAnsweredAt old new (tag_input external moment rows) a.word
 
-pub record IsPriceOn (known now : List LoaderOperation) (external : External) (moment : Moment)
+pub record IsPriceOn (old new : AskerState) (external : External) (moment : Moment)
     (rows : List TableRow) (a : ExternalAnswer) : Type 0 where
   pub destination : a.external ≡ external
   pub asked : a.moment ≡ moment
-  pub answered : MayBeWordOn known now (price_input external moment rows) a.word
+  pub answered : IsAnsweredAt old new (price_input external moment rows) a.word
 
--- the answer is on its route, at this moment, beside these rows
-pub record IsVetoOn (known now : List LoaderOperation) (moment : Moment) (rows : List TableRow)
-    (a : RouteAnswer) : Type 0 where
-  pub asked : a.moment ≡ moment
-  pub answered : MayBeWordOn known now (veto_input a.route moment rows) a.word
-
--- the answers are on these routes, in their order, each by operations of its own
-abbrev pub AreVetoes : (known now : List LoaderOperation) → Moment → List TableRow → List Route
-    → List RouteAnswer → Type 0
-AreVetoes known now moment rows routes answers =
-    (map (λ a. a.route) answers ≡ routes) × All (IsVetoOn known now moment rows) answers
-
--- The datagram was counted as one of the interface: an asker's list and its seat are those after a
--- word that the programs answer of it. Or it wasn't, since it got no reading: they are as before.
-abbrev pub IsCountedIfRead : Refuses → (before now : List LoaderOperation) → (old new : SeatView)
-    → InterfaceNumber → Moment → (packet : List ℕ) → Type 0
-IsCountedIfRead refuses before now old new interface moment packet =
-    ((now ≡ before) × (new ≡ old)
-    × refuses.lacks (Lack.Reading (count_input interface moment packet)))
-    ⊎ ((word : ℕ) × IsAnswered before now old new (count_input interface moment packet) word)
+-- The datagram was counted as one of the interface, by a word that the programs answer of it. Or it
+-- wasn't, since it got no reading: the asker knows what it knew, and the seat is as it was.
+abbrev pub IsCountedIfRead : Refuses → (old new : AskerState) → InterfaceNumber → Moment
+    → (packet : List ℕ) → Type 0
+IsCountedIfRead refuses old new interface moment packet =
+    ((new ≡ old) × refuses.lacks (Lack.Reading (count_input interface moment packet)))
+    ⊎ ((word : ℕ) × IsAnsweredAt old new (count_input interface moment packet) word)
 
 -- if the work is a datagram, that is counted if it got a reading
-abbrev pub CountsIfReadFor : Refuses → (before now : List LoaderOperation) → (old new : SeatView) → Work
-    → Moment → Type 0
-CountsIfReadFor refuses before now old new (work.Datagram interface bytes) moment =
-    IsCountedIfRead refuses before now old new interface moment bytes
-CountsIfReadFor refuses before now old new work.Tick moment = Unit {0}
-CountsIfReadFor refuses before now old new (work.Add external) moment = Unit {0}
-CountsIfReadFor refuses before now old new (work.Withdraw prefix) moment = Unit {0}
-CountsIfReadFor refuses before now old new (work.Down interface) moment = Unit {0}
-CountsIfReadFor refuses before now old new work.Refresh moment = Unit {0}
+abbrev pub CountsIfReadFor : Refuses → (old new : AskerState) → Work → Moment → Type 0
+CountsIfReadFor refuses old new (work.Datagram interface bytes) moment =
+    IsCountedIfRead refuses old new interface moment bytes
+CountsIfReadFor refuses old new work.Tick moment = Unit {0}
+CountsIfReadFor refuses old new (work.Add external) moment = Unit {0}
+CountsIfReadFor refuses old new (work.Withdraw prefix) moment = Unit {0}
+CountsIfReadFor refuses old new (work.Down interface) moment = Unit {0}
+CountsIfReadFor refuses old new work.Refresh moment = Unit {0}
 
--- If the work is a datagram, that is counted if it got a reading, by a port that had such a seat and knew the first of
--- these operations, and knows the last ones in the end: what it knew as it counted begins them.
--- Some seat comes of it; that it is the port's isn't said. Of a book this holds of every turn.
-abbrev pub HasCountedFor : Refuses → (before after : List LoaderOperation) → (old : SeatView) → Work
-    → Moment → Type 0
-HasCountedFor refuses before after old w moment =
-    (known : List LoaderOperation) × (seat : SeatView)
-    × CountsIfReadFor refuses before known old seat w moment × IsPrefix known after
+-- If the work is a datagram, that is counted first if it got a reading, and then the asker comes to
+-- the last state by some runs. Of a book this says no more than `IsLater old new`.
+abbrev pub HasCountedFor : Refuses → (old new : AskerState) → Work → Moment → Type 0
+HasCountedFor refuses old new w moment =
+    (counted : AskerState) × CountsIfReadFor refuses old counted w moment × IsLater counted new
 
 -- if the work is a datagram, the programs at `count` were asked about it
 abbrev pub AsksFor : Took → Moment → Work → Type 0
@@ -260,54 +229,59 @@ AsksFor took moment work.Refresh = Unit {0}
 -- ---- the event of a work
 
 -- it installs an answer on each candidate that was offered at once
-abbrev pub IsInstall : Offers → (known now : List LoaderOperation) → Moment → Event → Type 0
-IsInstall offers known now moment e =
+abbrev pub IsInstall : Offers → (old new : AskerState) → Moment → Event → Type 0
+IsInstall offers old new moment e =
     (candidates : List Route) × (rows : List TableRow) × (answers : List RouteAnswer)
-    × offers candidates rows × AreVetoes known now moment rows candidates answers
+    × offers candidates rows × AreVetoes old new moment rows candidates answers
     × (e ≡ event.Install answers)
 
--- both answers are on this destination, at this moment, beside these rows
-abbrev pub AreBeside : (known now : List LoaderOperation) → External → Moment → List TableRow
+-- both answers are on this destination, at this moment, beside these rows: first the tag was asked
+abbrev pub AreBeside : (old new : AskerState) → External → Moment → List TableRow
     → (tag : ExternalAnswer) → (price : ExternalAnswer) → Type 0
-AreBeside known now external moment rows tag price =
-    IsTagOn known now external moment rows tag × IsPriceOn known now external moment rows price
+AreBeside old new external moment rows tag price =
+    (between : AskerState) × IsTagOn old between external moment rows tag
+    × IsPriceOn between new external moment rows price
 
 -- They are beside the rows of a table that was offered; or the same beside whatever rows, as they
 -- are if no program stands at `tag` and none at `price`.
-abbrev pub AreAnswersAsked : Offers → (known now : List LoaderOperation) → External → Moment
+abbrev pub AreAnswersAsked : Offers → (old new : AskerState) → External → Moment
     → (tag : ExternalAnswer) → (price : ExternalAnswer) → Type 0
-AreAnswersAsked offers known now external moment tag price =
+AreAnswersAsked offers old new external moment tag price =
     ((candidates : List Route) × (rows : List TableRow)
-    × offers candidates rows × AreBeside known now external moment rows tag price)
-    ⊎ ((rows : List TableRow) → AreBeside known now external moment rows tag price)
+    × offers candidates rows × AreBeside old new external moment rows tag price)
+    ⊎ ((rows : List TableRow) → AreBeside old new external moment rows tag price)
 
 -- it announces the destination, with the answers of the programs
-abbrev pub IsRedistribute : Offers → (known now : List LoaderOperation) → External → Moment → Event
-    → Type 0
-IsRedistribute offers known now external moment e =
+abbrev pub IsRedistribute : Offers → (old new : AskerState) → External → Moment → Event → Type 0
+IsRedistribute offers old new external moment e =
     (tag : ExternalAnswer) × (price : ExternalAnswer)
-    × AreAnswersAsked offers known now external moment tag price
+    × AreAnswersAsked offers old new external moment tag price
     × (e ≡ event.Redistribute tag price)
 
--- the event is that of the work, with answers to its questions, by a port that knew the first of
--- these operations when it began to ask, and knows the others then
-abbrev pub IsEventOfWork : Offers → (known now : List LoaderOperation) → Work → Moment → Event
+-- The event is that of the work, with answers to its questions, by an asker that came from the
+-- first state to the other by just these questions. A datagram's is the one of `count`, which the
+-- event doesn't tell of.
+abbrev pub IsEventOfWork : Offers → Refuses → (old new : AskerState) → Work → Moment → Event
     → Type 0
-IsEventOfWork offers known now (work.Datagram interface bytes) moment e =
-    e ≡ event.Packet interface bytes
-IsEventOfWork offers known now work.Tick moment e = e ≡ event.Tick
-IsEventOfWork offers known now (work.Add external) moment e =
-    IsRedistribute offers known now external moment e
-IsEventOfWork offers known now (work.Withdraw prefix) moment e = e ≡ event.Withdraw prefix
-IsEventOfWork offers known now (work.Down interface) moment e = e ≡ event.LinkDown interface
-IsEventOfWork offers known now work.Refresh moment e = IsInstall offers known now moment e
+IsEventOfWork offers refuses old new (work.Datagram interface bytes) moment e =
+    (e ≡ event.Packet interface bytes)
+    × IsCountedIfRead refuses old new interface moment bytes
+IsEventOfWork offers refuses old new work.Tick moment e = (e ≡ event.Tick) × (new ≡ old)
+IsEventOfWork offers refuses old new (work.Add external) moment e =
+    IsRedistribute offers old new external moment e
+IsEventOfWork offers refuses old new (work.Withdraw prefix) moment e =
+    (e ≡ event.Withdraw prefix) × (new ≡ old)
+IsEventOfWork offers refuses old new (work.Down interface) moment e =
+    (e ≡ event.LinkDown interface) × (new ≡ old)
+IsEventOfWork offers refuses old new work.Refresh moment e = IsInstall offers old new moment e
 
 -- the work's event was given at this moment, by a port with this number of events until then, sent
 -- these, and left the router so
-abbrev pub TakesFor : Offers → Took → (known now : List LoaderOperation) → (events : ℕ) → Moment
+abbrev pub TakesFor : Offers → Took → Refuses → (old new : AskerState) → (events : ℕ) → Moment
     → Work → List Out → (stale : Option Bool) → Type 0
-TakesFor offers took known now events moment w outs stale =
-    (e : Event) × IsEventOfWork offers known now w moment e × took.taken events moment e outs stale
+TakesFor offers took refuses old new events moment w outs stale =
+    (e : Event) × IsEventOfWork offers refuses old new w moment e
+    × took.taken events moment e outs stale
 
 -- ---- refusals
 
@@ -349,18 +323,19 @@ RefusesQuestions refuses work.Refresh moment error =
 
 -- the work's event was given at this moment, by a port with this number of events until then, and
 -- refused, for this
-abbrev pub RefusesEvent : Offers → Refuses → (known now : List LoaderOperation) → (events : ℕ)
-    → Moment → Work → TurnError → Type 0
-RefusesEvent offers refuses known now events moment w error =
-    (e : Event) × (why : BookError) × IsEventOfWork offers known now w moment e
+abbrev pub RefusesEvent : Offers → Refuses → (old new : AskerState) → (events : ℕ) → Moment → Work
+    → TurnError → Type 0
+RefusesEvent offers refuses old new events moment w error =
+    (e : Event) × (why : BookError) × IsEventOfWork offers refuses old new w moment e
     × refuses.refused events moment e why × (error ≡ turn_error.Book why)
 
--- that is why, or one of its questions was refused before
-abbrev pub RefusesFor : Offers → Refuses → (known now : List LoaderOperation) → (events : ℕ)
-    → Moment → Work → TurnError → Type 0
-RefusesFor offers refuses known now events moment w error =
-    RefusesQuestions refuses w moment error
-    ⊎ RefusesEvent offers refuses known now events moment w error
+-- That is why; or one of its questions was refused before. Then it isn't said which questions were
+-- answered before that one, only that some runs followed one another at the asker's seat.
+abbrev pub RefusesFor : Offers → Refuses → (old new : AskerState) → (events : ℕ) → Moment → Work
+    → TurnError → Type 0
+RefusesFor offers refuses old new events moment w error =
+    (RefusesQuestions refuses w moment error × IsLater old new)
+    ⊎ RefusesEvent offers refuses old new events moment w error
 
 -- after `events` events, a number of changes of the programs was read that isn't `before`
 abbrev pub IsChangedSince : Took → (events : ℕ) → ℕ → Type 0
@@ -369,12 +344,12 @@ IsChangedSince took events before = (now : ℕ) × took.changes_read events now 
 -- The refresh that was due isn't taken: the programs were changed meanwhile, as the number of
 -- changes tells that was read before the event, beside the one after it, as in `IsUnchanged`; or it
 -- was refused, as any refresh is.
-abbrev pub IsUnrefreshed : Offers → Took → Refuses → (known now : List LoaderOperation) → Moment
+abbrev pub IsUnrefreshed : Offers → Took → Refuses → (old new : AskerState) → Moment
     → (events : ℕ) → Type 0
-IsUnrefreshed offers took refuses known now moment events =
+IsUnrefreshed offers took refuses old new moment events =
     ((before : ℕ) × took.changes_read events before × IsChangedSince took (events + 1) before)
     ⊎ ((error : TurnError)
-    × RefusesFor offers refuses known now (events + 1) moment work.Refresh error)
+    × RefusesFor offers refuses old new (events + 1) moment work.Refresh error)
 
 -- the number of changes that was read before the event was read after it too; of a book's own
 -- relations any number may have been read, so that this binds code that is generic over `Taker`
@@ -384,23 +359,31 @@ IsUnchanged took events =
 
 -- ---- a turn
 
--- What comes of a turn at a port that knew the first of these operations before it and knows the
--- others after it: the outs of the work's event, and, if a refresh followed, those of its
--- `Install`. A refresh followed only if the event left the router stale, and the programs weren't
--- changed meanwhile. If none followed a router that was left stale, it was refused, or the programs
--- were changed; of a book that says nothing. The events count in the port's share, which grew from
--- one number to the other: the work's event is among those that count when the refresh is given.
-pub record IsTurned (offers : Offers) (took : Took) (refuses : Refuses)
-    (known now : List LoaderOperation) (moment : Moment) (w : Work) (before after : ℕ)
-    (turned : TurnOutcome)
-    : Type 0 where
+-- No refresh was taken after an event. If the router was left stale, why; which questions of the
+-- refresh were answered is said only if its event was refused. If not, none was asked.
+pub record HasNoRefresh (offers : Offers) (took : Took) (refuses : Refuses) (old new : AskerState)
+    (moment : Moment) (events : ℕ) (stale : Option Bool) : Type 0 where
+  pub later : IsLater old new
+  pub why : stale ≡ Some true → IsUnrefreshed offers took refuses old new moment events
+  pub unasked : stale ≢ Some true → new ≡ old
+
+-- What comes of a turn at a port whose asker and seat are in the first state before it and in the
+-- other after it: the outs of the work's event, and, if a refresh followed, those of its `Install`.
+-- A refresh followed only if the event left the router stale, and the programs weren't changed
+-- meanwhile. If none followed a router that was left stale, it was refused, or the programs were
+-- changed; of a book that says nothing. The events count in the port's share, which grew from one
+-- number to the other: the work's event is among those that count when the refresh is given.
+pub record IsTurned (offers : Offers) (took : Took) (refuses : Refuses) (old new : AskerState)
+    (moment : Moment) (w : Work) (before after : ℕ) (turned : TurnOutcome) : Type 0 where
   pub stale : Option Bool
-  pub outs : TakesFor offers took known now before moment w turned.outs.items stale
+  -- as the questions of the work's event left asker and seat
+  pub between : AskerState
+  pub outs : TakesFor offers took refuses old between before moment w turned.outs.items stale
   -- whether it is stale isn't known only for want of memory
   pub unknown : stale ≡ None → refuses.lacks Lack.Memory
   pub refreshed : MatchOption turned.refreshed
       ((after ≡ before + 1)
-      × (stale ≡ Some true → IsUnrefreshed offers took refuses known now moment before))
+      × HasNoRefresh offers took refuses between new moment before stale)
       (λ outs. (stale ≡ Some true) × IsUnchanged took before × ((left : Option Bool)
-      × TakesFor offers took known now (before + 1) moment work.Refresh outs.items left)
+      × TakesFor offers took refuses between new (before + 1) moment work.Refresh outs.items left)
       × (after ≡ before + 2))

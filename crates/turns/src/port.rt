@@ -51,6 +51,7 @@ impl<L: Site> Port<L> {
         requires { notice_history notice ≡ L.history }
         ensures share { self.new.share ≡ self.old.share }
         ensures number { self.new.number ≡ self.old.number }
+        ensures seat { self.new.seat ≡ self.old.seat }
         ensures saw { IsPrefix (known_to self.old.asker) (known_to self.new.asker) }
         ensures learnt { IsPrefix (told_by notice) (known_to self.new.asker) }
     {

@@ -1,10 +1,10 @@
 //! What a turn asks the programs, and the event that it makes of the answers.
 ghost use Rattle.std.specs.Prelude.{◌≡◌, IfErr, IfOk};
-ghost use mathlib.Core.List.{IsPrefix};
 ghost use Rattle.maps.specs.Words.{IsSeatOf};
-ghost use Rattle.hooks.specs.Known.{asker_history, known_to};
+ghost use Rattle.hooks.specs.Known.{asker_history};
+ghost use Rattle.turns.specs.Askers.{AreVetoes, IsLater, asker_state};
 ghost use Rattle.turns.specs.Turns.{
-  AreVetoes,
+  AreBeside,
   AsksFor,
   CountsIfReadFor,
   IsEventOfWork,
@@ -40,14 +40,15 @@ pub fn make_event<L: Site, B: Taker<L>, R: Wait>(
 ) -> Result<Event, TurnError>
     requires { IsSeatOf L.words seat.old }
     ensures event { IfOk result (λ event.
-        IsEventOfWork B.offers (known_to asker.old) (known_to asker.new) work.now moment event) }
-    ensures counted { CountsIfReadFor B.refuses (known_to asker.old) (known_to asker.new)
-        seat.old seat.new work.now moment }
+        IsEventOfWork B.offers B.refuses (asker_state asker.old seat.old)
+        (asker_state asker.new seat.new) work.now moment event) }
+    ensures counted { CountsIfReadFor B.refuses (asker_state asker.old seat.old)
+        (asker_state asker.new seat.new) work.now moment }
     ensures asked { AsksFor B.took moment work.now }
     ensures err { IfErr result (RefusesQuestions B.refuses work.now moment) }
     ensures seat { IsSeatOf L.words seat.new }
     ensures history { asker_history asker.new ≡ asker_history asker.old }
-    ensures known { IsPrefix (known_to asker.old) (known_to asker.new) }
+    ensures later { IsLater (asker_state asker.old seat.old) (asker_state asker.new seat.new) }
 {
     match work {
         Work::Datagram(interface, bytes) => {
@@ -82,12 +83,12 @@ fn make_redistribute<L: Site, B: Taker<L>, R: Wait>(
 ) -> Result<Event, TurnError>
     requires { IsSeatOf L.words seat.old }
     ensures event { IfOk result (λ event.
-        IsEventOfWork B.offers (known_to asker.old) (known_to asker.new)
-        (Work.Add external.now) moment event) }
+        IsEventOfWork B.offers B.refuses (asker_state asker.old seat.old)
+        (asker_state asker.new seat.new) (Work.Add external.now) moment event) }
     ensures err { IfErr result (RefusesQuestions B.refuses (Work.Add external.now) moment) }
     ensures seat { IsSeatOf L.words seat.new }
     ensures history { asker_history asker.new ≡ asker_history asker.old }
-    ensures known { IsPrefix (known_to asker.old) (known_to asker.new) }
+    ensures later { IsLater (asker_state asker.old seat.old) (asker_state asker.new seat.new) }
 {
     match asker.configured(external, moment) {
         Some((tagged, priced)) => Ok(Event::Redistribute(tagged, priced)),
@@ -107,12 +108,12 @@ fn ask_about_external<L: Site, B: Taker<L>, R: Wait>(
 ) -> Result<Event, TurnError>
     requires { IsSeatOf L.words seat.old }
     ensures event { IfOk result (λ event.
-        IsEventOfWork B.offers (known_to asker.old) (known_to asker.new)
-        (Work.Add external.now) moment event) }
+        IsEventOfWork B.offers B.refuses (asker_state asker.old seat.old)
+        (asker_state asker.new seat.new) (Work.Add external.now) moment event) }
     ensures err { IfErr result (RefusesQuestions B.refuses (Work.Add external.now) moment) }
     ensures seat { IsSeatOf L.words seat.new }
     ensures history { asker_history asker.new ≡ asker_history asker.old }
-    ensures known { IsPrefix (known_to asker.old) (known_to asker.new) }
+    ensures later { IsLater (asker_state asker.old seat.old) (asker_state asker.new seat.new) }
 {
     let offered = hub.offered(rt)?;
     let (tagged, priced) = ask_tag_and_price::<L, B>(
@@ -136,16 +137,13 @@ fn ask_tag_and_price<L: Site, B: Taker<L>>(
     offered: &Offered,
 ) -> Result<(TagAnswer, PriceAnswer), TurnError>
     requires { IsSeatOf shared.now seat.old }
-    ensures tag { IfOk result (λ r.
-        IsTagOn (known_to asker.old) (known_to asker.new) external.now moment
-        offered.now.rows.items r.0) }
-    ensures price { IfOk result (λ r.
-        IsPriceOn (known_to asker.old) (known_to asker.new) external.now moment
-        offered.now.rows.items r.1) }
+    ensures both { IfOk result (λ r.
+        AreBeside (asker_state asker.old seat.old) (asker_state asker.new seat.new)
+        external.now moment offered.now.rows.items r.0 r.1) }
     ensures err { IfErr result (RefusesQuestions B.refuses (Work.Add external.now) moment) }
     ensures seat { IsSeatOf shared.now seat.new }
     ensures history { asker_history asker.new ≡ asker_history asker.old }
-    ensures known { IsPrefix (known_to asker.old) (known_to asker.new) }
+    ensures later { IsLater (asker_state asker.old seat.old) (asker_state asker.new seat.new) }
 {
     let rows = offered.rows.as_slice();
     let tagged = tag::<L, B>(asker, external, moment, rows, shared, seat)?;
@@ -165,11 +163,12 @@ fn tag<L: Site, B: Taker<L>>(
 ) -> Result<TagAnswer, TurnError>
     requires { IsSeatOf shared.now seat.old }
     ensures answer { IfOk result (λ a.
-        IsTagOn (known_to asker.old) (known_to asker.new) external.now moment rows.now a) }
+        IsTagOn (asker_state asker.old seat.old) (asker_state asker.new seat.new)
+        external.now moment rows.now a) }
     ensures err { IfErr result (RefusesQuestions B.refuses (Work.Add external.now) moment) }
     ensures seat { IsSeatOf shared.now seat.new }
     ensures history { asker_history asker.new ≡ asker_history asker.old }
-    ensures known { IsPrefix (known_to asker.old) (known_to asker.new) }
+    ensures later { IsLater (asker_state asker.old seat.old) (asker_state asker.new seat.new) }
 {
     match B::tag(asker, external, moment, rows, shared, seat) {
         Some(answer) => Ok(answer),
@@ -187,11 +186,12 @@ fn price<L: Site, B: Taker<L>>(
 ) -> Result<PriceAnswer, TurnError>
     requires { IsSeatOf shared.now seat.old }
     ensures answer { IfOk result (λ a.
-        IsPriceOn (known_to asker.old) (known_to asker.new) external.now moment rows.now a) }
+        IsPriceOn (asker_state asker.old seat.old) (asker_state asker.new seat.new)
+        external.now moment rows.now a) }
     ensures err { IfErr result (RefusesQuestions B.refuses (Work.Add external.now) moment) }
     ensures seat { IsSeatOf shared.now seat.new }
     ensures history { asker_history asker.new ≡ asker_history asker.old }
-    ensures known { IsPrefix (known_to asker.old) (known_to asker.new) }
+    ensures later { IsLater (asker_state asker.old seat.old) (asker_state asker.new seat.new) }
 {
     match B::price(asker, external, moment, rows, shared, seat) {
         Some(answer) => Ok(answer),
@@ -214,11 +214,12 @@ pub fn make_install<L: Site, B: Taker<L>, R: Wait>(
 ) -> Result<Event, TurnError>
     requires { IsSeatOf L.words seat.old }
     ensures event { IfOk result (λ event.
-        IsInstall B.offers (known_to asker.old) (known_to asker.new) moment event) }
+        IsInstall B.offers (asker_state asker.old seat.old) (asker_state asker.new seat.new)
+        moment event) }
     ensures err { IfErr result (RefusesQuestions B.refuses Work.Refresh moment) }
     ensures seat { IsSeatOf L.words seat.new }
     ensures history { asker_history asker.new ≡ asker_history asker.old }
-    ensures known { IsPrefix (known_to asker.old) (known_to asker.new) }
+    ensures later { IsLater (asker_state asker.old seat.old) (asker_state asker.new seat.new) }
 {
     match asker.is_veto_vacant() {
         Some(false) => ask_about_candidates(rt, hub, asker, seat, moment),
@@ -237,11 +238,12 @@ fn install_if_vacant<L: Site, B: Taker<L>, R: Wait>(
 ) -> Result<Event, TurnError>
     requires { IsSeatOf L.words seat.old }
     ensures event { IfOk result (λ event.
-        IsInstall B.offers (known_to asker.old) (known_to asker.new) moment event) }
+        IsInstall B.offers (asker_state asker.old seat.old) (asker_state asker.new seat.new)
+        moment event) }
     ensures err { IfErr result (RefusesQuestions B.refuses Work.Refresh moment) }
     ensures seat { IsSeatOf L.words seat.new }
     ensures history { asker_history asker.new ≡ asker_history asker.old }
-    ensures known { IsPrefix (known_to asker.old) (known_to asker.new) }
+    ensures later { IsLater (asker_state asker.old seat.old) (asker_state asker.new seat.new) }
 {
     let candidates = hub.candidates(rt)?;
     match B::all_let_in(asker, candidates, moment) {
@@ -261,11 +263,12 @@ fn ask_about_candidates<L: Site, B: Taker<L>, R: Wait>(
 ) -> Result<Event, TurnError>
     requires { IsSeatOf L.words seat.old }
     ensures event { IfOk result (λ event.
-        IsInstall B.offers (known_to asker.old) (known_to asker.new) moment event) }
+        IsInstall B.offers (asker_state asker.old seat.old) (asker_state asker.new seat.new)
+        moment event) }
     ensures err { IfErr result (RefusesQuestions B.refuses Work.Refresh moment) }
     ensures seat { IsSeatOf L.words seat.new }
     ensures history { asker_history asker.new ≡ asker_history asker.old }
-    ensures known { IsPrefix (known_to asker.old) (known_to asker.new) }
+    ensures later { IsLater (asker_state asker.old seat.old) (asker_state asker.new seat.new) }
 {
     let offered = hub.offered(rt)?;
     let answers = ask_vetoes::<L, B>(&hub.shared, asker, seat, moment, &offered)?;
@@ -281,12 +284,13 @@ fn ask_vetoes<L: Site, B: Taker<L>>(
     offered: &Offered,
 ) -> Result<Vec<VetoAnswer>, TurnError>
     requires { IsSeatOf shared.now seat.old }
-    ensures answers { IfOk result (λ answers. AreVetoes (known_to asker.old) (known_to asker.new)
-        moment offered.now.rows.items offered.now.candidates.items answers.items) }
+    ensures answers { IfOk result (λ answers. AreVetoes (asker_state asker.old seat.old)
+        (asker_state asker.new seat.new) moment offered.now.rows.items
+        offered.now.candidates.items answers.items) }
     ensures err { IfErr result (RefusesQuestions B.refuses Work.Refresh moment) }
     ensures seat { IsSeatOf shared.now seat.new }
     ensures history { asker_history asker.new ≡ asker_history asker.old }
-    ensures known { IsPrefix (known_to asker.old) (known_to asker.new) }
+    ensures later { IsLater (asker_state asker.old seat.old) (asker_state asker.new seat.new) }
 {
     let alloc = *offered.candidates.allocator();
     let routes = offered.candidates.as_slice();

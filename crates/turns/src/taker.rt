@@ -20,6 +20,7 @@ ghost use Rattle.flood.specs.declared.event.Event.{Event};
 ghost use Rattle.flood.specs.Occurrences.{occurrence_of};
 ghost use Rattle.flood.specs.Offers.{AreCandidatesNow, IsOffered, IsStaleNow};
 ghost use Rattle.flood.specs.NeighborState.{NeighborState};
+ghost use Rattle.turns.specs.Askers.{IsLater, asker_state};
 ghost use Rattle.turns.specs.Turns.{
   IsAsked,
   IsInstalling,
@@ -217,7 +218,8 @@ pub trait Taker<L: Origin> {
     ) -> Result<Option<Vec<VetoAnswer>>, AllocError>
         requires { IsSeatOf shared.now seat.old }
         ensures history { asker_history asker.new ≡ asker_history asker.old }
-        ensures known { IsPrefix (known_to asker.old) (known_to asker.new) }
+        ensures later { IsLater (asker_state asker.old seat.old)
+            (asker_state asker.new seat.new) }
         ensures lacking { IfOk result (λ o. IfNone o ((route : RouteValue)
             × Contains routes.now route
             × IsLacking refuses (Lack.Reading (veto_input route moment rows.now)))) }

@@ -1,8 +1,7 @@
 //! A turn of a worker.
-ghost use Rattle.std.specs.Prelude.{◌≡◌, ◌+◌, ◌⊎◌, Bool, Err, IfErr, IfNone, IfOk};
+ghost use Rattle.std.specs.Prelude.{◌≡◌, ◌≢◌, ◌+◌, ◌⊎◌, Bool, Err, IfErr, IfNone, IfOk};
 ghost use Rattle.std.specs.Prelude.{IfSome, OnErr, OnOk, Option, Some, false, true};
-ghost use mathlib.Core.List.{IsPrefix};
-ghost use Rattle.hooks.specs.Known.{known_to};
+ghost use Rattle.turns.specs.Askers.{IsLater, asker_state};
 ghost use Rattle.turns.specs.Turns.{
   AsksFor,
   HasCountedFor,
@@ -60,26 +59,30 @@ pub fn turn<L: Site, B: Taker<L>, G: Gate, R: Wait>(
     work: &Work,
 ) -> Result<TurnOutcome, TurnError>
     ensures turned { IfOk result (λ r. IsTurned B.offers B.took B.refuses
-        (known_to port.old.asker) (known_to port.new.asker)
+        (asker_state port.old.asker port.old.seat)
+        (asker_state port.new.asker port.new.seat)
         moment work.now port.old.share.amount port.new.share.amount r) }
     ensures refused { IfErr result (λ error. RefusesFor B.offers B.refuses
-        (known_to port.old.asker) (known_to port.new.asker)
+        (asker_state port.old.asker port.old.seat)
+        (asker_state port.new.asker port.new.seat)
         port.old.share.amount moment work.now error) }
-    ensures counted { HasCountedFor B.refuses (known_to port.old.asker)
-        (known_to port.new.asker) port.old.seat work.now moment }
+    ensures counted { HasCountedFor B.refuses (asker_state port.old.asker port.old.seat)
+        (asker_state port.new.asker port.new.seat) work.now moment }
     ensures asked { AsksFor B.took moment work.now }
     ensures passed { OnOk result (G.passes gate.old port.old.number gate.new) }
     ensures held { IfErr result (λ error.
         ((gate.new ≡ gate.old) × RefusesQuestions B.refuses work.now moment error)
         ⊎ (G.passes gate.old port.old.number gate.new
-        × RefusesEvent B.offers B.refuses (known_to port.old.asker) (known_to port.new.asker)
+        × RefusesEvent B.offers B.refuses (asker_state port.old.asker port.old.seat)
+        (asker_state port.new.asker port.new.seat)
         port.old.share.amount moment work.now error)) }
     ensures err { OnErr result (port.new.share.amount ≡ port.old.share.amount) }
     ensures clock { work.now ≡ Work.Refresh
         → result ≡ Err (TurnError.Book (BookError.Core CoreError.ClockBack))
         → IsAtTheEndOfTheClock B.began B.moment_of moment }
     ensures number { port.new.number ≡ port.old.number }
-    ensures known { IsPrefix (known_to port.old.asker) (known_to port.new.asker) }
+    ensures later { IsLater (asker_state port.old.asker port.old.seat)
+        (asker_state port.new.asker port.new.seat) }
 {
     let changes = B::changes(&hub.changes, &port.share);
     let event = make_event(rt, hub, &mut port.asker, &mut port.seat, moment, work)?;
@@ -116,16 +119,21 @@ fn follow<L: Site, B: Taker<L>, R: Wait>(
     ensures none { IfNone result ((port.new.share.amount ≡ port.old.share.amount)
         × (stale ≡ Some true → IsChangedSince B.took port.old.share.amount changes
         ⊎ ((error : TurnError) × RefusesFor B.offers B.refuses
-        (known_to port.old.asker) (known_to port.new.asker)
+        (asker_state port.old.asker port.old.seat)
+        (asker_state port.new.asker port.new.seat)
         port.old.share.amount moment Work.Refresh error))) }
     ensures some { IfSome result (λ outs. (stale ≡ Some true) × ((left : Option Bool)
-        × TakesFor B.offers B.took (known_to port.old.asker) (known_to port.new.asker)
+        × TakesFor B.offers B.took B.refuses (asker_state port.old.asker port.old.seat)
+        (asker_state port.new.asker port.new.seat)
         port.old.share.amount moment Work.Refresh outs.items left)
         × (port.new.share.amount ≡ port.old.share.amount + 1)) }
+    ensures unasked { IfNone result (stale ≢ Some true
+        → asker_state port.new.asker port.new.seat ≡ asker_state port.old.asker port.old.seat) }
     ensures unchanged { IfSome result (λ _.
         IsNumberOfChanges B.took port.old.share.amount changes) }
     ensures number { port.new.number ≡ port.old.number }
-    ensures known { IsPrefix (known_to port.old.asker) (known_to port.new.asker) }
+    ensures later { IsLater (asker_state port.old.asker port.old.seat)
+        (asker_state port.new.asker port.new.seat) }
 {
     if !is_stale(stale) {
         return None;
@@ -144,18 +152,21 @@ fn refresh<L: Site, B: Taker<L>, R: Wait>(
     moment: Second,
     changes: u64,
 ) -> Result<Vec<Out>, TurnError>
-    ensures outs { IfOk result (λ outs. (left : Option Bool) × TakesFor B.offers B.took
-        (known_to port.old.asker) (known_to port.new.asker)
+    ensures outs { IfOk result (λ outs. (left : Option Bool)
+        × TakesFor B.offers B.took B.refuses (asker_state port.old.asker port.old.seat)
+        (asker_state port.new.asker port.new.seat)
         port.old.share.amount moment Work.Refresh outs.items left) }
     ensures refused { IfErr result (λ error.
         ((error ≡ TurnError.Away) × IsChangedSince B.took port.old.share.amount changes)
-        ⊎ RefusesFor B.offers B.refuses (known_to port.old.asker) (known_to port.new.asker)
+        ⊎ RefusesFor B.offers B.refuses (asker_state port.old.asker port.old.seat)
+        (asker_state port.new.asker port.new.seat)
         port.old.share.amount moment Work.Refresh error) }
     ensures unchanged { OnOk result (IsNumberOfChanges B.took port.old.share.amount changes) }
     ensures share { OnOk result (port.new.share.amount ≡ port.old.share.amount + 1) }
     ensures err { OnErr result (port.new.share.amount ≡ port.old.share.amount) }
     ensures number { port.new.number ≡ port.old.number }
-    ensures known { IsPrefix (known_to port.old.asker) (known_to port.new.asker) }
+    ensures later { IsLater (asker_state port.old.asker port.old.seat)
+        (asker_state port.new.asker port.new.seat) }
 {
     let event = make_install(rt, hub, &mut port.asker, &mut port.seat, moment)?;
     let share = &mut port.share;

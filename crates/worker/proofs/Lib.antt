@@ -1,3 +1,5 @@
+-- what a port's asker comes to, for those above
+pub use Rattle.turns.proofs.Askers
 mod FreshSeats
 mod SeatsOf
 mod Sending

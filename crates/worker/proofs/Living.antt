@@ -1,10 +1,10 @@
 -- The steps of a worker's life, put together.
 use Rattle.std.proofs.Common.{◌≡◌, ◌≢◌, inl, inr, ℕ, suc, ◌+◌, ◌≤◌, List, [], ◌∷◌}
 use Rattle.std.proofs.Common.{true, false}
-use Rattle.std.proofs.Common.{length, Option, Some, Result, Ok, Err, IfErr, IfOk, OnOk, refl, subst}
+use Rattle.std.proofs.Common.{length, Option, Some, Result, Ok, Err, OnOk, refl, subst}
 use Rattle.std.proofs.Common.{◌∙◌, arith}
 use Rattle.std.specs.Prelude.{MatchResult, OnErr}
-use mathlib.Core.List.{IsPrefix}
+use Rattle.turns.specs.Askers.{AskerState, IsLater}
 use Rattle.turns.specs.Turns.{Offers, Refuses, Took}
 use Rattle.turns.specs.declared.turned.TurnOutcome.{TurnOutcome}
 use Rattle.turns.specs.declared.turned.TurnError.{TurnError}
@@ -18,70 +18,60 @@ use Rattle.worker.specs.Lives.{ShowsEach, Standing, Ticks, latest, senses_of}
 
 -- a turn was tried so often again, until now
 pub record IsTriedSo {Clock : Type 0} (shows : Shows Clock)
-    (refused : (moment : ℕ) → TurnError → Type 0) (before : Clock) (first : ℕ)
-    (now : Clock) (last tries : ℕ) : Type 0 where
+    (refused : (old new : AskerState) → (moment : ℕ) → TurnError → Type 0) (before : Clock)
+    (start : AskerState) (first : ℕ) (now : Clock) (end : AskerState) (last tries : ℕ)
+    : Type 0 where
   pub again : List ℕ
   pub many : length again ≡ tries
   pub shown : ShowsEach shows before again now
-  pub ahead : AreAhead refused first again
+  pub ahead : AreAhead refused start first again end
   pub at_last : last ≡ latest first again
 
-module _ {Clock : Type 0} (shows : Shows Clock) (refused : (moment : ℕ) → TurnError → Type 0) where
-  pub not_again : (clock : Clock) (moment : ℕ) → IsTriedSo shows refused clock moment clock moment 0
-  not_again clock moment = record {
+module _ {Clock : Type 0} (shows : Shows Clock)
+    (refused : (old new : AskerState) → (moment : ℕ) → TurnError → Type 0) where
+  pub not_again : (clock : Clock) (asker : AskerState) (moment : ℕ)
+      → IsTriedSo shows refused clock asker moment clock asker moment 0
+  not_again clock asker moment = record {
     again = [];
     many = refl;
     shown = refl;
-    ahead = tt;
+    ahead = refl;
     at_last = refl;
   }
 
-  pub once_more : (before : Clock) (first : ℕ) (now : Clock) (last tries : ℕ) (next : Clock)
-      (moment : ℕ) → IsTriedSo shows refused before first now last tries → refused last clock_back
-      → shows now moment next → IsTriedSo shows refused before first next moment (tries + 1)
-  once_more before first now last tries next moment so back shown = record {
+  pub once_more : (before : Clock) (start : AskerState) (first : ℕ) (now : Clock)
+      (between : AskerState) (last tries : ℕ) (next : Clock) (end : AskerState) (moment : ℕ)
+      → IsTriedSo shows refused before start first now between last tries
+      → refused between end last clock_back → shows now moment next
+      → IsTriedSo shows refused before start first next end moment (tries + 1)
+  once_more before start first now between last tries next end moment so back shown = record {
     again = moment ∷ so.again;
     many = omega (arith, so.many);
     shown = (now, so.shown, shown);
-    ahead = (subst (λ m. refused m clock_back) so.at_last back, so.ahead);
+    ahead =
+        (between, so.ahead, subst (λ m. refused between end m clock_back) so.at_last back);
     at_last = refl;
   }
 
-  pub at_last : (before : Clock) (first : ℕ) (after : Clock) (last tries : ℕ)
-      (outcome : Result TurnOutcome TurnError)
-      → IsTriedSo shows refused before first after last tries → tries ≤ 3
-      → (outcome ≡ Err clock_back → tries ≡ 3)
-      → IsTried shows refused before first after last outcome
-  at_last before first after last tries outcome so few thrice = record {
-    again = so.again;
-    few = omega (arith, so.many, few);
-    shown = so.shown;
-    ahead = so.ahead;
-    at_last = so.at_last;
-    thrice = λ back. so.many ∙ thrice back;
-  }
-
--- what was refused so was refused as that says too
-pub ahead_so : {refused other : (moment : ℕ) → TurnError → Type 0} (first : ℕ) (again : List ℕ)
-    → ((moment : ℕ) (error : TurnError) → refused moment error → other moment error)
-    → AreAhead refused first again → AreAhead other first again
-ahead_so first [] so h = tt
-ahead_so first (moment ∷ again) so h =
-    (so (latest first again) clock_back h.0, ahead_so first again so h.1)
-
-pub tried_so : {Clock : Type 0} (shows : Shows Clock)
-    (refused other : (moment : ℕ) → TurnError → Type 0) (before : Clock) (first : ℕ) (now : Clock)
-    (last tries : ℕ)
-    → ((moment : ℕ) (error : TurnError) → refused moment error → other moment error)
-    → IsTriedSo shows refused before first now last tries
-    → IsTriedSo shows other before first now last tries
-tried_so shows refused other before first now last tries so h = record {
-  again = h.again;
-  many = h.many;
-  shown = h.shown;
-  ahead = ahead_so first h.again so h.ahead;
-  at_last = h.at_last;
-}
+  pub at_last : (turned : (old new : AskerState) → (moment : ℕ) → TurnOutcome → Type 0)
+      (before : Clock) (start : AskerState) (first : ℕ) (after : Clock) (begun end : AskerState)
+      (last tries : ℕ) (outcome : Result TurnOutcome TurnError)
+      → IsTriedSo shows refused before start first after begun last tries → tries ≤ 3
+      → (outcome ≡ Err clock_back → tries ≡ 3) → IsLater start begun
+      → MatchResult outcome (turned begun end last) (refused begun end last)
+      → IsTried shows turned refused before start first after end last outcome
+  at_last turned before start first after begun end last tries outcome so few thrice later tried =
+      record {
+        again = so.again;
+        few = omega (arith, so.many, few);
+        shown = so.shown;
+        begun = begun;
+        ahead = so.ahead;
+        later = later;
+        at_last = so.at_last;
+        thrice = λ back. so.many ∙ thrice back;
+        tried = tried;
+      }
 
 -- ---- a turn
 
@@ -89,36 +79,36 @@ pub on_ok : {T E P Q : Type 0} (r : Result T E) → (P → Q) → OnOk r P → O
 on_ok (Ok x) f h = f h
 on_ok (Err e) f h = h
 
+given : {Transport : Type 0} (gives : Gives Transport) (before after : Transport)
+    (had counts : ℕ) (outcome : Result TurnOutcome TurnError)
+    → OnErr outcome (counts ≡ had)
+    → MatchResult outcome (λ turned. IsSent gives before turned after) (λ _. after ≡ before)
+    → MatchResult outcome (λ turned. IsSent gives before turned after)
+    (λ _. (after ≡ before) × (counts ≡ had))
+given gives before after had counts (Ok turned) events sent = sent
+given gives before after had counts (Err error) events sent = (sent, events)
+
 -- a turn that was tried, and whose outs were sent, if it was taken
 pub serves : {Transport Clock : Type 0} (senses : Senses Transport Clock) (moment : ℕ) (work : Work)
     (before : Standing Transport Clock) (ended : ℕ) (after : Standing Transport Clock)
-    (outcome : Result TurnOutcome TurnError) → IsPrefix before.known after.known
-    → IsTried senses.shows (λ m. senses.refusals before.known after.known before.events m work)
-    before.clock moment after.clock ended outcome → senses.asks ended work
-    → IfOk outcome (λ turned. senses.turns before.known after.known ended work before.events
-    after.events turned)
-    → IfErr outcome (λ error. senses.refusals before.known after.known before.events ended work
-    error)
+    (outcome : Result TurnOutcome TurnError) → IsLater before.asker after.asker
+    → IsTried senses.shows
+    (λ old new m turned. senses.turns old new m work before.events after.events turned)
+    (λ old new m error. senses.refusals old new before.events m work error)
+    before.clock before.asker moment after.clock after.asker ended outcome
+    → senses.asks ended work
     → OnErr outcome (after.events ≡ before.events)
     → MatchResult outcome (λ turned. IsSent senses.gives before.transport turned after.transport)
     (λ _. after.transport ≡ before.transport)
     → Serves senses moment work before ended after
-serves senses moment work before ended after (Ok turned) learnt tried asked turns why events sent =
-    record {
-      outcome = Ok turned;
-      learnt = learnt;
-      tried = tried;
-      asked = asked;
-      given = (turns, sent);
-    }
-serves senses moment work before ended after (Err error) learnt tried asked turns why events sent =
-    record {
-      outcome = Err error;
-      learnt = learnt;
-      tried = tried;
-      asked = asked;
-      given = (why, sent, events);
-    }
+serves senses moment work before ended after outcome later tried asked events sent = record {
+  outcome = outcome;
+  later = later;
+  tried = tried;
+  asked = asked;
+  given = given senses.gives before.transport after.transport before.events after.events outcome
+      events sent;
+}
 
 -- ---- a round
 

@@ -1,6 +1,7 @@
 -- what a router offers, and what a turn is, for those above
 pub use Rattle.turns.specs.Offers
 pub use Rattle.turns.specs.Replay
+pub use Rattle.turns.specs.Askers
 pub use Rattle.turns.specs.Turns
 pub use Rattle.turns.specs.Numbers
 pub use Rattle.turns.specs.declared.turned.TurnOutcome

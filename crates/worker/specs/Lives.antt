@@ -3,8 +3,7 @@
 use Rattle.std.specs.Prelude.{◌≡◌, ◌≢◌, ◌⊎◌, ℕ, zero, suc, ◌≤◌, List, [], ◌∷◌, ◌++◌, length}
 use Rattle.std.specs.Prelude.{Bool, true, false, Option, Some, None, MatchOption}
 use Rattle.std.specs.Prelude.{Result, Err, MatchResult}
-use mathlib.Core.List.{IsPrefix}
-use Rattle.hooks.specs.declared.operation.LoaderOperation.{LoaderOperation}
+use Rattle.turns.specs.Askers.{AskerState, IsLater}
 use Rattle.turns.specs.Turns.{AsksFor, IsTurned, Offers, Refuses, RefusesFor, Took}
 use Rattle.turns.specs.declared.turned.TurnOutcome.{TurnOutcome}
 use Rattle.turns.specs.declared.turned.TurnError.{TurnError}
@@ -27,17 +26,15 @@ Shows Clock = (before : Clock) → (moment : ℕ) → (after : Clock) → Type 0
 abbrev pub Hears : (Transport : Type 0) → Type 1
 Hears Transport = (before : Transport) → (heard : Option (List ℕ)) → (after : Transport) → Type 0
 
--- a turn at a moment, for a work, which operations its port knew before it and knows after it, and
--- how many events that had given before and after
+-- a turn at a moment, for a work, its port's asker and seat before it and after it, and how many
+-- events the port had given before and after
 abbrev pub Turns : Type 1
-Turns = (known now : List LoaderOperation) → (moment : ℕ) → Work → (before after : ℕ) → TurnOutcome
-    → Type 0
+Turns = (old new : AskerState) → (moment : ℕ) → Work → (before after : ℕ) → TurnOutcome → Type 0
 
--- a turn at a moment, for a work, that was refused, what its port knew and knows, how many events
--- that had given before it, and why
+-- a turn at a moment, for a work, that was refused, its port's asker and seat before it and after
+-- it, how many events the port had given before it, and why
 abbrev pub Refusals : Type 1
-Refusals = (known now : List LoaderOperation) → (events : ℕ) → (moment : ℕ) → Work → TurnError
-    → Type 0
+Refusals = (old new : AskerState) → (events : ℕ) → (moment : ℕ) → Work → TurnError → Type 0
 
 -- a turn at a moment, for a work, whose datagram the programs at `count` were asked about, if it is
 -- one
@@ -55,20 +52,20 @@ pub record Senses (Transport Clock : Type 0) : Type 1 where
   pub asks : Asks
   pub number : ℕ
 
--- its transport, its clock, which operations its port knows, and how many events that has given to
+-- its transport, its clock, its port's asker and seat, and how many events the port has given to
 -- the router
 pub record Standing (Transport Clock : Type 0) : Type 0 where
   pub transport : Transport
   pub clock : Clock
-  pub known : List LoaderOperation
+  pub asker : AskerState
   pub events : ℕ
 
-abbrev pub standing : {Transport Clock : Type 0} → Transport → Clock
-    → (known : List LoaderOperation) → (events : ℕ) → Standing Transport Clock
-standing transport clock known events = record {
+abbrev pub standing : {Transport Clock : Type 0} → Transport → Clock → AskerState → (events : ℕ)
+    → Standing Transport Clock
+standing transport clock asker events = record {
   transport = transport;
   clock = clock;
-  known = known;
+  asker = asker;
   events = events;
 }
 
@@ -106,47 +103,52 @@ abbrev pub latest : (first : ℕ) → List ℕ → ℕ
 latest first [] = first
 latest first (moment ∷ moments) = moment
 
--- the turn was refused with `ClockBack` at each moment but the last: the router's clock was ahead
--- of
--- it, or the moment out of range
-abbrev pub AreAhead : (refused : (moment : ℕ) → TurnError → Type 0) → (first : ℕ) → List ℕ → Type 0
-AreAhead refused first [] = Unit {0}
-AreAhead refused first (moment ∷ moments) =
-    refused (latest first moments) clock_back × AreAhead refused first moments
+-- the turn was refused with `ClockBack` at each moment but the last, one try after the other: the
+-- router's clock was ahead of it, or the moment out of range
+abbrev pub AreAhead : (refused : (old new : AskerState) → (moment : ℕ) → TurnError → Type 0)
+    → (start : AskerState) → (first : ℕ) → List ℕ → (end : AskerState) → Type 0
+AreAhead refused start first [] end = end ≡ start
+AreAhead refused start first (moment ∷ moments) end =
+    (between : AskerState) × AreAhead refused start first moments between
+    × refused between end (latest first moments) clock_back
 
 -- A turn was tried at the first moment, and then at most three times again, each time at a moment
 -- that the clock showed then, since the one before was refused by a router whose clock is ahead; if
--- it is refused so at last, it was tried three times again.
+-- it is refused so at last, it was tried three times again. The asker went from the first state to
+-- the last one by these tries.
 pub record IsTried {Clock : Type 0} (shows : Shows Clock)
-    (refused : (moment : ℕ) → TurnError → Type 0) (before : Clock) (first : ℕ)
-    (after : Clock) (last : ℕ) (outcome : Result TurnOutcome TurnError) : Type 0 where
+    (turned : (old new : AskerState) → (moment : ℕ) → TurnOutcome → Type 0)
+    (refused : (old new : AskerState) → (moment : ℕ) → TurnError → Type 0)
+    (before : Clock) (start : AskerState) (first : ℕ)
+    (after : Clock) (end : AskerState) (last : ℕ) (outcome : Result TurnOutcome TurnError)
+    : Type 0 where
   pub again : List ℕ
   pub few : length again ≤ 3
   pub shown : ShowsEach shows before again after
-  pub ahead : AreAhead refused first again
+  -- as the last try found the asker
+  pub begun : AskerState
+  pub ahead : AreAhead refused start first again begun
+  pub later : IsLater start begun
   pub at_last : last ≡ latest first again
   pub thrice : outcome ≡ Err clock_back → length again ≡ 3
+  pub tried : MatchResult outcome (turned begun end last) (refused begun end last)
 
 -- A turn that asked what it has to ask, and the transport was given what it sends; if it is
--- refused, nothing is sent, and the router has no event more. Its answers are by operations that
--- begin with all that the port knew before, and begin all that it knows then, which begins with the
--- former.
+-- refused, nothing is sent, and the router has no event more.
 pub record Serves {Transport Clock : Type 0} (senses : Senses Transport Clock) (moment : ℕ)
     (work : Work)
     (before : Standing Transport Clock) (ended : ℕ) (after : Standing Transport Clock) : Type 0
   where
     pub outcome : Result TurnOutcome TurnError
-    pub learnt : IsPrefix before.known after.known
+    pub later : IsLater before.asker after.asker
     pub tried : IsTried senses.shows
-        (λ m. senses.refusals before.known after.known before.events m work)
-        before.clock moment after.clock ended outcome
+        (λ old new m turned. senses.turns old new m work before.events after.events turned)
+        (λ old new m error. senses.refusals old new before.events m work error)
+        before.clock before.asker moment after.clock after.asker ended outcome
     pub asked : senses.asks ended work
     pub given : MatchResult outcome
-        (λ turned. senses.turns before.known after.known ended work before.events after.events
-        turned
-        × IsSent senses.gives before.transport turned after.transport)
-        (λ error. senses.refusals before.known after.known before.events ended work error
-        × (after.transport ≡ before.transport) × (after.events ≡ before.events))
+        (λ turned. IsSent senses.gives before.transport turned after.transport)
+        (λ _. (after.transport ≡ before.transport) × (after.events ≡ before.events))
 
 -- ---- a round
 

@@ -1,8 +1,7 @@
 //! The loop of a worker.
-ghost use Rattle.std.specs.Prelude.{◌≡◌, ◌≢◌, ◌<◌, ◌++◌, ◌↔◌, Err, IfErr, IfOk, MatchOption};
+ghost use Rattle.std.specs.Prelude.{◌≡◌, ◌≢◌, ◌<◌, ◌++◌, ◌↔◌, Err, MatchOption};
 ghost use Rattle.std.specs.Prelude.{MatchResult, OnOk, OnErr, Some, false, true};
-ghost use mathlib.Core.List.{IsPrefix};
-ghost use Rattle.hooks.specs.Known.{known_to};
+ghost use Rattle.turns.specs.Askers.{IsLater, asker_state};
 ghost use Rattle.turns.specs.Turns.{AsksFor, IsTurned, RefusesFor};
 ghost use Rattle.worker.specs.Refusals.{clock_back};
 ghost use Rattle.worker.specs.Sending.{IsGivenEach};
@@ -35,7 +34,7 @@ pub enum Ended {
 ///
 /// A refused turn sends nothing. After a fault in the midst of a turn's outs the event stands, and
 /// the later outs aren't sent.
-#[tactic(auto, using(crate::proofs::Living::found_set, crate::proofs::Living::has_lived, crate::proofs::Tries::known_first))]
+#[tactic(auto, using(crate::proofs::Living::found_set, crate::proofs::Living::has_lived))]
 pub fn run<L: Site, B: Taker<L>, G: Gate, K: Transport, S: Seconds, F: Flag, R: Wait>(
     rt: &R,
     alloc: Global,
@@ -51,15 +50,19 @@ pub fn run<L: Site, B: Taker<L>, G: Gate, K: Transport, S: Seconds, F: Flag, R: 
     ensures lived { result ≡ Quit → HasLived
         (senses_of K.gives K.hears S.shows B.offers B.took B.refuses port.old.number)
         F.reads quit.old
-        (standing transport.old clock.old (known_to port.old.asker) port.old.share.amount) quit.new
-        (standing transport.new clock.new (known_to port.new.asker) port.new.share.amount) }
+        (standing transport.old clock.old (asker_state port.old.asker port.old.seat)
+        port.old.share.amount) quit.new
+        (standing transport.new clock.new (asker_state port.new.asker port.new.seat)
+        port.new.share.amount) }
     ensures lived_on { result ≡ Fault → HasLivedOn
         (senses_of K.gives K.hears S.shows B.offers B.took B.refuses port.old.number)
         F.reads quit.old
-        (standing transport.old clock.old (known_to port.old.asker) port.old.share.amount)
+        (standing transport.old clock.old (asker_state port.old.asker port.old.seat)
+        port.old.share.amount)
         quit.new }
     ensures number { port.new.number ≡ port.old.number }
-    ensures known { IsPrefix (known_to port.old.asker) (known_to port.new.asker) }
+    ensures later { IsLater (asker_state port.old.asker port.old.seat)
+        (asker_state port.new.asker port.new.seat) }
 {
     // the moment of the last Tick
     let mut ticked = None;
@@ -86,7 +89,6 @@ pub fn run<L: Site, B: Taker<L>, G: Gate, K: Transport, S: Seconds, F: Flag, R: 
 }
 
 // A round: first the time, and then the transport. `ticked` is the moment of the last Tick.
-#[tactic(auto, using(crate::proofs::Tries::known_still))]
 fn round<L: Site, B: Taker<L>, G: Gate, K: Transport, S: Seconds, R: Wait>(
     rt: &R,
     alloc: Global,
@@ -101,11 +103,14 @@ fn round<L: Site, B: Taker<L>, G: Gate, K: Transport, S: Seconds, R: Wait>(
     ensures round { OnOk result (Round
         (senses_of K.gives K.hears S.shows B.offers B.took B.refuses port.old.number)
         ticked.old
-        (standing transport.old clock.old (known_to port.old.asker) port.old.share.amount)
+        (standing transport.old clock.old (asker_state port.old.asker port.old.seat)
+        port.old.share.amount)
         ticked.new
-        (standing transport.new clock.new (known_to port.new.asker) port.new.share.amount)) }
+        (standing transport.new clock.new (asker_state port.new.asker port.new.seat)
+        port.new.share.amount)) }
     ensures number { port.new.number ≡ port.old.number }
-    ensures known { IsPrefix (known_to port.old.asker) (known_to port.new.asker) }
+    ensures later { IsLater (asker_state port.old.asker port.old.seat)
+        (asker_state port.new.asker port.new.seat) }
     ensures fine { OnOk result (K.faults transport.new ≡ K.faults transport.old) }
     ensures fault { OnErr result (K.faults transport.old < K.faults transport.new) }
 {
@@ -123,7 +128,7 @@ fn has_ticked(ticked: Option<Second>, now: Second) -> bool
 
 // A Tick's turn, if the second has changed since this worker's last one, and what it sends. Each
 // worker takes such turns: of those in one second the first does what is due.
-#[tactic(auto, using(crate::proofs::Living::ticked_then, crate::proofs::Tries::known_first))]
+#[tactic(auto, using(crate::proofs::Living::ticked_then, crate::proofs::Tries::later_self))]
 fn tick<L: Site, B: Taker<L>, G: Gate, K: Transport, S: Seconds, R: Wait>(
     rt: &R,
     hub: &Hub<L, B>,
@@ -136,11 +141,14 @@ fn tick<L: Site, B: Taker<L>, G: Gate, K: Transport, S: Seconds, R: Wait>(
     ensures ticks { OnOk result (Ticks
         (senses_of K.gives K.hears S.shows B.offers B.took B.refuses port.old.number)
         ticked.old
-        (standing transport.old clock.old (known_to port.old.asker) port.old.share.amount)
+        (standing transport.old clock.old (asker_state port.old.asker port.old.seat)
+        port.old.share.amount)
         ticked.new
-        (standing transport.new clock.new (known_to port.new.asker) port.new.share.amount)) }
+        (standing transport.new clock.new (asker_state port.new.asker port.new.seat)
+        port.new.share.amount)) }
     ensures number { port.new.number ≡ port.old.number }
-    ensures known { IsPrefix (known_to port.old.asker) (known_to port.new.asker) }
+    ensures later { IsLater (asker_state port.old.asker port.old.seat)
+        (asker_state port.new.asker port.new.seat) }
     ensures fine { OnOk result (K.faults transport.new ≡ K.faults transport.old) }
     ensures fault { OnErr result (K.faults transport.old < K.faults transport.new) }
 {
@@ -155,7 +163,7 @@ fn tick<L: Site, B: Taker<L>, G: Gate, K: Transport, S: Seconds, R: Wait>(
 }
 
 // A turn with the datagram that the transport gives, if it gives one, and what that sends.
-#[tactic(auto, using(crate::proofs::Living::listened, crate::proofs::Tries::known_first))]
+#[tactic(auto, using(crate::proofs::Living::listened, crate::proofs::Tries::later_self))]
 fn listen<L: Site, B: Taker<L>, G: Gate, K: Transport, S: Seconds, R: Wait>(
     rt: &R,
     alloc: Global,
@@ -168,10 +176,13 @@ fn listen<L: Site, B: Taker<L>, G: Gate, K: Transport, S: Seconds, R: Wait>(
 ) -> Result<(), SocketFault>
     ensures listens { OnOk result (Listens
         (senses_of K.gives K.hears S.shows B.offers B.took B.refuses port.old.number)
-        (standing transport.old clock.old (known_to port.old.asker) port.old.share.amount)
-        (standing transport.new clock.new (known_to port.new.asker) port.new.share.amount)) }
+        (standing transport.old clock.old (asker_state port.old.asker port.old.seat)
+        port.old.share.amount)
+        (standing transport.new clock.new (asker_state port.new.asker port.new.seat)
+        port.new.share.amount)) }
     ensures number { port.new.number ≡ port.old.number }
-    ensures known { IsPrefix (known_to port.old.asker) (known_to port.new.asker) }
+    ensures later { IsLater (asker_state port.old.asker port.old.seat)
+        (asker_state port.new.asker port.new.seat) }
     ensures fine { OnOk result (K.faults transport.new ≡ K.faults transport.old) }
     ensures fault { OnErr result (K.faults transport.old < K.faults transport.new) }
 {
@@ -198,12 +209,11 @@ fn is_clock_back(turned: &Result<TurnOutcome, TurnError>) -> bool
 
 /// A turn at the moment. While the router's clock is ahead of this one it is tried again, at most
 /// three times, at once, each time at the moment that the clock shows then, and each try asks the
-/// programs anew. Afterwards `moment`
-/// is that of the last try.
+/// programs anew. Afterwards `moment` is that of the last try.
 ///
 /// # Errors
 /// As the last try's [`turn`].
-#[tactic(auto, using(crate::proofs::Living::not_again, crate::proofs::Living::once_more, crate::proofs::Living::at_last, crate::proofs::Tries::turned_first, crate::proofs::Tries::known_still, crate::proofs::Tries::known_first))]
+#[tactic(auto, using(crate::proofs::Living::not_again, crate::proofs::Living::once_more, crate::proofs::Living::at_last, crate::proofs::Tries::later_self))]
 pub fn turn_with_retries<L: Site, B: Taker<L>, G: Gate, S: Seconds, R: Wait>(
     rt: &R,
     hub: &Hub<L, B>,
@@ -213,21 +223,18 @@ pub fn turn_with_retries<L: Site, B: Taker<L>, G: Gate, S: Seconds, R: Wait>(
     moment: &mut Second,
     work: &Work,
 ) -> Result<TurnOutcome, TurnError>
-    ensures turned { IfOk result (λ r. IsTurned B.offers B.took B.refuses
-        (known_to port.old.asker) (known_to port.new.asker) moment.new work.now
-        port.old.share.amount port.new.share.amount r) }
-    ensures refused { IfErr result (λ error. RefusesFor B.offers B.refuses
-        (known_to port.old.asker) (known_to port.new.asker)
-        port.old.share.amount moment.new work.now error) }
-    ensures err { OnErr result (port.new.share.amount ≡ port.old.share.amount) }
     ensures tried { IsTried S.shows
-        (λ m error. RefusesFor B.offers B.refuses
-        (known_to port.old.asker) (known_to port.new.asker)
+        (λ old new m turned. IsTurned B.offers B.took B.refuses old new m work.now
+        port.old.share.amount port.new.share.amount turned)
+        (λ old new m error. RefusesFor B.offers B.refuses old new
         port.old.share.amount m work.now error)
-        clock.old moment.old clock.new moment.new result }
+        clock.old (asker_state port.old.asker port.old.seat) moment.old
+        clock.new (asker_state port.new.asker port.new.seat) moment.new result }
+    ensures err { OnErr result (port.new.share.amount ≡ port.old.share.amount) }
     ensures asked { AsksFor B.took moment.new work.now }
     ensures number { port.new.number ≡ port.old.number }
-    ensures known { IsPrefix (known_to port.old.asker) (known_to port.new.asker) }
+    ensures later { IsLater (asker_state port.old.asker port.old.seat)
+        (asker_state port.new.asker port.new.seat) }
 {
     for _tries in 0..3u32 {
         let turned = turn(rt, hub, port, gate, *moment, work);

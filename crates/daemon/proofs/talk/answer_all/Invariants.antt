@@ -1,5 +1,6 @@
 use Rattle.std.specs.Prelude.{◌≡◌}
-use Rattle.hooks.specs.Known.{known_to, operations_of}
+use Rattle.hooks.specs.Known.{operations_of}
+use Rattle.worker.specs.Askers.{asker_state}
 use Rattle.worker.specs.Turns.{IsListed}
 use Rattle.operator.specs.Answers.{IsAnyFile, IsAnyPath, sources}
 use Rattle.daemon.specs.Talks.{place}
@@ -15,11 +16,10 @@ invariant-loop g l = record {
       IsAnyFile IsAnyPath)
       l.initial.desk.interfaces
       (place l.initial.console.input.now (operations_of l.initial.desk.loader)
-      (known_to l.initial.port.asker)
-      l.initial.desk.unrefreshed l.initial.port.share.amount l.initial.port.seat)
+      (asker_state l.initial.port.asker l.initial.port.seat)
+      l.initial.desk.unrefreshed l.initial.port.share.amount)
       l.initial.console.output.now
-      (place l.console.input.now (operations_of l.desk.loader) (known_to l.port.asker)
-      l.desk.unrefreshed l.port.share.amount
-      l.port.seat)
+      (place l.console.input.now (operations_of l.desk.loader)
+      (asker_state l.port.asker l.port.seat) l.desk.unrefreshed l.port.share.amount)
       l.console.output.now;
 }

@@ -1,13 +1,12 @@
-use Rattle.hooks.specs.Known.{known_to}
+use Rattle.worker.specs.Askers.{asker_state}
 use Rattle.daemon.proofs.Talked.{talked_output}
 use Rattle.daemon.proofs.talk.talk.Goals as goal
 
 pub returns-clause-conversed : goal.returns-clause-conversed
 returns-clause-conversed g c = record {
-  known = known_to c.tick.new.port.asker;
+  asker = asker_state c.tick.new.port.asker c.tick.new.port.seat;
   events = c.tick.new.port.share.amount;
-  seat = c.tick.new.port.seat;
-  learnt = c.tick.ensures.known;
+  later = c.tick.ensures.later;
   ticked = c.tick.ensures.ticked;
   talked = c.answer_all-console_end.ensures;
 }

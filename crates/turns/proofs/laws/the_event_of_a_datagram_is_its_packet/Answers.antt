@@ -5,7 +5,10 @@ use Rattle.turns.specs.Turns.{IsTakenBySome}
 use Rattle.turns.proofs.laws.the_event_of_a_datagram_is_its_packet.Goals as goal
 
 pub returns : goal.returns
-returns c origin known now events moment number bytes outs stale = (
-  λ given. subst (λ (e : Event). IsTakenBySome origin events moment e outs stale) given.1 given.2,
-  λ sent. (event.Packet number bytes, refl, sent),
+returns c origin old new events moment number bytes outs stale = (
+  λ given. (
+    given.1.1,
+    subst (λ (e : Event). IsTakenBySome origin events moment e outs stale) given.1.0 given.2,
+  ),
+  λ (counted, sent). (event.Packet number bytes, (refl, counted), sent),
 )

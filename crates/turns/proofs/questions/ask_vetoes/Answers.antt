@@ -3,33 +3,27 @@ use Rattle.std.specs.List.{Contains}
 use Rattle.std.specs.Prelude.{IfNone, IfSome}
 use Rattle.words.specs.declared.route.Route.{Route}
 use Rattle.words.specs.declared.route.TableRow.{TableRow}
-use Rattle.hooks.specs.Answered.{AreAnswered}
-use Rattle.hooks.specs.Known.{known_to}
 use Rattle.hooks.specs.Questions.{veto_input}
-use Rattle.turns.specs.Turns.{AreVetoes, IsLacking, Lack}
+use Rattle.turns.specs.Askers.{AreVetoes, asker_state}
+use Rattle.turns.specs.Turns.{IsLacking, Lack}
 use Rattle.turns.proofs.Away.{of_veto}
-use Rattle.turns.proofs.Vetoes.{are_vetoes}
 use Rattle.turns.proofs.questions.ask_vetoes.Goals as goal
 
 pub returns-in-Some-clause-answers : goal.returns-in-Some-clause-answers
 returns-in-Some-clause-answers g c =
-    let before = known_to c.args.asker.now in
-    let now = known_to c.vetoes.new.asker in
+    let old = asker_state c.args.asker.now c.args.seat.now in
+    let new = asker_state c.vetoes.new.asker c.vetoes.new.seat in
     let rows = c.as_slice-rows.result.now in
     let routes = c.as_slice-routes.result.now in
     let answers = c.in-Some.answers.items in
-    let all : AreAnswered before now c.args.seat.now c.vetoes.new.seat c.args.moment rows routes
-    answers =
-    subst (λ o. IfSome o (λ answers. AreAnswered before now c.args.seat.now c.vetoes.new.seat
-    c.args.moment rows routes answers.items)) c.in-Some.is c.in_ok-all.ensures.answered in
+    let all : AreVetoes old new c.args.moment rows routes answers =
+    subst (λ o. IfSome o (λ answers. AreVetoes old new c.args.moment rows routes answers.items))
+    c.in-Some.is c.in_ok-all.ensures.answered in
     let beside : List TableRow → Type 0 =
-    λ l. AreVetoes before now c.args.moment l routes answers in
+    λ l. AreVetoes old new c.args.moment l routes answers in
     let on : List Route → Type 0 =
-    λ l. AreVetoes before now c.args.moment c.args.offered.now.rows.items l answers in
-    let asked =
-    are_vetoes before now c.args.seat.now c.vetoes.new.seat c.args.moment rows routes answers
-    all in
-    subst on c.as_slice-routes.ensures.value (subst beside c.as_slice-rows.ensures.value asked.1)
+    λ l. AreVetoes old new c.args.moment c.args.offered.now.rows.items l answers in
+    subst on c.as_slice-routes.ensures.value (subst beside c.as_slice-rows.ensures.value all)
 
 pub returns-in-None-clause-err : goal.returns-in-None-clause-err
 returns-in-None-clause-err g c =

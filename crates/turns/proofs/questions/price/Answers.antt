@@ -1,5 +1,8 @@
+use Rattle.hooks.specs.Questions.{price_input}
+use Rattle.turns.specs.Askers.{asker_state}
+use Rattle.turns.proofs.Askers.{later_answered}
+use Rattle.turns.proofs.Asked.{is_price}
 use Rattle.turns.proofs.Away.{of_price}
-use Rattle.turns.proofs.Vetoes.{is_price}
 use Rattle.turns.proofs.questions.price.Goals as goal
 
 pub returns-in-Some-clause-answer : goal.returns-in-Some-clause-answer
@@ -10,3 +13,10 @@ returns-in-Some-clause-answer g c =
 pub returns-in-None-clause-err : goal.returns-in-None-clause-err
 returns-in-None-clause-err g c = of_price g.B.Taker.refuses c.args.external.now c.args.moment
     c.args.rows.now c.in-None.ensures.lacking
+
+pub returns-in-Some-clause-later : goal.returns-in-Some-clause-later
+returns-in-Some-clause-later g c =
+    later_answered (asker_state c.args.asker.now c.args.seat.now)
+    (asker_state c.price.new.asker c.price.new.seat)
+    (price_input c.args.external.now c.args.moment c.args.rows.now) c.in-Some.answer.word
+    c.in-Some.ensures.answered

@@ -1,109 +1,90 @@
 use Rattle.std.proofs.Common.{arith, rules}
-use Rattle.hooks.specs.Known.{known_to}
-use Rattle.hooks.proofs.Fronts.{prefix_trans}
-use Rattle.turns.specs.Turns.{RefusesFor}
+use Rattle.turns.specs.Askers.{asker_state}
+use Rattle.turns.specs.Turns.{IsTurned, RefusesFor}
+use Rattle.turns.proofs.Askers.{later_trans}
 use Rattle.worker.specs.Refusals.{clock_back}
-use Rattle.worker.proofs.Living.{at_last, once_more, tried_so}
-use Rattle.worker.proofs.Tries.{answered_first, refused_first, refused_so, refused_still}
+use Rattle.worker.proofs.Living.{at_last, once_more}
+use Rattle.worker.proofs.Tries.{refused_so, tried_from}
 use Rattle.worker.proofs.serving.turn_with_retries.Goals as goal
 
 pub loop-tries-preserved : goal.loop-tries-preserved
 loop-tries-preserved g c =
-    let known = known_to c.args.port.now.asker in
-    let more = known_to c.loop-tries.port.asker in
-    let most = known_to c.turn-turned.new.port.asker in
     let events = c.args.port.now.share.amount in
+    let start = asker_state c.args.port.now.asker c.args.port.now.seat in
+    let between = asker_state c.loop-tries.port.asker c.loop-tries.port.seat in
+    let end = asker_state c.turn-turned.new.port.asker c.turn-turned.new.port.seat in
     let w = c.args.work.now in
-    let refuses = RefusesFor g.B.Taker.offers g.B.Taker.refuses known in
+    let offers = g.B.Taker.offers in
     record {
       events = search rules;
       number = search rules;
-      known = prefix_trans known more most c.loop-tries.invariant.known
-          c.turn-turned.ensures.known;
+      later = later_trans start between end c.loop-tries.invariant.later
+          c.turn-turned.ensures.later;
       so =
-          once_more g.S.Seconds.shows (λ m. refuses most events m w)
-          c.args.clock.now c.args.moment.now c.loop-tries.clock c.loop-tries.moment
-          c.loop-tries._tries c.second.new.self c.second.result
-          (tried_so g.S.Seconds.shows (λ m. refuses more events m w) (λ m. refuses most events m w)
-          c.args.clock.now c.args.moment.now c.loop-tries.clock c.loop-tries.moment
-          c.loop-tries._tries
-          (λ m e. refused_still g.B.Taker.offers g.B.Taker.refuses known more most events m w e
-          c.turn-turned.ensures.known)
-          c.loop-tries.invariant.so)
-          (refused_so g.B.Taker.offers g.B.Taker.refuses known more most events
+          once_more g.S.Seconds.shows
+          (λ old new m error. RefusesFor offers g.B.Taker.refuses old new events m w error)
+          c.args.clock.now start c.args.moment.now c.loop-tries.clock between
+          c.loop-tries.moment c.loop-tries._tries c.second.new.self end c.second.result
+          c.loop-tries.invariant.so
+          (refused_so offers g.B.Taker.refuses between end events
           c.loop-tries.port.share.amount c.loop-tries.moment w c.turn-turned.result clock_back
-          c.loop-tries.invariant.known c.loop-tries.invariant.events
+          c.loop-tries.invariant.events
           (c.is_clock_back.ensures.back c.if-not-is_clock_back.false)
           c.turn-turned.ensures.refused)
           c.second.ensures;
     }
 
-pub returns-then-not-is_clock_back-clause-turned : goal.returns-then-not-is_clock_back-clause-turned
-returns-then-not-is_clock_back-clause-turned g c =
-    answered_first g.B.Taker.offers g.B.Taker.took g.B.Taker.refuses
-    (known_to c.args.port.now.asker) (known_to c.loop-tries.port.asker)
-    (known_to c.turn-turned.new.port.asker)
-    c.loop-tries.moment c.args.work.now c.args.port.now.share.amount c.loop-tries.port.share.amount
-    c.turn-turned.new.port.share.amount c.turn-turned.result c.loop-tries.invariant.known
-    c.loop-tries.invariant.events c.turn-turned.ensures.turned
-
-pub returns-then-not-is_clock_back-clause-refused :
-    goal.returns-then-not-is_clock_back-clause-refused
-returns-then-not-is_clock_back-clause-refused g c =
-    refused_first g.B.Taker.offers g.B.Taker.refuses (known_to c.args.port.now.asker)
-    (known_to c.loop-tries.port.asker) (known_to c.turn-turned.new.port.asker)
-    c.args.port.now.share.amount c.loop-tries.port.share.amount
-    c.loop-tries.moment c.args.work.now c.turn-turned.result c.loop-tries.invariant.known
-    c.loop-tries.invariant.events c.turn-turned.ensures.refused
-
 pub returns-then-not-is_clock_back-clause-tried : goal.returns-then-not-is_clock_back-clause-tried
 returns-then-not-is_clock_back-clause-tried g c =
-    let known = known_to c.args.port.now.asker in
-    let more = known_to c.loop-tries.port.asker in
-    let most = known_to c.turn-turned.new.port.asker in
     let events = c.args.port.now.share.amount in
+    let start = asker_state c.args.port.now.asker c.args.port.now.seat in
+    let begun = asker_state c.loop-tries.port.asker c.loop-tries.port.seat in
+    let end = asker_state c.turn-turned.new.port.asker c.turn-turned.new.port.seat in
     let w = c.args.work.now in
-    let refuses = RefusesFor g.B.Taker.offers g.B.Taker.refuses known in
-    at_last g.S.Seconds.shows (λ m. refuses most events m w) c.args.clock.now c.args.moment.now
-    c.loop-tries.clock c.loop-tries.moment c.loop-tries._tries c.turn-turned.result
-    (tried_so g.S.Seconds.shows (λ m. refuses more events m w) (λ m. refuses most events m w)
-    c.args.clock.now c.args.moment.now c.loop-tries.clock c.loop-tries.moment
-    c.loop-tries._tries
-    (λ m e. refused_still g.B.Taker.offers g.B.Taker.refuses known more most events m w e
-    c.turn-turned.ensures.known)
-    c.loop-tries.invariant.so) (omega arith)
+    let offers = g.B.Taker.offers in
+    at_last g.S.Seconds.shows
+    (λ old new m error. RefusesFor offers g.B.Taker.refuses old new events m w error)
+    (λ old new m turned. IsTurned offers g.B.Taker.took g.B.Taker.refuses old new m w events
+    c.turn-turned.new.port.share.amount turned)
+    c.args.clock.now start c.args.moment.now c.loop-tries.clock begun end c.loop-tries.moment
+    c.loop-tries._tries c.turn-turned.result c.loop-tries.invariant.so (omega arith)
     (λ back. absurd (c.is_clock_back.ensures.other c.if-not-is_clock_back.true back))
-
-pub returns-clause-turned : goal.returns-clause-turned
-returns-clause-turned g c =
-    answered_first g.B.Taker.offers g.B.Taker.took g.B.Taker.refuses
-    (known_to c.args.port.now.asker) (known_to c.loop-tries.port.asker)
-    (known_to c.turn.new.port.asker)
-    c.loop-tries.moment c.args.work.now c.args.port.now.share.amount c.loop-tries.port.share.amount
-    c.turn.new.port.share.amount c.turn.result c.loop-tries.invariant.known
-    c.loop-tries.invariant.events c.turn.ensures.turned
-
-pub returns-clause-refused : goal.returns-clause-refused
-returns-clause-refused g c =
-    refused_first g.B.Taker.offers g.B.Taker.refuses (known_to c.args.port.now.asker)
-    (known_to c.loop-tries.port.asker) (known_to c.turn.new.port.asker)
-    c.args.port.now.share.amount c.loop-tries.port.share.amount
-    c.loop-tries.moment c.args.work.now c.turn.result c.loop-tries.invariant.known
-    c.loop-tries.invariant.events c.turn.ensures.refused
+    c.loop-tries.invariant.later
+    (tried_from offers g.B.Taker.took g.B.Taker.refuses begun end c.loop-tries.moment w events
+    c.loop-tries.port.share.amount c.turn-turned.new.port.share.amount c.turn-turned.result
+    c.loop-tries.invariant.events c.turn-turned.ensures.turned c.turn-turned.ensures.refused)
 
 pub returns-clause-tried : goal.returns-clause-tried
 returns-clause-tried g c =
-    let known = known_to c.args.port.now.asker in
-    let more = known_to c.loop-tries.port.asker in
-    let most = known_to c.turn.new.port.asker in
     let events = c.args.port.now.share.amount in
+    let start = asker_state c.args.port.now.asker c.args.port.now.seat in
+    let begun = asker_state c.loop-tries.port.asker c.loop-tries.port.seat in
+    let end = asker_state c.turn.new.port.asker c.turn.new.port.seat in
     let w = c.args.work.now in
-    let refuses = RefusesFor g.B.Taker.offers g.B.Taker.refuses known in
-    at_last g.S.Seconds.shows (λ m. refuses most events m w) c.args.clock.now c.args.moment.now
-    c.loop-tries.clock c.loop-tries.moment c.loop-tries._tries c.turn.result
-    (tried_so g.S.Seconds.shows (λ m. refuses more events m w) (λ m. refuses most events m w)
-    c.args.clock.now c.args.moment.now c.loop-tries.clock c.loop-tries.moment
-    c.loop-tries._tries
-    (λ m e. refused_still g.B.Taker.offers g.B.Taker.refuses known more most events m w e
-    c.turn.ensures.known)
-    c.loop-tries.invariant.so) (omega arith) (λ back. omega arith)
+    let offers = g.B.Taker.offers in
+    at_last g.S.Seconds.shows
+    (λ old new m error. RefusesFor offers g.B.Taker.refuses old new events m w error)
+    (λ old new m turned. IsTurned offers g.B.Taker.took g.B.Taker.refuses old new m w events
+    c.turn.new.port.share.amount turned)
+    c.args.clock.now start c.args.moment.now c.loop-tries.clock begun end c.loop-tries.moment
+    c.loop-tries._tries c.turn.result c.loop-tries.invariant.so (omega arith)
+    (λ back. omega arith)
+    c.loop-tries.invariant.later
+    (tried_from offers g.B.Taker.took g.B.Taker.refuses begun end c.loop-tries.moment w events
+    c.loop-tries.port.share.amount c.turn.new.port.share.amount c.turn.result
+    c.loop-tries.invariant.events c.turn.ensures.turned c.turn.ensures.refused)
+
+pub returns-then-not-is_clock_back-clause-later :
+    goal.returns-then-not-is_clock_back-clause-later
+returns-then-not-is_clock_back-clause-later g c =
+    later_trans (asker_state c.args.port.now.asker c.args.port.now.seat)
+    (asker_state c.loop-tries.port.asker c.loop-tries.port.seat)
+    (asker_state c.turn-turned.new.port.asker c.turn-turned.new.port.seat)
+    c.loop-tries.invariant.later c.turn-turned.ensures.later
+
+pub returns-clause-later : goal.returns-clause-later
+returns-clause-later g c =
+    later_trans (asker_state c.args.port.now.asker c.args.port.now.seat)
+    (asker_state c.loop-tries.port.asker c.loop-tries.port.seat)
+    (asker_state c.turn.new.port.asker c.turn.new.port.seat)
+    c.loop-tries.invariant.later c.turn.ensures.later

@@ -1,5 +1,6 @@
 use Rattle.std.proofs.Common.{refl}
-use Rattle.hooks.specs.Known.{known_to, operations_of}
+use Rattle.hooks.specs.Known.{operations_of}
+use Rattle.worker.specs.Askers.{asker_state}
 use Rattle.worker.specs.Lives.{senses_of, standing}
 use Rattle.worker.specs.Turns.{IsListed}
 use Rattle.operator.specs.Answers.{change, sources}
@@ -17,8 +18,9 @@ returns-in-Err-clause-told g c =
     g.F.ReadsFiles.holds g.F.ReadsFiles.unreadable in
     let operations = operations_of desk.loader in
     let same =
-    change operations operations (known_to port.asker) (known_to port.asker) desk.unrefreshed
-    desk.unrefreshed port.share.amount port.share.amount port.seat port.seat in
+    change operations operations (asker_state port.asker port.seat)
+    (asker_state port.asker port.seat) desk.unrefreshed
+    desk.unrefreshed port.share.amount port.share.amount in
     told_why s same c.args.path.now c.in-Err.error c.reason.result c.lines.result
     (record {
       unchanged = record { programs = (refl, refl); known = refl; events = refl };
@@ -31,6 +33,7 @@ returns-in-Err-clause-served g c =
     let senses = senses_of g.K.Transport.gives g.K.Transport.hears g.C.Seconds.shows
     g.B.Taker.offers g.B.Taker.took g.B.Taker.refuses c.args.port.now.number in
     let own = c.args.self.now.outlet in
-    let now = standing own.transport own.clock (known_to c.args.port.now.asker)
+    let now = standing own.transport own.clock
+    (asker_state c.args.port.now.asker c.args.port.now.seat)
     c.args.port.now.share.amount in
     lines_served g.K.Transport.faults senses c.reason.result c.lines.result now c.lines.ensures

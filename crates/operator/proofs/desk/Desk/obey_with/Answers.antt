@@ -1,5 +1,6 @@
 use Rattle.std.proofs.Common.{subst}
-use Rattle.hooks.specs.Known.{known_to, operations_of}
+use Rattle.hooks.specs.Known.{operations_of}
+use Rattle.worker.specs.Askers.{asker_state}
 use Rattle.worker.specs.Lives.{senses_of, standing}
 use Rattle.worker.specs.Turns.{IsListed}
 use Rattle.operator.specs.Answers.{change, sources}
@@ -19,21 +20,23 @@ returns-clause-told g c =
     let still = c.make_up.new.self.unrefreshed in
     let desk = c.answer.new.self in (
       still,
-      known_to between.asker,
+      asker_state between.asker between.seat,
       between.share.amount,
-      between.seat,
       c.make_up.ensures.made_up,
       obeyed_from s c.args.self.now.interfaces c.make_up.new.self.interfaces
           (change (operations_of c.args.self.now.loader) (operations_of desk.loader)
-          (known_to between.asker) (known_to after.asker) still desk.unrefreshed
-          between.share.amount after.share.amount between.seat after.seat)
+          (asker_state between.asker between.seat) (asker_state after.asker after.seat) still
+          desk.unrefreshed
+          between.share.amount after.share.amount)
           (change (operations_of c.make_up.new.self.loader) (operations_of desk.loader)
-          (known_to between.asker) (known_to after.asker) still desk.unrefreshed
-          between.share.amount after.share.amount between.seat after.seat)
+          (asker_state between.asker between.seat) (asker_state after.asker after.seat) still
+          desk.unrefreshed
+          between.share.amount after.share.amount)
           c.args.line.now c.answer.result c.make_up.ensures.interfaces
           (λ i. change (operations_of (c.make_up.ensures.loader i)) (operations_of desk.loader)
-          (known_to between.asker) (known_to after.asker) still desk.unrefreshed
-          between.share.amount after.share.amount between.seat after.seat)
+          (asker_state between.asker between.seat) (asker_state after.asker after.seat) still
+          desk.unrefreshed
+          between.share.amount after.share.amount)
           c.answer.ensures.told,
     )
 
@@ -41,13 +44,16 @@ pub returns-clause-served : goal.returns-clause-served
 returns-clause-served g c =
     let faults = g.K.Transport.faults in
     let own = c.args.self.now.outlet in
-    let now = standing own.transport own.clock (known_to c.args.port.now.asker)
+    let now = standing own.transport own.clock
+    (asker_state c.args.port.now.asker c.args.port.now.seat)
     c.args.port.now.share.amount in
     let first = c.make_up.new.self.outlet in
-    let between = standing first.transport first.clock (known_to c.make_up.new.port.asker)
+    let between = standing first.transport first.clock
+    (asker_state c.make_up.new.port.asker c.make_up.new.port.seat)
     c.make_up.new.port.share.amount in
     let last = c.answer.new.self.outlet in
-    let after = standing last.transport last.clock (known_to c.answer.new.port.asker)
+    let after = standing last.transport last.clock
+    (asker_state c.answer.new.port.asker c.answer.new.port.seat)
     c.answer.new.port.share.amount in
     let line = c.args.line.now in
     both_served faults (senses_of g.K.Transport.gives g.K.Transport.hears g.C.Seconds.shows
