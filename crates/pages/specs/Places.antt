@@ -6,8 +6,7 @@ use Rattle.std.specs.List.{flat_map}
 abbrev pub joined : {X : Type 0} → List (List X) → List X
 joined pages = flat_map (λ page. page) pages
 
--- before the item at this index of the whole list there are so many pages, and so many items of the
--- next one
+-- before the item at `index` of the whole list stand `at` pages, and `within` items of the next one
 pub record IsPlace {X : Type 0} (pages : List (List X)) (at : ℕ) (index : ℕ) (within : ℕ)
     : Type 0 where
   pub before : List (List X)

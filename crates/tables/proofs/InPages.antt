@@ -68,7 +68,7 @@ first_of_part routes met part route is within read =
     let at = sym (ap (λ n. slice_get routes n) zero) ∙ sym (is.each 0 some) ∙ there in
     sym (get_or_from_slice_get routes met route route at)
 
--- so many more
+-- `same` more
 pub more_same : (one other : List Route) (met same : ℕ) (part beside : List Route)
     → IsPartFrom one met part → IsPartFrom other met beside → same ≤ length part
     → same ≤ length beside → AreSame part beside same → AreSame one other met

@@ -91,7 +91,7 @@ stands_behind answers met k r (word, is) =
       slice_get-get_or answers (met + k) answer low ∙ ap (λ (x : Route × ℕ). Some x) read,
     )
 
--- so many more, of a part
+-- `same` more, of a part
 pub more_met : (answers : RouteWords) (routes : List Route) (met same : ℕ) (part : List Route)
     → IsPartFrom routes met part → same ≤ length part → AreMet (drop met answers) part same
     → AreMet answers routes met → AreMet answers routes (met + same)
