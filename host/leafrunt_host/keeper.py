@@ -169,15 +169,15 @@ class Keeper:
         return self._work.do(change)
 
     def has_kept(self, seconds: float) -> bool:
-        """Waits until the kernel's table has what it is to have, at most so long, and says whether
-        it has."""
+        """Waits until the kernel's table has what it is to have, for at most `seconds`, and says
+        whether it has."""
         return self._is_kept.wait(seconds)
 
     def serve(
         self, router: Router, changed: Callable[[], None], seconds: float = SECONDS_TO_SERVE
     ) -> None:
         """From now on it is another `routerd` that is asked; between two looks, which that is told.
-        `Stopped` if none ends within so many seconds, and then nothing is changed."""
+        `Stopped` if none ends within `seconds`, and then nothing is changed."""
 
         def change() -> None:
             changed()

@@ -18,7 +18,7 @@ BOX_WORDS = {
     "programs": "the programs at the hooks",
     "database": "the LSAs; with a Link State ID after it those with that ID, whole",
     "map": "the area as a Graphviz graph; with a prefix after it the way there is marked",
-    "log": "the log's last 40 lines; with a number after it so many",
+    "log": "the log's last 40 lines; with a number after it that many",
     "capture FILE": "write all OSPF packets to a new pcap file; `capture off` ends that",
     "reload": "take the configuration over as it is now; where it is wrong, nothing changes",
     "down": "end this box: let the neighbors know, remove the kernel's routes, end `routerd`",

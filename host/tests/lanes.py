@@ -116,7 +116,7 @@ def taken(waiting: list[tuple[int, str]], running: list[Playing]) -> tuple[int, 
 
 
 def played(parts: list[str], words: Callable[[str], list[str]], lanes: int, times: int) -> bool:
-    """Plays the parts so many times, always so many of them at once: where no part of a round
+    """Plays the parts `times` times, always `lanes` of them at once: where no part of a round
     waits, those of the next begin. Whether all looks of all rounds were good."""
     waiting = [(number, part) for number in range(times) for part in parts]
     rounds = [Round(len(parts)) for _ in range(times)]

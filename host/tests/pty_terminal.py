@@ -35,7 +35,7 @@ class Terminal:
         self._is_open = True
 
     def read(self, seconds: float) -> None:
-        """What comes within so many seconds."""
+        """What comes within this many seconds."""
         until = time.monotonic() + seconds
         while self._is_open and (left := until - time.monotonic()) > 0:
             if select.select([self.master], [], [], left)[0]:

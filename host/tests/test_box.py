@@ -53,7 +53,7 @@ def errors_of(box: subprocess.Popen[str]) -> IO[str]:
 
 
 def within(seconds: float, test: Callable[[], bool]) -> bool:
-    """Whether the test holds before so many seconds are over."""
+    """Whether the test holds before this many seconds are over."""
     until = time.monotonic() + seconds
     while not test():
         if time.monotonic() > until:

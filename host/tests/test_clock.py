@@ -14,7 +14,7 @@ class Clocks(unittest.TestCase):
         self.clock = Clock(lambda: self.wall, lambda: self.steady)
 
     def step(self, passed: float, by: float = 0.0) -> float | None:
-        """The seconds of the step that is seen after so many passed, and the clock was set."""
+        """The seconds of the step that is seen after this many passed, and the clock was set."""
         self.steady += passed
         self.wall += passed + by
         found = self.clock.look()

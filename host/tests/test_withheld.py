@@ -34,7 +34,7 @@ def changed(lsa: bytes, at: int, *values: int) -> bytes:
 
 
 def longer(lsa: bytes, more: int) -> bytes:
-    """The LSA with so many bytes of zeros at its end."""
+    """The LSA with this many bytes of zeros at its end."""
     length = (len(lsa) + more).to_bytes(2, "big")
     return sealed(lsa[:18] + length + lsa[20:] + bytes(more))
 

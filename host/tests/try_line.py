@@ -227,12 +227,12 @@ def settings(it: Line, looks: Looks) -> None:
 
 
 def has_stubs(it: Line, count: int) -> bool:
-    """Whether so many of BIRD's stub networks are in the kernel's table of the box."""
+    """Whether this many of BIRD's stub networks are in the kernel's table of the box."""
     return sum(each.startswith("198.") for each in it.box.kernel_routes()) == count
 
 
 def frr_has_stubs(it: Line, count: int) -> bool:
-    """Whether so many of them are in FRR's table."""
+    """Whether this many of them are in FRR's table."""
     lines = it.frr.says("show ip route ospf").splitlines()
     return sum(" 198." in line and " via " in line for line in lines) == count
 

@@ -146,7 +146,7 @@ def ring(given: Try) -> None:
 
 
 def in_a_ring(given: Try, act: Callable[[Ring, Looks], None], seconds: float) -> None:
-    """What is done once the ring is up, which takes so many seconds at most."""
+    """What is done once the ring is up, which takes this many seconds at most."""
     it = Ring(given)
     it.start()
     given.looks.timed("the ring is up", seconds, it.is_up)

@@ -170,7 +170,7 @@ class Transit:
         return self.is_connected("right")
 
     def lost_in(self, act: Callable[[], object], seconds: float) -> tuple[int, str]:
-        """What is lost from before an act until so many seconds after it."""
+        """What is lost from before an act until this many seconds after it."""
         losses = self.losses()
         time.sleep(0.5)
         act()

@@ -6,7 +6,7 @@ wire.py ONE:OTHER.. the pairs of interfaces, wires 1, 2, 3 and so on
 
 Lines on standard input, each answered with `ok` or a line of hex:
 
-loss PERCENT               so many of all frames are lost from now on, on every wire
+loss PERCENT               this share of all frames is lost from now on, on every wire
     cut NUMBER, mend NUMBER    nothing passes that wire, and again
     last NUMBER SIDE TYPE      the last OSPF packet of that type that came from that side, 0 or 1
     first NUMBER SIDE TYPE     the first one
