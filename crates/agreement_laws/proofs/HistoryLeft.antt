@@ -315,8 +315,7 @@ finishes =
     (done_by es count (nothing_in ListEntry i)))))
 
 -- ---- the end of the event: the router-LSA would get a link to the Full neighbor, but
--- MinLSInterval
--- hasn't passed
+-- MinLSInterval hasn't passed
 
 has_not_told : copy_has_body (router_body finished.router.area.links) (Some (copy 1 a)) ≡ false
 unfolding sealed_lsa

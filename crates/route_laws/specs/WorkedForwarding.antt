@@ -155,8 +155,7 @@ pub record VetoesMayLoop : Type 0 where
   pub to_left : HandsOn row_says middle (wide 15 2) left.router
 
 -- ---- the same three routers, if the middle one has another address toward the right one than in
--- its
--- router-LSA
+-- its router-LSA
 
 abbrev pub renumbered_middle : Root
 renumbered_middle = record middle { addresses = ipv4 10 0 1 2 ∷ ipv4 10 0 9 1 ∷ [] }

@@ -222,8 +222,7 @@ pub record CrossedLinksMayLoop : Type 0 where
   pub comes_back : IsHandedAlong crossed_row address (0 ∷ 1 ∷ 0 ∷ [])
 
 -- ---- the left and the middle router; the middle one has restarted, and doesn't have the right one
--- as
--- neighbor yet
+-- as neighbor yet
 
 abbrev pub anew_links : List Link
 anew_links =

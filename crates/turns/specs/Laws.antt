@@ -18,9 +18,8 @@ use Rattle.turns.specs.declared.work.Work.TheVariants as work
 
 -- A turn for a datagram, which is counted first or got no reading, gives the packet of just these
 -- bytes from just this interface, and sends what the router sends at it, whatever programs are
--- loaded. What a program at
--- `count` leaves in counters and cells may reach later answers of the others, in the refresh of
--- this turn too.
+-- loaded. What a program at `count` leaves in counters and cells may reach later answers of the
+-- others, in the refresh of this turn too.
 abbrev pub EventOfADatagramIsItsPacket : Type 0
 EventOfADatagramIsItsPacket =
     (origin : Router) (old new : AskerState) (events : ℕ) (moment : Moment)
