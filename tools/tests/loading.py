@@ -6,6 +6,8 @@ import sys
 
 TOOLS = pathlib.Path(__file__).resolve().parent.parent
 sys.dont_write_bytecode = True
+# (as a tool that is run finds the modules beside it)
+sys.path.append(str(TOOLS))
 
 
 def tool(name: str):

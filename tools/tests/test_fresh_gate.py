@@ -81,7 +81,7 @@ class KitAnew(unittest.TestCase):
             (room / "there/rattle-kept").mkdir()
             (room / "here").mkdir()
             fresh_gate = tool("fresh-gate")
-            with unittest.mock.patch.object(fresh_gate.shutil, "which", return_value=str(rt)):
+            with unittest.mock.patch.object(fresh_gate.kit, "folder", return_value=room / "there/rattle"):
                 copy = fresh_gate.kit_anew(room / "here")
             self.assertEqual((copy / "rt").read_text(), "a command")
             self.assertEqual([it.name for it in copy.parent.parent.iterdir()], ["rattle"])

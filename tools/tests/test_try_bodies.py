@@ -1,13 +1,12 @@
-"""tools/try-bodies: what a check of one function says of a wrong body, as the kit judges it."""
+"""tools/try-bodies: what a check of one function says of a wrong body, as a stand-in for the kit judges it."""
 import contextlib
 import io
 import pathlib
-import shutil
 import subprocess
-import sys
 import tempfile
 import types
 import unittest
+import unittest.mock
 
 from loading import tool
 
@@ -17,7 +16,6 @@ REFUSED = "fn low::three: proved\nnote: src/lib.rt:3:1: it is not proved that wh
     "fn low::one: no proof: expected answers in ./proofs/one/Answers.antt\nonly=2 proved=1\n"
 REFUSED_BELOW = "note: src/lib.rt:9:1: it is not proved that what the function ensures holds when it returns (`returns`)\n" \
     "fn low::three: no proof: expected answers in ./proofs/three/Answers.antt\nfn low::one: proved\nonly=2 proved=1\n"
-NAMED = "./proofs/one/Answers.antt:4:5: error: `Fact` has no field `low`\nfn low::one: not proved\nonly=1 proved=0\n"
 ITS_CLOSURE = "note: src/lib.rt:2:1: it is not proved that what the function ensures holds when it returns (`returns`)\n" \
     "fn low::fn::one::map: no proof: expected answers in ./proofs/fn/one/map/Answers.antt\nfn low::one: proved\nonly=2 proved=1\n"
 CLOSURE_BELOW = REFUSED_BELOW.replace("fn low::one: proved", "fn low::fn::one::map: proved where its callers give what it asks\nfn low::one: proved")
@@ -33,14 +31,40 @@ class Crate(types.SimpleNamespace):
         return self.deps
 
 
+class Kept(types.SimpleNamespace):
+    """Stands in for the kit's: checks end as `ends` says, and an edit's try is judged by that."""
+
+    REFUSED, AT_LIMIT = "refused", "limit"
+
+    def __init__(self, **how) -> None:
+        super().__init__(texts=[], rt=self, **how)
+
+    def library(self, crate, is_only_given: bool) -> bool:
+        return is_only_given and crate.name in self.names
+
+    def checked(self, crate, texts, flags, kept) -> subprocess.CompletedProcess:
+        self.texts.append(texts)
+        return subprocess.CompletedProcess([], *self.ends.pop(0))
+
+    def must_fail(self, crate, edit, flags) -> tuple[str, str]:
+        label = f"must-fail {crate.name}/{pathlib.Path(edit).name}"
+        old, new = pathlib.Path(edit).read_text().partition("old: ")[2].split("\nnew: ")
+        code = pathlib.Path(crate.folder, "src/lib.rt").read_text()
+        if old not in code:
+            return "bad", f"{label}: BAD EDIT: its text isn't there"
+        ran = self.checked(crate, {"src/lib.rt": code.replace(old, new.rstrip())}, flags, None)
+        if ran.returncode == 0:
+            return "missed", f"{label}: NOT REFUSED"
+        if ran.returncode == 1 and ran.stdout.endswith("logic=not-proved"):
+            return self.REFUSED, f"{label}: refused, as it must be: {ran.stdout}"
+        return ("bad", f"{label}: BAD EDIT: it did not reach the prover") if ran.returncode == 1 else ("unsure", f"{label}: NOT TRIED")
+
+
 class Tried(unittest.TestCase):
-    """The kit's own must_fail, over checks that say what is told here."""
+    """Edits over checks that say what is told here."""
 
     def setUp(self) -> None:
-        if not shutil.which("rt"):
-            self.skipTest("no kit on the PATH")
         self.tool = tool("try-bodies")
-        self.rt, _ = self.tool.loaded("check-crate").kit()
         room = tempfile.TemporaryDirectory()
         self.addCleanup(room.cleanup)
         self.crate = self.of("low", room.name, EDIT)
@@ -56,24 +80,18 @@ class Tried(unittest.TestCase):
 
     def told(self, *checks: tuple[int, str], crates: list | None = None, kept: tuple = ("low",), unedited: bool = False) -> tuple[list[int], str]:
         """Returns how many were refused and how many weren't, and what was said, where the checks end like this, one after the other."""
-        ends, self.texts = list(checks), []
-
-        def checked(crate, texts, flags, kept):
-            self.texts.append(texts)
-            status, said = ends.pop(0)
-            return subprocess.CompletedProcess([], status, said)
-
-        self.rt.checked = checked
+        stand_in = Kept(ends=list(checks), names=kept)
         said = io.StringIO()
         with contextlib.redirect_stdout(said):
-            counts = self.tool.try_all(self.rt, None, crates or [self.crate], lambda _, it, is_only_given: is_only_given and it.name in kept, unedited)
-        self.assertEqual(ends, [])
+            counts = self.tool.try_all(stand_in, crates or [self.crate], unedited)
+        self.assertEqual(stand_in.ends, [])
+        self.texts = stand_in.texts
         return counts, said.getvalue()
 
     def test_what_its_goal_refuses_is_refused(self) -> None:
         counts, said = self.told((1, REFUSED))
         self.assertEqual(counts, [1, 0])
-        self.assertRegex(said, r"^low/one_is_two.edit: refused, as it must be: note: src/lib.rt:3:1: .*`returns`")
+        self.assertRegex(said, r"^low/one_is_two.edit: refused, as it must be: (.*\n)?note: src/lib.rt:3:1: .*`returns`")
         self.assertEqual([it["src/lib.rt"] for it in self.texts], [CODE.replace("1", "2")])
 
     def test_what_is_still_proved_is_not_refused(self) -> None:
@@ -91,11 +109,6 @@ class Tried(unittest.TestCase):
         counts, said = self.told((1, CLOSURE_BELOW))
         self.assertEqual(counts, [0, 1])
         self.assertIn("what isn't: low::three\n", said)
-
-    def test_a_refusal_by_a_proof_file_that_names_what_went_says_little(self) -> None:
-        counts, said = self.told((1, NAMED))
-        self.assertEqual(counts, [1, 0])
-        self.assertIn("says little of the contract", said)
 
     def test_a_path_that_no_function_has_is_a_bad_edit(self) -> None:
         for status, check in ((2, NO_FUNCTION), (2, SEVERAL), (1, ANOTHER), (0, "only=0 proved=0\n"), (0, "x\nonly=0 proved=0\n")):
@@ -132,34 +145,28 @@ class Tried(unittest.TestCase):
         self.assertIn("high/one_is_two.edit: NOT TRIED: low, on which it stands, isn't kept", said)
 
     def test_a_killed_check_is_not_tried(self) -> None:
-        counts, said = self.told((-9, ""), (-9, ""))
+        counts, said = self.told((-9, ""))
         self.assertEqual((counts, "NOT TRIED" in said), ([0, 1], True))
 
 
 class Called(unittest.TestCase):
-    def ran(self, *words: str, kit: str = "") -> subprocess.CompletedProcess[str]:
-        """Runs the tool in a repository with one crate, by a kit whose command rt is this text."""
-        with tempfile.TemporaryDirectory() as room:
-            (pathlib.Path(room) / "bin").mkdir()
-            (pathlib.Path(room) / "bin/rt").write_text(kit)
-            (pathlib.Path(room) / "repository").mkdir()
-            subprocess.run(["git", "init", "-q", f"{room}/repository"], check=True)
-            for name in ("try-bodies", "check-crate"):
-                text = (TOOLS / name).read_text().replace('BIN = "/opt/rattle/bin"', f'BIN = "{room}/bin"')
-                (pathlib.Path(room) / name).write_text(text)
-            return subprocess.run([sys.executable, f"{room}/try-bodies", *words], cwd=f"{room}/repository", capture_output=True, text=True)
+    def ran(self, *words: str, lacks: str = "") -> tuple[int, str]:
+        """Runs the tool in a repository with one crate, by a kit that lacks this. Returns its status and what it said."""
+        kept = types.SimpleNamespace(crates={"low": types.SimpleNamespace(name="low", folder="no")})
+        try_bodies, said = tool("try-bodies"), io.StringIO()
+        kit = types.SimpleNamespace(KEPT=(), lacking=lambda use: lacks, Kept=lambda top: kept)
+        with unittest.mock.patch.object(try_bodies, "kit", kit), unittest.mock.patch("sys.argv", ["try-bodies", *words]):
+            with contextlib.redirect_stdout(said), contextlib.redirect_stderr(said):
+                return try_bodies.main(), said.getvalue()
 
     def test_a_kit_that_keeps_nothing_tries_none(self) -> None:
-        ran = self.ran(kit="rtlib = None\n")
-        self.assertEqual((ran.returncode, ran.stderr), (3, ""))
-        self.assertRegex(ran.stdout, r"\Atry-bodies: this kit keeps no libraries.*: none was tried\n\Z")
+        status, said = self.ran(lacks="rt of the kit has no Kept")
+        self.assertEqual(status, 3)
+        self.assertRegex(said, r"\Atry-bodies: rt of the kit has no Kept: .*so none was tried\n\Z")
 
     def test_a_crate_that_is_none_is_refused(self) -> None:
-        kit = "import types\nclass Kept: pass\nclass Crate: pass\ndef handles_of(top): return ()\n" \
-            "rtlib = types.SimpleNamespace(guarded=list, crates_below=lambda top: [types.SimpleNamespace(name='low', folder=top)])\n"
         for name, why in (("elves", "there is no crate elves"), ("low", "crates/low/wrong-bodies/ has no edit")):
-            ran = self.ran(name, kit=kit)
-            self.assertEqual((ran.returncode, ran.stdout, ran.stderr), (2, "", f"try-bodies: {why}\n"))
+            self.assertEqual(self.ran(name), (2, f"try-bodies: {why}\n"))
 
 
 class Edits(unittest.TestCase):

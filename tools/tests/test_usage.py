@@ -46,13 +46,11 @@ class Usage(unittest.TestCase):
                 self.assertNotIn("Traceback", said.stderr)
                 self.assertEqual(os.listdir(room), [])
 
-    def test_a_crate_is_checked_from_outside_of_the_repository_by_no_traceback(self) -> None:
+    def test_a_crate_that_is_none_is_told_by_no_traceback(self) -> None:
         with tempfile.TemporaryDirectory() as room:
-            said = subprocess.run([TOP / "tools/check-crate", "words"], cwd=room, stdin=subprocess.DEVNULL, capture_output=True,
+            said = subprocess.run([TOP / "tools/check-crate", "elves"], cwd=room, stdin=subprocess.DEVNULL, capture_output=True,
                                   text=True, timeout=20)
-        self.assertNotEqual(said.returncode, 0)
-        self.assertNotIn("Traceback", said.stderr)
-        self.assertIn("repository", said.stderr)
+        self.assertEqual((said.returncode, said.stdout, said.stderr), (1, "", "check-crate: elves is no crate of crates.txt\n"))
 
 
 if __name__ == "__main__":
