@@ -341,6 +341,11 @@ def bfd(given: Try) -> None:
     with_pair(given, lambda it: one_way(given, it), "BIRD")
 
 
+def bfd_outage(given: Try) -> None:
+    """A link falls silent once, at a box beside BIRD."""
+    with_pair(given, lambda it: told_outages(given, it, "a box beside BIRD", 1), "BIRD")
+
+
 def bfd_holds(given: Try) -> None:
     """What must cut no adjacency: wrong keys, a neighbor without BFD, forged packets, a process that
     is killed, AdminDown."""
@@ -375,19 +380,19 @@ def named(key: Secret | None) -> str:
     return key.algorithm if key else "no key"
 
 
-def told_outages(given: Try, it: Watched, who: str) -> None:
+def told_outages(given: Try, it: Watched, who: str, times: int = TIMES) -> None:
     looks = given.looks
     if not looks.timed(f"{who}: Full, and both sessions Up", COMES_UP, it.is_up):
         return
     bridge = it.bridges[0]
     seconds = [
         undisturbed(it, lambda: it.network.silence(bridge), lambda: it.network.silence(bridge, False))
-        for _ in range(TIMES)
+        for _ in range(times)
     ]
     said = f"{statistics.median(seconds):.2f} s, {min(seconds):.2f} to {max(seconds):.2f} s"
     what = f"{who}: a silent loss is in the kernel's table"
     if isinstance(it.tried, Box):
-        looks.look(f"{what} within {MOST} s, {TIMES} times", max(seconds) <= MOST, said)
+        looks.look(f"{what} within {MOST} s, {times} times", max(seconds) <= MOST, said)
     else:
         print(f"     beside it: {what}: {said}", flush=True)
 
