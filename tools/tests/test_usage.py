@@ -6,12 +6,10 @@ import tempfile
 import unittest
 
 TOP = pathlib.Path(__file__).resolve().parent.parent.parent
-# What other tools read or run in parts, no command of its own.
-PARTS = {"interpreters-parts", "scale-parts", "tests"}
 
 
 def commands() -> list[pathlib.Path]:
-    return [*(it for it in sorted((TOP / "tools").iterdir()) if it.name not in PARTS and it.is_file()), TOP / "demo"]
+    return [*(it for it in sorted((TOP / "tools").iterdir()) if it.is_file()), TOP / "demo", TOP / "check"]
 
 
 def ran(command: pathlib.Path, word: str) -> subprocess.CompletedProcess[str]:

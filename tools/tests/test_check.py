@@ -1,0 +1,179 @@
+"""./check: which parts files can break, what each part came to, and how it ends."""
+import contextlib
+import io
+import os
+import pathlib
+import subprocess
+import sys
+import tempfile
+import unittest
+import unittest.mock
+
+from loading import TOOLS, tool
+
+sys.path.append(str(TOOLS / "check-parts"))
+import network
+import packages
+import parts
+import playing
+
+TOP = TOOLS.parent
+TESTS = """import unittest
+
+
+class Some(unittest.TestCase):
+    def test_good(self): pass
+    def test_bad(self): self.fail("it is bad")
+    def test_left_out(self): self.skipTest("no gnuplot")
+    def test_of_parts(self):
+        for it in (1, 2, 3):
+            with self.subTest(it): self.assertEqual(it, 1)
+
+
+class NoneOfThese(unittest.TestCase):
+    @classmethod
+    def setUpClass(cls): raise OSError("no folder")
+    def test_never(self): pass
+"""
+
+
+class Chosen(unittest.TestCase):
+    def names(self, *paths: str) -> set[str]:
+        return {it.name for it in parts.broken_by(list(paths), parts.everything())}
+
+    def test_a_page_is_read_and_its_answers_are_compared(self) -> None:
+        self.assertEqual(self.names("docs/use/TUTORIAL.md"), {"names", "answers", "build-routerd", "build-hooktool"})
+
+    def test_a_row_is_played_by_all_programs(self) -> None:
+        self.assertEqual(self.names("trials/texts.rows"), {"names", "tools", "rows", *(f"build-{it}" for it in parts.PROGRAMS)})
+
+    def test_a_module_of_the_box_has_its_tests(self) -> None:
+        self.assertEqual(self.names("host/leafrunt_host/box.py"), {"names", "host", "lints"})
+
+    def test_code_of_a_crate_is_compiled_where_a_program_has_it(self) -> None:
+        crates = {it: parts.crates_below(it) for it in parts.PROGRAMS}
+        alone = sorted(crates["hooktool"] - crates["routerd"] - crates["simulation"] - {"hooktool"})[0]
+        found = self.names(f"crates/{alone}/src/lib.rt")
+        self.assertLessEqual({"build-hooktool", "rows", "answers", "types", "private", "lints"}, found)
+
+    def test_each_part_has_a_file_that_breaks_it_and_stands_on_parts_that_are_there(self) -> None:
+        files = subprocess.run([sys.executable, "-c", "import clone; print(*clone.files(), sep='\\n')"], cwd=TOOLS, capture_output=True, text=True).stdout.split("\n")
+        known = parts.everything()
+        for part in known:
+            with self.subTest(part.name):
+                self.assertIn(part, parts.broken_by(files, [part]))
+                self.assertLessEqual(set(part.after), {it.name for it in known})
+
+
+class Counted(unittest.TestCase):
+    def part(self, name: str) -> parts.Part:
+        return next(it for it in parts.everything() if it.name == name)
+
+    def test_tests_of_a_folder(self) -> None:
+        with tempfile.TemporaryDirectory() as room:
+            pathlib.Path(room, "test_some.py").write_text(TESTS)
+            pathlib.Path(room, "test_broken.py").write_text("import nothing_of_this_name\n")
+            results = pathlib.Path(room, "results")
+            ran = subprocess.run([sys.executable, TOOLS / "check-parts/unittests.py", results, room, room], capture_output=True, text=True)
+            count = playing.of_tests(self.part("tools"), results, ran.stdout, ran.returncode)
+        self.assertEqual((ran.returncode, count.passed), (1, 1))
+        self.assertIn("it is bad", ran.stdout)
+        self.assertEqual(count.skipped, [("tools: test_some.Some.test_left_out", "no gnuplot")])
+        names = ["test_broken", "test_some.NoneOfThese", "test_some.Some.test_bad", "test_some.Some.test_of_parts"]
+        self.assertEqual(sorted(count.failed), [(f"tools: {it}", f"cd tools/tests && python3 -m unittest {it}") for it in names])
+
+    def test_tests_that_end_without_a_word_failed(self) -> None:
+        count = playing.of_tests(self.part("host"), pathlib.Path("/nowhere"), "", -9)
+        self.assertEqual((count.passed, count.failed), (0, [("host: ended with status -9", "./check --only host")]))
+
+    def test_rows(self) -> None:
+        said = "texts.rows: spells bytes: line 9: 'x'\nrun-trials: 536 cases, 531 commands, 1 wrong\n"
+        count = playing.of_numbers(self.part("rows"), said, 1)
+        self.assertEqual(count.last_line(), "535 passed, 1 failed, 0 skipped")
+        self.assertEqual(count.failed, [("rows: texts.rows: spells bytes: line 9: 'x'", "tools/run-trials --bin build/unproved trials/texts.rows")])
+
+    def test_answers(self) -> None:
+        said = "docs/use/TUTORIAL.md:9: $ routerd verify x\n  written: ['a']\n  found:   ['b']\ncheck-answers: 212 answers, 1 differ\n"
+        count = playing.of_numbers(self.part("answers"), said, 1)
+        self.assertEqual(count.last_line(), "211 passed, 1 failed, 0 skipped")
+        self.assertEqual(count.failed[0][0], "answers: docs/use/TUTORIAL.md:9: $ routerd verify x")
+
+    def test_a_tool_that_ends_by_a_fault_of_its_own_failed(self) -> None:
+        self.assertEqual(len(playing.of_numbers(self.part("rows"), "Traceback\n", 1).failed), 1)
+
+    def test_looks_of_the_network(self) -> None:
+        found, part = network.Played(), ""
+        for line in ("== ring: Four routers.", "yes  Full", "NO   a route", "yes  no program is left behind (9 s)", "== peers: Others.", "yes  Full"):
+            part = found.see(line, part)
+        self.assertEqual((found.good, found.bad), ({"ring": 2, "peers": 1}, {"ring": ["a route"], "peers": []}))
+        self.assertEqual((found.has_ended("ring"), found.has_ended("peers")), (True, False))
+
+
+class Packages(unittest.TestCase):
+    def test_the_package_that_a_skipped_test_wants(self) -> None:
+        with unittest.mock.patch.object(packages, "is_there", return_value=False):
+            for reason, package in (("no gnuplot", "gnuplot-nox"), ("clang or llvm-objdump is not here", "clang"), ("no C compiler", "gcc"),
+                                    ("no promtool: it's of Debian's prometheus", "prometheus"), ("this needs root", "")):
+                self.assertEqual(packages.named_in(reason), package, reason)
+
+    def test_without_root_the_command_is_told(self) -> None:
+        with unittest.mock.patch("os.geteuid", return_value=1000), unittest.mock.patch("shutil.which", return_value="/usr/bin/apt-get"):
+            self.assertIn("apt-get install --no-install-recommends bird2", packages.install(["bird2"]))
+
+
+class Rounds(unittest.TestCase):
+    """Parts of three lines, each a command of its own."""
+
+    def played(self, *words: tuple[str, tuple[str, ...], str]) -> tuple[playing.Count, str]:
+        made = [parts.Part(name, "some", ("sh", "-c", command), (), 1, after=after) for name, after, command in words]
+        said = io.StringIO()
+        with contextlib.redirect_stdout(said):
+            return playing.played(made, 2), said.getvalue()
+
+    def test_what_stands_on_a_part_that_failed_is_skipped(self) -> None:
+        count, said = self.played(("one", (), "echo broken; exit 1"), ("two", ("one",), "exit 0"), ("three", ("two",), "exit 0"), ("four", (), "exit 0"))
+        self.assertEqual(count.last_line(), "1 passed, 1 failed, 2 skipped")
+        self.assertEqual(count.skipped, [("two", "one didn't pass"), ("three", "two didn't pass")])
+        self.assertIn("\nbroken\n", said)
+
+    def test_what_is_begun_ends_with_it(self) -> None:
+        with tempfile.TemporaryDirectory() as room, self.assertRaises(KeyboardInterrupt):
+            with unittest.mock.patch.object(playing.Round, "end", side_effect=KeyboardInterrupt):
+                self.played(("one", (), f"sleep 60; touch {room}/ended"))
+        self.assertFalse(os.path.exists(f"{room}/ended"))
+
+
+class Called(unittest.TestCase):
+    def ran(self, *words: str, top: pathlib.Path = TOP) -> subprocess.CompletedProcess[str]:
+        return subprocess.run([sys.executable, top / "check", *words], stdin=subprocess.DEVNULL, capture_output=True, text=True, timeout=120)
+
+    def test_a_part_alone(self) -> None:
+        ran = self.ran("--only", "rooms")
+        self.assertEqual((ran.returncode, ran.stderr, ran.stdout.splitlines()[-1]), (0, "", "1 passed, 0 failed, 0 skipped"))
+
+    def test_what_is_not_there_is_refused(self) -> None:
+        for words in (("--only", "elves"), ("no/such/file",), ("/etc/passwd",)):
+            ran = self.ran(*words)
+            self.assertEqual((ran.returncode, ran.stdout), (2, ""), words)
+
+    def test_planted_faults_are_found_with_what_repeats_them(self) -> None:
+        faults = (
+            ("rooms", "crates.txt", "lsdb", "lsbd", "tools/check-rooms"),
+            ("lints", "host/leafrunt_host/words.py", "def ", "def def ", "lints.py"),
+            ("names", "docs/use/HOST.md", "docs/use/OPERATING.md", "docs/use/OPERATION.md", "tools/check-names"),
+        )
+        with tempfile.TemporaryDirectory() as room:
+            copy = tool("try-anywhere").copied(pathlib.Path(room, "copy"))
+            for part, file, old, new, command in faults:
+                with self.subTest(file):
+                    text = (copy / file).read_text()
+                    self.assertIn(old, text)
+                    (copy / file).write_text(text.replace(old, new, 1))
+                    ran = self.ran("--only", part, top=copy)
+                    (copy / file).write_text(text)
+                    self.assertEqual((ran.returncode, ran.stdout.splitlines()[-1]), (1, "0 passed, 1 failed, 0 skipped"), ran.stdout)
+                    self.assertIn(command, ran.stdout.splitlines()[-2])
+
+
+if __name__ == "__main__":
+    unittest.main()
