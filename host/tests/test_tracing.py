@@ -3,6 +3,7 @@ import contextlib
 import fcntl
 import logging
 import os
+import shlex
 import signal
 import subprocess
 import sys
@@ -113,7 +114,7 @@ class Journals(unittest.TestCase):
 class Streams(unittest.TestCase):
     def test_closed_ones(self) -> None:
         """Whichever of the standard streams are closed, a command does what it does."""
-        words = f"{sys.executable} {LEAFRUNT} check /none.toml"
+        words = shlex.join([sys.executable, str(LEAFRUNT), "check", "/none.toml"])
         for closed in ("0<&-", "1>&-", "2>&-", "0<&- 1>&- 2>&-"):
             ran = subprocess.run(["sh", "-c", f"{words} {closed}"], capture_output=True, check=False)
             with self.subTest(closed):
