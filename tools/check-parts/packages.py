@@ -23,9 +23,10 @@ PACKAGES = {
     "gnuplot-nox": ("gnuplot", "draws the figures of tools/scale-plot"),
     "systemd": ("systemd-analyze", "judges the unit of a box"),
 }
-# What each part of ./check uses of them.
+# What the network is made of.
 NETWORK = ("iproute2", "bird2", "frr", "tcpdump", "util-linux")
-C = ("clang", "llvm")
+# The Python that Debian's packages of Python modules are for.
+DEBIANS = "/usr/bin/python3"
 
 
 def is_there(package: str) -> bool:
@@ -71,5 +72,10 @@ def install(packages: list[str]) -> str:
     if apt(*words, *packages):
         for each in packages:
             apt(*words, each)
-    left = lacking(packages)
+    left = [it for it in lacking(packages) if not (it.startswith("python3-") and sys.executable != DEBIANS)]
     return f"apt-get installed no {' '.join(left)}" if left else ""
+
+
+def of_another_python() -> list[str]:
+    """Returns the packages that Debian's Python has and this one hasn't."""
+    return [it for it in lacking() if it.startswith("python3-") and sys.executable != DEBIANS]

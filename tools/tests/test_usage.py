@@ -13,7 +13,7 @@ def commands() -> list[pathlib.Path]:
 
 
 def ran(command: pathlib.Path, word: str) -> subprocess.CompletedProcess[str]:
-    return subprocess.run([command, word], cwd=TOP, stdin=subprocess.DEVNULL, capture_output=True, text=True, timeout=20)
+    return subprocess.run([command, word], cwd=TOP, stdin=subprocess.DEVNULL, capture_output=True, text=True, timeout=120)
 
 
 class Usage(unittest.TestCase):
@@ -38,7 +38,7 @@ class Usage(unittest.TestCase):
                       ["try-package", "/nowhere"], ["check-answers", "/nowhere"], ["check-names", "/nowhere"]):
             with self.subTest(words=words), tempfile.TemporaryDirectory() as room:
                 said = subprocess.run([TOP / "tools" / words[0], *words[1:]], cwd=room, env={**os.environ, "TMPDIR": room},
-                                      stdin=subprocess.DEVNULL, capture_output=True, text=True, timeout=20)
+                                      stdin=subprocess.DEVNULL, capture_output=True, text=True, timeout=120)
                 self.assertEqual((said.returncode, said.stdout), (2, ""), said.stderr)
                 self.assertIn("/nowhere", said.stderr.splitlines()[-1])
                 self.assertNotIn("Traceback", said.stderr)
@@ -47,7 +47,7 @@ class Usage(unittest.TestCase):
     def test_a_crate_that_is_none_is_told_by_no_traceback(self) -> None:
         with tempfile.TemporaryDirectory() as room:
             said = subprocess.run([TOP / "tools/check-crate", "elves"], cwd=room, stdin=subprocess.DEVNULL, capture_output=True,
-                                  text=True, timeout=20)
+                                  text=True, timeout=120)
         self.assertEqual((said.returncode, said.stdout, said.stderr), (1, "", "check-crate: elves is no crate of crates.txt\n"))
 
 
