@@ -55,7 +55,7 @@ def main() -> int:
         faults.append(said_by("rattle", "fmt", "--check", *rattle[at : at + 500]))
     faults = [it for it in faults if it]
     print(*faults, sep="\n", end="\n" if faults else "")
-    left_out = "" if has_rattle or not rattle else f"; {len(rattle)} of Rattle not read: there is no command `rattle`"
+    left_out = "" if has_rattle or not rattle else f"; {len(rattle)} of Rattle left out: there is no command `rattle`"
     print(f"lints: {len([it for it in kinds.values() if it])} files, {len(faults)} faults{left_out}")
     return 1 if faults else 0
 

@@ -25,12 +25,10 @@ PACKAGES = {
 }
 # What the network is made of.
 NETWORK = ("iproute2", "bird2", "frr", "tcpdump", "util-linux")
-# The Python that Debian's packages of Python modules are for.
-DEBIANS = "/usr/bin/python3"
 
 
 def is_there(package: str) -> bool:
-    """Returns whether what a package brings is there, whoever brought it."""
+    """Returns whether what a package brings is there for this Python, whoever brought it."""
     name = PACKAGES[package][0]
     if package.startswith("python3-"):
         return importlib.util.find_spec(name) is not None
@@ -57,8 +55,15 @@ def apt(*words: str) -> int:
     return subprocess.run(["apt-get", "-q", *words], env=env, stdin=subprocess.DEVNULL, stdout=sys.stderr).returncode
 
 
+def is_installed(package: str) -> bool:
+    """Returns whether Debian has a package, of which this Python may see nothing."""
+    how = {"stdin": subprocess.DEVNULL, "capture_output": True, "text": True}
+    return shutil.which("dpkg-query") is not None and "ok installed" in subprocess.run(["dpkg-query", "-W", "-f", "${Status}", package], **how).stdout
+
+
 def install(packages: list[str]) -> str:
     """Installs packages on Debian as root. Returns why they couldn't be, or nothing."""
+    packages = [it for it in packages if not (it.startswith("python3-") and is_installed(it))]
     if not packages:
         return ""
     if shutil.which("apt-get") is None or not pathlib.Path("/etc/debian_version").exists():
@@ -72,10 +77,5 @@ def install(packages: list[str]) -> str:
     if apt(*words, *packages):
         for each in packages:
             apt(*words, each)
-    left = [it for it in lacking(packages) if not (it.startswith("python3-") and sys.executable != DEBIANS)]
+    left = [it for it in lacking(packages) if not is_installed(it)]
     return f"apt-get installed no {' '.join(left)}" if left else ""
-
-
-def of_another_python() -> list[str]:
-    """Returns the packages that Debian's Python has and this one hasn't."""
-    return [it for it in lacking() if it.startswith("python3-") and sys.executable != DEBIANS]

@@ -69,11 +69,13 @@ def before_programs() -> list[Part]:
     ]
 
 
-def builds() -> list[Part]:
-    """Returns the parts that compile programs without proof."""
+def builds(is_for_network: bool) -> list[Part]:
+    """Returns the parts that compile programs without proof; a router of the network is optimized, as 10,000 LSAs are too many for another."""
     lacks = kit.lacking(kit.BUILD)
+    level = {"routerd": ("--optimize", "2")} if is_for_network else {}
     return [
-        Part(f"build-{it}", f"{it} compiles, without proof", ("tools/quick-build", it), (*sources_of(it), "tools/quick-build", "tools/kit/*"), 100, lacks=lacks)
+        Part(f"build-{it}", f"{it} compiles, without proof", ("tools/quick-build", it, *level.get(it, ())),
+             (*sources_of(it), "tools/quick-build", "tools/kit/*"), 100, lacks=lacks)
         for it in PROGRAMS
     ]
 
@@ -92,10 +94,10 @@ def over_programs(place: str) -> list[Part]:
     ]
 
 
-def everything() -> list[Part]:
+def everything(is_for_network: bool = False) -> list[Part]:
     """Returns all parts but the network, in the order in which they begin: first those that take seconds, then the long ones."""
     quick, others = before_programs()[:3], before_programs()[3:]
-    return [*quick, *builds(), *others, *over_programs(UNPROVED)]
+    return [*quick, *builds(is_for_network), *others, *over_programs(UNPROVED)]
 
 
 def broken_by(paths: list[str], parts: list[Part]) -> list[Part]:

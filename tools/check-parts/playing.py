@@ -16,6 +16,7 @@ TOP = pathlib.Path(__file__).resolve().parent.parent.parent
 LOOKS_EACH, TELLS_EACH = 0.2, 30.0
 # Memory in GB that a part that compiles a program may take.
 GB_EACH = 2.5
+LEFT_OUT = re.compile(r"(?m)^\S+: \d+ .*; (.* left out): (.*)$")
 # So many tests that fail beside others are run once more, alone: some are about time. More are no accident.
 MOST_AGAIN = 20
 
@@ -118,6 +119,9 @@ class Playing:
             count = Count(passed=0 if status else 1)
             if status:
                 count.failed.append((f"{self.part.name}: {self.part.about}", " ".join(self.part.words)))
+        # (what a part says in its last line that it couldn't do, as without clang)
+        if left_out := LEFT_OUT.search(said):
+            count.skipped.append((f"{self.part.name}: {left_out[1]}", left_out[2]))
         if count.failed:
             print("\n".join(said.splitlines()[-200:]), flush=True)
         return count

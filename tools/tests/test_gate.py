@@ -14,6 +14,7 @@ class Gate(unittest.TestCase):
     def ran(self, **steps: str) -> tuple[int, list[str]]:
         """Returns the status and the lines of a run whose steps are these texts of sh."""
         texts = {"check": "echo '5 passed, 0 failed, 1 skipped'", "tools/check-kit": "echo kit", "tools/gate-progress": "echo '83 passed, 0 failed'",
+                 "tools/try-anywhere": "echo '2 passed, 0 failed, 0 skipped'",
                  "tools/try-bodies": "echo '23 refused, 0 not'", "docs/work/GATE.md": ""} | steps
         with tempfile.TemporaryDirectory() as room:
             for name, text in texts.items():
@@ -28,17 +29,17 @@ class Gate(unittest.TestCase):
 
     def test_its_last_line_adds_up_all_steps(self) -> None:
         status, lines = self.ran()
-        self.assertEqual((status, lines[-1]), (0, "93 passed, 0 failed, 2 skipped"))
+        self.assertEqual((status, lines[-1]), (0, "95 passed, 0 failed, 2 skipped"))
 
     def test_a_step_that_failed_keeps_no_crate_from_being_proved(self) -> None:
-        for said, last in (("echo '4 passed, 2 failed, 0 skipped'; exit 1", "87 passed, 2 failed, 0 skipped"), ("exit 1", "83 passed, 1 failed, 0 skipped")):
+        for said, last in (("echo '4 passed, 2 failed, 0 skipped'; exit 1", "89 passed, 2 failed, 0 skipped"), ("exit 1", "85 passed, 1 failed, 0 skipped")):
             status, lines = self.ran(check=f'[ "$1" = --gate ] || exit 0; {said}')
             self.assertEqual((status, lines[-1]), (1, last))
             self.assertIn("gate: FAILED: ./check", lines)
             self.assertIn("83 passed, 0 failed", lines)
 
     def test_a_proof_that_failed_is_counted(self) -> None:
-        for said, last in (("echo '80 passed, 3 failed'; exit 1", "85 passed, 3 failed, 1 skipped"), ("exit 2", "5 passed, 1 failed, 1 skipped")):
+        for said, last in (("echo '80 passed, 3 failed'; exit 1", "87 passed, 3 failed, 1 skipped"), ("exit 2", "7 passed, 1 failed, 1 skipped")):
             status, lines = self.ran(**{"tools/gate-progress": said})
             self.assertEqual((status, lines[-1]), (1, last))
 
