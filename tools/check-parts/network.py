@@ -8,17 +8,16 @@ import signal
 import subprocess
 import sys
 import tempfile
-import time
 
 import packages
 from playing import Count, says
 
 TOP = pathlib.Path(__file__).resolve().parent.parent.parent
-PROGRAM = "host/try-network"
+PROGRAM, ROUTERD = "host/try-network", TOP / "build/unproved/routerd"
 # What the gate plays: an area, its externals, other routers, transit traffic, a reload, BFD, a broken neighbor, the limits.
 OF_GATE = ("transit", "reload", "ring", "bfd-outage", "faults", "limits", "peers", "externals")
-# Seconds that the gate gives to all of them, and to one that is played once more, alone.
-LONGEST, ALONE = 8 * 60, 4 * 60
+# Seconds that the gate gives to all of them (they are removed within the eighth minute), and to one that is played once more, alone.
+LONGEST, ALONE = 7 * 60, 10 * 60
 # Seconds for what is ended to remove all that it made.
 LEFT = 120
 PART, LOOK = re.compile(r"== ([\w-]+): "), re.compile(r"(yes|NO )  (.*)")
@@ -28,7 +27,7 @@ class Played:
     """What try-network said: for each part its looks, those that weren't as they must be, and its lines."""
 
     def __init__(self) -> None:
-        self.good, self.bad, self.lines, self.status, self.complaint = {}, {}, {}, 0, ""
+        self.good, self.bad, self.lines, self.status, self.complaint, self.is_cut_off = {}, {}, {}, 0, "", False
 
     def see(self, line: str, part: str) -> str:
         """Takes a line, and returns the part that it is of."""
@@ -52,13 +51,17 @@ class Played:
 def play(words: list[str], seconds: float | None) -> Played:
     """Runs try-network with these words, for so long at most, and prints a line for each part that has ended."""
     found, part, told = Played(), "", set()
-    last = time.monotonic() + seconds if seconds else None
+
+    def cut_off(*_: object) -> None:
+        found.is_cut_off = True
+        ran.terminate()
+
     with tempfile.TemporaryFile() as complaint:
         how = {"stdin": subprocess.DEVNULL, "stdout": subprocess.PIPE, "stderr": complaint, "start_new_session": True}
         ran = subprocess.Popen([sys.executable, PROGRAM, *words], cwd=TOP, **how)
-        if last:
-            signal.signal(signal.SIGALRM, lambda *_: ran.terminate())
-            signal.alarm(max(1, round(seconds)))
+        if seconds:
+            signal.signal(signal.SIGALRM, cut_off)
+            signal.alarm(round(seconds))
         try:
             for line in ran.stdout:
                 part = found.see(line.decode(errors="replace").rstrip("\n"), part)
@@ -73,6 +76,7 @@ def play(words: list[str], seconds: float | None) -> Played:
                 with contextlib.suppress(subprocess.TimeoutExpired):
                     ran.wait(LEFT)
                 ran.kill()
+            ran.stdout.close()
         complaint.seek(0)
         found.complaint = complaint.read().decode(errors="replace").strip()
     return found
@@ -81,7 +85,7 @@ def play(words: list[str], seconds: float | None) -> Played:
 def routerd_for_boxes(room: str) -> str:
     """Returns a copy of routerd that the user of a box may run, wherever the clone is."""
     os.chmod(room, 0o755)
-    shutil.copy(TOP / "build/unproved/routerd", f"{room}/routerd")
+    shutil.copy(ROUTERD, f"{room}/routerd")
     os.chmod(f"{room}/routerd", 0o755)
     return f"{room}/routerd"
 
@@ -119,13 +123,13 @@ def played(is_gate: bool, processors: int) -> Count:
     count, lanes = Count(), 2 * processors
     wanted = list(OF_GATE) if is_gate else known_parts()
     why = why_not(installs=is_gate)
-    if not why and not (TOP / "build/unproved/routerd").is_file():
+    if not why and not ROUTERD.is_file():
         why = "routerd isn't built"
     if why:
         says(f"the network is skipped: {why}")
         count.skipped += [(f"network: {it}", why) for it in wanted]
         return count
-    limit = f", {LONGEST // 60} minutes at most" if is_gate else ""
+    limit = ", eight minutes at most" if is_gate else ""
     says(f"begins the network, {len(wanted)} parts, {lanes} at once{limit}")
     with tempfile.TemporaryDirectory(prefix="leafrunt-routerd-") as room:
         routerd = routerd_for_boxes(room)
@@ -137,8 +141,10 @@ def played(is_gate: bool, processors: int) -> Count:
             count.skipped += [(f"network: {it}", why) for it in wanted]
             return count
         for part in wanted:
-            if part not in found.good:
-                count.skipped.append((f"network: {part}", "no time was left for it"))
+            if part not in found.good and found.is_cut_off:
+                count.skipped.append((f"network: {part}", "it wasn't played to its end in the time that was given"))
+            elif part not in found.good:
+                count.failed.append((f"network: {part}: it wasn't played: {found.complaint[-200:]}", f"{PROGRAM} --only {part} --routerd build/unproved/routerd"))
             elif found.bad[part] or not found.has_ended(part):
                 print("\n".join(found.lines[part]), flush=True)
                 once_more(part, routerd, count, ALONE if is_gate else None)

@@ -109,6 +109,53 @@ class Counted(unittest.TestCase):
         self.assertEqual((found.has_ended("ring"), found.has_ended("peers")), (True, False))
 
 
+class OfTheNetwork(unittest.TestCase):
+    """The network by a stand-in for try-network, a script of sh for each time that it is played."""
+
+    def played(self, *scripts: str, **constants: object) -> tuple[playing.Count, str]:
+        with tempfile.TemporaryDirectory() as room, contextlib.ExitStack() as mocked:
+            for at, text in enumerate(scripts):
+                pathlib.Path(room, str(at)).write_text(text)
+            program = pathlib.Path(room, "try-network")
+            program.write_text(f"import os, pathlib\nat = len(os.listdir('{room}')) - {len(scripts) + 1}\npathlib.Path('{room}', f'begun-{{at}}').touch()\n"
+                               f"os.execv('/bin/sh', ['sh', f'{room}/{{at}}'])\n")
+            for name, it in {"PROGRAM": str(program), "OF_GATE": ("ring", "peers"), **constants}.items():
+                mocked.enter_context(unittest.mock.patch.object(network, name, it))
+            mocked.enter_context(unittest.mock.patch.object(network, "why_not", return_value=""))
+            mocked.enter_context(unittest.mock.patch.object(network, "routerd_for_boxes", return_value=f"{room}/routerd"))
+            mocked.enter_context(unittest.mock.patch.object(network, "ROUTERD", pathlib.Path(sys.executable)))
+            said = io.StringIO()
+            with contextlib.redirect_stdout(said):
+                return network.played(True, 2), said.getvalue()
+
+    RING, PEERS = "echo '== ring: It.'; echo 'yes  Full'; ", "echo '== peers: It.'; echo 'yes  no program is left behind (1 s)'; "
+    ENDS = "echo 'yes  no program is left behind (1 s)'; "
+
+    def test_all_is_as_it_must_be(self) -> None:
+        count, _ = self.played(self.RING + self.ENDS + self.PEERS)
+        self.assertEqual(count.last_line(), "3 passed, 0 failed, 0 skipped")
+
+    def test_a_part_that_fails_is_played_once_more_alone(self) -> None:
+        first = self.RING + "echo 'NO   a route'; " + self.ENDS + self.PEERS + "exit 1"
+        count, said = self.played(first, self.RING + self.ENDS)
+        self.assertEqual(count.last_line(), "3 passed, 0 failed, 0 skipped")
+        self.assertIn("check: network: ring is played once more, alone", said)
+        count, _ = self.played(first, self.RING + "echo 'NO   a route'; " + self.ENDS + "exit 1")
+        self.assertEqual((len(count.failed), count.failed[0][0]), (1, "network: ring: a route"))
+
+    def test_a_part_that_is_not_played_failed(self) -> None:
+        count, _ = self.played(self.PEERS + "echo 'a fault' >&2; exit 1")
+        self.assertEqual([name for name, _ in count.failed], ["network: ring: it wasn't played: a fault"])
+
+    def test_what_the_time_cuts_off_is_skipped_by_name(self) -> None:
+        count, _ = self.played(self.PEERS + "exec sleep 60", LONGEST=10)
+        self.assertEqual((count.last_line(), count.skipped[0][0]), ("1 passed, 0 failed, 1 skipped", "network: ring"))
+
+    def test_where_it_cannot_be_played_each_part_is_skipped_by_name(self) -> None:
+        count, _ = self.played("echo 'try-network: no network namespace can be had: no' >&2; exit 2")
+        self.assertEqual(count.skipped, [(f"network: {it}", "try-network: no network namespace can be had: no") for it in ("ring", "peers")])
+
+
 class Packages(unittest.TestCase):
     def test_the_package_that_a_skipped_test_wants(self) -> None:
         with unittest.mock.patch.object(packages, "is_there", return_value=False):
