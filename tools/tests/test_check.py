@@ -45,7 +45,7 @@ class Chosen(unittest.TestCase):
         self.assertEqual(self.names("docs/use/TUTORIAL.md"), {"names", "answers", "build-routerd", "build-hooktool"})
 
     def test_a_row_is_played_by_all_programs(self) -> None:
-        self.assertEqual(self.names("trials/texts.rows"), {"names", "tools", "rows", *(f"build-{it}" for it in parts.PROGRAMS)})
+        self.assertEqual(self.names("trials/texts.rows"), {"names", "rows", *(f"build-{it}" for it in parts.PROGRAMS)})
 
     def test_a_module_of_the_box_has_its_tests(self) -> None:
         self.assertEqual(self.names("host/leafrunt_host/box.py"), {"names", "host", "lints"})
