@@ -23,6 +23,10 @@ PACKAGES = {
     "gnuplot-nox": ("gnuplot", "draws the figures of tools/scale-plot"),
     "systemd": ("systemd-analyze", "judges the unit of a box"),
 }
+# What a run of apt-get may take.
+SECONDS = 900
+# Packages whose services Debian starts at once; no test needs these.
+SERVICES = {"bird2": "bird", "frr": "frr", "prometheus": "prometheus"}
 # What the network is made of.
 NETWORK = ("iproute2", "bird2", "frr", "tcpdump", "util-linux")
 
@@ -50,9 +54,13 @@ def named_in(reason: str) -> str:
 
 
 def apt(*words: str) -> int:
-    """Runs apt-get without questions, and returns its status."""
+    """Runs apt-get without questions, for some minutes at most, and returns its status."""
     env = {**os.environ, "DEBIAN_FRONTEND": "noninteractive", "LC_ALL": "C.UTF-8"}
-    return subprocess.run(["apt-get", "-q", *words], env=env, stdin=subprocess.DEVNULL, stdout=sys.stderr).returncode
+    patience = ["-o", "Acquire::Retries=1", "-o", "Acquire::http::Timeout=30", "-o", "DPkg::Lock::Timeout=120"]
+    try:
+        return subprocess.run(["apt-get", "-q", *patience, *words], env=env, stdin=subprocess.DEVNULL, stdout=sys.stderr, timeout=SECONDS).returncode
+    except subprocess.TimeoutExpired:
+        return 1
 
 
 def is_installed(package: str) -> bool:
@@ -77,5 +85,7 @@ def install(packages: list[str]) -> str:
     if apt(*words, *packages):
         for each in packages:
             apt(*words, each)
+    if (started := [SERVICES[it] for it in packages if it in SERVICES]) and os.path.isdir("/run/systemd/system"):
+        print(f"check: Debian has started services that no test needs: systemctl disable --now {' '.join(started)}", flush=True)
     left = [it for it in lacking(packages) if not is_installed(it)]
     return f"apt-get installed no {' '.join(left)}" if left else ""

@@ -65,6 +65,46 @@ class Chosen(unittest.TestCase):
                 self.assertLessEqual(set(part.after), {it.name for it in known})
 
 
+class Changed(unittest.TestCase):
+    """Which files are meant, by what git says."""
+
+    def setUp(self) -> None:
+        self.check = tool("../check")
+
+    def test_what_differs_from_the_last_pushed_commit_and_what_is_new(self) -> None:
+        said = {"merge-base": ["0123456789abcdef"], "diff": ["b", "gone"], "ls-files": ["a"]}
+        with unittest.mock.patch.object(self.check.clone, "git", side_effect=lambda *words: said[words[0]]) as git:
+            self.assertEqual(self.check.changed(), (["a", "b", "gone"], "0123456789ab"))
+        self.assertIn("0123456789abcdef", git.call_args_list[1].args)
+
+    def test_where_nothing_was_pushed_the_last_commit_counts(self) -> None:
+        said = {"merge-base": None, "diff": ["b"], "ls-files": []}
+        with unittest.mock.patch.object(self.check.clone, "git", side_effect=lambda *words: said[words[0]]):
+            self.assertEqual(self.check.changed(), (["b"], "HEAD"))
+
+    def test_without_git_the_files_have_to_be_named(self) -> None:
+        said = io.StringIO()
+        with unittest.mock.patch.object(self.check.clone, "git", return_value=None), contextlib.redirect_stderr(said), self.assertRaises(SystemExit) as ended:
+            self.check.changed()
+        self.assertEqual((ended.exception.code, "name the files" in said.getvalue()), (3, True))
+
+    def test_a_folder_stands_for_its_files(self) -> None:
+        found = self.check.files_of([str(TOP / "host/schemas"), str(TOP / "demo")])
+        self.assertEqual(found, ["demo", *sorted(f"host/schemas/{it.name}" for it in (TOP / "host/schemas").iterdir())])
+
+
+class Clone(unittest.TestCase):
+    def test_without_git_the_files_are_those_that_it_would_know(self) -> None:
+        import clone
+
+        if clone.git("rev-parse", "HEAD") is None:
+            self.skipTest("this is no clone")
+        known = [it for it in clone.files() if (TOP / it).exists()]
+        with unittest.mock.patch.object(clone, "git", return_value=None):
+            self.assertEqual(clone.files(), sorted(known))
+            self.assertEqual(clone.commit(), "unknown")
+
+
 class Counted(unittest.TestCase):
     def part(self, name: str) -> parts.Part:
         return next(it for it in parts.everything() if it.name == name)
