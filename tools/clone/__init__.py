@@ -7,6 +7,7 @@ import os
 import pathlib
 import shutil
 import subprocess
+import tempfile
 
 TOP = pathlib.Path(__file__).resolve().parent.parent.parent
 # What .gitignore leaves out, by folders' names, and by paths.
@@ -34,6 +35,18 @@ def files() -> list[str]:
         folders[:] = [it for it in folders if it not in NOT_OURS and os.path.normpath(f"{here}/{it}") not in MADE]
         found += [os.path.normpath(f"{here}/{it}") for it in names]
     return sorted(found)
+
+
+def copied_to(folder: object, *words: str) -> str:
+    """Clones this clone into a folder, with these words for `git clone`. Returns why that can't be, or nothing."""
+    if git("rev-parse", "HEAD") is None:
+        return "this folder is no clone of the repository (a tarball has no .git)"
+    with tempfile.NamedTemporaryFile("w", suffix=".gitconfig") as file:
+        # (git's other process, which reads this clone, takes it from no command line)
+        print(f"[safe]\n\tdirectory = {TOP}\n\tdirectory = {TOP}/.git", file=file, flush=True)
+        how = {"env": {**os.environ, "GIT_CONFIG_GLOBAL": file.name}, "stdin": subprocess.DEVNULL, "capture_output": True, "text": True}
+        ran = subprocess.run(["git", "clone", "-q", *words, TOP, folder], **how)
+    return ran.stderr.strip() or f"git clone: status {ran.returncode}" if ran.returncode else ""
 
 
 def commit() -> str:

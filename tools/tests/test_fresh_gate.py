@@ -12,6 +12,8 @@ import unittest.mock
 
 from loading import tool
 
+import clone
+
 
 class CountsOnce(unittest.TestCase):
     def seconds(self, parents: dict[int, int], looks: list[dict[int, tuple[str, str, float]]]) -> dict:
@@ -88,6 +90,7 @@ class KitAnew(unittest.TestCase):
 
 
 class IsStopped(unittest.TestCase):
+    @unittest.skipIf(clone.git("rev-parse", "HEAD") is None, "this folder is no clone")
     def test_a_run_that_is_stopped_before_its_gate_leaves_nothing(self) -> None:
         with tempfile.TemporaryDirectory() as name:
             room = pathlib.Path(name)
