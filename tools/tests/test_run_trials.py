@@ -95,6 +95,13 @@ $ routerd read text
                 self.assertEqual((status, "run-trials: " in told), (2, True))
         self.assertEqual(self.play("file it hex 07\n")[0], 2)
 
+    def test_a_program_that_is_not_there_is_told_at_once(self):
+        (self.room / "routerd").unlink()
+        (self.room / "simulation").unlink()
+        status, told = self.play("== one\n$ routerd x\n= 0\n== two\n$ hooktool x\n= 0\n")
+        said = f"run-trials: there is no routerd in {self.room} (./check --only rows compiles them without proof)\n"
+        self.assertEqual((status, told), (2, said))
+
     def test_an_input_is_read_and_fails_behind_its_bytes(self):
         rows = """== input
 file text
