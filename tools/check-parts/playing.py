@@ -1,4 +1,5 @@
 """Plays parts of ./check side by side, says how far it is, and what each came to."""
+import contextlib
 import json
 import os
 import pathlib
@@ -14,6 +15,8 @@ from parts import Part
 TOP = pathlib.Path(__file__).resolve().parent.parent.parent
 # Seconds between two looks at who has ended, and between two lines of progress.
 LOOKS_EACH, TELLS_EACH = 0.2, 30.0
+# Seconds after which a part is ended, so that one that hangs keeps nothing waiting: on a busy machine the longest took a third of that.
+LONGEST = 45 * 60
 # Memory in GB that a part that compiles a program may take.
 GB_EACH = 2.5
 LEFT_OUT = re.compile(r"(?m)^\S+: \d+ .*; (.* left out): (.*)$")
@@ -128,17 +131,11 @@ class Playing:
 
     def end(self) -> None:
         """Ends it with all that it started."""
-        if self.process.poll() is None:
-            for number in (signal.SIGTERM, signal.SIGKILL):
-                try:
+        for number in (signal.SIGTERM, signal.SIGKILL):
+            if self.process.poll() is None:
+                with contextlib.suppress(subprocess.TimeoutExpired, ProcessLookupError):
                     os.killpg(self.process.pid, number)
                     self.process.wait(10)
-                    break
-                except subprocess.TimeoutExpired:
-                    pass
-                except ProcessLookupError:
-                    break
-        self.said.close()
 
 
 def tests_of(part: Part) -> list[str]:
@@ -178,6 +175,10 @@ class Round:
 
     def end(self) -> None:
         """Counts what has ended, and says now and then how far the others are."""
+        for each in self.running:
+            if each.seconds() > LONGEST:
+                says(f"{each.part.name} is ended: it took more than {LONGEST // 60} minutes")
+                each.end()
         for each in [it for it in self.running if it.process.poll() is not None]:
             self.running.remove(each)
             count = self.counts[each.part.name] = each.count()
@@ -196,10 +197,11 @@ def once_more(part: Part, count: Count, room: pathlib.Path) -> None:
     says(f"{part.name}: what failed is run once more, alone: {' '.join(names)}")
     again = Playing(part, room, names)
     try:
-        again.process.wait()
-        found = again.count()
+        with contextlib.suppress(subprocess.TimeoutExpired):
+            again.process.wait(LONGEST)
     finally:
         again.end()
+    found = again.count()
     count.passed, count.failed = count.passed + found.passed, found.failed
     says(f"{part.name}: alone {found.last_line()}")
 

@@ -223,6 +223,12 @@ class Rounds(unittest.TestCase):
         self.assertEqual(count.skipped, [("two", "one didn't pass"), ("three", "two didn't pass")])
         self.assertIn("\nbroken\n", said)
 
+    def test_a_part_that_hangs_is_ended_and_failed(self) -> None:
+        with unittest.mock.patch.object(playing, "LONGEST", 1):
+            count, said = self.played(("one", (), "sleep 60"), ("two", (), "exit 0"))
+        self.assertEqual((count.last_line(), count.failed[0][0]), ("1 passed, 1 failed, 0 skipped", "one: some"))
+        self.assertIn("check: one is ended", said)
+
     def test_what_is_begun_ends_with_it(self) -> None:
         with tempfile.TemporaryDirectory() as room, self.assertRaises(KeyboardInterrupt):
             with unittest.mock.patch.object(playing.Round, "end", side_effect=KeyboardInterrupt):

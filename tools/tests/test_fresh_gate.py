@@ -2,6 +2,7 @@
 a run that is stopped leaves nothing, wrong words are refused."""
 import os
 import pathlib
+import shutil
 import signal
 import subprocess
 import sys
@@ -58,7 +59,7 @@ class OwnNetwork(unittest.TestCase):
         "it.connect(('127.0.0.1', 27106)); print('bound', flush=True); sys.stdin.read()"
     )
 
-    @unittest.skipIf(os.geteuid(), "takes root")
+    @unittest.skipIf(os.geteuid() or shutil.which("ip") is None, "takes root and ip of iproute2")
     def test_two_gates_bind_the_same_port(self) -> None:
         command = [*tool("fresh-gate").own_network(), sys.executable, "-c", self.HOLDS]
         how = {"stdin": subprocess.PIPE, "stdout": subprocess.PIPE, "text": True}
