@@ -10,7 +10,7 @@ from unittest import mock
 from loading import tool
 
 CODE = "pub fn one() -> Answer {\n    Answer::of(1)\n}\n\npub fn two() -> Answer {\n    Answer::of(2)\n}\n"
-EDIT = "error: private-field\nfile: src/lib.rt\nold:     Answer::of({0})\nnew:     Answer {{ word: {0} }}\n"
+EDIT = "tried by: the compiler\nerror: private-field\nfile: src/lib.rt\nold:     Answer::of({0})\nnew:     Answer {{ word: {0} }}\n"
 FIRST = "src/lib.rt:2:14: error[private-field]: field `word` of struct `Answer` is private"
 SECOND = "src/lib.rt:6:14: error[private-field]: field `word` of struct `Answer` is private"
 
@@ -20,13 +20,14 @@ class TryPrivate(unittest.TestCase):
         """Returns the status, what is printed, what is told as wrong, and the code as it was compiled."""
         with tempfile.TemporaryDirectory() as folder:
             top = pathlib.Path(folder)
-            for name in ("bin", "crates/answers/src", "crates/answers/must-not-compile"):
+            for name in ("bin", "crates/answers/src", "crates/answers/mutants"):
                 (top / name).mkdir(parents=True)
             for name in ("crates.txt", "HANDLES"):
                 (top / name).write_text("")
             (top / "crates/answers/src/lib.rt").write_text(CODE)
             for number, edit in enumerate(edits):
-                (top / f"crates/answers/must-not-compile/{number}.edit").write_text(edit)
+                (top / f"crates/answers/mutants/{number}.edit").write_text(edit)
+            (top / "crates/answers/mutants/other.edit").write_text("tried by: a check of the crate\nfile: src/lib.rt\nold: 1\nnew: 2\n")
             (top / "said").write_text("".join(f"{it}\n" for it in said))
             (top / "bin/rt").write_text(f"#!/bin/sh\necho \"$@\" >>{top}/calls\ncat src/lib.rt >{top}/compiled\ncat {top}/said >&2\nexit 1\n")
             (top / "bin/rt").chmod(0o755)
