@@ -17,9 +17,8 @@ use Rattle.hooks.specs.declared.operation.LoaderOperation.{LoaderOperation}
 use Rattle.hooks.specs.declared.operation.LoaderOperation.TheVariants.{Attach, Detach}
 
 -- A program of the verifier's, without its capacities: the code, the hook that it is for, a number
--- of
--- instructions within which every run ends, and for each slot the region that a load or store there
--- accesses.
+-- of instructions within which every run ends, and for each slot the region that a load or store
+-- there accesses.
 pub record Program : Type 0 where
   pub code : List Slot
   pub hook : Hook

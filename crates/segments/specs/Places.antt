@@ -15,8 +15,7 @@ falls_through instructions.Exit = false
 falls_through other = true
 
 -- the start of the segment at a slot, if something is stated there; the list has an element for
--- each
--- slot of the code
+-- each slot of the code
 abbrev pub segment_start_at : {D : Type 0} → List (Option (SegmentStart D)) → ℕ
     → Option (SegmentStart D)
 segment_start_at segment_starts slot = slice_index_or segment_starts slot None
