@@ -11,7 +11,7 @@ use Rattle.machine.specs.Label.{Label}
 use Rattle.machine.specs.Memory.{number_of}
 use Rattle.machine.specs.State.{setting_of}
 use Rattle.machine.specs.Runs.{Ends}
-use Rattle.regions.specs.declared.Region.{Region}
+use Rattle.machine.specs.declared.regions.Region.{Region}
 use Rattle.verifier.specs.Programs as verifier
 use Rattle.hooks.specs.declared.operation.LoaderOperation.{LoaderOperation}
 use Rattle.hooks.specs.declared.operation.LoaderOperation.TheVariants.{Attach, Detach}

@@ -8,7 +8,7 @@ use Rattle.words.specs.declared.route.External.{External}
 use Rattle.words.specs.declared.route.Route.{Route}
 use Rattle.words.specs.declared.route.TableRow.{TableRow}
 use Rattle.words.specs.Numbers.{Moment, InterfaceNumber}
-use Rattle.contexts.specs.Contexts.{count_context, tag_context, price_context, veto_context}
+use Rattle.machine.specs.Contexts.{count_context, tag_context, price_context, veto_context}
 use Rattle.hooks.specs.Operations.{Program, RunsTo, default_of}
 
 -- `count` has the packet and no rows

@@ -7,8 +7,7 @@ ghost use Rattle.hooks.specs.Questions.{count_input, tag_input, price_input, vet
 
 use crate::answer::{PriceAnswer, TagAnswer, VetoAnswer};
 use crate::asker::{Asker, HookAnswer};
-use contexts::{count_context, price_context, tag_context, veto_context};
-use machine::{Input, TableRow};
+use machine::{Input, TableRow, count_context, price_context, tag_context, veto_context};
 use maps::{Seat, Shared};
 use words::{External, Route, Second};
 

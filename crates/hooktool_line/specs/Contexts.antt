@@ -4,7 +4,7 @@ use Rattle.isa.specs.declared.hook.Hook.{Hook}
 use Rattle.isa.specs.declared.hook.Hook.TheVariants as hooks
 use Rattle.words.specs.declared.route.External.{External}
 use Rattle.words.specs.declared.route.Route.{Route}
-use Rattle.contexts.specs.Contexts.{count_context, tag_context, price_context, veto_context}
+use Rattle.machine.specs.Contexts.{count_context, tag_context, price_context, veto_context}
 use Rattle.hooktool_line.specs.declared.asked.Asked.{Asked}
 
 -- the external destination that is asked of

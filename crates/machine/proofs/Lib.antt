@@ -11,3 +11,4 @@ pub mod Least
 pub mod Stacks
 pub mod IgnoresInput
 pub mod ByCode
+pub mod Places

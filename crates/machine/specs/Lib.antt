@@ -8,3 +8,5 @@ pub mod Faults
 pub mod Runs
 pub mod Laws
 pub mod Given
+pub mod Regions
+pub mod Contexts

@@ -22,9 +22,9 @@ use Rattle.machine.specs.Runs.{Run}
 use Rattle.object.specs.declared.kind.StatedKind.TheVariants.{Context, Unstated}
 use Rattle.object.specs.Sets.{no_bytes, with_range}
 use Rattle.kinds.specs.Stated.{GivesStated, any_number}
-use Rattle.regions.specs.declared.Region.{Region}
-use Rattle.regions.specs.declared.Region.TheVariants as regions
-use Rattle.regions.specs.Regions.{AreRecordedRegions}
+use Rattle.machine.specs.declared.regions.Region.{Region}
+use Rattle.machine.specs.declared.regions.Region.TheVariants as regions
+use Rattle.machine.specs.Regions.{AreRecordedRegions}
 use Rattle.verifier.specs.Examples.{then_exit, says, seven}
 use Rattle.program_laws.specs.Runs.{LaterSlotsAreAsStated, LoadsAreOfTheirMap, StartsAsStated}
 use Rattle.program_laws.specs.Runs.{loads_context, loads_of_map, says_first, stores_on_stack}

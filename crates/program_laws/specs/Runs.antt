@@ -12,9 +12,9 @@ use Rattle.object.specs.declared.kind.StatedKind.TheVariants.{Context, Unstated}
 use Rattle.object.specs.Sets.{no_bytes, with_range}
 use Rattle.object.specs.Statements.{StatementParts}
 use Rattle.kinds.specs.Stated.{GivesStated, any_number}
-use Rattle.regions.specs.declared.Region.{Region}
-use Rattle.regions.specs.declared.Region.TheVariants as regions
-use Rattle.regions.specs.Regions.{AreRecordedRegions}
+use Rattle.machine.specs.declared.regions.Region.{Region}
+use Rattle.machine.specs.declared.regions.Region.TheVariants as regions
+use Rattle.machine.specs.Regions.{AreRecordedRegions}
 use Rattle.verifier.specs.Examples.{constant_rank, then_exit, says, seven}
 use Rattle.verifier.specs.Stated.{RunsMeetStatements}
 

@@ -21,8 +21,8 @@ use Rattle.kinds.specs.Meaning.{SegmentStartHolds}
 use Rattle.kinds.specs.Stated.{GivesStated, MeetsStatement}
 use Rattle.object.specs.Statements.{StatementParts}
 use Rattle.ranks.specs.Lines.{rank_value}
-use Rattle.regions.specs.declared.Region.{Region}
-use Rattle.regions.specs.Regions.{AreRecordedRegions, IsRecordedAt}
+use Rattle.machine.specs.declared.regions.Region.{Region}
+use Rattle.machine.specs.Regions.{AreRecordedRegions, IsRecordedAt}
 use Rattle.transfer.specs.Given.{Given, setting_of}
 use Rattle.segments.specs.Places.{segment_start_at}
 use Rattle.segments.specs.Segments.{Visits, at_entry, at_statement, falls, Enters, EntersNext}

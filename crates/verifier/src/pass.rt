@@ -27,7 +27,7 @@ use isa::laws::{
 };
 use isa::{Code, Hook, Instruction, Slot};
 use kinds::{SegmentStart, reset};
-use regions::Region;
+use machine::Region;
 use segments::follow::follow;
 use segments::known::Known;
 use segments::places::{check_places, falls_through, slots_of};

@@ -1,10 +1,10 @@
 //! The contexts of external destinations and of routes.
 ghost use Rattle.std.specs.Prelude.{◌≡◌};
-ghost use Rattle.contexts.specs.Contexts.{external_type_number, external_context, tag_context};
-ghost use Rattle.contexts.specs.Contexts.{price_context, route_kind_number, first_hop};
-ghost use Rattle.contexts.specs.Contexts.{type_2_distance, veto_context};
+ghost use Rattle.machine.specs.Contexts.{external_type_number, external_context, tag_context};
+ghost use Rattle.machine.specs.Contexts.{price_context, route_kind_number, first_hop};
+ghost use Rattle.machine.specs.Contexts.{type_2_distance, veto_context};
 
-use crate::Context;
+use crate::contexts::Context;
 use crate::fields::{put_eight, put_four};
 use isa::Hook;
 use words::{External, ExternalType, Hops, Route, RouteKind, Second};

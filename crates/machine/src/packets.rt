@@ -1,8 +1,8 @@
 //! The context of a packet.
 ghost use Rattle.std.specs.Prelude.{◌≡◌};
-ghost use Rattle.contexts.specs.Contexts.{count_context, type_in, router_id_in};
+ghost use Rattle.machine.specs.Contexts.{count_context, type_in, router_id_in};
 
-use crate::Context;
+use crate::contexts::Context;
 use crate::fields::{put_eight, put_four};
 use isa::Hook;
 use words::{Second, u32_at};

@@ -1,7 +1,7 @@
 use Rattle.std.proofs.Common.{sym, ap, ◌∙◌}
-use Rattle.contexts.specs.Contexts.{found_or_0}
-use Rattle.contexts.proofs.Places.{here, further, past}
-use Rattle.contexts.proofs.routes.first_hop.Goals as goal
+use Rattle.machine.specs.Contexts.{found_or_0}
+use Rattle.machine.proofs.Places.{here, further, past}
+use Rattle.machine.proofs.routes.first_hop.Goals as goal
 
 pub returns-then-contains : goal.returns-then-contains
 returns-then-contains c =

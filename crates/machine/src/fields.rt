@@ -1,8 +1,8 @@
 //! The fields of a context.
 ghost use Rattle.std.specs.Prelude.{◌≡◌, ◌+◌, ◌≤◌};
-ghost use Rattle.contexts.specs.Contexts.{with_field, four_bytes, eight_bytes};
+ghost use Rattle.machine.specs.Contexts.{with_field, four_bytes, eight_bytes};
 
-use crate::Context;
+use crate::contexts::Context;
 
 /// Writes the low 32 bits of the number into the four bytes from `offset` on.
 pub fn put_four(context: &mut Context, offset: usize, number: u64)

@@ -1,5 +1,4 @@
 //! The regions that loads and stores access, and the one that is recorded for each of a program's.
-#![tactic(auto)]
 
 /// A region of the machine's memory.
 #[derive(Clone, Copy)]
