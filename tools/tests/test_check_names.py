@@ -59,7 +59,7 @@ class TestCheckNames(unittest.TestCase):
         self.assertEqual((ran.returncode, ran.stderr), (0, ""))
 
     def test_headings_that_a_page_has(self) -> None:
-        ran = check("docs/proof/rooms/verifier.md#segments, and CONTRIBUTING.md#how-a-rule-is-changed.\n")
+        ran = check("docs/proof/rooms/verifier.md#verifier, and CONTRIBUTING.md#how-a-rule-is-changed.\n")
         self.assertEqual((ran.returncode, ran.stderr), (0, ""))
 
     def test_files_that_a_clone_has_or_makes(self) -> None:

@@ -5,8 +5,8 @@ use Rattle.isa.specs.declared.code.Slot.{Slot}
 use Rattle.isa.specs.declared.hook.Hook.{Hook}
 use Rattle.annotations.specs.declared.shortfall.Shortfall.{Shortfall}
 use Rattle.annotations.specs.declared.shortfall.Shortfall.TheVariants as shortfalls
-use Rattle.object_verdicts.specs.Verdicts.{Refuses}
-use Rattle.object_verdicts.specs.declared.error.VerifyError.{VerifyError}
+use Rattle.verifier.specs.Verdicts.{Refuses}
+use Rattle.verifier.specs.declared.error.VerifyError.{VerifyError}
 use Rattle.verifier.specs.Programs.{Program}
 use Rattle.annotations.specs.Annotated.{IsProgram}
 use Rattle.annotations.specs.CountedCode.{IsUncounted, IsUnnamed, NamesAll}

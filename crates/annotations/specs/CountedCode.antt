@@ -19,7 +19,7 @@ use Rattle.isa.specs.declared.code.Slot.{Slot}
 use Rattle.isa.specs.declared.code.Slot.TheVariants.{Start, SecondHalf}
 use Rattle.isa.specs.Code.{slots_of}
 use Rattle.isa.specs.Flow.{jump_target, size, Begins, BeginsAt}
-use Rattle.segments.specs.Places.{falls_through}
+use Rattle.verifier.specs.Places.{falls_through}
 use Rattle.annotations.specs.declared.count_error.CountError.{CountError}
 use Rattle.annotations.specs.declared.count_error.CountError.TheVariants as errors
 

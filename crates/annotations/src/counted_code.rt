@@ -12,8 +12,8 @@ use crate::registers::unnamed;
 use isa::{
     BuildError, Code, CodeBuilder, Instruction, Operation, Register, Slot, Source, Test, Width,
 };
-use segments::places::jump_of;
 use std::alloc::Global;
+use verifier::places::jump_of;
 
 /// A program may take fewer turns than this number.
 const MAX_TURNS: u32 = 1_000_000;

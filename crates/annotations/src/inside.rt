@@ -5,7 +5,7 @@ ghost use Rattle.isa.specs.Flow.{BeginsAt};
 ghost use Rattle.annotations.specs.CountedCode.{LeadsInside, StaysInside};
 
 use isa::{Code, Instruction, Slot};
-use segments::places::{begins, falls_through, jump_of, slots_of};
+use verifier::places::{begins, falls_through, jump_of, slots_of};
 
 /// Whether an instruction begins behind the one at the slot, if that goes on, and where it jumps
 /// to, if it jumps.

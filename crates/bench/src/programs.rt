@@ -3,10 +3,9 @@ use crate::figures::{NoFigure, PrintResult};
 use hooks::Loader;
 use isa::Hook;
 use object::Object;
-use object_verdicts::verify_object;
 use std::alloc::Global;
 use std::sync::Wait;
-use verifier::Accepted;
+use verifier::{Accepted, verify_object};
 
 /// The program of bare code without a loop.
 pub fn accepted(alloc: Global, hook: Hook, code: Vec<u8>) -> Option<Accepted> {

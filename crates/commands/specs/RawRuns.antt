@@ -14,7 +14,7 @@ use Rattle.maps.specs.Words.{SeatView, SharedWords, fresh}
 use Rattle.interp.specs.Run.{Run}
 use Rattle.interp.specs.declared.trap.Trap.{Trap}
 use Rattle.interp.specs.Outcome.{Outcome, trap_number}
-use Rattle.segments.specs.Refusals.{budget}
+use Rattle.verifier.specs.Refusals.{budget}
 use Rattle.commands.specs.declared.fault.CommandError.{CommandError}
 use Rattle.commands.specs.declared.raw.Finished.{Finished}
 use Rattle.commands.specs.declared.report.CommandOutput.{CommandOutput}

@@ -5,8 +5,8 @@ use Rattle.transfer.specs.Rules.{rule_number}
 use Rattle.transfer.specs.declared.rule.Rule.TheVariants as rules
 use Rattle.verifier.specs.Programs.{Program}
 use Rattle.verifier.specs.declared.refusal.Refusal.{Refusal}
-use Rattle.object_verdicts.specs.Verdicts.{Accepts, Refuses, accepted_line}
-use Rattle.object_verdicts.specs.declared.error.VerifyError.TheVariants.{Refused}
+use Rattle.verifier.specs.Verdicts.{Accepts, Refuses, accepted_line}
+use Rattle.verifier.specs.declared.error.VerifyError.TheVariants.{Refused}
 use Rattle.commands.specs.declared.report.CommandOutput.{CommandOutput}
 
 -- the line that is printed for a refused program

@@ -3,15 +3,14 @@
 ghost use Rattle.std.specs.Prelude.{◌≡◌, ◌⊎◌, List, ℕ, true, false, IfOk, IfErr, string_bytes};
 ghost use Rattle.commands.specs.Assembly.{IsObjectFault};
 ghost use Rattle.commands.specs.Verdicts.{IsVerdict, refused_line};
-ghost use Rattle.object_verdicts.specs.Verdicts.{accepted_line};
+ghost use Rattle.verifier.specs.Verdicts.{accepted_line};
 
 use crate::fault::CommandError;
 use crate::files;
 use crate::report::CommandOutput;
-use object_verdicts::{VerifyError, verify_object};
 use std::alloc::{AllocError, Global};
 use std::rt::Files;
-use verifier::{Refusal, Rule};
+use verifier::{Refusal, Rule, VerifyError, verify_object};
 
 /// What is told of a program that is accepted with this bound.
 fn report_accepted(alloc: Global, bound: u64) -> Result<CommandOutput, AllocError>

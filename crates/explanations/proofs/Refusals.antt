@@ -1,6 +1,6 @@
 -- The text of a refusal.
 use Rattle.std.proofs.Common.{◌≡◌, ◌++◌, ℕ, List, Err, append_assoc, codes, decimal}
-use Rattle.object_verdicts.specs.declared.error.VerifyError.TheVariants as errors
+use Rattle.verifier.specs.declared.error.VerifyError.TheVariants as errors
 use Rattle.transfer.specs.Rules.{rule_number}
 use Rattle.verifier.specs.declared.refusal.Refusal.{Refusal}
 use Rattle.explanations.specs.Told.{TellsVerdict, refused_words}

@@ -1,8 +1,8 @@
 -- The text of a verdict.
 use Rattle.std.specs.Prelude.{◌≡◌, ℕ, List, ◌++◌, Result, Ok, Err, codes, decimal}
-use Rattle.object_verdicts.specs.Verdicts.{accepted_line}
-use Rattle.object_verdicts.specs.declared.error.VerifyError.{VerifyError}
-use Rattle.object_verdicts.specs.declared.error.VerifyError.TheVariants as errors
+use Rattle.verifier.specs.Verdicts.{accepted_line}
+use Rattle.verifier.specs.declared.error.VerifyError.{VerifyError}
+use Rattle.verifier.specs.declared.error.VerifyError.TheVariants as errors
 use Rattle.transfer.specs.Rules.{rule_number}
 use Rattle.verifier.specs.Programs.{Program}
 use Rattle.verifier.specs.declared.refusal.Refusal.{Refusal}

@@ -8,13 +8,13 @@ use inference::memory::{Memory, element_or};
 use isa::{Hook, Instruction};
 use kinds::{AbstractState, Fact, SegmentStart, kind_within};
 use object::{Rank, RankTerm};
-use segments::edge::enter;
-use segments::follow::Operands;
-use segments::places::{jump_of, slots_of};
-use segments::starts::stated_at;
 use transfer::branch::{refined, tested};
 use transfer::straight::straight;
 use verifier::Rule;
+use verifier::edge::enter;
+use verifier::follow::Operands;
+use verifier::places::{jump_of, slots_of};
+use verifier::starts::stated_at;
 
 /// What is known of each register that isn't within the statement, and what is stated there, and a
 /// line for the first such byte of the stack.

@@ -1,7 +1,7 @@
 //! A program and the verifier's answer about it, explained.
 ghost use Rattle.std.specs.Prelude.{◌≡◌, ◌++◌, IfErr, IfOk, string_bytes};
 ghost use Rattle.explanations.specs.Told.{TellsVerdict, refused_words};
-ghost use Rattle.object_verdicts.specs.Verdicts.{Accepts, Refuses, accepted_line};
+ghost use Rattle.verifier.specs.Verdicts.{Accepts, Refuses, accepted_line};
 
 use crate::edges::Ways;
 use crate::lines::instruction_lines;
@@ -16,10 +16,9 @@ use inference::memory::Memory;
 use isa::{Code, DecodeError, decode};
 use kinds::SegmentStart;
 use object::{Object, ObjectError, Rank, StackBytes, StatedKind as Stated, Statement};
-use object_verdicts::{VerifyError, verify_object};
-use segments::starts::segment_starts_of;
 use std::alloc::{AllocError, Global};
-use verifier::{Accepted, Refusal, Rule};
+use verifier::starts::segment_starts_of;
+use verifier::{Accepted, Refusal, Rule, VerifyError, verify_object};
 
 /// The explanation of an object, and the verifier's answer about it.
 #[derive(Drop)]

@@ -4,8 +4,8 @@ use crate::explaining::ExplainError;
 use asm::listing;
 use isa::Code;
 use object::Object;
-use segments::places::begins;
 use std::alloc::Global;
+use verifier::places::begins;
 
 /// The object without its statements; `None` if an allocation is refused.
 fn bare_object(alloc: Global, object: &Object) -> Option<Object> {

@@ -9,9 +9,9 @@ use inference::liveness::{has, reads};
 use isa::{Hook, Instruction, Operation, Register, Width};
 use kinds::{AbstractState, Kind, PointerPlace, kind_at};
 use machine::{load_length, map_length, store_length};
-use segments::places::jump_of;
 use transfer::place::reached;
 use verifier::Rule;
+use verifier::places::jump_of;
 
 /// A load or store: the register with its base, the offset, and the number of bytes.
 #[derive(Clone, Copy)]

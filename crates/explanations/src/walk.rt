@@ -12,10 +12,10 @@ use inference::memory::{Memory, element_or};
 use inference::{copy_of, entry_state};
 use isa::{Code, Hook, Instruction, Slot};
 use kinds::{AbstractState, SegmentStart, reset};
-use segments::follow::follow;
-use segments::known::Known;
-use segments::places::check_places;
-use segments::starts::stated_at;
+use verifier::follow::follow;
+use verifier::known::Known;
+use verifier::places::check_places;
+use verifier::starts::stated_at;
 use verifier::{Refusal, Rule};
 
 /// A program, and what is the same at all slots.

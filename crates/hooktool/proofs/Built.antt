@@ -14,8 +14,8 @@ use Rattle.explanations.specs.Told.{TellsVerdict}
 use Rattle.isa.specs.Hooks.{hook_name}
 use Rattle.object.specs.Objects.{ObjectParts}
 use Rattle.object_trials.specs.Stops.{KnownFiles}
-use Rattle.object_verdicts.specs.Verdicts.{Accepts}
-use Rattle.object_verdicts.specs.declared.error.VerifyError.{VerifyError}
+use Rattle.verifier.specs.Verdicts.{Accepts}
+use Rattle.verifier.specs.declared.error.VerifyError.{VerifyError}
 use Rattle.verifier.specs.Programs.{Program}
 use Rattle.isa.specs.declared.hook.Hook.{Hook}
 use Rattle.hooktool.specs.Annotations.{fuel_for}

@@ -2,8 +2,8 @@
 use Rattle.std.proofs.Common.{◌≡◌, ◌∙◌, ◌++◌, ℕ, List, Ok, Err, ap, append_assoc, sym}
 use Rattle.std.specs.Prelude.{IfErr, IfOk, Result, is_err, string_bytes}
 use Rattle.explanations.specs.Told.{TellsVerdict}
-use Rattle.object_verdicts.specs.Verdicts.{Accepts, Refuses}
-use Rattle.object_verdicts.specs.declared.error.VerifyError.{VerifyError}
+use Rattle.verifier.specs.Verdicts.{Accepts, Refuses}
+use Rattle.verifier.specs.declared.error.VerifyError.{VerifyError}
 use Rattle.verifier.specs.Programs.{Program}
 use Rattle.hooktool.specs.Explanations.{IsExplained}
 use Rattle.hooktool.specs.declared.report.CommandReport.{CommandReport}

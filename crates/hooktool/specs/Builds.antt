@@ -9,7 +9,7 @@ use Rattle.isa.specs.declared.hook.Hook.{Hook}
 use Rattle.isa.specs.Hooks.{hook_name}
 use Rattle.object.specs.Objects.{ObjectParts}
 use Rattle.verifier.specs.Programs.{Program}
-use Rattle.object_verdicts.specs.Verdicts.{accepted_line}
+use Rattle.verifier.specs.Verdicts.{accepted_line}
 use Rattle.annotations.specs.Annotated.{IsAnnotation, with_found}
 use Rattle.elf.specs.declared.lists.LinkedSymbol.{LinkedSymbol}
 use Rattle.elf.specs.Entries.{is_code}

@@ -1,8 +1,8 @@
 -- What is told of an object file by an explanation.
 use Rattle.std.specs.Prelude.{◌≡◌, ℕ, ◌++◌, List, Result, IfErr, IfOk, is_err, string_bytes}
 use Rattle.explanations.specs.Told.{TellsVerdict}
-use Rattle.object_verdicts.specs.Verdicts.{Accepts, Refuses}
-use Rattle.object_verdicts.specs.declared.error.VerifyError.{VerifyError}
+use Rattle.verifier.specs.Verdicts.{Accepts, Refuses}
+use Rattle.verifier.specs.declared.error.VerifyError.{VerifyError}
 use Rattle.verifier.specs.Programs.{Program}
 use Rattle.hooktool.specs.declared.report.CommandReport.{CommandReport}
 

@@ -2,7 +2,7 @@
 
 ghost use Rattle.std.specs.Prelude.{◌≡◌, ◌⊎◌, ◌↔◌, List, ℕ, false, true, IfErr, IfOk, IsTrue};
 ghost use Rattle.std.specs.Prelude.{string_bytes, take};
-ghost use Rattle.object_verdicts.specs.Verdicts.{Accepts};
+ghost use Rattle.verifier.specs.Verdicts.{Accepts};
 ghost use Rattle.hooktool.specs.Annotations.{IsAnnotated, accepted_text, counted_words};
 ghost use Rattle.hooktool.specs.Annotations.{elf_magic, fuel_for};
 ghost use Rattle.hooktool.specs.Faults.{IsAnnotationFault, IsByVerifier};

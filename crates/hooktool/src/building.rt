@@ -5,7 +5,7 @@ ghost use Rattle.std.specs.Prelude.{◌≡◌, ◌⊎◌, ◌++◌, ◌||◌, �
 ghost use Rattle.std.specs.Prelude.{IfNone, IfOk, IfSome, OnOk, length, string_bytes};
 ghost use Rattle.std.specs.List.{All};
 ghost use Rattle.isa.specs.Hooks.{hook_name};
-ghost use Rattle.object_verdicts.specs.Verdicts.{Accepts};
+ghost use Rattle.verifier.specs.Verdicts.{Accepts};
 ghost use Rattle.verifier.specs.Programs.{Program};
 ghost use Rattle.elf.specs.Files.{section_count, section_name};
 ghost use Rattle.elf.specs.Lists.{functions_of, relocations_of, symbol_bytes, symbol_name};

@@ -14,9 +14,8 @@ use explanations::{Explanation, explain as explained};
 use hooktool_line::FuelAsked;
 use isa::decode;
 use object_trials::WholeFiles;
-use object_verdicts::VerifyError;
 use std::alloc::Global;
-use verifier::{Accepted, Rule};
+use verifier::{Accepted, Rule, VerifyError};
 
 /// Why these bytes hold no program. If they hold one, memory was refused.
 pub(crate) fn fault_in<'a>(alloc: Global, bytes: &[u8]) -> HooktoolFault<'a>

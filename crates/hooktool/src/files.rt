@@ -1,7 +1,7 @@
 //! Files, read and written whole.
 
 ghost use Rattle.std.specs.Prelude.{IfErr, IfOk, OnOk};
-ghost use Rattle.object_verdicts.specs.Verdicts.{Accepts};
+ghost use Rattle.verifier.specs.Verdicts.{Accepts};
 ghost use Rattle.verifier.specs.Programs.{Program};
 ghost use Rattle.hooktool.specs.Faults.{IsUnread, IsUnwritten};
 

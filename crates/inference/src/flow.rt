@@ -12,10 +12,10 @@ use kinds::{
     AbstractState, Kind, PointerPlace, StackEntry, put, reset, segment_start_of as stated,
 };
 use object::Statement;
-use segments::places::{jump_of, jumped_near, slots_of};
 use transfer::branch::tested;
 use transfer::load::any_loaded;
 use transfer::straight::straight;
+use verifier::places::{jump_of, jumped_near, slots_of};
 
 /// A program, and what is the same in all passes.
 #[derive(Drop)]

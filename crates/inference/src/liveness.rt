@@ -6,7 +6,7 @@ use crate::memory::{Memory, element_or};
 use isa::{Code, Hook, Instruction, Operation, Register, Slot, Source};
 use kinds::put;
 use machine::Helper;
-use segments::places::{falls_through, jump_of, slots_of};
+use verifier::places::{falls_through, jump_of, slots_of};
 
 /// Registers, r0 in bit 0.
 pub type Registers = u16;

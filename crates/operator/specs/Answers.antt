@@ -9,7 +9,7 @@ use Rattle.words.specs.declared.route.External.{External}
 use Rattle.isa.specs.declared.hook.Hook.{Hook}
 use Rattle.adjacency.specs.declared.state.NeighborState.{NeighborState}
 use Rattle.verifier.specs.Programs.{Program}
-use Rattle.object_verdicts.specs.Verdicts.{Accepts}
+use Rattle.verifier.specs.Verdicts.{Accepts}
 use Rattle.hooks.specs.declared.operation.LoaderOperation.{LoaderOperation}
 use Rattle.hooks.specs.declared.operation.LoaderOperation.TheVariants.{Attach, Detach}
 use Rattle.worker.specs.Numbers.{turn_error_number}

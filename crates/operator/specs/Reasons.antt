@@ -9,9 +9,9 @@ use Rattle.object.specs.declared.error.ObjectError.TheVariants as reading
 use Rattle.transfer.specs.Rules.{rule_number}
 use Rattle.transfer.specs.declared.rule.Rule.{Rule}
 use Rattle.transfer.specs.declared.rule.Rule.TheVariants as rules
-use Rattle.object_verdicts.specs.Verdicts.{Refuses}
-use Rattle.object_verdicts.specs.declared.error.VerifyError.{VerifyError}
-use Rattle.object_verdicts.specs.declared.error.VerifyError.TheVariants as verdicts
+use Rattle.verifier.specs.Verdicts.{Refuses}
+use Rattle.verifier.specs.declared.error.VerifyError.{VerifyError}
+use Rattle.verifier.specs.declared.error.VerifyError.TheVariants as verdicts
 use Rattle.operator.specs.declared.programs.AttachError.{AttachError}
 use Rattle.operator.specs.declared.programs.AttachError.TheVariants as errors
 

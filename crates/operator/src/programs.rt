@@ -1,13 +1,12 @@
 //! Programs from object files.
 ghost use Rattle.std.specs.Prelude.{◌≡◌, List, ℕ, Err, IfErr, IfOk, string_bytes};
-ghost use Rattle.object_verdicts.specs.Verdicts.{Accepts};
+ghost use Rattle.verifier.specs.Verdicts.{Accepts};
 ghost use Rattle.operator.specs.Reasons.{Holds, IsReason, Unreadable, reason_text};
 
 use isa::DecodeFault;
-use object_verdicts::{VerifyError, verify_object};
 use std::alloc::{AllocError, Global};
 use std::rt::Files;
-use verifier::{Accepted, Rule};
+use verifier::{Accepted, Rule, VerifyError, verify_object};
 use whole_files::{ReadFault, read};
 
 /// Reads whole files.

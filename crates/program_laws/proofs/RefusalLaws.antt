@@ -15,11 +15,11 @@ use Rattle.machine.specs.Helpers.{helper_of}
 use Rattle.transfer.specs.declared.rule.Rule.{Rule}
 use Rattle.transfer.specs.declared.rule.Rule.TheVariants as rules
 use Rattle.kinds.specs.Stated.{any_number}
-use Rattle.segments.specs.Places.{falls_through}
-use Rattle.segments.specs.Stated.{statement_at}
-use Rattle.segments.specs.Refusals.{FallsOff, IsBadTarget, IsStray, IsUnreached}
-use Rattle.segments.specs.Refusals.{IsUnstated, IsWellMade, JumpsNowhere, LacksHelperAt, MayRefuse}
-use Rattle.segments.proofs.Plain.{never}
+use Rattle.verifier.specs.Places.{falls_through}
+use Rattle.verifier.specs.SegmentsStated.{statement_at}
+use Rattle.verifier.specs.Refusals.{FallsOff, IsBadTarget, IsStray, IsUnreached}
+use Rattle.verifier.specs.Refusals.{IsUnstated, IsWellMade, JumpsNowhere, LacksHelperAt, MayRefuse}
+use Rattle.verifier.proofs.SegmentsPlain.{never}
 use Rattle.verifier.specs.Examples.{then_exit, says, seven, test_on}
 use Rattle.program_laws.specs.Refusals.{HelpersAndTheBoundAreChecked, MayRefuseSound}
 use Rattle.program_laws.specs.Refusals.{LaterRulesDontCount, RulesCountInTheirOrder}

@@ -12,7 +12,7 @@ use Rattle.object.specs.Statements.{StatementParts}
 use Rattle.kinds.specs.Stated.{any_number}
 use Rattle.transfer.specs.declared.rule.Rule.{Rule}
 use Rattle.transfer.specs.declared.rule.Rule.TheVariants as rules
-use Rattle.segments.specs.Refusals.{IsFirst, MayRefuse}
+use Rattle.verifier.specs.Refusals.{IsFirst, MayRefuse}
 use Rattle.verifier.specs.Examples.{then_exit, says, seven, test_on}
 
 -- For a sound program: `Memory` at slot 0, and at its slots a rule for which only the domain knows

@@ -9,7 +9,7 @@ use inference::memory::{Memory, element_or};
 use inference::{Edge, SiteDraft, Value};
 use kinds::{Kind, kind_of, put};
 use object::{Rank, RankTerm, StatedKind as Stated, Statement};
-use ranks::bound_of;
+use verifier::bound_of;
 
 /// The least and the greatest value of each register at the start of a segment.
 #[derive(Clone, Copy)]

@@ -11,9 +11,8 @@ use interp::{Run, run, run_checked};
 use isa::{Code, Hook, decode};
 use machine::Input;
 use maps::{Seat, Shared};
-use object_verdicts::verify_object;
 use std::alloc::Global;
-use verifier::Accepted;
+use verifier::{Accepted, verify_object};
 use words::{Address, Prefix, TableRow};
 
 /// The object file of a text.

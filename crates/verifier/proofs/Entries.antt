@@ -14,8 +14,8 @@ use Rattle.kinds.specs.declared.state.Kind.TheVariants.{Pointer, Unknown}
 use Rattle.kinds.specs.declared.state.PointerPlace.TheVariants.{Context}
 use Rattle.kinds.specs.declared.statement.SegmentStart.{SegmentStart}
 use Rattle.kinds.specs.Meaning.{KindHolds, SegmentStartHolds}
-use Rattle.segments.specs.Places.{segment_start_at}
-use Rattle.segments.specs.Segments.{Enters}
+use Rattle.verifier.specs.Places.{segment_start_at}
+use Rattle.verifier.specs.Segments.{Enters}
 
 -- r1 points to the context, and nothing else is known
 abbrev pub entry_kinds : {D : Type 0} → List (Kind D)

@@ -20,12 +20,12 @@ use Rattle.object.specs.declared.kind.StatedKind.{StatedKind}
 use Rattle.object.specs.declared.kind.StatedKind.TheVariants as kinds
 use Rattle.kinds.specs.Stated.{any_number}
 use Rattle.transfer.specs.Plain.{IsPlainInstruction}
-use Rattle.segments.specs.Places.{falls_through}
-use Rattle.segments.specs.Plain.{LeadsTo}
-use Rattle.segments.specs.Refusals.{IsStray, IsWellMade, JumpsNowhere}
-use Rattle.segments.specs.Stated.{statement_at}
+use Rattle.verifier.specs.Places.{falls_through}
+use Rattle.verifier.specs.SegmentsPlain.{LeadsTo}
+use Rattle.verifier.specs.Refusals.{IsStray, IsWellMade, JumpsNowhere}
+use Rattle.verifier.specs.SegmentsStated.{statement_at}
 use Rattle.isa.proofs.Starts.{same_instruction}
-use Rattle.segments.proofs.Plain.{never}
+use Rattle.verifier.proofs.SegmentsPlain.{never}
 use Rattle.verifier.specs.Examples.{then_exit, endless_code, move_of, only_seven, says, says_byte}
 use Rattle.verifier.specs.Examples.{says_term, seven, test_on, tested_code}
 use Rattle.verifier.specs.Plain.{IsFilledAt, is_stated, is_written, IsNumberIn, IsPlain}

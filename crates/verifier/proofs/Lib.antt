@@ -6,3 +6,12 @@ pub mod Refused
 pub mod Plain
 pub mod Examples
 pub mod Idle
+pub mod Dots
+pub mod Gaps
+pub mod Terms
+pub mod SegmentStarts
+pub mod Made
+pub mod Named
+pub mod Followed
+pub mod SegmentsPlain
+pub mod Held

@@ -30,13 +30,13 @@ use Rattle.kinds.specs.Stated.{HasEveryNumber, IsRead, any_number}
 use Rattle.transfer.specs.declared.rule.Rule.{Rule}
 use Rattle.transfer.specs.declared.rule.Rule.TheVariants as rules
 use Rattle.transfer.specs.Plain.{KeepsFilled}
-use Rattle.segments.specs.declared.known.Known.{Known}
-use Rattle.segments.specs.Places.{segment_of, segment_start_at}
-use Rattle.segments.specs.Plain.{AsksAtMost, IsFilledBehind, IsPlainEdge, IsPlainEdgeIfStated}
-use Rattle.segments.specs.Refusals.{IsPlaceRefusal, IsWellMade}
-use Rattle.segments.specs.Stated.{IsSegmentStartOf, statement_at}
+use Rattle.verifier.specs.declared.known.Known.{Known}
+use Rattle.verifier.specs.Places.{segment_of, segment_start_at}
+use Rattle.verifier.specs.SegmentsPlain.{AsksAtMost, IsFilledBehind, IsPlainEdge, IsPlainEdgeIfStated}
+use Rattle.verifier.specs.Refusals.{IsPlaceRefusal, IsWellMade}
+use Rattle.verifier.specs.SegmentsStated.{IsSegmentStartOf, statement_at}
 use Rattle.isa.proofs.Starts.{same_instruction}
-use Rattle.segments.proofs.SegmentStarts.{stated_of, statement_of_segment_start, unstated_of}
+use Rattle.verifier.proofs.SegmentStarts.{stated_of, statement_of_segment_start, unstated_of}
 use Rattle.verifier.specs.Plain.{IsEdge, IsFilledAfter, IsFilledAt, is_stated, stays, is_written}
 use Rattle.verifier.specs.Plain.{IsNumberIn, IsPlainStatement, at_entry, at_statement, goes_behind}
 use Rattle.verifier.specs.Plain.{Falls, said_of}

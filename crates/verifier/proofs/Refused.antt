@@ -17,14 +17,14 @@ use Rattle.kinds.specs.declared.statement.SegmentStart.{SegmentStart}
 use Rattle.transfer.specs.declared.rule.Rule.{Rule}
 use Rattle.transfer.specs.declared.rule.Rule.TheVariants as rules
 use Rattle.transfer.specs.Rules.{LacksHelper}
-use Rattle.segments.specs.Places.{falls_through, segment_start_at}
-use Rattle.segments.specs.Stated.{statement_at, AreSegmentStarts}
-use Rattle.segments.specs.Refusals.{JumpsNowhere, IsStray, LacksHelperAt, IsWellMade, IsFirst}
-use Rattle.segments.specs.Refusals.{IsFirstHere, IsPassedTo, IsPlaceRefusal, IsOfEdge}
-use Rattle.segments.specs.Refusals.{MayRefuseInstruction}
-use Rattle.segments.specs.Refusals.{MayRefuse}
+use Rattle.verifier.specs.Places.{falls_through, segment_start_at}
+use Rattle.verifier.specs.SegmentsStated.{statement_at, AreSegmentStarts}
+use Rattle.verifier.specs.Refusals.{JumpsNowhere, IsStray, LacksHelperAt, IsWellMade, IsFirst}
+use Rattle.verifier.specs.Refusals.{IsFirstHere, IsPassedTo, IsPlaceRefusal, IsOfEdge}
+use Rattle.verifier.specs.Refusals.{MayRefuseInstruction}
+use Rattle.verifier.specs.Refusals.{MayRefuse}
 use Rattle.isa.proofs.Starts.{same_instruction}
-use Rattle.segments.proofs.SegmentStarts.{none_isn't_some, stated_of, unstated_of}
+use Rattle.verifier.proofs.SegmentStarts.{none_isn't_some, stated_of, unstated_of}
 use Rattle.verifier.proofs.SegmentLemmas.{none_between, size_some, sizes}
 
 -- what a `?` passes on

@@ -17,12 +17,12 @@ use Rattle.machine.specs.Steps.{Does}
 use Rattle.kinds.specs.declared.statement.SegmentStart.{SegmentStart}
 use Rattle.kinds.specs.Meaning.{StateHolds, SegmentStartHolds}
 use Rattle.transfer.specs.Given.{Given, setting_of}
-use Rattle.segments.specs.declared.known.Known.{Known}
-use Rattle.segments.specs.Places.{segment_of, segment_start_at}
-use Rattle.segments.specs.Segments.{Visits, at_entry, at_statement, falls, Enters, EntersNext}
-use Rattle.segments.specs.Segments.{LeadsOn}
-use Rattle.segments.specs.Segments.{IsFine, Knows, FallsThrough, IsFollowed, IsCurrent}
-use Rattle.segments.specs.Segments.{IsCurrentUnlessStated}
+use Rattle.verifier.specs.declared.known.Known.{Known}
+use Rattle.verifier.specs.Places.{segment_of, segment_start_at}
+use Rattle.verifier.specs.Segments.{Visits, at_entry, at_statement, falls, Enters, EntersNext}
+use Rattle.verifier.specs.Segments.{LeadsOn}
+use Rattle.verifier.specs.Segments.{IsFine, Knows, FallsThrough, IsFollowed, IsCurrent}
+use Rattle.verifier.specs.Segments.{IsCurrentUnlessStated}
 use Rattle.isa.proofs.Starts.{same_instruction}
 
 -- an instruction takes one slot or two

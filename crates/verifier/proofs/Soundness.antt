@@ -20,16 +20,16 @@ use Rattle.kinds.specs.declared.statement.SegmentStart.{SegmentStart}
 use Rattle.kinds.specs.Meaning.{SegmentStartHolds}
 use Rattle.kinds.specs.Stated.{GivesStated, MeetsStatement}
 use Rattle.object.specs.Statements.{StatementParts}
-use Rattle.ranks.specs.Lines.{rank_value}
+use Rattle.verifier.specs.Lines.{rank_value}
 use Rattle.machine.specs.declared.regions.Region.{Region}
 use Rattle.machine.specs.Regions.{AreRecordedRegions, IsRecordedAt}
 use Rattle.transfer.specs.Given.{Given, setting_of}
-use Rattle.segments.specs.Places.{segment_start_at}
-use Rattle.segments.specs.Segments.{Visits, at_entry, at_statement, falls, Enters, EntersNext}
-use Rattle.segments.specs.Segments.{IsFine}
-use Rattle.segments.specs.Stated.{AreSegmentStarts, MeetStatements}
-use Rattle.segments.proofs.SegmentStarts.{segment_start_of_stated}
-use Rattle.segments.proofs.Made.{inside_code, some_and}
+use Rattle.verifier.specs.Places.{segment_start_at}
+use Rattle.verifier.specs.Segments.{Visits, at_entry, at_statement, falls, Enters, EntersNext}
+use Rattle.verifier.specs.Segments.{IsFine}
+use Rattle.verifier.specs.SegmentsStated.{AreSegmentStarts, MeetStatements}
+use Rattle.verifier.proofs.SegmentStarts.{segment_start_of_stated}
+use Rattle.verifier.proofs.Made.{inside_code, some_and}
 use Rattle.verifier.specs.Kept.{HasRecordedRegion}
 use Rattle.verifier.specs.Stated.{RunsMeetStatements}
 use Rattle.verifier.proofs.SegmentLemmas.{size_some}

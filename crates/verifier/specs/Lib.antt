@@ -4,3 +4,11 @@ pub mod Pass
 pub mod Examples
 pub mod Kept
 pub mod Stated
+pub mod Dots
+pub mod Lines
+pub mod Places
+pub mod Segments
+pub mod SegmentsStated
+pub mod Refusals
+pub mod SegmentsPlain
+pub mod Verdicts

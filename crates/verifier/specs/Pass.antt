@@ -5,11 +5,11 @@ use Rattle.isa.specs.declared.instruction.Instruction.{Instruction}
 use Rattle.object.specs.Statements.{StatementParts}
 use Rattle.kinds.specs.declared.statement.SegmentStart.{SegmentStart}
 use Rattle.kinds.specs.Plain.{HoldsNumber}
-use Rattle.ranks.specs.Lines.{IsConstant}
+use Rattle.verifier.specs.Lines.{IsConstant}
 use Rattle.transfer.specs.Plain.{KeepsFilled}
-use Rattle.segments.specs.declared.known.Known.{Known}
-use Rattle.segments.specs.Plain.{IsPlainHere}
-use Rattle.segments.specs.Stated.{AreSegmentStarts, statement_at}
+use Rattle.verifier.specs.declared.known.Known.{Known}
+use Rattle.verifier.specs.SegmentsPlain.{IsPlainHere}
+use Rattle.verifier.specs.SegmentsStated.{AreSegmentStarts, statement_at}
 use Rattle.verifier.specs.Plain.{IsFilledAt, IsPlain, IsRankAt}
 
 -- a plain program, and the list of its segment starts

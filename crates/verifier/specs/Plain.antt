@@ -12,11 +12,11 @@ use Rattle.object.specs.Statements.{StatementParts}
 use Rattle.object.specs.declared.kind.StatedKind.{StatedKind}
 use Rattle.object.specs.declared.kind.StatedKind.TheVariants as kinds
 use Rattle.kinds.specs.Stated.{any_number}
-use Rattle.ranks.specs.Lines.{IsConstant}
+use Rattle.verifier.specs.Lines.{IsConstant}
 use Rattle.transfer.specs.Plain.{IsPlainInstruction}
-use Rattle.segments.specs.Plain.{LeadsTo}
-use Rattle.segments.specs.Refusals.{IsOverBudget, IsWellMade, WritesFrame}
-use Rattle.segments.specs.Stated.{statement_at}
+use Rattle.verifier.specs.SegmentsPlain.{LeadsTo}
+use Rattle.verifier.specs.Refusals.{IsOverBudget, IsWellMade, WritesFrame}
+use Rattle.verifier.specs.SegmentsStated.{statement_at}
 
 -- ---- statements
 

@@ -9,7 +9,7 @@ use Rattle.machine.specs.Label.{Label}
 use Rattle.machine.specs.Runs.{Run}
 use Rattle.machine.specs.State.{setting_of}
 use Rattle.kinds.specs.Stated.{GivesStated, MeetsStatement}
-use Rattle.segments.specs.Stated.{statement_at}
+use Rattle.verifier.specs.SegmentsStated.{statement_at}
 
 -- Each run that reaches a slot with a statement, on any input and whatever the maps answer, finds
 -- the machine as stated, as far as the domain distinguishes numbers.

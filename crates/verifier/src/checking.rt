@@ -2,7 +2,7 @@
 ghost use Rattle.std.specs.Prelude.{◌≡◌, ◌+◌, ◌*◌, ◌<◌, ◌≤◌, IfErr, IfOk, IsErrOf, length};
 ghost use Rattle.object.specs.Objects.{AreStatements};
 ghost use Rattle.machine.specs.Runs.{Safe};
-ghost use Rattle.segments.specs.Refusals.{IsFirst, MayRefuse, budget};
+ghost use Rattle.verifier.specs.Refusals.{IsFirst, MayRefuse, budget};
 ghost use Rattle.verifier.specs.Plain.{IsPlain};
 ghost use Rattle.verifier.specs.Stated.{RunsMeetStatements};
 
@@ -11,11 +11,11 @@ use crate::entry::{enter_start, entry_of, entry_statement, unknown};
 use crate::pass::pass_all;
 use crate::refusal::Refusal;
 use crate::region::any_regions;
+use crate::starts::segment_starts_of;
 use absdom::Domain;
 use actions::actions_of;
 use isa::{Code, Hook};
 use object::Statement;
-use segments::starts::segment_starts_of;
 use std::alloc::Global;
 use transfer::rule::Rule;
 

@@ -5,19 +5,19 @@ ghost use Rattle.machine.specs.State.{start};
 ghost use Rattle.object.specs.Sets.{no_bytes};
 ghost use Rattle.kinds.specs.declared.statement.SegmentStart.{SegmentStart as AnySegmentStart};
 ghost use Rattle.kinds.specs.Meaning.{SegmentStartHolds, StateHolds};
-ghost use Rattle.ranks.specs.Lines.{IsConstant, rank_value};
-ghost use Rattle.segments.specs.Places.{segment_start_at};
-ghost use Rattle.segments.specs.Plain.{IsPlainEdgeIfStated};
-ghost use Rattle.segments.specs.Refusals.{IsOfEdge};
-ghost use Rattle.segments.specs.Segments.{Enters};
+ghost use Rattle.verifier.specs.Lines.{IsConstant, rank_value};
+ghost use Rattle.verifier.specs.Places.{segment_start_at};
+ghost use Rattle.verifier.specs.SegmentsPlain.{IsPlainEdgeIfStated};
+ghost use Rattle.verifier.specs.Refusals.{IsOfEdge};
+ghost use Rattle.verifier.specs.Segments.{Enters};
 
+use crate::edge::enter;
+use crate::known::Known;
 use crate::refusal::Refusal;
+use crate::starts::stated_at;
 use absdom::Domain;
 use kinds::{AbstractState, Kind, PointerPlace, SegmentStart, StackEntry, reset};
 use object::{Rank, StackBytes, StatedKind as Stated, Statement};
-use segments::edge::enter;
-use segments::known::Known;
-use segments::starts::stated_at;
 use std::alloc::{AllocError, Global};
 
 /// What is stated at the start of a run: only the rank.

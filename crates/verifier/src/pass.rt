@@ -12,14 +12,18 @@ ghost use Rattle.kinds.specs.declared.statement.SegmentStart.{SegmentStart as An
 ghost use Rattle.verifier.specs.Kept.{GoesInto, HasRecordedRegion};
 ghost use Rattle.verifier.specs.Pass.{ComesPlainly, HasRank, IsPlainIfLive, IsPlainProgram};
 ghost use Rattle.verifier.specs.Pass.{KeepsPlain};
-ghost use Rattle.segments.specs.Places.{IsWellPlaced, segment_of, segment_start_at};
-ghost use Rattle.segments.specs.Refusals.{IsFirst, IsFirstHere, IsPassedTo, IsWellMade};
-ghost use Rattle.segments.specs.Refusals.{MayRefuse, MayRefuseInstruction};
-ghost use Rattle.segments.specs.Segments.{IsCurrentUnlessStated, IsFine, IsFollowed};
-ghost use Rattle.segments.specs.Stated.{AreSegmentStarts};
+ghost use Rattle.verifier.specs.Places.{IsWellPlaced, segment_of, segment_start_at};
+ghost use Rattle.verifier.specs.Refusals.{IsFirst, IsFirstHere, IsPassedTo, IsWellMade};
+ghost use Rattle.verifier.specs.Refusals.{MayRefuse, MayRefuseInstruction};
+ghost use Rattle.verifier.specs.Segments.{IsCurrentUnlessStated, IsFine, IsFollowed};
+ghost use Rattle.verifier.specs.SegmentsStated.{AreSegmentStarts};
 
+use crate::follow::follow;
+use crate::known::Known;
+use crate::places::{check_places, falls_through, slots_of};
 use crate::refusal::Refusal;
 use crate::region::region_at;
+use crate::starts::{is_stated, stated_at};
 use absdom::Domain;
 use isa::laws::{
     a_wide_instruction_has_its_second_half, an_instruction_is_followed,
@@ -28,10 +32,6 @@ use isa::laws::{
 use isa::{Code, Hook, Instruction, Slot};
 use kinds::{SegmentStart, reset};
 use machine::Region;
-use segments::follow::follow;
-use segments::known::Known;
-use segments::places::{check_places, falls_through, slots_of};
-use segments::starts::{is_stated, stated_at};
 use transfer::rule::Rule;
 
 /// What is known at the slot, with the start of the segment that it is in; a statement starts a new

@@ -5,9 +5,9 @@ ghost use Rattle.hooks.specs.Known.{loader_history};
 use crate::samples::{destination, hello};
 use hooks::{Loader, Notice};
 use isa::Hook;
-use object_verdicts::verify_object;
 use std::alloc::Global;
 use std::sync::Wait;
+use verifier::verify_object;
 use words::{ExternalType, Second};
 use worker::{Gate, Hub, Port, Site, Taker, TurnError, Work, turn};
 

@@ -1,6 +1,6 @@
 use Rattle.std.proofs.Common.{◌≡◌, List, ℕ, refl, subst, sym, true, false}
 use Rattle.std.proofs.lemmas.Bool.{false≢true}
-use Rattle.object_verdicts.specs.Verdicts.{Accepts}
+use Rattle.verifier.specs.Verdicts.{Accepts}
 use Rattle.annotations.proofs.Faults.{unjudged, why}
 use Rattle.annotations.proofs.verdict.verdict_on.Goals as goal
 

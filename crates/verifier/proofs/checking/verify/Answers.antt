@@ -1,13 +1,13 @@
 use Rattle.std.proofs.Common.{◌≡◌, ◌+◌, ◌*◌, ◌∙◌, length, Err, refl, sym, ap, subst}
 use Rattle.machine.specs.Runs.{Safe}
 use Rattle.machine.specs.State.{start}
-use Rattle.ranks.specs.Lines.{rank_value}
+use Rattle.verifier.specs.Lines.{rank_value}
 use Rattle.verifier.proofs.SegmentLemmas.{code_begins}
 use Rattle.verifier.proofs.Soundness.{kept_regions, runs_as_stated, safe_program}
 use Rattle.isa.specs.Flow.{Begins}
-use Rattle.segments.specs.Refusals.{IsFirst, MayRefuse}
+use Rattle.verifier.specs.Refusals.{IsFirst, MayRefuse}
 use Rattle.verifier.proofs.Refused.{entry_refused, first_of_all, handed_on, is_err_of, within_bound}
-use Rattle.segments.proofs.Plain.{never}
+use Rattle.verifier.proofs.SegmentsPlain.{never}
 use Rattle.verifier.specs.Pass.{HasRank, IsPlainProgram}
 use Rattle.verifier.proofs.Plain.{entry_edge}
 use Rattle.verifier.proofs.checking.verify.Goals as goal

@@ -1,7 +1,7 @@
 use Rattle.verifier.proofs.Entries.{edge_of}
 use Rattle.kinds.specs.Plain.{HoldsNumber}
 use Rattle.std.proofs.Common.{false}
-use Rattle.segments.proofs.Plain.{enter_more, never}
+use Rattle.verifier.proofs.SegmentsPlain.{enter_more, never}
 use Rattle.verifier.proofs.entry.enter_start.Goals as goal
 
 pub returns-in-Ok-clause-edge : goal.returns-in-Ok-clause-edge

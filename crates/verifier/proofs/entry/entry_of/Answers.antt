@@ -1,4 +1,4 @@
-use Rattle.segments.proofs.SegmentStarts.{pushed_default}
+use Rattle.verifier.proofs.SegmentStarts.{pushed_default}
 use Rattle.verifier.proofs.Entries.{entry_holds}
 use Rattle.kinds.specs.declared.state.Kind.TheVariants.{Unknown}
 use Rattle.std.proofs.Common.{◌∙◌}

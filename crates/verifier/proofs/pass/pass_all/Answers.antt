@@ -1,17 +1,17 @@
 use Rattle.std.proofs.Common.{◌≡◌, ◌∙◌, ◌<◌, ◌+◌, ◌⊎◌, Some, inr, arith, subst, sym, length}
 use Rattle.isa.specs.Flow.{Begins}
-use Rattle.segments.specs.Places.{segment_of}
-use Rattle.segments.specs.Segments.{IsCurrentUnlessStated}
-use Rattle.segments.proofs.Made.{inside_code}
+use Rattle.verifier.specs.Places.{segment_of}
+use Rattle.verifier.specs.Segments.{IsCurrentUnlessStated}
+use Rattle.verifier.proofs.Made.{inside_code}
 use Rattle.std.specs.Prelude.{slice_get}
 use Rattle.isa.specs.declared.code.Slot.TheVariants.{Start}
 use Rattle.std.proofs.lemmas.List.{length-set}
 use Rattle.verifier.proofs.Kept.{kept_more}
 use Rattle.verifier.proofs.SegmentLemmas.{code_begins, entry_current, fine_more}
-use Rattle.segments.specs.Refusals.{IsPassedTo}
+use Rattle.verifier.specs.Refusals.{IsPassedTo}
 use Rattle.verifier.proofs.Refused.{made_more, passed_behind, passed_to_start, split_first}
 use Rattle.verifier.proofs.Refused.{split_refused}
-use Rattle.segments.proofs.Plain.{never}
+use Rattle.verifier.proofs.SegmentsPlain.{never}
 use Rattle.verifier.specs.Pass.{ComesPlainly}
 use Rattle.verifier.proofs.Plain.{comes_first}
 use Rattle.verifier.proofs.pass.pass_all.Goals as goal

@@ -1,10 +1,10 @@
 use Rattle.std.proofs.Common.{◌≡◌, ◌⊎◌, ℕ, ◌<◌, ◌-◌, List, length}
 use Rattle.isa.specs.Flow.{Begins}
 use Rattle.object.specs.Statements.{StatementParts}
-use Rattle.segments.specs.Refusals.{IsPassedTo, IsWellMade}
-use Rattle.segments.specs.Stated.{AreSegmentStarts}
-use Rattle.segments.specs.Places.{segment_of}
-use Rattle.segments.specs.Segments.{IsFine, IsCurrentUnlessStated}
+use Rattle.verifier.specs.Refusals.{IsPassedTo, IsWellMade}
+use Rattle.verifier.specs.SegmentsStated.{AreSegmentStarts}
+use Rattle.verifier.specs.Places.{segment_of}
+use Rattle.verifier.specs.Segments.{IsFine, IsCurrentUnlessStated}
 use Rattle.verifier.specs.Kept.{HasRecordedRegion}
 use Rattle.verifier.specs.Pass.{ComesPlainly, HasRank, IsPlainProgram}
 use Rattle.verifier.proofs.pass.pass_all.Given as goal

@@ -1,5 +1,5 @@
 use Rattle.std.proofs.Common.{◌≡◌, refl, subst}
-use Rattle.segments.specs.Places.{segment_of}
+use Rattle.verifier.specs.Places.{segment_of}
 use Rattle.verifier.specs.Pass.{IsPlainIfLive}
 use Rattle.verifier.proofs.pass.pass_in.Goals as goal
 

@@ -2,8 +2,8 @@ use Rattle.verifier.proofs.Kept.{current_into, no_base}
 use Rattle.verifier.proofs.SegmentLemmas.{arrived, current_fine, next_current}
 use Rattle.verifier.proofs.Refused.{IsRefusal, empty_refused, follow_refused, handed_on}
 use Rattle.verifier.proofs.Refused.{place_refused}
-use Rattle.segments.specs.Places.{segment_of}
-use Rattle.segments.proofs.Plain.{never}
+use Rattle.verifier.specs.Places.{segment_of}
+use Rattle.verifier.proofs.SegmentsPlain.{never}
 use Rattle.verifier.proofs.Plain.{arrives, comes_behind, no_place, plain_here}
 use Rattle.verifier.proofs.pass.step.Goals as goal
 

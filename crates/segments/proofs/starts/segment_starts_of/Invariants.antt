@@ -1,8 +1,0 @@
-use Rattle.std.proofs.Common.{drop}
-use Rattle.segments.proofs.SegmentStarts.{AreFoundSoFar}
-use Rattle.segments.proofs.starts.segment_starts_of.Given as goal
-
-abbrev pub invariant-loop-statement : goal.invariant-loop-statement
-invariant-loop-statement g l =
-    AreFoundSoFar g.D.Domain.contains g.D.Domain.stated_gives l.statements
-    (drop l.statement-index l.statements) l.size l.segment_starts.items
