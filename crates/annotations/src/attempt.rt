@@ -5,9 +5,9 @@ ghost use Rattle.annotations.specs.Verdict.{IsOutcome};
 use crate::shortfall::Shortfall;
 use crate::trimming::trim;
 use crate::verdict::{Annotated, judged};
+use inference::{Ranking, Unranked, rank_statements};
 use isa::{Code, Hook};
 use object::Statement;
-use ranking_functions::{Ranking, Unranked, rank_statements};
 use std::alloc::Global;
 use verifier::BUDGET;
 

@@ -12,10 +12,9 @@ use crate::counted_code::counted;
 use crate::inside::stays_inside;
 use crate::shortfall::Shortfall;
 use crate::verdict::{Annotated, AnnotatedObject, EndlessLoop, Rejected};
-use inference::max_turns;
+use inference::{Unranked, kinds_of, max_turns};
 use isa::{Code, encode};
 use object::Statement;
-use ranking_functions::{Unranked, kinds_of};
 use std::alloc::{AllocError, Global};
 use verifier::BUDGET;
 

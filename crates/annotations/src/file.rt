@@ -9,9 +9,9 @@ use crate::counting::{annotate_bounded, annotate_counted};
 use crate::fuel::Fuel;
 use crate::shortfall::Shortfall;
 use crate::verdict::AnnotatedObject;
+use inference::Unranked;
 use isa::{Hook, decode};
 use object::read;
-use ranking_functions::Unranked;
 use std::alloc::Global;
 
 /// Whether the bytes begin as an object's file does.

@@ -18,6 +18,6 @@ pub use count_error::CountError;
 pub use counted_code::counted;
 pub use file::annotate_file;
 pub use fuel::{Fuel, answer_without_turns};
-pub use ranking_functions::{Endless, Trouble};
+pub use inference::{Endless, Trouble};
 pub use shortfall::Shortfall;
 pub use verdict::{Annotated, AnnotatedObject, EndlessLoop, Rejected};

@@ -6,8 +6,8 @@ ghost use Rattle.annotations.specs.Verdict.{IsOutcome, IsShortfall};
 use crate::attempt::Task;
 use crate::shortfall::Shortfall;
 use crate::verdict::{Annotated, judged};
+use inference::kinds_of;
 use object::{StatedKind, StatedNumber, Statement};
-use ranking_functions::kinds_of;
 use std::alloc::{AllocError, Global};
 
 /// The greatest number of statements that are trimmed one by one.

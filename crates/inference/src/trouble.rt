@@ -2,8 +2,8 @@
 
 use crate::circles::Graph;
 use crate::loops::Circle;
+use crate::memory::element_or;
 use crate::plan::RankPlan;
-use inference::memory::element_or;
 
 /// Why a loop has no rank.
 #[derive(Clone, Copy)]

@@ -1,12 +1,13 @@
 //! Ranks for all statements of a program.
 
 use crate::circles::Graph;
+use crate::draft::SiteDraft;
+use crate::fixpoint::{Inference, infer_statements};
 use crate::loops::{Circle, SiteEdges, numbers_below};
+use crate::memory::Memory;
 use crate::plan::RankPlan;
 use crate::unranked::Unranked;
 use crate::weights::bounds_of;
-use inference::memory::Memory;
-use inference::{Inference, SiteDraft, infer_statements};
 use isa::{Code, Hook};
 use object::{StatedKind, Statement};
 use std::alloc::{AllocError, Global};

@@ -2,9 +2,9 @@
 
 use crate::circles::Graph;
 use crate::loops::mark;
+use crate::memory::element_or;
 use crate::plan::RankPlan;
 use crate::trouble::{Endless, unranked_loop};
-use inference::memory::element_or;
 use kinds::put;
 
 /// The loops that have no rank, if there are any.

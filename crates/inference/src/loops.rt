@@ -1,7 +1,7 @@
 //! Edges between the sites, and the loops among them.
 
-use inference::Edge;
-use inference::memory::{Memory, element_or};
+use crate::edges::Edge;
+use crate::memory::{Memory, element_or};
 use kinds::put;
 
 /// Some of the edges, by their numbers, in the order of the sites at which they start.

@@ -2,11 +2,13 @@
 //! edge adds.
 
 use crate::circles::Graph;
+use crate::draft::SiteDraft;
+use crate::edges::Edge;
+use crate::joining::Value;
 use crate::loops::Circle;
+use crate::memory::{Memory, element_or};
 use crate::plan::{NO_RANK, RankCandidate, RankPlan};
 use absdom::Domain;
-use inference::memory::{Memory, element_or};
-use inference::{Edge, SiteDraft, Value};
 use kinds::{Kind, kind_of, put};
 use object::{Rank, RankTerm, StatedKind as Stated, Statement};
 use verifier::bound_of;

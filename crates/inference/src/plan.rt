@@ -1,6 +1,6 @@
 //! Ranks under construction: at each site the terms, and the constant that they need.
 
-use inference::memory::{Memory, element_or};
+use crate::memory::{Memory, element_or};
 use kinds::put;
 use object::{Rank, RankTerm};
 

@@ -1,9 +1,10 @@
 //! Loops among the sites, and how a number is carried around one.
 
+use crate::edges::Edge;
 use crate::loops::{Circle, SiteEdges, mark};
+use crate::memory::{Memory, element_or};
+use crate::sites::Sites;
 use crate::weights::Bounds;
-use inference::memory::{Memory, element_or};
-use inference::{Edge, Sites};
 use kinds::{Fact, put};
 
 /// The edges between the sites, and the bounds of the numbers at their starts.
