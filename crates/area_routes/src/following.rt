@@ -11,7 +11,7 @@ use candidates::InnerRoutes;
 use external_updates::{Followed, follow_externals};
 use flooding::Area;
 use kept_routes::Routes;
-use pages::Pages;
+use keyed_map::Pages;
 use std::alloc::Global;
 use words::{Route, Second};
 

@@ -30,7 +30,7 @@ use external_updates::laws::inner_routes_are_kept;
 use flooding::Area;
 use kept_routes::Routes;
 use kept_routes::laws::{candidates_are_kept, walks_are_kept};
-use pages::{Pages, RouteAnswers};
+use keyed_map::{Pages, RouteAnswers};
 use routes::Root;
 use std::alloc::{AllocError, Global};
 use std::marker::Model;

@@ -4,7 +4,7 @@ use Rattle.std.proofs.Common.{sym, ◌∙◌, ap, subst}
 use Rattle.std.proofs.lemmas.Bool.{cases_eq}
 use Rattle.std.proofs.lemmas.Option.{get_or_from_slice_get, slice_get-get_or}
 use Rattle.candidates.specs.Borders.{Ascend}
-use Rattle.pages.specs.Places.{IsPartFrom}
+use Rattle.keyed_map.specs.Places.{IsPartFrom}
 use Rattle.routes.specs.Routes.{IsBefore}
 use Rattle.routes.specs.Routes.IsBefore.{ByAddress, ByLength}
 use Rattle.words.specs.Prefixes.{Network}

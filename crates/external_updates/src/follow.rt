@@ -14,7 +14,7 @@ use crate::destination::best_to;
 use crate::keys::keys_under;
 use crate::placing::place;
 use candidates::InnerRoutes;
-use pages::Pages;
+use keyed_map::Pages;
 use routes::{Lsdb, Root};
 use std::alloc::{AllocError, Global};
 use words::{Key, Prefix, Route, Second};

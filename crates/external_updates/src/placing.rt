@@ -6,7 +6,7 @@ ghost use Rattle.candidates.specs.Borders.{Ascend};
 ghost use Rattle.words.specs.Orders.{network_cmp};
 ghost use Rattle.words.specs.declared.route.Route.{Route as RouteValue};
 
-use pages::Pages;
+use keyed_map::Pages;
 use std::alloc::AllocError;
 use std::cmp::Ordering;
 use words::{Prefix, Route};

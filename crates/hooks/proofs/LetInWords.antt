@@ -2,7 +2,7 @@
 use Rattle.std.proofs.Common.{◌≡◌, List, [], ◌∷◌, map, refl, ap}
 use Rattle.words.specs.Numbers.{Moment}
 use Rattle.words.specs.declared.route.Route.{Route}
-use Rattle.pages.specs.Answers.{all_in}
+use Rattle.keyed_map.specs.Answers.{all_in}
 use Rattle.hooks.specs.Vacant.{let_in_answer}
 use Rattle.hooks.specs.VetoAnswers.{words_of}
 

@@ -16,7 +16,7 @@ use crate::history::HistoryPrefix;
 use crate::rule::{ProgramReader, Sees};
 use crate::value::Vacancies;
 use crate::veto_answers::VetoAnswers;
-use pages::Pages;
+use keyed_map::Pages;
 use words::{External, Route, Second};
 
 // The hooks without a program, by one reading; `None` if the published programs can't be read, or

@@ -4,7 +4,7 @@ ghost use Rattle.hooks.specs.Vacant.{let_in_answer};
 ghost use Rattle.hooks.specs.VetoAnswers.{words_of};
 
 use crate::answer::VetoAnswer;
-use pages::{Pages, RouteAnswers};
+use keyed_map::{Pages, RouteAnswers};
 use std::alloc::{AllocError, Global};
 use std::marker::Model;
 use words::{Route, Second, Sequence};

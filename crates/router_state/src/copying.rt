@@ -4,7 +4,7 @@ ghost use Rattle.flooding.specs.Drafted.{nothing_at};
 
 use crate::router::Router;
 use flooding::Revertible;
-use pages::RouteAnswers;
+use keyed_map::RouteAnswers;
 use std::alloc::{AllocError, Global};
 use words::Second;
 

@@ -9,8 +9,7 @@ ghost use Rattle.router_state.specs.Making.{Makes};
 ghost use Rattle.router_state.specs.Owned.{AreOwn};
 
 use flooding::{Area, Draft, Link, Revertible};
-use keyed_map::KeyedMap;
-use pages::RouteAnswers;
+use keyed_map::{KeyedMap, RouteAnswers};
 use std::alloc::{AllocError, Global};
 use std::marker::Model;
 use words::{External, Key, RouterId, Second, Sequence};

@@ -1,5 +1,5 @@
 //! Lists in pages.
-use pages::Pages;
+use keyed_map::Pages;
 use std::alloc::{AllocError, Global};
 use std::process::Abort;
 use std::test::Fail;

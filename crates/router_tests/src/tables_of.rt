@@ -1,5 +1,5 @@
 //! Tables of candidates and answers.
-use pages::{Pages, RouteAnswers};
+use keyed_map::{Pages, RouteAnswers};
 use std::alloc::{AllocError, Global};
 use std::process::Abort;
 use std::test::Fail;

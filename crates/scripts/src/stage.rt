@@ -9,7 +9,7 @@ use crate::telling::{
 };
 use flood::{Config, ConfigError, Core, Event};
 use hooks::{Asker, VetoAnswers, programs};
-use pages::Pages;
+use keyed_map::Pages;
 use std::alloc::{AllocError, Global};
 use std::io::{self, BufRead};
 use std::mem::replace;

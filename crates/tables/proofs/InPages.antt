@@ -5,8 +5,8 @@ use Rattle.std.specs.Prelude.{option_map, slice_get}
 use Rattle.std.proofs.lemmas.Bool.{cases_lt}
 use Rattle.std.proofs.lemmas.Option.{get_or_from_slice_get, same_Some, slice_get-map}
 use Rattle.std.proofs.lemmas.Option.{slice_get_cases, slice_get_read, slice_get_within}
-use Rattle.pages.specs.Answers.{all_in}
-use Rattle.pages.specs.Places.{IsPartFrom}
+use Rattle.keyed_map.specs.Answers.{all_in}
+use Rattle.keyed_map.specs.Places.{IsPartFrom}
 use Rattle.words.specs.declared.route.Route.{Route}
 use Rattle.tables.specs.Parts.{StandsAt}
 use Rattle.tables.proofs.InTurn.{AreMet}

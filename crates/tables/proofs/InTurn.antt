@@ -10,7 +10,7 @@ use Rattle.words.specs.declared.route.Route.{Route}
 use Rattle.routes.specs.Routes.{IsBefore}
 use Rattle.routes.specs.Tables.{RouteWords, HasAnswer}
 use Rattle.routes.proofs.OneMore.{never_itself}
-use Rattle.pages.specs.Places.{IsPartFrom}
+use Rattle.keyed_map.specs.Places.{IsPartFrom}
 use Rattle.tables.specs.Parts.{AreAnswersAmong, Ascend, LacksAnswers, StandsAt}
 
 -- the first `met` routes have

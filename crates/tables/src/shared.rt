@@ -1,7 +1,7 @@
 //! The table of candidates in pages, and whether it is stale.
 ghost use Rattle.std.specs.Prelude.{◌≡◌, ◌↔◌, ◌<◌, ◌≤◌, ℕ, IfOk, IfSome, IsTrue, Some, false};
 ghost use Rattle.std.specs.Prelude.{length, slice_get};
-ghost use Rattle.pages.specs.Answers.{all_in};
+ghost use Rattle.keyed_map.specs.Answers.{all_in};
 ghost use Rattle.routes.specs.Candidates.{AreCandidates};
 ghost use Rattle.routes.specs.Contents.{Contents};
 ghost use Rattle.routes.specs.Tables.{IsTable};
@@ -11,7 +11,7 @@ ghost use Rattle.tables.specs.Parts.{StandsAt};
 ghost use Rattle.words.specs.declared.route.Route.{Route as RouteValue};
 
 use crate::answered::{answered_in_turn, is_answered_from, is_stale, table};
-use pages::{KeptAnswers, Pages, RouteAnswers};
+use keyed_map::{KeptAnswers, Pages, RouteAnswers};
 use std::alloc::{AllocError, Global};
 use words::Route;
 

@@ -46,8 +46,8 @@ ghost use Rattle.turns.specs.Turns.{
 
 use flood::{Book, BookError, CoreError, Event, NeighborState, Offered, Origin, Out};
 use hooks::{Asker, HookAnswer, Notice, PriceAnswer, TagAnswer, VetoAnswer, VetoAnswers};
+use keyed_map::Pages;
 use maps::{Seat, Shared};
-use pages::Pages;
 use std::alloc::{AllocError, Global};
 use std::sync::atomic::{AtomicU64, Ordering};
 use std::sync::ledger::Share;

@@ -5,9 +5,9 @@ ghost use Rattle.hooks.specs.Known.{IsNew, asker_history, loader_history};
 
 use crate::trials::{accepted_in, file_of, one_seat, row};
 use hooks::{Asker, HookError, Loader, MAX_ASKERS, VetoAnswers, programs};
+use keyed_map::Pages;
 use machine::Hook;
 use maps::{Seat, Shared};
-use pages::Pages;
 use std::alloc::{AllocError, Global};
 use std::sync::Wait;
 use verifier::Accepted;

@@ -2,7 +2,7 @@ use Rattle.std.proofs.Common.{ℕ, ◌<◌, ◌≤◌, true, false, length, refl
 use mathlib.Core.Bool.{false≢true}
 use Rattle.std.proofs.lemmas.List.{length-map}
 use Rattle.std.proofs.lemmas.Bool.{eqb-true}
-use Rattle.pages.specs.Answers.{all_in}
+use Rattle.keyed_map.specs.Answers.{all_in}
 use Rattle.words.specs.declared.route.Route.{Route}
 use Rattle.tables.proofs.InTurn.{all_answered, none_lacks, one_lacks}
 use Rattle.tables.proofs.LetIn.{tells_stale}

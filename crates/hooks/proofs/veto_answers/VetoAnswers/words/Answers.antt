@@ -1,5 +1,5 @@
 use Rattle.std.proofs.Common.{sym, ap, ◌∙◌}
-use Rattle.pages.specs.Answers.{all_in}
+use Rattle.keyed_map.specs.Answers.{all_in}
 use Rattle.hooks.specs.VetoAnswers.{vetoes_of, words_of}
 use Rattle.hooks.proofs.LetInWords.{words_let_in}
 use Rattle.hooks.proofs.veto_answers.VetoAnswers.words.Goals as goal

@@ -1,6 +1,0 @@
-use Rattle.std.proofs.Common.{◌≡◌, take}
-use Rattle.pages.specs.Places.{joined}
-use Rattle.pages.proofs.pages.Pages.to_vec.Given as goal
-
-abbrev pub invariant-loop-page : goal.invariant-loop-page
-invariant-loop-page g l = l.items.items ≡ joined (take l.page-index l.page-items)
