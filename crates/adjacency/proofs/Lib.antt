@@ -11,5 +11,9 @@ pub mod Sets
 pub mod Sends
 pub mod Lists
 pub mod Timers
+pub mod Exchanges
+pub mod Judged
+pub mod Intersections
+pub mod Doing
 -- names from the crates below that crates above use
 pub use Rattle.lsdb.proofs as lsdb

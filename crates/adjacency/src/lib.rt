@@ -1,12 +1,20 @@
 //! The conversation with a neighbor: its states, its lists and what is sent to it (RFC 2328,
 //! section 10).
+//!
+//! The implementation of the neighbor state machine (RFC 2328, section 10) for a neighbor that
+//! isn't Down.
+//!
+//! A call that errors with `AllocError` may have done a part of its work. The caller then rolls
+//! back what it changes, and drops the drafts that it adds to.
 #![tactic(auto)]
 
+mod connectives;
 pub mod descriptions;
 mod draft;
 mod interface;
 pub mod laws;
 mod listed;
+mod neighbor;
 mod revertible;
 mod standing;
 mod state;
@@ -15,6 +23,10 @@ mod verdict;
 pub use draft::{Draft, DraftLists, Update};
 pub use interface::Interface;
 pub use listed::{ListEntry, instance_of};
+pub use neighbor::{
+    Neighbor, has_passed, initial_description, is_entry, is_exchange_or_loading,
+    next_dd_sequence_start,
+};
 pub use revertible::Revertible;
 pub use standing::{ReceivedDescription, Standing};
 pub use state::NeighborState;

@@ -4,7 +4,7 @@ use mathlib.Core.Bool.{true≢false}
 use Rattle.keyed_map.proofs.Helds.{on_ok}
 use Rattle.received.specs.Links.{Area}
 use Rattle.received.specs.AreaStates.{AreaState}
-pub use Rattle.neighbors.proofs.Doing.{always}
+pub use Rattle.adjacency.proofs.Doing.{always}
 use Rattle.flooding.specs.Doing.{AreaDoes}
 use Rattle.flooding.specs.Drafted.{drafts_with}
 use Rattle.flooding.specs.Kept.{RouterArea}

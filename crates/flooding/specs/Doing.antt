@@ -9,7 +9,7 @@ use Rattle.adjacency.specs.Contents.{Content, Step, sent_on, step_on}
 use Rattle.adjacency.specs.Drafts.{Drafted, drafting}
 use Rattle.adjacency.specs.Kept.{Kept}
 use Rattle.adjacency.specs.Neighbors.{Neighbor}
-use Rattle.neighbors.specs.Doing.{Sends, SendsUpdates}
+use Rattle.adjacency.specs.Doing.{Sends, SendsUpdates}
 use Rattle.received.specs.Links.{Area, Link}
 use Rattle.received.specs.AreaStates.{AreaState, Send}
 use Rattle.flooding.specs.Drafted.{drafts_with}

@@ -19,5 +19,6 @@ pub use link::timers::{EndLoading, ExpireTimers, NextRequest, SendingAgain};
 pub use on_links::any_exchange_or_loading;
 pub use steps::{LinkChange, LinkStep};
 // Names from the crates below that crates above use.
-pub use adjacency::{DatabaseCopy, Draft, Interface, Lsdb, NeighborState, Revertible, Update};
-pub use neighbors::has_passed;
+pub use adjacency::{
+    DatabaseCopy, Draft, Interface, Lsdb, NeighborState, Revertible, Update, has_passed,
+};

@@ -3,15 +3,14 @@ ghost use Rattle.std.specs.Prelude.{◌≡◌, IfOk, None, Some};
 ghost use Rattle.adjacency.specs.Adjacencies.{enter_exstart};
 ghost use Rattle.adjacency.specs.Steps.{neighbor_is_exchange_or_later};
 ghost use Rattle.adjacency.specs.Views.{restarted, present_of};
-ghost use Rattle.neighbors.specs.Doing.{Sends};
+ghost use Rattle.adjacency.specs.Doing.{Sends};
 ghost use Rattle.flooding.specs.Doing.{SlotSends};
 
 mod descriptions;
 mod requests;
 mod timers;
 
-use adjacency::Draft;
-use neighbors::{Neighbor, initial_description, next_dd_sequence_start};
+use adjacency::{Draft, Neighbor, initial_description, next_dd_sequence_start};
 use std::alloc::{AllocError, Global};
 use std::marker::Model;
 use words::{RouterId, Second};

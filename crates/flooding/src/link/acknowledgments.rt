@@ -4,7 +4,7 @@ ghost use Rattle.std.specs.List.{fold};
 ghost use Rattle.std.specs.FinMap as finite;
 ghost use Rattle.adjacency.specs.Contents.{Acknowledges};
 ghost use Rattle.adjacency.specs.Drafts.{drafting};
-ghost use Rattle.neighbors.specs.Doing.{ListDoes};
+ghost use Rattle.adjacency.specs.Doing.{ListDoes};
 ghost use Rattle.flooding.specs.Doing.{LinkDoes};
 
 use super::Link;

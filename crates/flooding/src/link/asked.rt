@@ -7,9 +7,8 @@ ghost use Rattle.adjacency.specs.Steps.{named_neighbor};
 ghost use Rattle.flooding.specs.Owed.{owed_on};
 
 use super::Link;
-use adjacency::NeighborState;
+use adjacency::{NeighborState, is_entry, is_exchange_or_loading};
 use lsa::Header;
-use neighbors::{is_entry, is_exchange_or_loading};
 use words::{Key, RouterId, Second};
 
 impl Link {

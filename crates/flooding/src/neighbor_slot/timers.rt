@@ -3,7 +3,7 @@ ghost use Rattle.std.specs.Prelude.{◌≡◌};
 ghost use Rattle.adjacency.specs.Timers.{expire_neighbor_timers};
 
 use super::NeighborSlot;
-use neighbors::has_passed;
+use adjacency::has_passed;
 use words::Second;
 
 impl NeighborSlot {

@@ -2,7 +2,7 @@ use Rattle.std.proofs.Common.{refl, ap, sym, ◌∙◌}
 use Rattle.adjacency.specs.Adjacencies.{enter_exstart}
 use Rattle.adjacency.specs.Contents.{sent_on, step_on}
 use Rattle.adjacency.specs.Views.{present_of}
-use Rattle.neighbors.proofs.Doing.{nothing_sent}
+use Rattle.adjacency.proofs.Doing.{nothing_sent}
 use Rattle.flooding.proofs.neighbor_slot.NeighborSlot.enter_exstart.Goals as goal
 
 pub returns-in_default : goal.returns-in_default

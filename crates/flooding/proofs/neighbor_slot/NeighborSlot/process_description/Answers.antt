@@ -5,7 +5,7 @@ use Rattle.adjacency.specs.Contents.{sent_on, step_on}
 use Rattle.adjacency.specs.Drafts.{drafting}
 use Rattle.adjacency.specs.Exchanges.{process_description, verdict_of}
 use Rattle.adjacency.specs.Views.{present_of}
-use Rattle.neighbors.proofs.Doing.{nothing_sent, sent_after}
+use Rattle.adjacency.proofs.Doing.{nothing_sent, sent_after}
 use Rattle.flooding.proofs.Processing.{goes_on_on, goes_on_sent, over_on, over_sent}
 use Rattle.flooding.proofs.neighbor_slot.NeighborSlot.process_description.Goals as goal
 

@@ -3,7 +3,7 @@ use Rattle.keyed_map.proofs.Helds.{on_ok}
 use Rattle.adjacency.specs.Contents.{sent_on, step_on}
 use Rattle.adjacency.specs.Drafts.{drafting}
 use Rattle.adjacency.specs.Exchanges.{process_description}
-use Rattle.neighbors.proofs.Doing.{nothing_sent}
+use Rattle.adjacency.proofs.Doing.{nothing_sent}
 use Rattle.flooding.proofs.Processing.{discarded_on, discarded_sent, judged_after, sent_after}
 use Rattle.flooding.proofs.neighbor_slot.NeighborSlot.receive_description.Goals as goal
 

@@ -1,7 +1,7 @@
 use Rattle.std.proofs.Common.{refl, ap, sym, ◌∙◌}
 use Rattle.keyed_map.proofs.Helds.{on_ok}
 use Rattle.adjacency.specs.Drafts.{drafting}
-use Rattle.neighbors.proofs.Doing.{nothing_updated}
+use Rattle.adjacency.proofs.Doing.{nothing_updated}
 use Rattle.flooding.proofs.Answered.{answers_on, answers_sent, fails_on, fails_sent}
 use Rattle.flooding.proofs.Answered.{rests_on, rests_sent}
 use Rattle.flooding.proofs.neighbor_slot.NeighborSlot.receive_request.Goals as goal

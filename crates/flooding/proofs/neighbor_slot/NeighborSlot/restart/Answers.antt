@@ -3,7 +3,7 @@ use Rattle.adjacency.specs.Adjacencies.{initial_description}
 use Rattle.adjacency.specs.Contents.{Describes}
 use Rattle.adjacency.specs.Drafts.{drafting}
 use Rattle.adjacency.proofs.Neighbors.{restarted_if_listed, restarted_if_not_listed}
-use Rattle.neighbors.proofs.Doing.{nothing_sent}
+use Rattle.adjacency.proofs.Doing.{nothing_sent}
 use Rattle.flooding.proofs.neighbor_slot.NeighborSlot.restart.Goals as goal
 
 pub returns-then-lists_us : goal.returns-then-lists_us

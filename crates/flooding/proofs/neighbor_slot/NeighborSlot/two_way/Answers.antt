@@ -1,5 +1,5 @@
 use Rattle.std.proofs.Common.{refl, sym, ◌∙◌}
-use Rattle.neighbors.proofs.Doing.{nothing_sent, sent_after}
+use Rattle.adjacency.proofs.Doing.{nothing_sent, sent_after}
 use Rattle.flooding.proofs.Processing.{begins_on, begins_sent, rests_on, rests_sent}
 use Rattle.flooding.proofs.neighbor_slot.NeighborSlot.two_way.Goals as goal
 

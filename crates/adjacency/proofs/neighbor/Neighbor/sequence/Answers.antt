@@ -1,0 +1,8 @@
+use Rattle.std.proofs.Common.{ap, ◌∙◌}
+use Rattle.adjacency.proofs.Exchanges.{sequence_now}
+use Rattle.adjacency.proofs.neighbor.Neighbor.sequence.Goals as goal
+
+pub returns : goal.returns
+returns c = sequence_now c.self.inside.standing c.self.inside.described.present
+    c.self.inside.summary.present c.self.inside.requests.present c.self.inside.outstanding.present
+    c.self.inside.retransmissions.present ∙ ap (λ h. h.present.sequence) c.self.view_is

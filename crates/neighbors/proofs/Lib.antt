@@ -1,4 +1,0 @@
-pub mod Exchanges
-pub mod Judged
-pub mod Intersections
-pub mod Doing
