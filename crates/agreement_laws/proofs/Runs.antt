@@ -38,7 +38,7 @@ use Rattle.event_rules.proofs.Walk.{outcome}
 use Rattle.flood_laws.specs.InOrder.{IsConsistent}
 use Rattle.flood_laws.proofs.Acknowledged.{routers_stay_in_order}
 use Rattle.flood_laws.proofs.Leaving.{stepped_kept}
-use Rattle.router_runs.specs.Clocks.{ClockRunsOn}
+use Rattle.event_rules.specs.Clocks.{ClockRunsOn}
 use Rattle.agreement_laws.specs.Exchanged.{Conversation, Converses, GoesOn}
 use Rattle.agreement_laws.specs.Exchanged.{IsExchanged, WasExchanged, conversation_with}
 use Rattle.agreement_laws.specs.HeldWasExchanged.{IsNotOwed, WasExchangedAsNew}

@@ -19,7 +19,7 @@ use Rattle.received.specs.Links.{neighbor_at}
 use Rattle.event_rules.specs.declared.model.Config.{Config}
 use Rattle.event_rules.specs.Events.{Run, Step, initial}
 use Rattle.event_rules.specs.Routers.{Router}
-use Rattle.router_runs.specs.Clocks.{ClockRunsOn}
+use Rattle.event_rules.specs.Clocks.{ClockRunsOn}
 use Rattle.agreement_laws.specs.Exchanged.{Conversation, WasExchanged, conversation_with}
 use Rattle.agreement_laws.specs.Ranks.{is_at_least}
 

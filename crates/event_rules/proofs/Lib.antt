@@ -6,3 +6,5 @@ pub mod Fitting
 pub mod Walk
 pub mod Roomy
 mod Skipped
+pub mod Clocks
+pub mod Unheeded

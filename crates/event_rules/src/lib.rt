@@ -3,10 +3,16 @@
 //!
 //! The implementation is the crate `flood`, which also has the type of events; laws about runs and
 //! worked conversations are beside it.
+//!
+//! Runs of a router in which its clock doesn't go back, as laws, each carried by a function with an
+//! empty body.
 #![tactic(auto)]
 
 pub mod laws;
 mod model;
+mod router_runs;
 
 pub use model::{Config, ConfigError, CoreError, Out};
+pub use router_runs::routers_refuse_clocks_that_go_back;
+// Names from the crates below that crates above use.
 pub use received::{Interface, NeighborState};

@@ -4,7 +4,7 @@ use Rattle.words.specs.Constants.{clock_end}
 use Rattle.words.specs.Numbers.{Moment}
 use Rattle.event_rules.specs.Refusals.{IsAllowed}
 use Rattle.event_rules.specs.Routers.{Router}
-use Rattle.router_runs.proofs.Clocks.{before_end}
+use Rattle.event_rules.proofs.Clocks.{before_end}
 use Rattle.flood.specs.declared.event.Event.{Event}
 use Rattle.flood.specs.Occurrences.{occurrence_of}
 use Rattle.flood.specs.Refusals.{BookRefusesWithMarksByRules}

@@ -18,7 +18,7 @@ use Rattle.flood.specs.Replay.{IsInstalledLast, IsLightened, Replays, entry_occu
 use Rattle.flood.specs.Replay.{forgotten_at}
 use Rattle.flood.specs.Replay.{step_occurrence}
 use Rattle.flood.specs.Replay.{without_answers}
-use Rattle.router_runs.proofs.Unheeded.{told}
+use Rattle.event_rules.proofs.Unheeded.{told}
 use Rattle.flood.proofs.Unheeded.{installed, overlooked, replaced}
 
 -- ---- the first event of a journal

@@ -7,7 +7,7 @@ use Rattle.event_rules.specs.declared.model.Out.{Out}
 use Rattle.event_rules.specs.Events.{Happens, Run, Step}
 use Rattle.event_rules.specs.Refusals.{IsAllowed}
 use Rattle.event_rules.specs.Routers.{Occurrence, Router}
-use Rattle.router_runs.proofs.Clocks.{one_more}
+use Rattle.event_rules.proofs.Clocks.{one_more}
 use Rattle.flood.specs.Occurrences.{occurrence_of}
 use Rattle.flood.specs.declared.book.entry.JournalEntry.{JournalEntry}
 use Rattle.flood.specs.Bytes.{bytes_of, with_event}

@@ -7,7 +7,7 @@ use Rattle.event_rules.specs.Events.{Happens}
 use Rattle.event_rules.specs.Routers.{Occurrence, Router}
 use Rattle.event_rules.specs.declared.model.Out.{Out}
 use Rattle.flood.specs.Occurrences.{is_install}
-use Rattle.router_runs.proofs.Unheeded.{answered_alike, bringing, told}
+use Rattle.event_rules.proofs.Unheeded.{answered_alike, bringing, told}
 
 module _ (answers : List (Route × ℕ)) where
   brings_none : (event : Occurrence) → is_install event ≡ false → bringing answers event ≡ event

@@ -5,7 +5,7 @@ use Rattle.std.specs.FinMap as finite
 use Rattle.words.specs.Numbers.{Moment}
 use Rattle.event_rules.specs.Events.{Run, Step}
 use Rattle.event_rules.specs.Routers.{Occurrence, Router}
-use Rattle.router_runs.specs.Clocks.{RunOfTaken}
+use Rattle.event_rules.specs.Clocks.{RunOfTaken}
 use Rattle.flood.specs.declared.event.Event.{Event}
 use Rattle.flood.specs.declared.event.Event.TheVariants as event
 use Rattle.flood.specs.Occurrences.{is_install, occurrence_of}

@@ -6,7 +6,7 @@ use Rattle.event_rules.specs.declared.model.Out.{Out}
 use Rattle.event_rules.specs.Events.{Happens, Step, initial}
 use Rattle.event_rules.specs.Refusals.{IsAllowed}
 use Rattle.event_rules.specs.Routers.{Occurrence, Router}
-use Rattle.router_runs.specs.Clocks.{ClockRunsOn, RoutersRefuseClocksThatGoBack}
+use Rattle.event_rules.specs.Clocks.{ClockRunsOn, RoutersRefuseClocksThatGoBack}
 use Rattle.own_lsa_laws.specs.OwnCopies.{EndsWithTick, NobodySpeaksForThisRouter, SpeaksForItself}
 use Rattle.flood.specs.declared.event.Event.{Event}
 use Rattle.flood.specs.declared.event.Event.TheVariants as event

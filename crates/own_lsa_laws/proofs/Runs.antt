@@ -28,7 +28,7 @@ use Rattle.event_rules.specs.Originations.{wanted_body}
 use Rattle.event_rules.specs.Routers.{Occurrence, Router, unannounced_router}
 use Rattle.event_rules.specs.Ticks.{after_tick}
 use Rattle.flood_laws.proofs.Retransmitted.{retransmissions_are_of_the_database}
-use Rattle.router_runs.specs.Clocks.{ClockRunsOn}
+use Rattle.event_rules.specs.Clocks.{ClockRunsOn}
 use Rattle.own_lsa_laws.specs.OwnCopies.{EndsWithTick, IsHeldBack, IsSelfOriginated}
 use Rattle.own_lsa_laws.specs.OwnCopies.{IsToBeReplaced, NobodySpeaksForThisRouter}
 use Rattle.own_lsa_laws.specs.OwnCopies.{HasWantedBody}

@@ -15,7 +15,7 @@ use Rattle.event_rules.specs.Endings.{same_body}
 use Rattle.event_rules.specs.Events.{Happens, Run, Step, initial}
 use Rattle.event_rules.specs.Originations.{wanted_body}
 use Rattle.event_rules.specs.Routers.{Occurrence, Router}
-use Rattle.router_runs.specs.Clocks.{ClockRunsOn}
+use Rattle.event_rules.specs.Clocks.{ClockRunsOn}
 
 -- ---- a copy in this router's name
 

@@ -6,7 +6,7 @@ ghost use Rattle.own_lsa_laws.specs.Deeds.{LivesAreDeedsInOrder};
 ghost use Rattle.own_lsa_laws.specs.RunningRouter.{NobodySpeaksForTheRunningRouter};
 
 use crate::nobody_speaks_for_this_router;
-use router_runs::routers_refuse_clocks_that_go_back;
+use event_rules::routers_refuse_clocks_that_go_back;
 use transports::{Seconds, Transport};
 use worker::{Flag, Site, Taker};
 

@@ -20,7 +20,7 @@ use Rattle.program_laws.specs.Unheard.{Act, Acts, Cause, Datagram, History, Netw
 use Rattle.program_laws.specs.Unheard.{VetoesAreNeverHeard, act_without_words, asked}
 use Rattle.program_laws.specs.Unheard.{cause_without_words, event_of, network_without_answers}
 use Rattle.program_laws.specs.Unheard.{incoming, sent, sent_at, without_words}
-use Rattle.router_runs.proofs.Unheeded.{answered_alike, bringing}
+use Rattle.event_rules.proofs.Unheeded.{answered_alike, bringing}
 
 -- ---- an event does the same without the answers
 

@@ -8,7 +8,7 @@ use Rattle.event_rules.specs.EventState.{EventState}
 use Rattle.event_rules.specs.Packing.{outs_of}
 use Rattle.event_rules.specs.Routers.{Occurrence, Router}
 use Rattle.event_rules.specs.declared.model.Out.{Out}
-use Rattle.router_runs.proofs.Unheeded.{answering, ended}
+use Rattle.event_rules.proofs.Unheeded.{answering, ended}
 use Rattle.program_laws.specs.Vetoes.{VetoesAreNotHeard, without_answers}
 
 abbrev without : EventState → EventState

@@ -17,7 +17,7 @@ use Rattle.event_rules.specs.Originations.{originate}
 use Rattle.event_rules.specs.Originations.{originate_body, postpone, router_key, wanted_body}
 use Rattle.event_rules.specs.Refusals.{IsAllowed, refusal_before_limits, is_clock_back, of_event}
 use Rattle.event_rules.specs.Routers.{Occurrence, Router, unannounced_router}
-use Rattle.router_runs.specs.Clocks.{ClockRunsOn, RoutersRefuseClocksThatGoBack, RunOfTaken}
+use Rattle.event_rules.specs.Clocks.{ClockRunsOn, RoutersRefuseClocksThatGoBack, RunOfTaken}
 
 -- ---- the start
 
