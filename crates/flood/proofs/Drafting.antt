@@ -10,9 +10,9 @@ use Rattle.event_rules.specs.declared.model.Out.{Out}
 use Rattle.event_rules.specs.Packing.{outs_at}
 use Rattle.flood_laws.specs.Keeping.{AreTextsAt}
 use Rattle.area_routes.specs.flooding.Drafted.{drafts_with, drafted_from, nothing_at}
-use Rattle.packing.specs.Drafts.{IsDraftAt}
-use Rattle.procedures.specs.Making.{interfaces_of}
-use Rattle.procedures.proofs.Drafts.{drafted_same}
+use Rattle.router.specs.Drafts.{IsDraftAt}
+use Rattle.router.specs.Making.{interfaces_of}
+use Rattle.router.proofs.Drafts.{drafted_same}
 use Rattle.flood.specs.Drafts.{AreDrafts, AreDraftsFrom}
 
 module _ (sends : List Send) (room : AllByRecursion (λ (s : Send). HasRoom s.content) sends) where

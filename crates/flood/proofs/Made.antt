@@ -15,9 +15,9 @@ use Rattle.event_rules.specs.Refusals.{exceeds}
 use Rattle.event_rules.specs.Routers.{Router}
 use Rattle.event_rules.specs.received.Links.{Link}
 use Rattle.area_routes.specs.flooding.Drafted.{nothing_at}
-use Rattle.procedures.specs.Making.{IsMaking, Makes, interfaces_of}
-use Rattle.procedures.proofs.Making.{makes_then, making_starts}
-use Rattle.procedures.specs.Kept.{KeptRouter}
+use Rattle.router.specs.Making.{IsMaking, Makes, interfaces_of}
+use Rattle.router.proofs.Making.{makes_then, making_starts}
+use Rattle.router.specs.Kept.{KeptRouter}
 use Rattle.flood.specs.declared.part.Part.{Part}
 use Rattle.flood.specs.Drafts.{AreDrafts, AreDraftsFrom}
 use Rattle.flood.specs.Parts.{PartHappens, RefusesAtLimit, after_event, after_part, made_state}

@@ -9,9 +9,9 @@ use Rattle.event_rules.specs.EventState.{EventState}
 use Rattle.event_rules.specs.Routers.{fresh_link, in_profile}
 use Rattle.area_routes.specs.flooding.Kept.{KeptLink}
 use Rattle.area_routes.specs.flooding.Links.{present}
-use Rattle.procedures.specs.Kept.{KeptRouter}
-use Rattle.procedures.specs.Making.{Makes}
-use Rattle.procedures.proofs.Making.{making_starts}
+use Rattle.router.specs.Kept.{KeptRouter}
+use Rattle.router.specs.Making.{Makes}
+use Rattle.router.proofs.Making.{making_starts}
 use Rattle.flood.specs.Starts.{fresh_kept}
 
 pub few_interfaces : (c : Config) → in_profile c ≡ true → length c.interfaces ≤ 63

@@ -3,7 +3,7 @@ use Rattle.std.specs.Prelude.{ℕ, ◌+◌, List, [], ◌∷◌}
 use Rattle.flood_laws.specs.adjacency.Drafts.{Drafted}
 use Rattle.event_rules.specs.received.Links.{Link}
 use Rattle.event_rules.specs.received.AreaStates.{Send}
-use Rattle.packing.specs.Drafts.{IsDraftAt}
+use Rattle.router.specs.Drafts.{IsDraftAt}
 
 -- what is sent on each link is in its draft; `n` is the number of the first link
 abbrev pub AreDraftsFrom : ℕ → List Link → List Send → List Drafted → Type 0

@@ -1,10 +1,10 @@
 //! What an event's own part does to the router.
 ghost use Rattle.std.specs.Prelude.{length};
-ghost use Rattle.procedures.specs.Making.{RouterDoes};
+ghost use Rattle.router.specs.Making.{RouterDoes};
 ghost use Rattle.flood.specs.Parts.{HasInterface, after_part};
 
 use crate::part::Part;
-use procedures::{Router, receive_packet, redistribute, tick, withdraw};
+use router::{Router, receive_packet, redistribute, tick, withdraw};
 use std::alloc::{AllocError, Global};
 use words::Second;
 

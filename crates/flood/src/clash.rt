@@ -4,7 +4,7 @@ ghost use Rattle.std.specs.FinMap as finite;
 ghost use Rattle.event_rules.specs.Originations.{external_key};
 ghost use Rattle.event_rules.specs.Refusals.{clashes, is_taken};
 
-use procedures::{Router, same_external, same_network};
+use router::{Router, same_external, same_network};
 use words::{External, Prefix, external_key};
 
 // Whether the Link State ID is that of another announced prefix.

@@ -15,7 +15,7 @@ use crate::sending::outs;
 use adjacency::Draft;
 use area_routes::AreaRoutes;
 use event_rules::{CoreError, Out};
-use procedures::Router;
+use router::Router;
 use std::alloc::{AllocError, Global};
 use words::{RouterId, Second};
 

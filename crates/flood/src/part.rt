@@ -14,7 +14,7 @@ use event_rules::CoreError;
 use hooks::{PriceAnswer, TagAnswer, VetoAnswers};
 use keyed_map::RouteAnswers;
 use packet::{Packet, read};
-use procedures::Router;
+use router::Router;
 use std::alloc::{AllocError, Global};
 use words::{External, Prefix};
 

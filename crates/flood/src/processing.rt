@@ -16,7 +16,8 @@ use crate::keeping::pack_and_update_routes;
 use crate::part::read_part;
 use area_routes::AreaRoutes;
 use event_rules::{CoreError, Out};
-use procedures::{Router, end_event, full_routers};
+use router::telling::full_routers;
+use router::{Router, end_event};
 use std::alloc::Global;
 use words::Second;
 

@@ -21,7 +21,7 @@ use area_routes::{AreaRoutes, Offered};
 use event_rules::{Config, ConfigError, CoreError, Out};
 use keyed_map::Pages;
 use lsdb::Lsdb;
-use procedures::{Router, same_network};
+use router::{Router, same_network};
 use std::alloc::{AllocError, Global};
 use std::marker::Model;
 use words::{Prefix, Route, RouterId, Second, external_key};

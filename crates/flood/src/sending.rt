@@ -8,7 +8,7 @@ ghost use Rattle.flood.specs.Drafts.{AreDrafts};
 
 use adjacency::Draft;
 use event_rules::Out;
-use packing::push_packets;
+use router::push_packets;
 use std::alloc::{AllocError, Global};
 use words::RouterId;
 

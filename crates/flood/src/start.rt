@@ -7,7 +7,7 @@ ghost use Rattle.flood.specs.Starts.{fresh_kept};
 use adjacency::Interface;
 use area_routes::Link;
 use event_rules::Config;
-use procedures::{Router, originate_or_postpone};
+use router::{Router, originate_or_postpone};
 use std::alloc::{AllocError, Global};
 use words::router_key;
 

@@ -1,6 +1,6 @@
 use Rattle.std.proofs.Common.{sym, subst}
-use Rattle.procedures.specs.Making.{Makes}
-use Rattle.procedures.proofs.Making.{done}
+use Rattle.router.specs.Making.{Makes}
+use Rattle.router.proofs.Making.{done}
 use Rattle.flood.specs.declared.part.Part.{Part}
 use Rattle.flood.specs.Parts.{after_part}
 use Rattle.flood.proofs.applying.apply_part.Goals as goal

@@ -2,10 +2,10 @@ use Rattle.std.proofs.Common.{◌≡◌, ◌≤◌, None, sym, ap, ◌∙◌, su
 use Rattle.area_routes.specs.Kept.{AreKept, KeepsWalkUnlessChanged}
 use Rattle.event_rules.specs.Routers.{Router}
 use Rattle.flood_laws.specs.Keeping.{AreTexts}
-use Rattle.procedures.specs.Full.{full_routers}
-use Rattle.procedures.specs.Kept.{KeptRouter}
-use Rattle.procedures.specs.Making.{interfaces_of}
-use Rattle.procedures.proofs.Making.{as_many_links}
+use Rattle.router.specs.Full.{full_routers}
+use Rattle.router.specs.Kept.{KeptRouter}
+use Rattle.router.specs.Making.{interfaces_of}
+use Rattle.router.proofs.Making.{as_many_links}
 use Rattle.flood.specs.Early.{early_refusal}
 use Rattle.flood.specs.Occurrences.{occurrence_of}
 use Rattle.flood.specs.Parts.{HasInterface, RefusesAtLimit, made_state}

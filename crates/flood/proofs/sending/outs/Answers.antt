@@ -1,6 +1,6 @@
 use Rattle.std.proofs.Common.{length, refl, sym, ap, ◌∙◌, subst, arith}
 use Rattle.std.specs.Vec.Iter.{into_iter_items, into_iter_len}
-use Rattle.packing.proofs.Packs.{none_left}
+use Rattle.router.proofs.Packs.{none_left}
 use Rattle.flood.specs.Drafts.{AreDraftsFrom}
 use Rattle.flood.proofs.Drafting.{all_sent, all_spelled, next_draft, one_sent, sending_starts}
 use Rattle.flood.proofs.sending.outs.Goals as goal

@@ -12,7 +12,7 @@ use Rattle.flood_laws.proofs.Acknowledged.{routers_stay_in_order}
 use Rattle.flood_laws.proofs.Limits.{others_stay_within_limits}
 use Rattle.area_routes.specs.flooding.Drafted.{nothing_at}
 use Rattle.area_routes.specs.flooding.Kept.{RouterArea}
-use Rattle.procedures.specs.Kept.{KeptRouter}
+use Rattle.router.specs.Kept.{KeptRouter}
 use Rattle.flood.proofs.Kept.{begun}
 use Rattle.flood.proofs.router_core.Core.new.Goals as goal
 

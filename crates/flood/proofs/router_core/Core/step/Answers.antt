@@ -3,7 +3,7 @@ use Rattle.event_rules.specs.RoomLaws.{IsRoomy}
 use Rattle.event_rules.specs.Refusals.{exceeds}
 use Rattle.event_rules.specs.Routers.{Router}
 use Rattle.area_routes.specs.flooding.Drafted.{nothing_at}
-use Rattle.procedures.specs.Kept.{KeptRouter}
+use Rattle.router.specs.Kept.{KeptRouter}
 use Rattle.flood_laws.specs.InOrder.{IsConsistent}
 use Rattle.flood_laws.specs.Keeping.{HasNumbersInRange}
 use Rattle.flood.specs.Occurrences.{occurrence_of}

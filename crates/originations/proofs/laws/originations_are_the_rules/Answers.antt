@@ -1,5 +1,0 @@
-use Rattle.originations.proofs.Decided.{are_the_rules}
-use Rattle.originations.proofs.laws.originations_are_the_rules.Goals as goal
-
-pub returns : goal.returns
-returns c = are_the_rules

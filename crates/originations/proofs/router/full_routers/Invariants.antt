@@ -1,7 +1,0 @@
-use Rattle.std.proofs.Common.{◌≡◌, map, take}
-use Rattle.flooding.specs.Links.{present}
-use Rattle.originations.specs.Described.{full_routers}
-use Rattle.originations.proofs.router.full_routers.Given as goal
-
-abbrev pub invariant-loop-i : goal.invariant-loop-i
-invariant-loop-i l = l.full.items ≡ full_routers (map present (take l.i l.links))

@@ -1,4 +1,0 @@
-pub mod KeyOrder
-pub mod Packs
-pub mod Drafted
-pub mod Whole

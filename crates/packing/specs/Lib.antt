@@ -1,4 +1,0 @@
-pub mod Bodies
-pub mod Drafts
-pub mod Fillings
-pub mod Texts

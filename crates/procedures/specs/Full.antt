@@ -1,2 +1,0 @@
--- Which neighbors are Full: together with the configuration, they determine the router-LSA.
-pub use Rattle.originations.specs.Described.{full_routers}

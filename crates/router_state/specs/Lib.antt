@@ -1,9 +1,0 @@
-pub mod Kept
-pub mod Making
-pub mod Owned
-pub mod ReceivedHellos
-pub mod Aging
-pub mod SentHellos
-pub mod Parts
-pub mod Received
-pub mod Wanted
