@@ -12,9 +12,9 @@ use Rattle.routes.specs.Candidates.{AreCandidates}
 use Rattle.routes.specs.Contents.{Contents}
 use Rattle.routes.specs.Tables.{RouteWords, IsStale}
 use Rattle.routes.specs.declared.root.Root.{Root}
-use Rattle.tables.specs.Comparisons.{IsComparison}
-use Rattle.tables.specs.Parts.{LacksAnswers}
-use Rattle.tables.specs.declared.shared.Comparison.{Comparison}
+use Rattle.routes.specs.Comparisons.{IsComparison}
+use Rattle.routes.specs.Parts.{LacksAnswers}
+use Rattle.routes.specs.declared.shared.Comparison.{Comparison}
 
 -- if some candidate has no answer, one of a list of just the candidates has none
 pub found_lacking : (contents : Contents) (root : Root) (answers : RouteWords)

@@ -23,7 +23,7 @@ use Rattle.routes.specs.Candidates.{AreCandidates}
 use Rattle.routes.specs.Contents.{Contents, contents_at}
 use Rattle.routes.specs.Tables.{RouteWords, IsStale}
 use Rattle.routes.specs.declared.root.Root.{Root}
-use Rattle.tables.specs.Parts.{AreAnswersAmong, LacksAnswers}
+use Rattle.routes.specs.Parts.{AreAnswersAmong, LacksAnswers}
 use Rattle.candidates.specs.AreaGraphs.{IsAreaGraph}
 use Rattle.candidates.specs.Reached.{way_in}
 use Rattle.candidates.specs.declared.graph.AreaGraph.{AreaGraph}

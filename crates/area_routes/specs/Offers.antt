@@ -9,7 +9,7 @@ use Rattle.routes.specs.Candidates.{AreCandidates}
 use Rattle.routes.specs.Contents.{Contents, contents_at}
 use Rattle.routes.specs.Tables.{RouteWords, IsStale, IsTable}
 use Rattle.routes.specs.declared.root.Root.{Root}
-use Rattle.tables.specs.Rows.{rows_of}
+use Rattle.routes.specs.Rows.{rows_of}
 
 -- the root of the router's walks
 abbrev pub root_by : RouterNumber → List Link → Root

@@ -31,10 +31,9 @@ use flooding::Area;
 use kept_routes::Routes;
 use kept_routes::laws::{candidates_are_kept, walks_are_kept};
 use keyed_map::{Pages, RouteAnswers};
-use routes::Root;
+use routes::{Root, compare, rows_of, table_among, table_of};
 use std::alloc::{AllocError, Global};
 use std::marker::Model;
-use tables::{compare, rows_of, table_among, table_of};
 use words::{Route, RouterId, Second, Sequence, TableRow};
 
 /// The candidates of a router, and the rows of its table, at one moment.

@@ -3,10 +3,10 @@ ghost use Rattle.std.specs.Prelude.{◌≡◌, IsTrue, List, Option, Some, false
 ghost use Rattle.area_routes.specs.Kept.{HaveAnother, KnowsMatching};
 ghost use Rattle.area_routes.specs.declared.matching.Matching.TheVariants.{OnlyCandidates, Lacking};
 ghost use Rattle.routes.specs.Tables.{RouteWords};
-ghost use Rattle.tables.specs.Parts.{AreAnswersAmong, LacksAnswers};
+ghost use Rattle.routes.specs.Parts.{AreAnswersAmong, LacksAnswers};
 ghost use Rattle.words.specs.declared.route.Route.{Route as RouteValue};
 
-use tables::Comparison;
+use routes::Comparison;
 
 /// What is known of the answers and of the candidates that are kept.
 #[derive(Clone, Copy)]

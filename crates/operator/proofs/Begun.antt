@@ -8,7 +8,7 @@ use Rattle.std.proofs.lemmas.List.{same_lists}
 use Rattle.words.specs.Prefixes.{Network}
 use Rattle.words.specs.declared.route.Route.{Route}
 use Rattle.words.specs.declared.route.TableRow.{TableRow}
-use Rattle.tables.specs.Rows.{row_of, rows_of}
+use Rattle.routes.specs.Rows.{row_of, rows_of}
 use Rattle.routes.specs.Routes.{IsBefore}
 use Rattle.routes.proofs.Determined.{never_both}
 use Rattle.routes.proofs.Listed.{other_default}

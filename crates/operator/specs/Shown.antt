@@ -7,8 +7,8 @@ use Rattle.words.specs.declared.route.TableRow.{TableRow}
 use Rattle.maps.specs.Words.{SeatView, seat_after}
 use Rattle.maps.specs.declared.access.Access.TheVariants.{Read}
 use Rattle.adjacency.specs.declared.state.NeighborState.{NeighborState}
-use Rattle.tables.specs.Parts.{Ascend}
-use Rattle.tables.specs.Rows.{rows_of}
+use Rattle.routes.specs.Parts.{Ascend}
+use Rattle.routes.specs.Rows.{rows_of}
 use Rattle.event_rules.specs.Routers.{Router}
 use Rattle.worker.specs.Offers.{IsTableNow}
 use Rattle.worker.specs.Replay.{IsAfterEvents}

@@ -1,7 +1,7 @@
 //! The lines of tables.
 ghost use Rattle.std.specs.Prelude.{◌≡◌, List, IfOk, MatchResult, OnErr, string_bytes, vec_len};
 ghost use Rattle.words.specs.declared.route.Route.{Route};
-ghost use Rattle.tables.specs.Rows.{rows_of};
+ghost use Rattle.routes.specs.Rows.{rows_of};
 ghost use Rattle.hooks.specs.Known.{known_to};
 ghost use Rattle.worker.specs.Turns.{IsListed};
 ghost use Rattle.operator.specs.Shown.{HasReadSome, IsCountersText, IsPartOf, ShowsNeighbors};

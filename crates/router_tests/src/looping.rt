@@ -1,9 +1,9 @@
 //! To which routers a packet comes back, over hops of a few routers written by hand.
 ghost use Rattle.std.specs.Prelude.{IfOk, length};
 ghost use Rattle.std.specs.List.{All};
-ghost use Rattle.forwarding_loops.specs.Loops.{IsAmong};
+ghost use Rattle.routes.specs.Loops.{IsAmong};
 
-use forwarding_loops::{Hop, count_loops, loops};
+use routes::{Hop, count_loops, loops};
 use std::alloc::{AllocError, Global};
 use std::process::Abort;
 use std::test::Fail;

@@ -1,9 +1,9 @@
 //! Tables of candidates and answers.
 use keyed_map::{Pages, RouteAnswers};
+use routes::{compare, is_stale, table};
 use std::alloc::{AllocError, Global};
 use std::process::Abort;
 use std::test::Fail;
-use tables::{compare, is_stale, table};
 use words::{Address, Hops, Prefix, Route, RouteKind, Sequence};
 
 // An answer: the index of the candidate that it is for, the answer, and by how much the cost

@@ -11,3 +11,13 @@ pub mod Listed
 pub mod Carried
 pub mod Prefixes
 pub mod Networks
+pub mod Ordered
+pub mod Halving
+pub mod Adjacent
+mod KeptOut
+pub mod LetIn
+pub mod InTurn
+pub mod InPages
+pub mod Walks
+pub mod Spreading
+pub mod Marks

@@ -11,5 +11,11 @@ pub mod Laws
 pub mod Graphs
 pub mod Search
 pub mod Answers
--- re-exported for the crates above
+pub mod Orders
+pub mod Parts
+pub mod Comparisons
+pub mod Rows
+pub mod Loops
+pub mod ForwardingLoopsTables
+-- names from the crates below that crates above use
 pub use Rattle.lsdb.specs as lsdb

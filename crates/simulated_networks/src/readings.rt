@@ -4,7 +4,7 @@ use crate::seen::TableFaults;
 use crate::topology::FarEnd;
 use crate::ways::{HERE, NO_COST, NONE, way_at, way_of};
 use crate::wires::Wires;
-use forwarding_loops::{LinkEnds, PrefixRoute, count_looping};
+use routes::{LinkEnds, PrefixRoute, count_looping};
 use std::alloc::Global;
 use words::{Hops, Route};
 

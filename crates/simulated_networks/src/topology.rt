@@ -1,6 +1,6 @@
 //! Which routers are joined.
 use crate::random::Random;
-use forwarding_loops::LinkEnds;
+use routes::LinkEnds;
 use std::alloc::{AllocError, Global};
 
 /// What an interface of a router leads to: the router at a place, over a link, at an interface

@@ -1,5 +1,5 @@
 //! The ways of routers to prefixes.
-use forwarding_loops::PrefixRoute;
+use routes::PrefixRoute;
 use words::{Route, RouteKind};
 
 /// The cost if there is no way.

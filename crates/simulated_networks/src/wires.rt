@@ -3,7 +3,7 @@ use crate::counts::{Counts, add};
 use crate::random::{Faults, Random};
 use crate::topology::{FarEnd, Topology};
 use flood::{Event, Out};
-use forwarding_loops::LinkEnds;
+use routes::LinkEnds;
 use std::alloc::Global;
 use std::mem::replace;
 

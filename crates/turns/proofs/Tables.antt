@@ -7,16 +7,16 @@ use Rattle.std.proofs.lemmas.Cmp.{tied_itself}
 use Rattle.words.specs.declared.route.Route.{Route}
 use Rattle.words.specs.declared.route.RouteKind.TheVariants.{Intra}
 use Rattle.words.specs.declared.route.TableRow.{TableRow}
-use Rattle.tables.proofs.routes.Listed.{other_default}
-use Rattle.tables.proofs.routes.Lists.{first_is, later_is, of_cons, of_empty}
-use Rattle.tables.specs.routes.Tables.{RouteWords}
-use Rattle.tables.proofs.LetIn.{AreLetInOf, are_table, left_out, let_in_more, none_yet, whole}
-use Rattle.tables.proofs.Ordered.{answers_exact, answers_total}
-use Rattle.tables.specs.Orders.{answer_cmp}
-use Rattle.tables.specs.Parts.{AreLetIn}
-use Rattle.tables.specs.Rows.{rows_of}
+use Rattle.routes.proofs.Listed.{other_default}
+use Rattle.routes.proofs.Lists.{first_is, later_is, of_cons, of_empty}
+use Rattle.routes.specs.Tables.{RouteWords}
+use Rattle.routes.proofs.LetIn.{AreLetInOf, are_table, left_out, let_in_more, none_yet, whole}
+use Rattle.routes.proofs.Ordered.{answers_exact, answers_total}
+use Rattle.routes.specs.Orders.{answer_cmp}
+use Rattle.routes.specs.Parts.{AreLetIn}
+use Rattle.routes.specs.Rows.{rows_of}
 use Rattle.flood.specs.area_routes.Offers.{root_by}
-use Rattle.tables.specs.routes.Contents.{contents_at}
+use Rattle.routes.specs.Contents.{contents_at}
 use Rattle.flood.specs.event_rules.Routers.{Router}
 use Rattle.flood.specs.Offers.{AreCandidatesNow, IsOffered}
 

@@ -8,7 +8,7 @@ use Rattle.words.specs.declared.route.TableRow.{TableRow}
 use Rattle.maps.specs.Words.{SeatView}
 use Rattle.hooks.specs.declared.operation.LoaderOperation.{LoaderOperation}
 use Rattle.hooks.specs.Answered.{AreAnsweredInPart}
-use Rattle.tables.proofs.routes.Lists.{first_is}
+use Rattle.routes.proofs.Lists.{first_is}
 
 -- the first one, about which nothing is to be said
 pub first_unread : {V E : Type 0} (before now : List LoaderOperation) (old new : SeatView)

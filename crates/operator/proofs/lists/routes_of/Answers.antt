@@ -2,7 +2,7 @@ use Rattle.std.proofs.Common.{◌≡◌, ◌+◌, ◌<◌, Global, Vec, List, le
 use Rattle.std.proofs.Common.{arith}
 use Rattle.std.proofs.lemmas.List.{length-map}
 use Rattle.words.specs.declared.route.Route.{Route}
-use Rattle.tables.specs.Rows.{row_of}
+use Rattle.routes.specs.Rows.{row_of}
 use Rattle.operator.proofs.Begun.{IsBegun, added, begun, finished, other_prefix, row_at}
 use Rattle.operator.proofs.Begun.{same_prefix, skipped}
 use Rattle.operator.proofs.lists.routes_of.Goals.{then-len-rows+then-eq+in_ok-push, else-len-rows}

@@ -1,7 +1,7 @@
 use Rattle.std.proofs.Common.{◌≡◌, List}
 use Rattle.words.specs.declared.route.Route.{Route}
 use Rattle.operator.specs.Shown.{IsPartOf}
-use Rattle.tables.specs.Rows.{rows_of}
+use Rattle.routes.specs.Rows.{rows_of}
 use Rattle.operator.proofs.Begun.{IsBegun}
 use Rattle.operator.proofs.lists.routes_of.Given as goal
 

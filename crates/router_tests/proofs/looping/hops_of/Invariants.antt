@@ -1,5 +1,5 @@
 use Rattle.std.specs.List.{All}
-use Rattle.forwarding_loops.specs.Loops.{IsAmong}
+use Rattle.routes.specs.Loops.{IsAmong}
 use Rattle.router_tests.proofs.looping.hops_of.Given as goal
 
 abbrev pub invariant-loop-pair : goal.invariant-loop-pair

@@ -4,7 +4,7 @@ use Rattle.words.specs.declared.route.Route.{Route}
 use Rattle.area_routes.specs.Offers.{root_by}
 use Rattle.routes.specs.Candidates.{AreCandidates}
 use Rattle.routes.specs.Contents.{contents_at}
-use Rattle.tables.specs.Rows.{rows_of}
+use Rattle.routes.specs.Rows.{rows_of}
 use Rattle.area_routes.proofs.kept.AreaRoutes.offered.Goals as goal
 
 pub returns : goal.returns

@@ -1,8 +1,0 @@
-use Rattle.std.proofs.Common.{◌≡◌, ◌<◌, ◌≤◌, ℕ, false, get_or}
-use Rattle.forwarding_loops.specs.Loops.{IsBoth}
-use Rattle.forwarding_loops.proofs.marking.mark_both.Given as goal
-
-abbrev pub invariant-loop-at : goal.invariant-loop-at
-invariant-loop-at l =
-    ((k : ℕ) → k < l.at → IsBoth l.one l.other l.initial.marks l.marks k)
-    × ((k : ℕ) → l.at ≤ k → get_or l.marks k false ≡ get_or l.initial.marks k false)

@@ -1,2 +1,0 @@
-pub mod Loops
-pub mod Tables

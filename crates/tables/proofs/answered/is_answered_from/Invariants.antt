@@ -1,6 +1,0 @@
-use Rattle.std.proofs.Common.{ℕ, ◌<◌, ◌≤◌}
-use Rattle.tables.specs.Parts.{StandsAt}
-use Rattle.tables.proofs.answered.is_answered_from.Given as goal
-
-abbrev pub invariant-loop-at : goal.invariant-loop-at
-invariant-loop-at l = (k : ℕ) → l.from ≤ k → k < l.at → StandsAt l.answers k l.route → ⊥

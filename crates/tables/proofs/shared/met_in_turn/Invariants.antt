@@ -1,9 +1,0 @@
-use Rattle.std.proofs.Common.{◌-◌, length}
-use Rattle.tables.proofs.InPages.{AreSame}
-use Rattle.tables.proofs.shared.met_in_turn.Given as goal
-
-abbrev pub invariant-loop-met : goal.invariant-loop-met
-invariant-loop-met l = AreSame l.one l.other l.met
-
-abbrev pub decreases-loop-met : goal.decreases-loop-met
-decreases-loop-met l = length l.one - l.met

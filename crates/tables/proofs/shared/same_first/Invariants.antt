@@ -1,5 +1,0 @@
-use Rattle.tables.proofs.InPages.{AreSame}
-use Rattle.tables.proofs.shared.same_first.Given as goal
-
-abbrev pub invariant-loop-at : goal.invariant-loop-at
-invariant-loop-at l = AreSame l.one l.other l.at
