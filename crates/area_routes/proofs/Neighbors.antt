@@ -9,13 +9,13 @@ use Rattle.lsa.specs.declared.body.LinkKind.{LinkKind}
 use Rattle.lsa.specs.declared.body.LinkKind.TheVariants.{PointToPoint, Transit}
 use Rattle.lsa.specs.declared.body.NetworkLsa.{NetworkLsa}
 use Rattle.lsa.specs.declared.body.RouterLsa.{RouterLsa}
-use Rattle.area_graph.proofs.KeyNodes.{network_said, router_said}
-use Rattle.area_graph.proofs.Lists.{adds_both, adds_none, adds_one, adds_same}
-use Rattle.area_graph.proofs.Whole.{one_place}
-use Rattle.area_graph.specs.Entries.{IsListedAt}
-use Rattle.area_graph.specs.Graphs.{Adds, AreLinksFrom, IsLinkFrom, OfEach, StandsAt}
-use Rattle.area_graph.specs.Links.{IsExitTo}
-use Rattle.area_graph.specs.Nodes.{Ascend, network_in, network_lsa, router_in, router_lsa}
+use Rattle.candidates.proofs.KeyNodes.{network_said, router_said}
+use Rattle.candidates.proofs.Lists.{adds_both, adds_none, adds_one, adds_same}
+use Rattle.candidates.proofs.AreaGraphWhole.{one_place}
+use Rattle.candidates.specs.Entries.{IsListedAt}
+use Rattle.candidates.specs.Graphs.{Adds, AreLinksFrom, IsLinkFrom, OfEach, StandsAt}
+use Rattle.candidates.specs.Links.{IsExitTo}
+use Rattle.candidates.specs.Nodes.{Ascend, network_in, network_lsa, router_in, router_lsa}
 use Rattle.area_routes.specs.GraphLinks.{HasLinkTo, IsAttached, IsNeighbor, IsToEnd, IsToNeighbor}
 use Rattle.area_routes.specs.GraphLinks.{IsToNetwork, IsToNetworkAt}
 use Rattle.routes.proofs.Lists.{of_empty}

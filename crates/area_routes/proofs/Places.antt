@@ -8,9 +8,9 @@ use Rattle.std.specs.Cmp.{nat_cmp_total, tied_itself}
 use Rattle.std.specs.FinMap.{nat_cmp-IsAntisymmetric}
 use Rattle.std.specs.Ordering.{nat_cmp, ordering_then}
 use Rattle.std.specs.declared.cmp.Ordering.TheVariants.{Equal, Greater, Less}
-use Rattle.area_graph.proofs.KeyNodes.{in_places}
-use Rattle.area_graph.specs.Graphs.{StandsAt}
-use Rattle.area_graph.specs.Nodes.{Ascend, node_cmp}
+use Rattle.candidates.proofs.KeyNodes.{in_places}
+use Rattle.candidates.specs.Graphs.{StandsAt}
+use Rattle.candidates.specs.Nodes.{Ascend, node_cmp}
 use Rattle.area_routes.specs.GraphLinks.{IsOfId}
 use Rattle.routes.specs.declared.node.Node.{Node}
 use Rattle.routes.specs.declared.node.Node.TheVariants.{ANetwork, ARouter}

@@ -12,8 +12,8 @@ use Rattle.lsa.specs.declared.body.LinkKind.{LinkKind}
 use Rattle.lsa.specs.declared.body.LinkKind.TheVariants.{PointToPoint, Transit}
 use Rattle.lsa.specs.declared.body.NetworkLsa.{NetworkLsa}
 use Rattle.lsa.specs.declared.body.RouterLsa.{RouterLsa}
-use Rattle.area_graph.specs.Graphs.{AreVertices, IsVertexOf, StandsAt}
-use Rattle.area_graph.specs.Nodes.{AreNodes, HasLsa}
+use Rattle.candidates.specs.Graphs.{AreVertices, IsVertexOf, StandsAt}
+use Rattle.candidates.specs.Nodes.{AreNodes, HasLsa}
 use Rattle.area_routes.specs.GraphChanges.{AreCovered, AreEndsAmong, AreListedAmong, IsCovered}
 use Rattle.area_routes.specs.GraphChanges.{IsEndAmong, IsNetworkNoted, IsRouterNoted}
 use Rattle.area_routes.specs.Vertices.{IsRenewed, StayUnlessAmong}

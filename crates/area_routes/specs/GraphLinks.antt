@@ -6,9 +6,9 @@ use Rattle.lsa.specs.declared.body.RouterLink.{RouterLink}
 use Rattle.lsa.specs.declared.body.LinkKind.{LinkKind}
 use Rattle.lsa.specs.declared.body.LinkKind.TheVariants.{PointToPoint, Transit}
 use Rattle.lsa.specs.declared.body.RouterLsa.{RouterLsa}
-use Rattle.area_graph.specs.Entries.{IsListedAt}
-use Rattle.area_graph.specs.Graphs.{StandsAt}
-use Rattle.area_graph.specs.Links.{IsExitTo}
+use Rattle.candidates.specs.Entries.{IsListedAt}
+use Rattle.candidates.specs.Graphs.{StandsAt}
+use Rattle.candidates.specs.Links.{IsExitTo}
 use Rattle.routes.specs.Links.{LinksBack}
 use Rattle.routes.specs.Contents.{Contents}
 use Rattle.routes.specs.declared.graph.VertexLink.{VertexLink}

@@ -1,7 +1,7 @@
 -- Vertices that are recalculated, one after the other.
 use Rattle.std.specs.Prelude.{◌≡◌, ◌≢◌, ℕ, List, Some, length, slice_get}
 use Rattle.std.specs.List.{Contains}
-use Rattle.area_graph.specs.Graphs.{IsVertexOf, StandsAt}
+use Rattle.candidates.specs.Graphs.{IsVertexOf, StandsAt}
 use Rattle.routes.specs.Graphs.{Graph}
 use Rattle.routes.specs.Contents.{Contents}
 use Rattle.routes.specs.declared.graph.Vertex.{Vertex}

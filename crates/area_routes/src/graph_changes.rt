@@ -2,7 +2,7 @@
 ghost use Rattle.std.specs.Prelude.{◌≡◌, ℕ, IfOk, IfSome, IsTrue, MatchOption, OnOk, Some};
 ghost use Rattle.std.specs.Prelude.{option_copied};
 ghost use Rattle.std.specs.List.{Contains};
-ghost use Rattle.area_graph.specs.Nodes.{Ascend};
+ghost use Rattle.candidates.specs.Nodes.{Ascend};
 ghost use Rattle.area_routes.specs.GraphChanges.{AreCovered, AreEndsAmong, AreListedAmong};
 ghost use Rattle.area_routes.specs.GraphChanges.{AreNetworksAmong, IsAmong, IsCovered, IsEndAmong};
 ghost use Rattle.area_routes.specs.GraphChanges.{IsNetworkNoted, IsRouterNoted};
@@ -14,8 +14,7 @@ ghost use Rattle.routes.specs.Contents.{contents_at};
 
 use crate::lookups::SPARE;
 use crate::surroundings::{Surroundings, index_range_of};
-use area_graph::NETWORK_LSA;
-use candidates::find;
+use candidates::{NETWORK_LSA, find};
 use lsa::{LinkKind, LsaBody, NetworkLsa, RouterLink, RouterLsa};
 use routes::Node;
 use std::alloc::{AllocError, Global};

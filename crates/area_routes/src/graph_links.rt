@@ -1,12 +1,12 @@
-//! The links of the graph from one node, as in `area_graph::links`, but each looked up for itself
+//! The links of the graph from one node, as in `candidates::links`, but each looked up for itself
 //! in the database, and not in a sorted list of all that is advertised.
 ghost use Rattle.std.specs.Prelude.{◌≡◌, ◌<◌, ◌≤◌, ◌↔◌, ℕ, length, IfOk, IsTrue, OnOk};
 ghost use Rattle.std.specs.Prelude.{MatchOption};
 ghost use Rattle.std.specs.List.{All, Contains};
-ghost use Rattle.area_graph.specs.Entries.{IsListedAt};
-ghost use Rattle.area_graph.specs.Graphs.{Adds, AreLinksFrom, CostFits, IsVertexOf, OfEach};
-ghost use Rattle.area_graph.specs.Graphs.{StandsAt};
-ghost use Rattle.area_graph.specs.Nodes.{AreNodes};
+ghost use Rattle.candidates.specs.Entries.{IsListedAt};
+ghost use Rattle.candidates.specs.Graphs.{Adds, AreLinksFrom, CostFits, IsVertexOf, OfEach};
+ghost use Rattle.candidates.specs.Graphs.{StandsAt};
+ghost use Rattle.candidates.specs.Nodes.{AreNodes};
 ghost use Rattle.area_routes.specs.GraphLinks.{IsAttached, IsNeighbor, IsToEnd, IsToNeighbor};
 ghost use Rattle.area_routes.specs.GraphLinks.{IsToNetwork, IsToNetworkAt};
 ghost use Rattle.routes.specs.Links.{ListsRouter};
@@ -14,8 +14,7 @@ ghost use Rattle.routes.specs.Contents.{contents_at};
 ghost use Rattle.routes.specs.declared.node.Node.TheVariants.{ANetwork};
 
 use crate::surroundings::{Surroundings, has_link_to, index_range_of, network_lsa, router_lsa};
-use area_graph::{add_exits, kind_of};
-use candidates::find;
+use candidates::{add_exits, find, kind_of};
 use lsa::{LinkKind, NetworkLsa, RouterLink, RouterLsa};
 use routes::{Node, Root, Vertex, VertexLink};
 use std::alloc::{AllocError, Global};

@@ -1,6 +1,6 @@
 //! The graph after an event.
 ghost use Rattle.std.specs.Prelude.{◌≡◌, ◌≤◌, length, IfOk, IfSome, IsTrue};
-ghost use Rattle.area_graph.specs.Nodes.{AreNodes};
+ghost use Rattle.candidates.specs.Nodes.{AreNodes};
 ghost use Rattle.area_routes.specs.Vertices.{IsRenewed, StayUnlessAmong};
 ghost use Rattle.routes.specs.Contents.{contents_at};
 ghost use Rattle.candidates.specs.AreaGraphs.{IsAreaGraph};
@@ -9,8 +9,7 @@ use crate::graph_changes::indices_to_renew;
 use crate::graph_links::vertex_of;
 use crate::lookups::are_costly;
 use crate::surroundings::Surroundings;
-use area_graph::NETWORK_LSA;
-use candidates::AreaGraph;
+use candidates::{AreaGraph, NETWORK_LSA};
 use external_updates::possibly_changed_keys;
 use kept_routes::lsas_are_unchanged;
 use routes::{Lsdb, Root, Vertex};

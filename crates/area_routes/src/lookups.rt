@@ -1,5 +1,5 @@
 //! How many lookups recalculating vertices takes.
-ghost use Rattle.area_graph.specs.Nodes.{Ascend};
+ghost use Rattle.candidates.specs.Nodes.{Ascend};
 
 use crate::surroundings::{Surroundings, index_range_of, network_lsa, router_lsa};
 use lsa::{LinkKind, RouterLink, RouterLsa};

@@ -1,12 +1,12 @@
 //! A database at a moment with the nodes of its graph, and what its LSAs say of their links.
 ghost use Rattle.std.specs.Prelude.{◌≡◌, ◌<◌, ◌≤◌, ◌↔◌, ℕ, length, IsTrue, option_copied};
-ghost use Rattle.area_graph.specs.Graphs.{StandsAt};
-ghost use Rattle.area_graph.specs.Nodes.{Ascend, network_lsa, router_lsa};
+ghost use Rattle.candidates.specs.Graphs.{StandsAt};
+ghost use Rattle.candidates.specs.Nodes.{Ascend, network_lsa, router_lsa};
 ghost use Rattle.area_routes.specs.GraphLinks.{HasLinkTo, IsOfId};
 ghost use Rattle.routes.specs.Contents.{contents_at};
 ghost use Rattle.routes.specs.declared.node.Node.TheVariants.{ANetwork};
 
-use area_graph::Slots;
+use candidates::Slots;
 use lsa::{LinkKind, LsaBody, NetworkLsa, RouterLink, RouterLsa};
 use routes::{Lsdb, Node};
 use words::{Key, LinkStateId, RouterId, Second, router_key};

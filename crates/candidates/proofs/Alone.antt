@@ -8,8 +8,8 @@ use Rattle.std.proofs.lemmas.List.Sums.{AllPass-from_list_all}
 use Rattle.std.specs.List.{Contains, list_all}
 use Rattle.std.proofs.lemmas.Nat.Bits.{bit_at-zero}
 use Rattle.std.proofs.lemmas.Option.{same_Some}
-use Rattle.area_graph.proofs.Leads.{near_end}
-use Rattle.area_graph.specs.Nodes.{Ascend, HasLsa}
+use Rattle.candidates.proofs.Leads.{near_end}
+use Rattle.candidates.specs.Nodes.{Ascend, HasLsa}
 use Rattle.lsa.specs.declared.body.RouterLink.{RouterLink}
 use Rattle.lsa.specs.declared.body.LinkKind.{LinkKind}
 use Rattle.lsa.specs.declared.body.LinkKind.TheVariants.{PointToPoint, Transit}

@@ -16,3 +16,12 @@ pub mod Alone
 pub mod Each
 pub mod All
 pub mod RootAlone
+pub mod Lists
+pub mod KeyNodes
+pub mod Leads
+pub mod AreaGraphWhole
+pub mod Order
+pub mod AreaGraphTold
+pub mod Least
+pub mod Steps
+pub mod Parts

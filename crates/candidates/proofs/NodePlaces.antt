@@ -7,8 +7,8 @@ use Rattle.std.proofs.lemmas.Option.{same_Some, slice_get_within}
 use Rattle.std.specs.Cmp.{nat_cmp_is, nat_cmp_total, tied_itself}
 use Rattle.std.specs.Ordering.{is_eq, nat_cmp, ordering_then}
 use Rattle.std.specs.declared.cmp.Ordering.TheVariants.{Equal, Greater, Less}
-use Rattle.area_graph.proofs.KeyNodes.{before_all, in_places}
-use Rattle.area_graph.specs.Nodes.{Ascend, node_cmp}
+use Rattle.candidates.proofs.KeyNodes.{before_all, in_places}
+use Rattle.candidates.specs.Nodes.{Ascend, node_cmp}
 use Rattle.routes.specs.declared.graph.Way.{Way}
 use Rattle.routes.specs.declared.node.Node.{Node}
 use Rattle.routes.specs.declared.node.Node.TheVariants.{ANetwork, ARouter}

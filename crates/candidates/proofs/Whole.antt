@@ -1,10 +1,10 @@
 -- The answers of a graph of the database, at the indices of its nodes, are the ways of the
 -- database.
 use Rattle.std.proofs.Common.{ℕ, inl, inr, List, [], ◌∷◌, get_or, Option, None, Some, sym, subst}
-use Rattle.area_graph.proofs.Leads.{far_end}
-use Rattle.area_graph.proofs.Whole.{contained, placed}
-use Rattle.area_graph.specs.Graphs.{StandsAt}
-use Rattle.area_graph.specs.Nodes.{AreNodes, HasLsa}
+use Rattle.candidates.proofs.Leads.{far_end}
+use Rattle.candidates.proofs.AreaGraphWhole.{contained, placed}
+use Rattle.candidates.specs.Graphs.{StandsAt}
+use Rattle.candidates.specs.Nodes.{AreNodes, HasLsa}
 use Rattle.candidates.specs.Ways.{AreWays}
 use Rattle.routes.proofs.Bridge.{IsAnswerFor, bridged}
 use Rattle.routes.specs.Answers.{IsNodeAnswer}

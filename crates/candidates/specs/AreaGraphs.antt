@@ -1,7 +1,7 @@
 -- The graph of an area with its nodes (RFC 2328, section 16.1).
 use Rattle.std.specs.Prelude.{◌≡◌, ◌≤◌, length}
-use Rattle.area_graph.specs.Graphs.{AreVertices}
-use Rattle.area_graph.specs.Nodes.{AreNodes, Ascend}
+use Rattle.candidates.specs.Graphs.{AreVertices}
+use Rattle.candidates.specs.Nodes.{AreNodes, Ascend}
 use Rattle.routes.specs.Graphs.{IsGraph}
 use Rattle.routes.specs.Contents.{Contents}
 use Rattle.candidates.specs.declared.graph.AreaGraph.{AreaGraph}

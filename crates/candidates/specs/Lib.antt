@@ -9,3 +9,7 @@ pub mod Alone
 pub mod AreaGraphs
 pub mod Reached
 pub mod Inner
+pub mod Nodes
+pub mod Graphs
+pub mod Entries
+pub mod Links

@@ -1,7 +1,7 @@
 -- The nodes of a database, each with its way (RFC 2328, section 16.1).
 use Rattle.std.specs.Prelude.{◌≡◌, List, [], ◌∷◌, Option, None, Some, length, if◌then◌else◌}
 use Rattle.std.specs.Ordering.{is_eq}
-use Rattle.area_graph.specs.Nodes.{Ascend, node_cmp}
+use Rattle.candidates.specs.Nodes.{Ascend, node_cmp}
 use Rattle.routes.specs.declared.graph.Way.{Way}
 use Rattle.routes.specs.declared.node.Node.{Node}
 use Rattle.routes.specs.declared.node.Node.TheVariants.{ARouter}

@@ -15,8 +15,8 @@ ghost use Rattle.candidates.specs.Gathering.{IsOnly};
 ghost use Rattle.candidates.specs.Ways.{DistancesFit};
 ghost use Rattle.routes.specs.Contents.{Contents};
 
+use crate::slots::Slots;
 use crate::ways::Ways;
-use area_graph::Slots;
 use lsa::LsaBody;
 use lsdb::KeyedBody;
 use routes::{Node, Way};

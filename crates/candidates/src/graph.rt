@@ -6,8 +6,10 @@ ghost use Rattle.candidates.specs.Ways.{DistancesFit, AreWays};
 ghost use Rattle.candidates.specs.AreaGraphs.{IsAreaGraph, IsWalkable};
 ghost use Rattle.candidates.specs.Reached.{way_in};
 
+use crate::nodes::nodes_of;
 use crate::reached::{Reached, find, just_root};
-use area_graph::{Slots, graph_of, nodes_of};
+use crate::slots::Slots;
+use crate::vertices::graph_of;
 use lsdb::Lsdb;
 use routes::{Node, Root, Vertex, least_ways};
 use std::alloc::{AllocError, Global};

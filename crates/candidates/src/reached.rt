@@ -2,11 +2,12 @@
 ghost use Rattle.std.specs.Prelude.{◌≡◌, ℕ, ◌<◌, length, IfOk, IfSome, IfNone, IsTrue, Some};
 ghost use Rattle.std.specs.Prelude.{slice_get};
 ghost use Rattle.routes.specs.declared.node.Node.TheVariants.{ARouter};
-ghost use Rattle.area_graph.specs.Nodes.{Ascend};
+ghost use Rattle.candidates.specs.Nodes.{Ascend};
 ghost use Rattle.candidates.specs.Reached.{alone, way_in};
 
+use crate::nodes::is_before;
+use crate::slots::Slots;
 use crate::ways::Ways;
-use area_graph::{Slots, is_before};
 use routes::{Node, Root, Way};
 use std::alloc::{AllocError, Global};
 use std::marker::Model;

@@ -1,5 +1,5 @@
 use Rattle.std.proofs.Common.{ℕ, subst}
-use Rattle.area_graph.proofs.Steps.{on_ok}
+use Rattle.candidates.proofs.Steps.{on_ok}
 use Rattle.area_routes.specs.GraphChanges.{AreNetworksAmong, IsAmong, IsEndAmong}
 use Rattle.area_routes.proofs.Neighbors.{is_no_point, is_no_transit}
 use Rattle.routes.specs.declared.node.Node.TheVariants.{ARouter}

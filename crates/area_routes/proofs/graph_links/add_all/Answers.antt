@@ -1,8 +1,8 @@
 use Rattle.std.proofs.Common.{List, subst}
 use Rattle.lsa.specs.declared.body.RouterLink.{RouterLink}
 use Rattle.routes.specs.declared.graph.VertexLink.{VertexLink}
-use Rattle.area_graph.specs.Graphs.{Adds, OfEach}
-use Rattle.area_graph.proofs.Lists.{each_all, each_more, each_none}
+use Rattle.candidates.specs.Graphs.{Adds, OfEach}
+use Rattle.candidates.proofs.Lists.{each_all, each_more, each_none}
 use Rattle.area_routes.specs.GraphLinks.{IsToEnd}
 use Rattle.routes.specs.Contents.{contents_at}
 use Rattle.area_routes.proofs.graph_links.add_all.Goals as goal

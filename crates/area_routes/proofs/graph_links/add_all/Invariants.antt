@@ -1,6 +1,6 @@
 use Rattle.std.specs.List.{All}
-use Rattle.area_graph.specs.Graphs.{Adds, CostFits}
-use Rattle.area_graph.proofs.Lists.{OfFront}
+use Rattle.candidates.specs.Graphs.{Adds, CostFits}
+use Rattle.candidates.proofs.Lists.{OfFront}
 use Rattle.area_routes.specs.GraphLinks.{IsToEnd}
 use Rattle.routes.specs.Contents.{contents_at}
 use Rattle.area_routes.proofs.graph_links.add_all.Given as goal

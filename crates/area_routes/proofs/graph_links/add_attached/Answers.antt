@@ -1,9 +1,9 @@
 use Rattle.std.proofs.Common.{◌≡◌, ℕ, List, Option, None, Some, subst, arith}
 use Rattle.lsa.specs.declared.body.LinkKind.TheVariants.{Transit}
 use Rattle.routes.specs.declared.graph.VertexLink.{VertexLink}
-use Rattle.area_graph.specs.Graphs.{Adds, OfEach}
-use Rattle.area_graph.proofs.Lists.{each_all, each_more, each_none}
-use Rattle.area_graph.proofs.Steps.{pushed_fits}
+use Rattle.candidates.specs.Graphs.{Adds, OfEach}
+use Rattle.candidates.proofs.Lists.{each_all, each_more, each_none}
+use Rattle.candidates.proofs.Steps.{pushed_fits}
 use Rattle.area_routes.specs.GraphLinks.{IsAttached, IsNeighbor}
 use Rattle.area_routes.proofs.Neighbors.{not_attached, to_attached}
 use Rattle.routes.specs.Contents.{contents_at}

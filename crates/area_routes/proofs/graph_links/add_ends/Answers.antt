@@ -1,8 +1,8 @@
 use Rattle.std.proofs.Common.{◌≡◌, false, sym, ◌∙◌, arith}
 use Rattle.std.proofs.lemmas.Bool.{false≢true}
 use Rattle.std.proofs.lemmas.Grind.{common_steps}
-use Rattle.area_graph.proofs.Steps.{on_ok}
-use Rattle.area_graph.specs.Graphs.{Adds}
+use Rattle.candidates.proofs.Steps.{on_ok}
+use Rattle.candidates.specs.Graphs.{Adds}
 use Rattle.routes.specs.Contents.{contents_at}
 use Rattle.area_routes.specs.GraphLinks.{IsToEnd, IsToNeighbor, IsToNetwork}
 use Rattle.area_routes.proofs.Neighbors.{is_no_point, is_no_transit, network_end, no_end}

@@ -1,7 +1,7 @@
 use Rattle.std.proofs.Common.{Some, Option, ℕ, subst}
-use Rattle.area_graph.proofs.Steps.{on_ok}
-use Rattle.area_graph.specs.Graphs.{Adds}
-use Rattle.area_graph.specs.Links.{IsExitTo}
+use Rattle.candidates.proofs.Steps.{on_ok}
+use Rattle.candidates.specs.Graphs.{Adds}
+use Rattle.candidates.specs.Links.{IsExitTo}
 use Rattle.lsa.specs.declared.body.LinkKind.TheVariants.{PointToPoint}
 use Rattle.routes.specs.Contents.{contents_at}
 use Rattle.area_routes.specs.GraphLinks.{IsNeighbor, IsToNeighbor}

@@ -1,10 +1,10 @@
 use Rattle.std.proofs.Common.{◌≡◌, ℕ, true, false, sym, ◌∙◌, subst, arith}
 use Rattle.std.proofs.lemmas.Bool.{false≢true}
 use Rattle.std.proofs.lemmas.Grind.{common_steps}
-use Rattle.area_graph.proofs.Steps.{on_ok}
-use Rattle.area_graph.specs.Entries.{IsListedAt}
-use Rattle.area_graph.specs.Graphs.{Adds}
-use Rattle.area_graph.specs.Links.{IsExitTo}
+use Rattle.candidates.proofs.Steps.{on_ok}
+use Rattle.candidates.specs.Entries.{IsListedAt}
+use Rattle.candidates.specs.Graphs.{Adds}
+use Rattle.candidates.specs.Links.{IsExitTo}
 use Rattle.routes.specs.Contents.{contents_at}
 use Rattle.area_routes.specs.GraphLinks.{IsToNetworkAt}
 use Rattle.area_routes.proofs.Neighbors.{no_network, to_network}

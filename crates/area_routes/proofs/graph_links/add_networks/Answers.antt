@@ -1,5 +1,5 @@
 use Rattle.std.proofs.Common.{◌<◌, ◌≤◌, ℕ, arith, subst}
-use Rattle.area_graph.specs.Graphs.{StandsAt}
+use Rattle.candidates.specs.Graphs.{StandsAt}
 use Rattle.area_routes.proofs.Neighbors.{all_below, none_below, one_more}
 use Rattle.routes.specs.Contents.{contents_at}
 use Rattle.routes.specs.declared.node.Node.TheVariants.{ANetwork}

@@ -1,5 +1,5 @@
 use Rattle.std.specs.List.{All}
-use Rattle.area_graph.specs.Graphs.{Adds, CostFits}
+use Rattle.candidates.specs.Graphs.{Adds, CostFits}
 use Rattle.area_routes.proofs.Neighbors.{IsToNetworkBelow}
 use Rattle.routes.specs.Contents.{contents_at}
 use Rattle.area_routes.proofs.graph_links.add_networks.Given as goal

@@ -1,8 +1,8 @@
 use Rattle.std.proofs.Common.{◌≡◌, None, Some, ℕ, slice_get, sym, ◌∙◌, ap}
 use Rattle.std.specs.Prelude.{IfNone, IfSome}
 use Rattle.std.specs.Option.{option_copied}
-use Rattle.area_graph.proofs.Whole.{placed}
-use Rattle.area_graph.specs.Nodes.{router_lsa}
+use Rattle.candidates.proofs.AreaGraphWhole.{placed}
+use Rattle.candidates.specs.Nodes.{router_lsa}
 use Rattle.routes.specs.Links.{LinksBack}
 use Rattle.routes.specs.Contents.{contents_at}
 use Rattle.routes.specs.declared.node.Node.{Node}

@@ -3,9 +3,9 @@ use Rattle.std.specs.Option.{option_copied}
 use Rattle.routes.specs.Contents.{contents_at}
 use Rattle.routes.specs.declared.graph.VertexLink.{VertexLink}
 use Rattle.routes.specs.declared.node.Node.{Node}
-use Rattle.area_graph.proofs.Parts.{no_network, no_router}
-use Rattle.area_graph.specs.Graphs.{Adds, AreLinksFrom, OfEach}
-use Rattle.area_graph.specs.Nodes.{network_lsa, router_lsa}
+use Rattle.candidates.proofs.Parts.{no_network, no_router}
+use Rattle.candidates.specs.Graphs.{Adds, AreLinksFrom, OfEach}
+use Rattle.candidates.specs.Nodes.{network_lsa, router_lsa}
 use Rattle.area_routes.specs.GraphLinks.{IsAttached, IsToEnd}
 use Rattle.area_routes.proofs.Neighbors.{network_links, router_links}
 use Rattle.area_routes.proofs.graph_links.links_of.Goals as goal

@@ -1,6 +1,6 @@
 use Rattle.std.proofs.Common.{◌≡◌, None, Some, sym, ◌∙◌, ap}
 use Rattle.std.specs.Option.{option_copied}
-use Rattle.area_graph.specs.Nodes.{network_lsa}
+use Rattle.candidates.specs.Nodes.{network_lsa}
 use Rattle.routes.specs.Contents.{contents_at}
 use Rattle.area_routes.proofs.Neighbors.{is_listed, lists_is, never_lists}
 use Rattle.area_routes.proofs.graph_links.lists.Goals as goal

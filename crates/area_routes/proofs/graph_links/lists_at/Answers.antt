@@ -1,6 +1,6 @@
 use Rattle.std.proofs.Common.{ℕ, Option, subst}
 use Rattle.std.specs.Prelude.{MatchOption}
-use Rattle.area_graph.specs.Graphs.{StandsAt}
+use Rattle.candidates.specs.Graphs.{StandsAt}
 use Rattle.routes.specs.Links.{ListsRouter}
 use Rattle.routes.specs.Contents.{contents_at}
 use Rattle.routes.specs.declared.node.Node.TheVariants.{ANetwork}

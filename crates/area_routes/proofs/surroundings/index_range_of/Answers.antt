@@ -4,7 +4,7 @@ use Rattle.std.proofs.lemmas.Bool.{false≢true}
 use Rattle.std.proofs.lemmas.Grind.{common_steps}
 use Rattle.std.proofs.lemmas.Option.{slice_get_read, slice_get_within}
 use Rattle.std.specs.declared.cmp.Ordering.TheVariants.{Less}
-use Rattle.area_graph.specs.Nodes.{node_cmp}
+use Rattle.candidates.specs.Nodes.{node_cmp}
 use Rattle.routes.specs.declared.node.Node.{Node}
 use Rattle.routes.specs.declared.node.Node.TheVariants.{ANetwork}
 use Rattle.area_routes.specs.GraphLinks.{IsOfId}

@@ -1,7 +1,7 @@
 use Rattle.std.proofs.Common.{◌≡◌, Some, length, slice_get, arith, refl, sym, ◌∙◌}
 use Rattle.std.proofs.lemmas.Option.{slice_get_read}
-use Rattle.area_graph.proofs.KeyNodes.{lt_false, lt_true}
-use Rattle.area_graph.specs.Nodes.{node_cmp}
+use Rattle.candidates.proofs.KeyNodes.{lt_false, lt_true}
+use Rattle.candidates.specs.Nodes.{node_cmp}
 use Rattle.candidates.proofs.NodePlaces.{at_its_place, nowhere, past}
 use Rattle.candidates.proofs.reached.find.Goals as goal
 use Rattle.candidates.proofs.reached.find.Goals.{then-at-nodes-via-else-at-nodes+then-is_before}

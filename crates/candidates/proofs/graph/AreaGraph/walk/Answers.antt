@@ -1,6 +1,6 @@
 use Rattle.std.proofs.Common.{◌≡◌, ◌<◌, ℕ, List, None, get_or, slice_get, Some, sym, subst, ◌∙◌}
-use Rattle.area_graph.proofs.Whole.{is_graph_of, placed}
-use Rattle.area_graph.specs.Nodes.{HasLsa}
+use Rattle.candidates.proofs.AreaGraphWhole.{is_graph_of, placed}
+use Rattle.candidates.specs.Nodes.{HasLsa}
 use Rattle.candidates.specs.Ways.{DistancesFit, AreWays}
 use Rattle.routes.specs.Graphs.{Graph, IsAnswer}
 use Rattle.routes.specs.declared.graph.Way.{Way}

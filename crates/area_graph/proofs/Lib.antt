@@ -1,9 +1,0 @@
-pub mod Lists
-pub mod KeyNodes
-pub mod Leads
-pub mod Whole
-pub mod Order
-pub mod Told
-pub mod Least
-pub mod Steps
-pub mod Parts

@@ -1,7 +1,0 @@
-use Rattle.std.proofs.Common.{◌≡◌, take}
-use Rattle.std.specs.List.{filter_map}
-use Rattle.area_graph.specs.Nodes.{node_of}
-use Rattle.area_graph.proofs.nodes.nodes_of.Given as goal
-
-abbrev pub invariant-loop-one : goal.invariant-loop-one
-invariant-loop-one l = l.nodes.items ≡ filter_map node_of (take l.one-index l.one-items)

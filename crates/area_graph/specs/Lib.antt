@@ -1,4 +1,0 @@
-pub mod Nodes
-pub mod Graphs
-pub mod Entries
-pub mod Links
