@@ -6,8 +6,8 @@ use Rattle.area_routes.specs.Kept.{AreInnerBy, StayAnswered}
 use Rattle.candidates.specs.declared.inner.InnerRoutes.{InnerRoutes}
 use Rattle.kept_routes.specs.Kept.{KeptWalk}
 use Rattle.kept_routes.specs.Sameness.{HaveSameContents}
-use Rattle.external_updates.specs.Laws.{InnerRoutesAreKept}
-use Rattle.external_updates.specs.Placing.{AreAllAmong, HasAnother}
+use Rattle.kept_routes.specs.ExternalUpdatesLaws.{InnerRoutesAreKept}
+use Rattle.kept_routes.specs.Placing.{AreAllAmong, HasAnother}
 use Rattle.routes.specs.Candidates.{AreCandidates}
 use Rattle.routes.specs.Contents.{Contents}
 use Rattle.routes.specs.declared.root.Root.{Root}

@@ -7,7 +7,7 @@ use Rattle.std.proofs.lemmas.Option.{same_Some}
 use Rattle.words.specs.declared.route.Route.{Route}
 use Rattle.area_routes.specs.Kept.{HaveAnother, KnowsMatching}
 use Rattle.area_routes.specs.declared.matching.Matching.TheVariants.{OnlyCandidates, Lacking}
-use Rattle.external_updates.specs.Placing.{AreAllAmong, HasAnother}
+use Rattle.kept_routes.specs.Placing.{AreAllAmong, HasAnother}
 use Rattle.routes.specs.Candidates.{AreCandidates}
 use Rattle.routes.specs.Contents.{Contents}
 use Rattle.routes.specs.Tables.{RouteWords, IsStale}

@@ -13,7 +13,7 @@ use Rattle.area_routes.specs.declared.matching.Matching.TheVariants.{Lacking, On
 use Rattle.area_routes.specs.declared.matching.Matching.TheVariants.{Unknown}
 use Rattle.candidates.specs.Inner.{AreInner, AreSearchable}
 use Rattle.candidates.specs.declared.inner.InnerRoutes.{InnerRoutes}
-use Rattle.external_updates.specs.Placing.{AreAllAmong, HasAnother}
+use Rattle.kept_routes.specs.Placing.{AreAllAmong, HasAnother}
 use Rattle.kept_routes.specs.Externals.{AreOfferingLsasUnchanged}
 use Rattle.kept_routes.specs.Kept.{IsWalkOf, KeptWalk}
 use Rattle.kept_routes.specs.Sameness.{AreLsasUnchanged}

@@ -1,16 +1,15 @@
 //! Candidates that follow AS-external-LSAs (RFC 2328, section 16.6).
 ghost use Rattle.std.specs.Prelude.{◌≡◌, ◌≤◌, IfSome, IsTrue, Some, false};
 ghost use Rattle.area_routes.specs.Kept.{AreAmongKept, AreInnerBy, HaveAnother, StayAnswered};
-ghost use Rattle.external_updates.specs.Placing.{AreAllAmong, HasAnother};
+ghost use Rattle.kept_routes.specs.Placing.{AreAllAmong, HasAnother};
 ghost use Rattle.kept_routes.specs.Kept.{IsWalkOf};
 ghost use Rattle.kept_routes.specs.Sameness.{HaveSameContents};
 ghost use Rattle.routes.specs.Candidates.{AreCandidates};
 ghost use Rattle.routes.specs.Contents.{contents_at};
 
 use candidates::InnerRoutes;
-use external_updates::{Followed, follow_externals};
 use flooding::Area;
-use kept_routes::Routes;
+use kept_routes::{Followed, Routes, follow_externals};
 use keyed_map::Pages;
 use std::alloc::Global;
 use words::{Route, Second};

@@ -6,9 +6,8 @@ ghost use Rattle.kept_routes.specs.Kept.{IsWalkOf};
 ghost use Rattle.kept_routes.specs.Sameness.{AreLsasUnchanged, HaveSameContents};
 ghost use Rattle.routes.specs.Contents.{contents_at};
 
-use external_updates::possibly_changed_keys;
 use flooding::Area;
-use kept_routes::{Routes, lsas_are_unchanged, offering_lsas_are_unchanged};
+use kept_routes::{Routes, lsas_are_unchanged, offering_lsas_are_unchanged, possibly_changed_keys};
 use std::alloc::{AllocError, Global};
 use words::{Key, Second};
 

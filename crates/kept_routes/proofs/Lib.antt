@@ -4,3 +4,11 @@ pub mod Tests
 pub mod Named
 pub mod Inner
 pub mod Staying
+pub mod Networks
+pub mod Told
+pub mod Placed
+pub mod Under
+pub mod ExternalUpdatesStaying
+pub mod Best
+pub mod Halfway
+pub mod Paged

@@ -3,3 +3,8 @@ pub mod Ages
 pub mod Sameness
 pub mod Externals
 pub mod Laws
+pub mod Changes
+pub mod Destinations
+pub mod Placing
+pub mod Following
+pub mod ExternalUpdatesLaws

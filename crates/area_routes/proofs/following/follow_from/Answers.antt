@@ -1,9 +1,9 @@
 use mathlib.Core.Bool.{false≢true}
 use Rattle.std.proofs.Common.{subst, sym}
 use Rattle.std.specs.Prelude.{Some}
-use Rattle.external_updates.specs.Destinations.{Knows}
-use Rattle.external_updates.specs.Following.{HaveFollowed}
-use Rattle.external_updates.specs.declared.follow.Followed.{Followed}
+use Rattle.kept_routes.specs.Destinations.{Knows}
+use Rattle.kept_routes.specs.Following.{HaveFollowed}
+use Rattle.kept_routes.specs.declared.follow.Followed.{Followed}
 use Rattle.kept_routes.specs.Sameness.{HaveSameContents}
 use Rattle.routes.specs.lsdb.Kept.{RouterDatabase}
 use Rattle.routes.specs.Candidates.{AreCandidates}

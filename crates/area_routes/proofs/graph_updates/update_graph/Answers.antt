@@ -1,6 +1,6 @@
 use Rattle.std.proofs.Common.{ℕ, List, [], Some, Option, sym, subst}
 use Rattle.std.specs.Prelude.{IfSome}
-use Rattle.external_updates.specs.Changes.{OthersHaveSameContents}
+use Rattle.kept_routes.specs.Changes.{OthersHaveSameContents}
 use Rattle.area_routes.specs.GraphChanges.{AreCovered}
 use Rattle.area_routes.specs.Vertices.{StayUnlessAmong}
 use Rattle.area_routes.proofs.Stay.{all_covered, all_stay, nodes_stay, same_covered, vertices_stay}

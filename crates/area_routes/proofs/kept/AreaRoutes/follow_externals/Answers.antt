@@ -10,7 +10,7 @@ use Rattle.area_routes.specs.declared.matching.Matching.{Matching}
 use Rattle.area_routes.specs.declared.following.Next.{Next}
 use Rattle.area_routes.proofs.Candidates.{and_true, none_another}
 use Rattle.area_routes.proofs.Matches.{another_is_new}
-use Rattle.external_updates.specs.Placing.{AreAllAmong, HasAnother}
+use Rattle.kept_routes.specs.Placing.{AreAllAmong, HasAnother}
 use Rattle.kept_routes.specs.Kept.{IsWalkOf}
 use Rattle.routes.specs.Candidates.{AreCandidates}
 use Rattle.routes.specs.Contents.{contents_at}

@@ -1,9 +1,0 @@
-use Rattle.std.proofs.Common.{take}
-use Rattle.routes.specs.Contents.{contents_at}
-use Rattle.external_updates.specs.Changes.{AreAllAdvertised}
-use Rattle.external_updates.proofs.changes.networks_told.Given as goal
-
-abbrev pub invariant-loop-key : goal.invariant-loop-key
-invariant-loop-key l = AreAllAdvertised (contents_at l.before l.db.committed)
-    (contents_at l.moment l.db.present)
-    (take l.key-index l.keys) l.prefixes.items
