@@ -2,8 +2,8 @@
 use Rattle.std.proofs.Common.{◌≡◌, ℕ, ◌+◌, List, [], ◌∷◌, ◌++◌, drop, map, length, slice_index_or}
 use Rattle.std.proofs.Common.{refl, sym, subst, ap, ◌∙◌, arith}
 use Rattle.std.proofs.lemmas.List.{map-append, length-append, length-map}
-use Rattle.transports.specs.Descending.{CountDownTo}
-use Rattle.transports.proofs.Counted.{counted_off, counted_same}
+use Rattle.worker.specs.Descending.{CountDownTo}
+use Rattle.worker.proofs.Counted.{counted_off, counted_same}
 
 -- the last ones and those before them
 alike : (ns ms : List ℕ) (n m : ℕ) → ns ++ n ∷ [] ≡ ms ++ m ∷ [] → (n ≡ m) × (ns ≡ ms)

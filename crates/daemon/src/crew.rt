@@ -1,6 +1,6 @@
 //! The workers on threads of their own, the console beside them, and back.
 ghost use Rattle.std.specs.Prelude.{◌≡◌, ◌+◌, true, All, length, map, vec_len, IfOk};
-ghost use Rattle.transports.specs.Descending.{CountDownTo};
+ghost use Rattle.worker.specs.Descending.{CountDownTo};
 ghost use Rattle.maps.specs.Words.{IsSeatOf};
 ghost use Rattle.worker.specs.Opening.{IsSetUpFor};
 ghost use Rattle.daemon.specs.Talks.{has_output_failed};

@@ -9,9 +9,9 @@ use log::{Level, Log, Logged, warn};
 use std::alloc::Global;
 use std::sync::Wait;
 use std::sync::atomic::AtomicBool;
-use transports::{Seconds, Transport};
 use worker::{
-    Book, DatagramSocket, Flag, Hub, Open, Port, Site, Sockets, TransportEnd, Waits, run,
+    Book, DatagramSocket, Flag, Hub, Open, Port, Seconds, Site, Sockets, Transport, TransportEnd,
+    Waits, run,
 };
 
 /// What all workers share.

@@ -1,7 +1,7 @@
 //! A router from its configuration to its end.
 ghost use Rattle.std.specs.Prelude.{◌≡◌, ◌⊎◌, ◌≤◌, ◌+◌, All, IfErr, IfOk, false, length, map};
 ghost use Rattle.std.specs.Prelude.{nat_lt, vec_len, ⊤};
-ghost use Rattle.transports.specs.Descending.{CountDownTo};
+ghost use Rattle.worker.specs.Descending.{CountDownTo};
 ghost use Rattle.hooks.specs.Known.{loader_history};
 ghost use Rattle.worker.specs.Ends.{has_failed};
 ghost use Rattle.worker.specs.Wires.{AreBound};
@@ -35,10 +35,10 @@ use std::sync::Wait;
 use std::sync::atomic::AtomicBool;
 use std::thread::Threads;
 use std::time::Clock;
-use transports::Seconds;
 use words::Sequence;
 use worker::{
-    Closed, ConfigError, Core, Setup, Site, Sockets, SystemSeconds, Wire, bind_each, listening,
+    Closed, ConfigError, Core, Seconds, Setup, Site, Sockets, SystemSeconds, Wire, bind_each,
+    listening,
 };
 
 // The interfaces of a configuration, without their UDP ports.

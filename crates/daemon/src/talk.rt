@@ -24,8 +24,7 @@ use crate::texts::WritesTexts;
 use operator::{Desk, Outlet, Reply};
 use std::rt::Files;
 use std::sync::Wait;
-use transports::{Seconds, Transport};
-use worker::{Hub, Port, Site, Taker, Work};
+use worker::{Hub, Port, Seconds, Site, Taker, Transport, Work};
 
 /// Where an operator's lines come from, what they are carried out with, and where the answers go.
 #[derive(Drop)]

@@ -44,10 +44,9 @@ use std::alloc::Global;
 use std::marker::PhantomData;
 use std::rt::Files;
 use std::sync::Wait;
-use transports::{Seconds, Transport};
 use verifier::Accepted;
 use words::{External, Prefix};
-use worker::{Hub, Port, Site, Taker, Work};
+use worker::{Hub, Port, Seconds, Site, Taker, Transport, Work};
 
 /// What the console works with: the loader of the programs, and where port 0 sends.
 #[derive(Drop)]

@@ -5,9 +5,9 @@ ghost use Rattle.worker.specs.Lives.{IsSent, senses_of, standing};
 ghost use Rattle.operator.specs.Answers.{IsDone, IsRefusedOnce, IsServed};
 
 use std::sync::Wait;
-use transports::{Seconds, Transport};
 use worker::{
-    Hub, Open, Port, Site, Taker, TurnError, TurnOutcome, Work, send_all, turn_with_retries,
+    Hub, Open, Port, Seconds, Site, Taker, Transport, TurnError, TurnOutcome, Work, send_all,
+    turn_with_retries,
 };
 
 /// The transport and the clock of port 0.

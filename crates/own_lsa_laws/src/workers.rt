@@ -7,8 +7,7 @@ ghost use Rattle.own_lsa_laws.specs.RunningRouter.{NobodySpeaksForTheRunningRout
 
 use crate::nobody_speaks_for_this_router;
 use event_rules::routers_refuse_clocks_that_go_back;
-use transports::{Seconds, Transport};
-use worker::{Flag, Site, Taker};
+use worker::{Flag, Seconds, Site, Taker, Transport};
 
 /// Whatever rounds a worker has lived, it did one thing after the other: it looked at its clock, it
 /// listened at its transport, or it gave a work to a turn. The works that it gave are, in order,

@@ -1,5 +1,3 @@
--- what a port's asker comes to, for those above
-pub use Rattle.turns.proofs.Askers
 mod FreshSeats
 mod SeatsOf
 mod Sending
@@ -8,3 +6,6 @@ mod Tries
 mod Refused
 mod Silent
 mod Binding
+pub mod Counted
+-- names from the crates below that crates above use
+pub use Rattle.turns.proofs.Askers

@@ -4,7 +4,7 @@ use Rattle.std.proofs.Common.{◌∷◌, Option, Some, None, Result, length, sli
 use Rattle.std.proofs.Common.{Ok, Err, IfErr, IfNone, IfOk, IfSome, IsErr, IsFalse, IsTrue}
 use Rattle.std.proofs.Common.{MatchOption, refl, sym, subst, arith}
 use Rattle.std.specs.declared.io.Error.{Error}
-use Rattle.transports.specs.declared.transport.SocketFault.{SocketFault}
+use Rattle.worker.specs.declared.transport.SocketFault.{SocketFault}
 use Rattle.worker.specs.SocketRefusals.{is_passing}
 use Rattle.worker.specs.Wires.{IsHeardAt, IsListening, IsNoneThere, IsSilent, IsWhyNoneWaits}
 use Rattle.worker.specs.Wires.{IsWhyNoneWaitsAt, wire_at}

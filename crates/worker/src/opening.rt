@@ -2,7 +2,7 @@
 ghost use Rattle.std.specs.Prelude.{◌≡◌, ◌+◌, ◌≤◌, All, IfNone, IfOk, IfSome, map, vec_len};
 ghost use Rattle.maps.specs.Words.{IsSeatOf};
 ghost use Rattle.hooks.specs.Known.{asker_history};
-ghost use Rattle.transports.specs.Descending.{CountDownTo};
+ghost use Rattle.worker.specs.Descending.{CountDownTo};
 ghost use Rattle.worker.specs.Opening.{IsSetUpFor};
 
 use crate::setup::Setup;

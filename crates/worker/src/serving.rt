@@ -10,9 +10,9 @@ ghost use Rattle.worker.specs.Lives.{senses_of, standing};
 ghost use Rattle.worker.specs.declared.serving.Ended.TheVariants.{Fault, Quit};
 
 use crate::flag::Flag;
+use crate::transport::{Seconds, SocketFault, Transport};
 use std::alloc::Global;
 use std::sync::Wait;
-use transports::{Seconds, SocketFault, Transport};
 use turns::{
     BookError, CoreError, Gate, Hub, Out, Port, Site, Taker, TurnError, TurnOutcome, Work, turn,
 };

@@ -6,10 +6,9 @@ use std::alloc::Global;
 use std::marker::PhantomData;
 use std::sync::Wait;
 use std::sync::atomic::AtomicBool;
-use transports::{Script, Times};
 use whole_files::ReadFault;
 use words::Second;
-use worker::{Gate, Hub, Port, Site, Taker, Work, turn};
+use worker::{Gate, Hub, Port, Script, Site, Taker, Times, Work, turn};
 
 // 2^62, the first moment that no router takes.
 const CLOCK_END: u64 = 1 << 62;

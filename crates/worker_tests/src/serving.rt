@@ -3,9 +3,8 @@ use crate::samples::HELLO;
 use std::alloc::{AllocError, Global};
 use std::sync::Wait;
 use std::sync::atomic::AtomicBool;
-use transports::{Answer, Script, Times};
 use words::Sequence;
-use worker::{Ended, Hub, Open, Port, Signal, Site, Taker, run};
+use worker::{Answer, Ended, Hub, Open, Port, Script, Signal, Site, Taker, Times, run};
 
 /// What the calls of a transport are answered.
 #[derive(Clone, Copy)]

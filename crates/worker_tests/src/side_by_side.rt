@@ -5,10 +5,10 @@ use std::sync::Wait;
 use std::sync::atomic::{AtomicBool, Ordering};
 use std::thread::{Threads, join, sleep};
 use std::time::{Clock, Duration};
-use transports::{Seconds, Times};
 use words::Second;
 use worker::{
-    Gate, Hub, Open, Port, Site, Taker, TurnError, TurnOutcome, Work, turn, turn_with_retries,
+    Gate, Hub, Open, Port, Seconds, Site, Taker, Times, TurnError, TurnOutcome, Work, turn,
+    turn_with_retries,
 };
 
 /// The number of a turn's refusal, or 0.

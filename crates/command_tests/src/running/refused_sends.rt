@@ -2,8 +2,7 @@
 use std::io;
 use std::process::Abort;
 use std::sync::atomic::{AtomicUsize, Ordering};
-use transports::Transport;
-use worker::{DatagramSocket, Sockets, Wire, judge_receive, judge_send};
+use worker::{DatagramSocket, Sockets, Transport, Wire, judge_receive, judge_send};
 
 // EPERM, EACCES, EAGAIN, ENOMEM, EMSGSIZE, EADDRNOTAVAIL, ENETDOWN, ENETUNREACH, ENETRESET,
 // ENOBUFS, ECONNREFUSED, EHOSTDOWN and EHOSTUNREACH of Linux, and at last EINVAL, which a route

@@ -1,8 +1,8 @@
 //! The clock of a thread.
 ghost use Rattle.std.specs.Prelude.{◌≡◌, ℕ, Option, ⊤};
 
+use crate::transport::Seconds;
 use std::time::{Clock, SystemTime, UNIX_EPOCH};
-use transports::Seconds;
 use words::Second;
 
 /// Reads a clock of seconds.

@@ -3,8 +3,8 @@ ghost use Rattle.std.specs.Prelude.{◌≡◌, IfErr, IfOk, IsErr, IsFalse, IsTr
 ghost use Rattle.worker.specs.SocketRefusals.{is_lost, is_passing, is_passing_kind};
 ghost use Rattle.worker.specs.SocketRefusals.{is_passing_number};
 
+use crate::transport::SocketFault;
 use std::io::{self, ErrorKind};
-use transports::SocketFault;
 
 fn is_passing_kind(kind: ErrorKind) -> bool
     ensures { result ≡ is_passing_kind kind }

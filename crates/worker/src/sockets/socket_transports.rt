@@ -3,7 +3,7 @@
 ghost use Rattle.std.specs.Prelude.{◌≡◌, ◌<◌, ◌≤◌, All, IfErr, IfNone, IfOk, IfSome, OnOk};
 ghost use Rattle.std.specs.Prelude.{length, map, take};
 ghost use Rattle.std.specs.Prelude.{nat_lt, vec_len, ⊤};
-ghost use Rattle.transports.specs.Descending.{CountDownTo};
+ghost use Rattle.worker.specs.Descending.{CountDownTo};
 ghost use Rattle.worker.specs.Ends.{has_failed};
 ghost use Rattle.worker.specs.Wires.{HasWaited, IsHeardAt, IsListening, IsNoneThere};
 ghost use Rattle.worker.specs.Wires.{IsWhyNoneWaits, IsWhyNoneWaitsAt};
@@ -13,11 +13,11 @@ use crate::sockets::refusals::{judge_receive, judge_send};
 use crate::sockets::socket::DatagramSocket;
 use crate::sockets::waiting::{Ear, ListensAt, SystemPoller, Waits};
 use crate::sockets::wire::{Wire, wire_at};
+use crate::transport::{SocketFault, Transport, datagram};
 use mio::net::UdpSocket;
 use std::alloc::Global;
 use std::io::ErrorKind;
 use std::net::Net;
-use transports::{SocketFault, Transport, datagram};
 use words::Sequence;
 
 /// A worker's transport: it sends at each interface, and receives at its own, if it has one. After

@@ -1,6 +1,6 @@
 use Rattle.std.proofs.Common.{rules, ◌≡◌, ◌+◌, map, sym, subst, vec_len}
-use Rattle.transports.specs.Descending.{CountDownTo}
-use Rattle.transports.proofs.Counted.{counted_more}
+use Rattle.worker.specs.Descending.{CountDownTo}
+use Rattle.worker.proofs.Counted.{counted_more}
 use Rattle.worker.proofs.opening.ports.Goals as goal
 
 pub loop-place-preserved : goal.loop-place-preserved

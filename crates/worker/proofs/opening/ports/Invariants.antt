@@ -1,5 +1,5 @@
 use Rattle.std.specs.Prelude.{◌≡◌, ◌+◌, map, vec_len}
-use Rattle.transports.specs.Descending.{CountDownTo}
+use Rattle.worker.specs.Descending.{CountDownTo}
 use Rattle.worker.proofs.opening.ports.Given as goal
 
 abbrev pub invariant-loop-place : goal.invariant-loop-place

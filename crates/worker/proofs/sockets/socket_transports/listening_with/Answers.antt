@@ -1,7 +1,7 @@
 use Rattle.std.proofs.Common.{rules, ◌≡◌, ◌+◌, ◌-◌, All, length, map, sym, subst, arith}
 use Rattle.std.proofs.lemmas.List.Elements.{All-push}
-use Rattle.transports.specs.Descending.{CountDownTo}
-use Rattle.transports.proofs.Counted.{counted_more}
+use Rattle.worker.specs.Descending.{CountDownTo}
+use Rattle.worker.proofs.Counted.{counted_more}
 use Rattle.worker.specs.Wires.{IsListening}
 use Rattle.worker.proofs.sockets.socket_transports.listening_with.Goals as goal
 

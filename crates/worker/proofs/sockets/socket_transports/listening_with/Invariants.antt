@@ -1,5 +1,5 @@
 use Rattle.std.specs.Prelude.{◌≡◌, ◌+◌, ◌-◌, All, length, map, vec_len}
-use Rattle.transports.specs.Descending.{CountDownTo}
+use Rattle.worker.specs.Descending.{CountDownTo}
 use Rattle.worker.specs.Wires.{IsListening}
 use Rattle.worker.proofs.sockets.socket_transports.listening_with.Given as goal
 

@@ -2,7 +2,7 @@
 use Rattle.std.proofs.Common.{◌≡◌, ℕ, ◌+◌, List, [], ◌∷◌, ◌++◌, map, length, refl, sym, subst, ap}
 use Rattle.std.proofs.Common.{◌∙◌, arith}
 use Rattle.std.proofs.lemmas.List.{map-append, length-append}
-use Rattle.transports.specs.Descending.{CountDownTo}
+use Rattle.worker.specs.Descending.{CountDownTo}
 
 pub counted_on : (last : ℕ) (ns : List ℕ) → CountDownTo (last + 1) ns
     → CountDownTo last (ns ++ last ∷ [])

@@ -1,6 +1,6 @@
 //! A transport and a clock that play back lists, for tests.
 ghost use Rattle.std.specs.Prelude.{◌≡◌, ◌≢◌, ℕ, ◌+◌, ◌<◌, ◌≤◌, IfSome, length};
-ghost use Rattle.transports.specs.declared.script.Played.TheVariants.{Fault};
+ghost use Rattle.worker.specs.declared.script.Played.TheVariants.{Fault};
 
 use crate::transport::{Seconds, SocketFault, Transport, datagram};
 use std::alloc::Global;
