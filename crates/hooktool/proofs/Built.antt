@@ -13,7 +13,7 @@ use Rattle.elf.specs.declared.lists.LinkedSymbol.{LinkedSymbol}
 use Rattle.explanations.specs.Told.{TellsVerdict}
 use Rattle.isa.specs.Hooks.{hook_name}
 use Rattle.object.specs.Objects.{ObjectParts}
-use Rattle.object_trials.specs.Stops.{KnownFiles}
+use Rattle.hooktool_trials.specs.Stops.{KnownFiles}
 use Rattle.verifier.specs.Verdicts.{Accepts}
 use Rattle.verifier.specs.declared.error.VerifyError.{VerifyError}
 use Rattle.verifier.specs.Programs.{Program}

@@ -5,8 +5,8 @@ use Rattle.annotations.specs.Verdict.{IsFileShortfall}
 use Rattle.annotations.specs.declared.shortfall.Shortfall.{Shortfall}
 use Rattle.annotations.specs.declared.shortfall.Shortfall.TheVariants as shortfalls
 use Rattle.isa.specs.declared.hook.Hook.{Hook}
-use Rattle.hooktool_line.specs.declared.requests.FuelAsked.{FuelAsked}
-use Rattle.object_trials.specs.Stops.{KnownFiles}
+use Rattle.hooktool_trials.specs.declared.requests.FuelAsked.{FuelAsked}
+use Rattle.hooktool_trials.specs.Stops.{KnownFiles}
 use Rattle.hooktool.specs.Annotations.{IsAnnotated, IsRefusedFile, elf_magic, fuel_for}
 use Rattle.hooktool.specs.Faults.{IsAnnotationFault, IsBuildFault, IsByVerifier}
 use Rattle.hooktool.specs.Faults.{IsFaultOfShortfall, IsObjectFault}

@@ -5,7 +5,7 @@ use Rattle.annotations.specs.Annotated.{IsAnnotation, with_found}
 use Rattle.isa.specs.declared.hook.Hook.{Hook}
 use Rattle.object.specs.Objects.{ObjectParts}
 use Rattle.verifier.specs.Programs.{Program}
-use Rattle.hooktool_line.specs.declared.requests.FuelAsked.{FuelAsked}
+use Rattle.hooktool_trials.specs.declared.requests.FuelAsked.{FuelAsked}
 use Rattle.hooktool.specs.Annotations.{IsAnnotated, accepted_text, fuel_for}
 use Rattle.hooktool.specs.declared.report.CommandReport.{CommandReport}
 

@@ -2,9 +2,9 @@
 use Rattle.std.proofs.Common.{◌≡◌, ℕ, List, Ok, Err}
 use Rattle.std.specs.List.{list_any}
 use Rattle.std.specs.Prelude.{IfOk, Result, is_err}
-use Rattle.hooktool_line.specs.declared.requests.Question.{Question}
-use Rattle.object_trials.specs.Runs.{IsTrial}
-use Rattle.object_trials.specs.declared.trial.ObjectTrial.{ObjectTrial}
+use Rattle.hooktool_trials.specs.declared.requests.Question.{Question}
+use Rattle.hooktool_trials.specs.Runs.{IsTrial}
+use Rattle.hooktool_trials.specs.declared.trial.ObjectTrial.{ObjectTrial}
 use Rattle.hooktool.specs.Trials.{IsTried}
 use Rattle.hooktool.specs.declared.report.CommandReport.{CommandReport}
 

@@ -9,7 +9,7 @@ use Rattle.verifier.specs.declared.refusal.Refusal.{Refusal}
 use Rattle.annotations.specs.Annotated.{IsAnnotation, IsRejection, with_found}
 use Rattle.annotations.specs.CountedCode.{answer_without_turns}
 use Rattle.annotations.specs.declared.fuel.Fuel.{Fuel}
-use Rattle.hooktool_line.specs.declared.requests.FuelAsked.{FuelAsked}
+use Rattle.hooktool_trials.specs.declared.requests.FuelAsked.{FuelAsked}
 use Rattle.hooktool.specs.Cells.{cells_note}
 use Rattle.hooktool.specs.declared.report.CommandReport.{CommandReport}
 

@@ -18,8 +18,8 @@ use Rattle.elf.specs.Lists.{HasBytes, HasSymbol, functions_of, relocations_of, s
 use Rattle.elf.specs.Lists.{symbol_name}
 use Rattle.hooktool.specs.Annotations.{accepted_text, elf_magic, fuel_for}
 use Rattle.hooktool.specs.Explanations.{IsExplained}
-use Rattle.hooktool_line.specs.declared.requests.FuelAsked.{FuelAsked}
-use Rattle.object_trials.specs.Stops.{KnownFiles}
+use Rattle.hooktool_trials.specs.declared.requests.FuelAsked.{FuelAsked}
+use Rattle.hooktool_trials.specs.Stops.{KnownFiles}
 use Rattle.hooktool.specs.declared.report.CommandReport.{CommandReport}
 
 -- what was asked for: the folder for objects (without one each is explained), the hook of functions

@@ -7,10 +7,10 @@ use Rattle.clap.specs.Values.{kind_of}
 use Rattle.clap.specs.declared.error.Error.{Error}
 use Rattle.clap.specs.declared.error.ErrorKind.{ErrorKind}
 use Rattle.clap.specs.declared.error.ErrorKind.TheVariants as kinds
-use Rattle.hooktool_line.specs.Requests.{Asks, IsRefusal}
-use Rattle.hooktool_line.specs.declared.requests.HooktoolRequest.{HooktoolRequest}
-use Rattle.hooktool_line.specs.declared.requests.HooktoolRequest.TheVariants as requests
-use Rattle.hooktool_line.specs.declared.requests.PlainRequest.TheVariants as plain
+use Rattle.hooktool_trials.specs.Requests.{Asks, IsRefusal}
+use Rattle.hooktool_trials.specs.declared.requests.HooktoolRequest.{HooktoolRequest}
+use Rattle.hooktool_trials.specs.declared.requests.HooktoolRequest.TheVariants as requests
+use Rattle.hooktool_trials.specs.declared.requests.PlainRequest.TheVariants as plain
 use Rattle.hooktool.specs.Annotations.{IsAnnotated}
 use Rattle.hooktool.specs.Builds.{IsBuilt, IsExplainedFile}
 use Rattle.hooktool.specs.Faults.{IsAnnotationFault, IsObjectFault, IsPacketFault}
@@ -20,7 +20,7 @@ use Rattle.hooktool.specs.Tests.{IsTested}
 use Rattle.hooktool.specs.Trials.{IsPacketOf, IsTried}
 use Rattle.hooktool.specs.declared.testing.Tested.{Tested}
 use Rattle.hooktool.specs.declared.testing.Tested.TheVariants as tests
-use Rattle.object_trials.specs.Stops.{KnownFiles}
+use Rattle.hooktool_trials.specs.Stops.{KnownFiles}
 use Rattle.hooktool.specs.declared.fault.HooktoolFault.{HooktoolFault}
 use Rattle.hooktool.specs.declared.report.CommandReport.{CommandReport}
 

@@ -15,10 +15,10 @@ use Rattle.annotations.specs.declared.count_error.CountError.{CountError}
 use Rattle.annotations.specs.declared.count_error.CountError.TheVariants as counts
 use Rattle.annotations.specs.declared.shortfall.Shortfall.{Shortfall}
 use Rattle.annotations.specs.declared.shortfall.Shortfall.TheVariants as shortfalls
-use Rattle.hooktool_line.specs.declared.requests.FuelAsked.{FuelAsked}
-use Rattle.hooktool_line.specs.declared.requests.PacketSource.{PacketSource}
-use Rattle.hooktool_line.specs.declared.requests.PacketSource.TheVariants as packets
-use Rattle.object_trials.specs.Stops.{KnownFiles}
+use Rattle.hooktool_trials.specs.declared.requests.FuelAsked.{FuelAsked}
+use Rattle.hooktool_trials.specs.declared.requests.PacketSource.{PacketSource}
+use Rattle.hooktool_trials.specs.declared.requests.PacketSource.TheVariants as packets
+use Rattle.hooktool_trials.specs.Stops.{KnownFiles}
 use Rattle.hooktool.specs.Annotations.{fuel_for}
 use Rattle.hooktool.specs.Builds.{object_path}
 use Rattle.hooktool.specs.Statuses.{fault_of_object, fault_of_refusal}

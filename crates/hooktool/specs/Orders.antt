@@ -6,7 +6,7 @@ use Rattle.isa.specs.Hooks.{hook_name}
 use Rattle.object.specs.Objects.{ObjectParts}
 use Rattle.verifier.specs.Programs.{Program}
 use Rattle.annotations.specs.Annotated.{IsAnnotation, with_found}
-use Rattle.object_trials.specs.Stops.{KnownFiles}
+use Rattle.hooktool_trials.specs.Stops.{KnownFiles}
 use Rattle.hooktool.specs.declared.building.Order.{Order}
 use Rattle.hooktool.specs.declared.building.Purpose.{Purpose}
 use Rattle.hooktool.specs.declared.building.Purpose.TheVariants as purposes

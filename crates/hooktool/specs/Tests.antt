@@ -1,14 +1,14 @@
 -- What is told of a test.
 use Rattle.std.specs.Prelude.{◌≡◌, ◌≢◌, ◌⊎◌, ℕ, List, not}
 use Rattle.std.specs.List.{list_any}
-use Rattle.hooktool_line.specs.Steps.{AreLines, IsWrong}
-use Rattle.hooktool_line.specs.declared.steps.LineError.TheVariants as wrongs
-use Rattle.hooktool_line.specs.declared.steps.TestLine.{TestLine}
-use Rattle.hooktool_line.specs.declared.steps.WrongLine.{WrongLine}
-use Rattle.object_trials.specs.Stops.{IsStopped, KnownFiles}
-use Rattle.object_trials.specs.declared.stage.Point.{Point}
-use Rattle.object_trials.specs.declared.stopped.PlayError.TheVariants as stops
-use Rattle.object_trials.specs.declared.stopped.Stopped.{Stopped}
+use Rattle.hooktool_trials.specs.Steps.{AreLines, IsWrong}
+use Rattle.hooktool_trials.specs.declared.steps.LineError.TheVariants as wrongs
+use Rattle.hooktool_trials.specs.declared.steps.TestLine.{TestLine}
+use Rattle.hooktool_trials.specs.declared.steps.WrongLine.{WrongLine}
+use Rattle.hooktool_trials.specs.Stops.{IsStopped, KnownFiles}
+use Rattle.hooktool_trials.specs.declared.stage.Point.{Point}
+use Rattle.hooktool_trials.specs.declared.stopped.PlayError.TheVariants as stops
+use Rattle.hooktool_trials.specs.declared.stopped.Stopped.{Stopped}
 use Rattle.hooktool.specs.declared.report.CommandReport.{CommandReport}
 use Rattle.hooktool.specs.declared.testing.Tested.{Tested}
 use Rattle.hooktool.specs.declared.testing.Tested.TheVariants as tests

@@ -2,13 +2,13 @@
 use Rattle.std.specs.Prelude.{◌≡◌, ℕ, List, is_err}
 use Rattle.std.specs.List.{list_any}
 use Rattle.hooktool.specs.declared.report.CommandReport.{CommandReport}
-use Rattle.hooktool_line.specs.declared.requests.PacketSource.{PacketSource}
-use Rattle.hooktool_line.specs.declared.requests.PacketSource.TheVariants as packets
-use Rattle.hooktool_line.specs.declared.requests.Question.{Question}
-use Rattle.object_trials.specs.Plays.{PacketIs}
-use Rattle.object_trials.specs.Runs.{IsTrial}
-use Rattle.object_trials.specs.Stops.{KnownFiles}
-use Rattle.object_trials.specs.declared.trial.ObjectTrial.{ObjectTrial}
+use Rattle.hooktool_trials.specs.declared.requests.PacketSource.{PacketSource}
+use Rattle.hooktool_trials.specs.declared.requests.PacketSource.TheVariants as packets
+use Rattle.hooktool_trials.specs.declared.requests.Question.{Question}
+use Rattle.hooktool_trials.specs.Plays.{PacketIs}
+use Rattle.hooktool_trials.specs.Runs.{IsTrial}
+use Rattle.hooktool_trials.specs.Stops.{KnownFiles}
+use Rattle.hooktool_trials.specs.declared.trial.ObjectTrial.{ObjectTrial}
 
 -- the packet is the one that was given, or what its file has
 abbrev pub IsPacketOf : KnownFiles → PacketSource → List ℕ → Type 0

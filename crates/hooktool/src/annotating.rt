@@ -19,9 +19,8 @@ use annotations::{
     answer_without_turns,
 };
 use explanations::{Explanation, Text, explain};
-use hooktool_line::FuelAsked;
+use hooktool_trials::{FuelAsked, WholeFiles};
 use isa::Hook;
-use object_trials::WholeFiles;
 use std::alloc::{AllocError, Global};
 use verifier::BUDGET;
 

@@ -29,9 +29,8 @@ use crate::report::{CommandReport, refusal, told};
 use annotations::{AnnotatedObject, Shortfall, annotate_file};
 use elf::{LinkedRelocation, LinkedSymbol, ObjectFile};
 use explanations::Text;
-use hooktool_line::FuelAsked;
+use hooktool_trials::{FuelAsked, WholeFiles};
 use isa::Hook;
-use object_trials::WholeFiles;
 use std::alloc::{AllocError, Global};
 
 /// What is made of each function.

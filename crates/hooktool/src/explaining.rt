@@ -11,9 +11,8 @@ use crate::fault::HooktoolFault;
 use crate::files;
 use crate::report::CommandReport;
 use explanations::{Explanation, explain as explained};
-use hooktool_line::FuelAsked;
+use hooktool_trials::{FuelAsked, WholeFiles};
 use isa::decode;
-use object_trials::WholeFiles;
 use std::alloc::Global;
 use verifier::{Accepted, Rule, VerifyError};
 

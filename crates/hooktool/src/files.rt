@@ -6,7 +6,7 @@ ghost use Rattle.verifier.specs.Programs.{Program};
 ghost use Rattle.hooktool.specs.Faults.{IsUnread, IsUnwritten};
 
 use crate::fault::HooktoolFault;
-use object_trials::WholeFiles;
+use hooktool_trials::WholeFiles;
 use std::alloc::Global;
 use whole_files::{ReadFault, WriteFault};
 

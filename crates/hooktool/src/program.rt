@@ -16,9 +16,8 @@ use crate::testing::{Tested, test};
 use crate::trying::try_question;
 use clap::Error;
 use clap::error::ErrorKind;
-use hooktool_line::{FuelAsked, HooktoolRequest, PlainRequest};
+use hooktool_trials::{FuelAsked, HooktoolRequest, PlainRequest, WholeFiles};
 use isa::Hook;
-use object_trials::WholeFiles;
 use std::alloc::Global;
 use std::fmt::Display;
 use std::io::{self, ErrorKind as IoKind};
@@ -102,7 +101,7 @@ pub fn end_without_words<O: Stream, E: Stream>(
     ensures told { Fails (O.state output.new) result ⊎ Fails (E.state errors.new) result
         ⊎ (result ≡ 2) ⊎ (result ≡ 4) }
 {
-    let error = hooktool_line::unreadable_words(alloc, error);
+    let error = hooktool_trials::unreadable_words(alloc, error);
     tell_words(&error, output, errors)
 }
 
@@ -188,7 +187,7 @@ pub fn program<R: WholeFiles + AllocGlobal, O: Stream, E: Stream>(
         (O.state output.old) (O.state output.new)
         (E.state errors.old) (E.state errors.new) result }
 {
-    match hooktool_line::parse(rt.alloc(), words) {
+    match hooktool_trials::parse(rt.alloc(), words) {
         Ok(request) => carry_out(rt, request, output),
         Err(error) => tell_words(&error, output, errors),
     }

@@ -2,8 +2,8 @@
 
 use crate::answers::push_answer;
 use explanations::Text;
+use hooktool_trials::{Found, Last, Point};
 use isa::Hook;
-use object_trials::{Found, Last, Point};
 use std::alloc::{AllocError, Global};
 
 /// The words, between single spaces.

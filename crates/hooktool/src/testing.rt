@@ -2,7 +2,7 @@
 
 ghost use Rattle.std.specs.Prelude.{◌≡◌, ◌≢◌, IfErr, IfOk, not};
 ghost use Rattle.std.specs.List.{list_any};
-ghost use Rattle.hooktool_line.specs.Steps.{words_of};
+ghost use Rattle.hooktool_trials.specs.Steps.{words_of};
 ghost use Rattle.hooktool.specs.Faults.{IsTestFault};
 ghost use Rattle.hooktool.specs.Tests.{HasWrongLine, IsTested, IsTestedOr, IsUnplayed};
 ghost use Rattle.hooktool.specs.Tests.{IsWrongTest};
@@ -11,8 +11,10 @@ use crate::fault::HooktoolFault;
 use crate::files;
 use crate::report::{CommandReport, told};
 use crate::tap::protocol;
-use hooktool_line::{LineError, TestLine, WrongLine, read_lines, words_of_lines};
-use object_trials::{PlayError, Point, Stopped, WholeFiles, play};
+use hooktool_trials::{
+    LineError, PlayError, Point, Stopped, TestLine, WholeFiles, WrongLine, play, read_lines,
+    words_of_lines,
+};
 use std::alloc::{AllocError, Global};
 
 const UNPLAYED: &str = "the tests aren't played to their end\n";

@@ -1,10 +1,10 @@
 //! Runs that gave no answer.
 
 use explanations::{Text, line_at};
+use hooktool_trials::RunEnding;
 use interp::Trap;
 use isa::Code;
 use machine::{Content, Pointer};
-use object_trials::RunEnding;
 
 /// What the trap of this number is: the faults' names are those of docs/reference/MACHINE.md.
 fn sentence_of(number: u8) -> &'static str {

@@ -12,10 +12,11 @@ use crate::files;
 use crate::report::{CommandReport, told};
 use crate::traps::push_trap;
 use explanations::{Text, instruction_lines};
-use hooktool_line::{PacketSource, Question};
+use hooktool_trials::{
+    ObjectTrial, PacketSource, Question, RunEnding, WholeFiles, is_any_stuck, try_object,
+};
 use isa::{Code, Hook, decode};
 use object::Object;
-use object_trials::{ObjectTrial, RunEnding, WholeFiles, is_any_stuck, try_object};
 use std::alloc::{AllocError, Global};
 use verifier::BUDGET;
 

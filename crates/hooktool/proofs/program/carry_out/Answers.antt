@@ -1,5 +1,5 @@
 use Rattle.std.proofs.Common.{inl, subst, sym}
-use Rattle.hooktool_line.specs.declared.requests.HooktoolRequest.{HooktoolRequest}
+use Rattle.hooktool_trials.specs.declared.requests.HooktoolRequest.{HooktoolRequest}
 use Rattle.hooktool.specs.Endings.{EndsRequest}
 use Rattle.hooktool.proofs.program.carry_out.Goals as goal
 

@@ -1,6 +1,6 @@
 use Rattle.std.proofs.Common.{inl, inr, subst, sym}
-use Rattle.hooktool_line.specs.declared.requests.HooktoolRequest.TheVariants as requests
-use Rattle.hooktool_line.specs.declared.requests.PlainRequest.{PlainRequest}
+use Rattle.hooktool_trials.specs.declared.requests.HooktoolRequest.TheVariants as requests
+use Rattle.hooktool_trials.specs.declared.requests.PlainRequest.{PlainRequest}
 use Rattle.hooktool.specs.Endings.{EndsRequest}
 use Rattle.hooktool.proofs.program.carry_out_plain.Goals as goal
 

@@ -3,7 +3,7 @@ use Rattle.std.specs.List.{list_any}
 use Rattle.std.specs.Prelude.{is_err}
 use Rattle.hooktool.proofs.Built.{told_more}
 use Rattle.hooktool.proofs.trying.report_of.Goals as goal
-use Rattle.object_trials.specs.declared.runs.RunEnding.{RunEnding}
+use Rattle.hooktool_trials.specs.declared.runs.RunEnding.{RunEnding}
 
 pub returns-clause-stuck : goal.returns-clause-stuck
 returns-clause-stuck c = told_more _ _ c.told.result (λ report is. is ∙ (c.is_any_stuck.ensures

@@ -1,0 +1,15 @@
+pub mod Building
+pub mod Listed
+pub mod Made
+pub mod OrElse
+pub mod PacketWords
+pub mod Questioned
+pub mod Read
+pub mod RowWords
+pub mod SettingWords
+pub mod StepWords
+pub mod Behind
+pub mod Chained
+pub mod Ended
+pub mod InARow
+pub mod Same

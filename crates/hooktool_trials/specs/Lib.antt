@@ -1,0 +1,17 @@
+pub mod Building
+pub mod CommandLine
+pub mod Contexts
+pub mod Lists
+pub mod Questions
+pub mod Requests
+pub mod Steps
+pub mod Words
+pub mod Answers
+pub mod CaptureNumbers
+pub mod Captures
+pub mod Chains
+pub mod Frames
+pub mod Plays
+pub mod Runs
+pub mod Settings
+pub mod Stops

@@ -1,6 +1,0 @@
-use Rattle.maps.specs.Words.{IsSeatOf}
-use Rattle.object_trials.proofs.playing.play_lines.Given as goal
-
--- the seat is the table's
-abbrev pub invariant-loop-line : goal.invariant-loop-line
-invariant-loop-line g l = IsSeatOf l.shared l.seat
