@@ -40,9 +40,9 @@ use Rattle.event_rules.specs.Packets.{after_packet}
 use Rattle.event_rules.specs.Routers.{Router}
 use Rattle.event_rules.specs.Ticks.{after_tick}
 use Rattle.flood_laws.proofs.Owing.{put_same}
-use Rattle.conversations.proofs.WorkedEnds.{begins, describes_not_later, differ_not, describes_not}
-use Rattle.conversations.proofs.WorkedEnds.{ends_by, last, no_time_passes}
-use Rattle.conversations.proofs.WorkedOwn.{wanted}
+use Rattle.agreement_laws.proofs.WorkedEnds.{begins, describes_not_later, differ_not, describes_not}
+use Rattle.agreement_laws.proofs.WorkedEnds.{ends_by, last, no_time_passes}
+use Rattle.agreement_laws.proofs.WorkedOwn.{wanted}
 use Rattle.agreement_laws.proofs.HistoryStart.{begun, copy, database, description_of, entries_of}
 use Rattle.agreement_laws.proofs.HistoryStart.{first_times, found, link_with, lsa, no_entries}
 use Rattle.agreement_laws.proofs.HistoryStart.{nothing_in, retained, router_with, stays_young}

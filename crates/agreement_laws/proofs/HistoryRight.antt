@@ -33,8 +33,8 @@ use Rattle.event_rules.specs.Hellos.{hello_on}
 use Rattle.event_rules.specs.Packets.{after_packet}
 use Rattle.event_rules.specs.Routers.{Router}
 use Rattle.event_rules.specs.Ticks.{after_tick}
-use Rattle.conversations.proofs.WorkedEnds.{begins, describes_not, describes_not_later, differ_not}
-use Rattle.conversations.proofs.WorkedEnds.{ends_by, last, no_time_passes}
+use Rattle.agreement_laws.proofs.WorkedEnds.{begins, describes_not, describes_not_later, differ_not}
+use Rattle.agreement_laws.proofs.WorkedEnds.{ends_by, last, no_time_passes}
 use Rattle.agreement_laws.proofs.HistoryStart.{begun, copy, database, description_of, entries_of}
 use Rattle.agreement_laws.proofs.HistoryStart.{leaves_old, left, link_with, lsa, no_entries, old}
 use Rattle.agreement_laws.proofs.HistoryStart.{retained, router_with, stays_young, young}

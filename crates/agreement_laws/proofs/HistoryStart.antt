@@ -28,7 +28,7 @@ use Rattle.event_rules.specs.Routers.{Router, fresh_link, unannounced_router}
 use Rattle.flood_laws.proofs.Limits.{new_key, tied_key}
 use Rattle.flood_laws.proofs.Owing.{put_other, put_same}
 use Rattle.flood_laws.proofs.Leaving.{itself}
-use Rattle.conversations.proofs.WorkedOwn.{wanted}
+use Rattle.agreement_laws.proofs.WorkedOwn.{wanted}
 
 abbrev pub interface : ℕ → Interface
 interface address = record {

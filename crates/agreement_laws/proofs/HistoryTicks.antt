@@ -26,7 +26,7 @@ use Rattle.event_rules.specs.Originations.{originate_due, router_key}
 use Rattle.event_rules.specs.Routers.{Router}
 use Rattle.event_rules.specs.Ticks.{after_tick, send_acknowledgments, send_all_again, send_hellos}
 use Rattle.event_rules.specs.Ticks.{settled_exchange, without_acknowledgments}
-use Rattle.conversations.proofs.WorkedEnds.{begins, no_time_passes}
+use Rattle.agreement_laws.proofs.WorkedEnds.{begins, no_time_passes}
 use Rattle.agreement_laws.proofs.HistoryStart.{copy, database, first_times, found, link_with}
 use Rattle.agreement_laws.proofs.HistoryStart.{no_entries}
 use Rattle.agreement_laws.proofs.HistoryStart.{router_with}

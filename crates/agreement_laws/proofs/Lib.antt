@@ -57,3 +57,24 @@ mod HistoryTurns
 mod HistoryLeft
 mod HistoryRight
 mod WorkedHistory
+pub mod WorkedLinks
+pub mod WorkedEnds
+pub mod WorkedUpdates
+pub mod ConversationsWorkedAnswers
+pub mod Worked
+pub mod WorkedAged
+pub mod WorkedOwn
+pub mod WorkedFlush
+pub mod WorkedUnannounced
+pub mod WorkedTicks
+pub mod WorkedAdjacency
+pub mod WorkedExchange
+pub mod WorkedRun
+pub mod WorkedHello
+pub mod HellosDiscarded
+pub mod WorkedMetrics
+pub mod TableTests
+pub mod CarriedOut
+pub mod TakenOff
+pub mod RequestsMet
+pub mod SentInOrder

@@ -22,11 +22,11 @@ use Rattle.event_rules.specs.Routers.{Occurrence, Router}
 use Rattle.flood_laws.specs.InOrder.{AnnouncesItsOwn}
 use Rattle.flood_laws.proofs.Known.{router_stays}
 use Rattle.flood_laws.proofs.Taken.{named_first}
-use Rattle.conversations.specs.WorkedAdjacency.{IsNamingHello, describes, lonely}
-use Rattle.conversations.specs.WorkedExchange.{reply}
-use Rattle.conversations.specs.WorkedRun.{receives}
-use Rattle.conversations.proofs.WorkedRun.{is_negotiated}
-use Rattle.conversations.specs.WorkedUpdates.{NothingAges}
+use Rattle.agreement_laws.specs.WorkedAdjacency.{IsNamingHello, describes, lonely}
+use Rattle.agreement_laws.specs.WorkedExchange.{reply}
+use Rattle.agreement_laws.specs.WorkedRun.{receives}
+use Rattle.agreement_laws.proofs.WorkedRun.{is_negotiated}
+use Rattle.agreement_laws.specs.WorkedUpdates.{NothingAges}
 use Rattle.agreement_laws.specs.Exchanged.{Conversation, Converses, GoesOn, IsExchanged}
 use Rattle.agreement_laws.specs.Exchanged.{WasExchanged, headers_told}
 use Rattle.agreement_laws.specs.WorkedExchanges.{WorkedExchanges}

@@ -16,10 +16,10 @@ use Rattle.event_rules.specs.declared.model.Out.{Out}
 use Rattle.event_rules.specs.Events.{Happens, Run, Step}
 use Rattle.event_rules.specs.Routers.{Occurrence, Router}
 use Rattle.flood_laws.specs.InOrder.{AnnouncesItsOwn}
-use Rattle.conversations.specs.WorkedAdjacency.{IsNamingHello, lonely}
-use Rattle.conversations.specs.WorkedExchange.{reply}
-use Rattle.conversations.specs.WorkedRun.{receives}
-use Rattle.conversations.specs.WorkedUpdates.{NothingAges}
+use Rattle.agreement_laws.specs.WorkedAdjacency.{IsNamingHello, lonely}
+use Rattle.agreement_laws.specs.WorkedExchange.{reply}
+use Rattle.agreement_laws.specs.WorkedRun.{receives}
+use Rattle.agreement_laws.specs.WorkedUpdates.{NothingAges}
 use Rattle.agreement_laws.specs.Exchanged.{Conversation, Converses, WasExchanged, headers_told}
 
 pub record WorkedExchanges : Type 0 where

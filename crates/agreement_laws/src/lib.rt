@@ -2,7 +2,16 @@
 //! nothing: how new instances are, and that what a router holds was exchanged with its neighbors.
 //! On the exchange of Descriptions: what is requested, what moves it, and how it goes on between
 //! two.
+//!
+//! Worked conversations between routers, as theorems about the rules (RFC 2328, sections 9 to 13),
+//! each the contract of a function with an empty body: each holds for every router that satisfies
+//! the stated conditions.
 #![tactic(auto)]
+
+pub mod answers;
+mod conversations;
+pub mod descriptions;
+pub mod requests;
 
 ghost use Rattle.agreement_laws.specs.CopiesClimb.{CopiesClimb};
 ghost use Rattle.agreement_laws.specs.HeldWasExchanged.{NothingIsLeftToDescribe};
@@ -17,9 +26,14 @@ ghost use Rattle.agreement_laws.specs.WorkedHistory.{AHistoryMeetsThePremises};
 ghost use Rattle.agreement_laws.specs.WorkedNeighbors.{WorkedNeighbors};
 ghost use Rattle.agreement_laws.specs.WorkedRanks.{WorkedRanks};
 
-pub mod answers;
-pub mod descriptions;
-pub mod requests;
+pub use conversations::{
+    a_last_request_is_met, a_neighbor_is_heard, a_new_lsa_comes_twice, a_tick_originates,
+    acknowledgments_take_off_what_they_name, an_adjacency_begins, an_adjacency_is_negotiated,
+    an_aged_lsa_comes, an_exchange_as_slave, answers_change_no_database, each_case_is_carried_out,
+    each_test_of_the_table_counts, metrics_announce_or_withhold, requests_are_met_by_flooding,
+    some_hellos_are_discarded, the_numbers_end, what_is_not_announced_is_flushed,
+    what_is_sent_stands_in_order, worked_events,
+};
 
 /// How new an instance is, whatever its age below MaxAge, is an order that the comparison of
 /// instances refines: a newer instance has no lower rank, and the same instance has the same rank

@@ -1,5 +1,0 @@
-use Rattle.conversations.proofs.TakenOff.{taken_off_as_named}
-use Rattle.conversations.proofs.acknowledgments_take_off_what_they_name.Goals as goal
-
-pub returns : goal.returns
-returns c = taken_off_as_named

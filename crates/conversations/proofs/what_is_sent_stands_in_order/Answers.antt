@@ -1,5 +1,0 @@
-use Rattle.conversations.proofs.SentInOrder.{sent_in_order}
-use Rattle.conversations.proofs.what_is_sent_stands_in_order.Goals as goal
-
-pub returns : goal.returns
-returns c = sent_in_order
