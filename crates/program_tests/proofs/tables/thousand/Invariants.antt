@@ -1,5 +1,5 @@
 use Rattle.std.proofs.Common.{◌≡◌}
-use Rattle.code_tests.proofs.tables.thousand.Given as goal
+use Rattle.program_tests.proofs.tables.thousand.Given as goal
 
 -- the seat remains one of its table
 abbrev pub invariant-loop-turn : goal.invariant-loop-turn

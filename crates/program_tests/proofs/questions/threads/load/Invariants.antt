@@ -1,6 +1,6 @@
 use Rattle.std.proofs.Common.{◌≡◌}
 use Rattle.hooks.specs.Known.{loader_history}
-use Rattle.sample_programs.proofs.questions.threads.load.Given as goal
+use Rattle.program_tests.proofs.questions.threads.load.Given as goal
 
 -- the loader's history is unchanged
 abbrev pub invariant-loop-turn : goal.invariant-loop-turn

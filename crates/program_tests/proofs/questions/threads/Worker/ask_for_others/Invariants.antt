@@ -1,6 +1,6 @@
 use Rattle.std.proofs.Common.{◌≡◌}
 use Rattle.hooks.specs.Known.{asker_history}
-use Rattle.sample_programs.proofs.questions.threads.Worker.ask_for_others.Given as goal
+use Rattle.program_tests.proofs.questions.threads.Worker.ask_for_others.Given as goal
 
 -- the asker's history and the seat's table are unchanged
 abbrev pub invariant-loop-turn : goal.invariant-loop-turn
