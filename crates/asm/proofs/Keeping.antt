@@ -24,17 +24,17 @@ use Rattle.object.specs.Statements.{StatementParts, IsStatement, IsKind, IsRank,
 use Rattle.object.specs.Statements.{IsNumberAt, IsTermOver}
 use Rattle.object.specs.Objects.{AreStatements}
 use Rattle.object.specs.Sets.{with_range}
-use Rattle.asm_words.specs.declared.numeral.Numeral.{Numeral}
-use Rattle.asm_words.specs.declared.numeral.Numeral.TheVariants as numerals
-use Rattle.asm_lines.specs.declared.line.AssemblyLine.{AssemblyLine}
-use Rattle.asm_lines.specs.declared.line.AssemblyLine.TheVariants as lines
-use Rattle.asm_lines.specs.declared.line.LabelOrNumber.{LabelOrNumber}
-use Rattle.asm_lines.specs.declared.line.Term.{Term as LineTerm}
-use Rattle.asm_lines.specs.declared.line.Terms.{Terms}
-use Rattle.asm_lines.specs.declared.line.Terms.TheVariants as terms
-use Rattle.asm_lines.specs.declared.line.Range.{Range}
-use Rattle.asm_lines.specs.declared.line.RegisterContent.{RegisterContent}
-use Rattle.asm_lines.specs.declared.line.RegisterContent.TheVariants as contents
+use Rattle.asm.specs.declared.numeral.Numeral.{Numeral}
+use Rattle.asm.specs.declared.numeral.Numeral.TheVariants as numerals
+use Rattle.asm.specs.declared.line.AssemblyLine.{AssemblyLine}
+use Rattle.asm.specs.declared.line.AssemblyLine.TheVariants as lines
+use Rattle.asm.specs.declared.line.LabelOrNumber.{LabelOrNumber}
+use Rattle.asm.specs.declared.line.Term.{Term as LineTerm}
+use Rattle.asm.specs.declared.line.Terms.{Terms}
+use Rattle.asm.specs.declared.line.Terms.TheVariants as terms
+use Rattle.asm.specs.declared.line.Range.{Range}
+use Rattle.asm.specs.declared.line.RegisterContent.{RegisterContent}
+use Rattle.asm.specs.declared.line.RegisterContent.TheVariants as contents
 use Rattle.asm.specs.declared.error.AsmFault.{AsmFault}
 use Rattle.asm.specs.declared.error.AsmFault.TheVariants as faults
 use Rattle.asm.specs.declared.labels.Place.{Place}

@@ -11,3 +11,12 @@ pub mod Keeping
 pub mod Whole
 pub mod Texts
 pub mod Unique
+pub mod Numbers
+pub mod Tokens
+pub mod Fitting
+pub mod Complete
+pub mod Seen
+pub mod Items
+pub mod Spaced
+pub mod LineWords
+pub mod AsmLinesWhole

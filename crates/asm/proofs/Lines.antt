@@ -16,14 +16,14 @@ use Rattle.object.specs.declared.rank.Rank.{Rank}
 use Rattle.object.specs.Statements.{StatementParts}
 use Rattle.object.specs.Objects.{ObjectParts}
 use Rattle.object.specs.Sets.{has_byte}
-use Rattle.asm_words.specs.declared.numeral.Numeral.{Numeral}
-use Rattle.asm_words.specs.declared.numeral.Numeral.TheVariants.{Natural}
-use Rattle.asm_lines.specs.declared.line.AssemblyLine.{AssemblyLine}
-use Rattle.asm_lines.specs.declared.line.AssemblyLine.TheVariants as lines
-use Rattle.asm_lines.specs.declared.line.LabelOrNumber.TheVariants as targets
-use Rattle.asm_lines.specs.declared.line.Terms.{Terms}
-use Rattle.asm_lines.specs.declared.line.RegisterContent.{RegisterContent}
-use Rattle.asm_lines.specs.Written.{line_text}
+use Rattle.asm.specs.declared.numeral.Numeral.{Numeral}
+use Rattle.asm.specs.declared.numeral.Numeral.TheVariants.{Natural}
+use Rattle.asm.specs.declared.line.AssemblyLine.{AssemblyLine}
+use Rattle.asm.specs.declared.line.AssemblyLine.TheVariants as lines
+use Rattle.asm.specs.declared.line.LabelOrNumber.TheVariants as targets
+use Rattle.asm.specs.declared.line.Terms.{Terms}
+use Rattle.asm.specs.declared.line.RegisterContent.{RegisterContent}
+use Rattle.asm.specs.Written.{line_text}
 use Rattle.asm.specs.Listing.{AddsText, text_of, slot_lines, instruction_line, with_line}
 use Rattle.asm.specs.Listing.{with_lines, the_content, the_terms, join_byte, longest_ranges}
 use Rattle.asm.specs.Listing.{bytes_line, state_line, statement_lines, listing_lines}

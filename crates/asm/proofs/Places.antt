@@ -7,9 +7,9 @@ use Rattle.std.specs.Str.{bytes_eq}
 use Rattle.std.proofs.lemmas.Bool.{false≢true}
 use Rattle.std.proofs.lemmas.List.{get_or_default, take_rest}
 use denote.Ref.{Bor}
-use Rattle.asm_lines.specs.declared.line.AssemblyLine.{AssemblyLine}
-use Rattle.asm_words.specs.Words.{Word}
-use Rattle.asm_lines.specs.Views.{views}
+use Rattle.asm.specs.declared.line.AssemblyLine.{AssemblyLine}
+use Rattle.asm.specs.Words.{Word}
+use Rattle.asm.specs.AsmLinesViews.{views}
 use Rattle.asm.specs.declared.error.AsmFault.TheVariants as faults
 use Rattle.asm.specs.declared.labels.Place.{Place}
 use Rattle.asm.specs.declared.error.AsmFault.{AsmFault}

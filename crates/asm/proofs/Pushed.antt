@@ -5,12 +5,12 @@ use Rattle.std.specs.Prelude.{Result, Ok}
 use Rattle.std.proofs.lemmas.Bool.{cond-true}
 use Rattle.std.proofs.lemmas.List.{map-append, length_push}
 use Rattle.isa.specs.declared.hook.Hook.{Hook}
-use Rattle.asm_words.specs.declared.numeral.Numeral.{Numeral}
-use Rattle.asm_words.specs.declared.numeral.Numeral.TheVariants as numerals
-use Rattle.asm_lines.specs.declared.line.AssemblyLine.{AssemblyLine}
-use Rattle.asm_lines.specs.declared.line.AssemblyLine.TheVariants as lines
-use Rattle.asm_words.specs.Words.{Word}
-use Rattle.asm_lines.specs.Written.{AreLines}
+use Rattle.asm.specs.declared.numeral.Numeral.{Numeral}
+use Rattle.asm.specs.declared.numeral.Numeral.TheVariants as numerals
+use Rattle.asm.specs.declared.line.AssemblyLine.{AssemblyLine}
+use Rattle.asm.specs.declared.line.AssemblyLine.TheVariants as lines
+use Rattle.asm.specs.Words.{Word}
+use Rattle.asm.specs.Written.{AreLines}
 use Rattle.asm.specs.declared.error.AsmFault.{AsmFault}
 use Rattle.asm.specs.declared.labels.Place.{Place}
 use Rattle.asm.specs.Numbers.{natural_in}

@@ -10,8 +10,8 @@ use Rattle.object.specs.declared.kind.StatedKind.{StatedKind}
 use Rattle.object.specs.declared.rank.Rank.{Rank}
 use Rattle.object.specs.Statements.{StatementParts}
 use Rattle.object.specs.Sets.{has_byte, with_range}
-use Rattle.asm_words.specs.declared.numeral.Numeral.TheVariants as numerals
-use Rattle.asm_lines.specs.declared.line.AssemblyLine.TheVariants as lines
+use Rattle.asm.specs.declared.numeral.Numeral.TheVariants as numerals
+use Rattle.asm.specs.declared.line.AssemblyLine.TheVariants as lines
 use Rattle.asm.specs.Instructions.{◌>>=◌, or_range_fault}
 use Rattle.asm.specs.Rules.{◌and_then◌, bytes_of, range_in}
 use Rattle.asm.specs.Numbers.{natural_in}

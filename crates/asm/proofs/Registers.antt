@@ -13,10 +13,10 @@ use Rattle.object.specs.declared.rank.Rank.{Rank}
 use Rattle.object.specs.Numbers.{Term}
 use Rattle.object.specs.Statements.{StatementParts, IsTermOver}
 use Rattle.object.specs.Sets.{no_bytes}
-use Rattle.asm_lines.specs.declared.line.AssemblyLine.{AssemblyLine}
-use Rattle.asm_lines.specs.declared.line.AssemblyLine.TheVariants as lines
-use Rattle.asm_lines.specs.declared.line.RegisterContent.{RegisterContent}
-use Rattle.asm_lines.specs.declared.line.RegisterContent.TheVariants as contents
+use Rattle.asm.specs.declared.line.AssemblyLine.{AssemblyLine}
+use Rattle.asm.specs.declared.line.AssemblyLine.TheVariants as lines
+use Rattle.asm.specs.declared.line.RegisterContent.{RegisterContent}
+use Rattle.asm.specs.declared.line.RegisterContent.TheVariants as contents
 use Rattle.asm.specs.declared.error.AsmFault.{AsmFault}
 use Rattle.asm.specs.declared.error.AsmFault.TheVariants as faults
 use Rattle.asm.specs.declared.labels.Place.{Place}

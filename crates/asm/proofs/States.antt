@@ -11,12 +11,12 @@ use Rattle.object.specs.declared.kind.StatedKind.{StatedKind}
 use Rattle.object.specs.declared.rank.Rank.{Rank}
 use Rattle.object.specs.Statements.{StatementParts, IsStatement}
 use Rattle.object.specs.Objects.{AreStatements}
-use Rattle.asm_words.specs.declared.numeral.Numeral.{Numeral}
-use Rattle.asm_words.specs.declared.numeral.Numeral.TheVariants as numerals
-use Rattle.asm_lines.specs.declared.line.AssemblyLine.{AssemblyLine}
-use Rattle.asm_lines.specs.declared.line.AssemblyLine.TheVariants as lines
-use Rattle.asm_lines.specs.declared.line.LabelOrNumber.TheVariants as targets
-use Rattle.asm_lines.specs.declared.line.Terms.{Terms}
+use Rattle.asm.specs.declared.numeral.Numeral.{Numeral}
+use Rattle.asm.specs.declared.numeral.Numeral.TheVariants as numerals
+use Rattle.asm.specs.declared.line.AssemblyLine.{AssemblyLine}
+use Rattle.asm.specs.declared.line.AssemblyLine.TheVariants as lines
+use Rattle.asm.specs.declared.line.LabelOrNumber.TheVariants as targets
+use Rattle.asm.specs.declared.line.Terms.{Terms}
 use Rattle.asm.specs.declared.error.AsmFault.{AsmFault}
 use Rattle.asm.specs.declared.error.AsmFault.TheVariants as faults
 use Rattle.asm.specs.declared.labels.Place.{Place}

@@ -5,7 +5,7 @@ use Rattle.std.specs.Prelude.{if◌then◌else◌}
 use Rattle.std.specs.Cmp.Lexicographic.{bytes_decides}
 use Rattle.std.specs.Str.{bytes_eq}
 use Rattle.std.proofs.lemmas.Bool.{false≢true}
-use Rattle.asm_words.specs.Words.{Word}
+use Rattle.asm.specs.Words.{Word}
 use Rattle.asm.specs.declared.labels.Place.{Place}
 use Rattle.asm.specs.Labels.{◌or_else◌}
 

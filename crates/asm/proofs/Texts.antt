@@ -12,12 +12,12 @@ use Rattle.isa.specs.Code.{slots_of}
 use Rattle.isa.specs.Spelling.{Spells, bytes_of, bytes_of_fields, fields_of, second_half}
 use Rattle.object.specs.Statements.{StatementParts}
 use Rattle.object.specs.Objects.{ObjectParts, IsObject, AreStatements}
-use Rattle.asm_lines.specs.declared.line.AssemblyLine.{AssemblyLine}
-use Rattle.asm_lines.specs.declared.line.AssemblyLine.TheVariants as lines
-use Rattle.asm_words.specs.Words.{Word}
-use Rattle.asm_lines.specs.Text.{words_in, Reads, Readings}
-use Rattle.asm_lines.specs.Views.{views, items}
-use Rattle.asm_lines.specs.Written.{some_reading}
+use Rattle.asm.specs.declared.line.AssemblyLine.{AssemblyLine}
+use Rattle.asm.specs.declared.line.AssemblyLine.TheVariants as lines
+use Rattle.asm.specs.Words.{Word}
+use Rattle.asm.specs.Text.{words_in, Reads, Readings}
+use Rattle.asm.specs.AsmLinesViews.{views, items}
+use Rattle.asm.specs.Written.{some_reading}
 use Rattle.asm.specs.Assembling.{take_lines, place_from, nothing, TextSpells}
 use Rattle.asm.specs.Listed.{ListedAll, sketch_of, without_label, no_name, some_line}
 

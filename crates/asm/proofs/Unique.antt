@@ -9,11 +9,11 @@ use Rattle.isa.specs.declared.code.Slot.{Slot}
 use Rattle.isa.specs.Spelling as spelling
 use Rattle.object.specs.Statements.{StatementParts}
 use Rattle.object.specs.Objects.{ObjectParts}
-use Rattle.asm_lines.specs.declared.line.AssemblyLine.{AssemblyLine}
-use Rattle.asm_lines.specs.Forms.{Spells}
-use Rattle.asm_words.specs.Words.{Word}
-use Rattle.asm_lines.specs.Text.{lines_in, words_in, Reads, Readings}
-use Rattle.asm_lines.specs.Views.{views, items}
+use Rattle.asm.specs.declared.line.AssemblyLine.{AssemblyLine}
+use Rattle.asm.specs.Forms.{Spells}
+use Rattle.asm.specs.Words.{Word}
+use Rattle.asm.specs.Text.{lines_in, words_in, Reads, Readings}
+use Rattle.asm.specs.AsmLinesViews.{views, items}
 use Rattle.asm.specs.declared.error.AsmFault.{AsmFault}
 use Rattle.asm.specs.declared.labels.Place.{Place}
 use Rattle.asm.specs.Assembling.{Sketch, Verdict, take_lines, taken_all, blame_line, line_step}

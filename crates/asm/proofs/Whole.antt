@@ -9,7 +9,7 @@ use Rattle.isa.specs.Spelling as spelling
 use Rattle.isa.proofs.Fronts.{spells_long}
 use Rattle.object.specs.Statements.{StatementParts}
 use Rattle.object.specs.Objects.{ObjectParts, IsObject, AreStatements, slots_of}
-use Rattle.asm_lines.specs.declared.line.AssemblyLine.{AssemblyLine}
+use Rattle.asm.specs.declared.line.AssemblyLine.{AssemblyLine}
 use Rattle.asm.specs.declared.error.AsmFault.TheVariants as faults
 use Rattle.asm.specs.declared.statements.OpenStatement.{OpenStatement}
 use Rattle.asm.specs.Views.{parts_of}

@@ -13,15 +13,15 @@ use Rattle.object.specs.declared.rank.Rank.{Rank}
 use Rattle.object.specs.Statements.{StatementParts}
 use Rattle.object.specs.Objects.{ObjectParts, IsObject, AreStatements}
 use Rattle.object.specs.Sets.{no_bytes, with_range}
-use Rattle.asm_words.specs.declared.numeral.Numeral.{Numeral}
-use Rattle.asm_lines.specs.declared.line.AssemblyLine.{AssemblyLine}
-use Rattle.asm_lines.specs.declared.line.AssemblyLine.TheVariants as lines
-use Rattle.asm_lines.specs.declared.line.LabelOrNumber.{LabelOrNumber}
-use Rattle.asm_lines.specs.declared.line.Terms.{Terms}
-use Rattle.asm_lines.specs.declared.line.RegisterContent.{RegisterContent}
-use Rattle.asm_words.specs.Words.{Word}
-use Rattle.asm_lines.specs.Text.{lines_in, Readings}
-use Rattle.asm_lines.specs.Views.{views, items}
+use Rattle.asm.specs.declared.numeral.Numeral.{Numeral}
+use Rattle.asm.specs.declared.line.AssemblyLine.{AssemblyLine}
+use Rattle.asm.specs.declared.line.AssemblyLine.TheVariants as lines
+use Rattle.asm.specs.declared.line.LabelOrNumber.{LabelOrNumber}
+use Rattle.asm.specs.declared.line.Terms.{Terms}
+use Rattle.asm.specs.declared.line.RegisterContent.{RegisterContent}
+use Rattle.asm.specs.Words.{Word}
+use Rattle.asm.specs.Text.{lines_in, Readings}
+use Rattle.asm.specs.AsmLinesViews.{views, items}
 use denote.Ref.{Bor}
 use Rattle.asm.specs.declared.error.AsmFault.{AsmFault}
 use Rattle.asm.specs.declared.error.AsmFault.TheVariants as faults

@@ -7,14 +7,14 @@ use Rattle.isa.specs.declared.instruction.Instruction.{Instruction}
 use Rattle.isa.specs.declared.instruction.Instruction.TheVariants as instructions
 use Rattle.isa.specs.declared.instruction.Source.{Source}
 use Rattle.isa.specs.declared.instruction.Source.TheVariants as sources
-use Rattle.asm_words.specs.declared.numeral.Numeral.{Numeral}
-use Rattle.asm_words.specs.declared.numeral.Numeral.TheVariants as numerals
-use Rattle.asm_lines.specs.declared.line.AssemblyLine.{AssemblyLine}
-use Rattle.asm_lines.specs.declared.line.AssemblyLine.TheVariants as lines
-use Rattle.asm_lines.specs.declared.line.Operand.{Operand}
-use Rattle.asm_lines.specs.declared.line.Operand.TheVariants as operands
-use Rattle.asm_lines.specs.declared.line.LabelOrNumber.{LabelOrNumber}
-use Rattle.asm_lines.specs.declared.line.LabelOrNumber.TheVariants as targets
+use Rattle.asm.specs.declared.numeral.Numeral.{Numeral}
+use Rattle.asm.specs.declared.numeral.Numeral.TheVariants as numerals
+use Rattle.asm.specs.declared.line.AssemblyLine.{AssemblyLine}
+use Rattle.asm.specs.declared.line.AssemblyLine.TheVariants as lines
+use Rattle.asm.specs.declared.line.Operand.{Operand}
+use Rattle.asm.specs.declared.line.Operand.TheVariants as operands
+use Rattle.asm.specs.declared.line.LabelOrNumber.{LabelOrNumber}
+use Rattle.asm.specs.declared.line.LabelOrNumber.TheVariants as targets
 use Rattle.asm.specs.declared.error.AsmFault.{AsmFault}
 use Rattle.asm.specs.declared.error.AsmFault.TheVariants as faults
 use Rattle.asm.specs.Numbers.{signed_in, natural_in}

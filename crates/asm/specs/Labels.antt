@@ -3,7 +3,7 @@ use Rattle.std.specs.Prelude.{Option, Some, None}
 use Rattle.std.specs.Str.{bytes_eq}
 use Rattle.indexmap.specs.IndexMap.{IndexMap, get_by}
 use denote.Ref.{Bor}
-use Rattle.asm_words.specs.Words.{Word}
+use Rattle.asm.specs.Words.{Word}
 use Rattle.asm.specs.declared.labels.Place.{Place}
 
 -- where the label with this name is, by the table

@@ -9,7 +9,7 @@ use Rattle.object.specs.Numbers.{Term}
 use Rattle.object.specs.Statements.{StatementParts, IsKind, IsRank, IsNumberAt}
 use Rattle.object.specs.Objects.{AreStatements}
 use Rattle.object.specs.Sets.{IsStackBytes}
-use Rattle.asm_lines.specs.declared.line.AssemblyLine.{AssemblyLine}
+use Rattle.asm.specs.declared.line.AssemblyLine.{AssemblyLine}
 use Rattle.asm.specs.Rules.{is_stated_number}
 use Rattle.asm.specs.Assembling.{Sketch}
 

@@ -10,11 +10,11 @@ use Rattle.object.specs.Numbers.{Term}
 use Rattle.object.specs.Statements.{StatementParts, IsNumberAt}
 use Rattle.object.specs.Objects.{AreStatements}
 use Rattle.object.specs.Sets.{no_bytes}
-use Rattle.asm_lines.specs.declared.line.AssemblyLine.{AssemblyLine}
-use Rattle.asm_lines.specs.declared.line.RegisterContent.{RegisterContent}
-use Rattle.asm_lines.specs.declared.line.RegisterContent.TheVariants as contents
-use Rattle.asm_words.specs.Words.{Word}
-use Rattle.asm_lines.specs.Written.{AreLines}
+use Rattle.asm.specs.declared.line.AssemblyLine.{AssemblyLine}
+use Rattle.asm.specs.declared.line.RegisterContent.{RegisterContent}
+use Rattle.asm.specs.declared.line.RegisterContent.TheVariants as contents
+use Rattle.asm.specs.Words.{Word}
+use Rattle.asm.specs.Written.{AreLines}
 use Rattle.asm.specs.declared.labels.Place.{Place}
 use Rattle.asm.specs.Assembling.{Sketch, nothing, take_lines, all_of, bare, order_fault}
 use Rattle.asm.specs.Rules.{is_stated_number}

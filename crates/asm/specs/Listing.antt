@@ -17,20 +17,20 @@ use Rattle.object.specs.Numbers.{Numbers}
 use Rattle.object.specs.Numbers as object_numbers
 use Rattle.object.specs.Statements.{StatementParts}
 use Rattle.object.specs.Objects.{ObjectParts}
-use Rattle.asm_words.specs.declared.numeral.Numeral.TheVariants.{Natural}
-use Rattle.asm_lines.specs.declared.line.AssemblyLine.{AssemblyLine}
-use Rattle.asm_lines.specs.declared.line.AssemblyLine.TheVariants as lines
-use Rattle.asm_lines.specs.declared.line.Operand.{Operand}
-use Rattle.asm_lines.specs.declared.line.Operand.TheVariants as operands
-use Rattle.asm_lines.specs.declared.line.LabelOrNumber.TheVariants as targets
-use Rattle.asm_lines.specs.declared.line.Term.{Term}
-use Rattle.asm_lines.specs.declared.line.Terms.{Terms}
-use Rattle.asm_lines.specs.declared.line.Terms.TheVariants as terms
-use Rattle.asm_lines.specs.declared.line.Range.{Range}
-use Rattle.asm_lines.specs.declared.line.RegisterContent.{RegisterContent}
-use Rattle.asm_lines.specs.declared.line.RegisterContent.TheVariants as contents
-use Rattle.asm_words.specs.Numbers.{numeral_of}
-use Rattle.asm_lines.specs.Written.{line_text}
+use Rattle.asm.specs.declared.numeral.Numeral.TheVariants.{Natural}
+use Rattle.asm.specs.declared.line.AssemblyLine.{AssemblyLine}
+use Rattle.asm.specs.declared.line.AssemblyLine.TheVariants as lines
+use Rattle.asm.specs.declared.line.Operand.{Operand}
+use Rattle.asm.specs.declared.line.Operand.TheVariants as operands
+use Rattle.asm.specs.declared.line.LabelOrNumber.TheVariants as targets
+use Rattle.asm.specs.declared.line.Term.{Term}
+use Rattle.asm.specs.declared.line.Terms.{Terms}
+use Rattle.asm.specs.declared.line.Terms.TheVariants as terms
+use Rattle.asm.specs.declared.line.Range.{Range}
+use Rattle.asm.specs.declared.line.RegisterContent.{RegisterContent}
+use Rattle.asm.specs.declared.line.RegisterContent.TheVariants as contents
+use Rattle.asm.specs.AsmWordsNumbers.{numeral_of}
+use Rattle.asm.specs.Written.{line_text}
 
 -- ---- an instruction: a distance in place of a label
 

@@ -1,7 +1,7 @@
 -- The numbers of a text in the fields that hold them.
 use Rattle.std.specs.Prelude.{ℕ, ℤ, pos, negsuc, Option, Some, None, if◌then◌else◌, nat_lt}
-use Rattle.asm_words.specs.declared.numeral.Numeral.{Numeral}
-use Rattle.asm_words.specs.declared.numeral.Numeral.TheVariants.{Natural, Negative, Huge}
+use Rattle.asm.specs.declared.numeral.Numeral.{Numeral}
+use Rattle.asm.specs.declared.numeral.Numeral.TheVariants.{Natural, Negative, Huge}
 
 -- in a signed field, which holds the numbers from -`half` to `half` - 1
 abbrev pub signed_in : ℕ → Numeral → Option ℤ

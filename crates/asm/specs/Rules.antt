@@ -7,17 +7,17 @@ use Rattle.object.specs.declared.kind.StatedKind.{StatedKind}
 use Rattle.object.specs.declared.kind.StatedKind.TheVariants as kinds
 use Rattle.object.specs.declared.rank.Rank.{Rank}
 use Rattle.object.specs.Numbers as object_numbers
-use Rattle.asm_words.specs.declared.numeral.Numeral.{Numeral}
-use Rattle.asm_lines.specs.declared.line.AssemblyLine.{AssemblyLine}
-use Rattle.asm_lines.specs.declared.line.AssemblyLine.TheVariants as lines
-use Rattle.asm_lines.specs.declared.line.LabelOrNumber.{LabelOrNumber}
-use Rattle.asm_lines.specs.declared.line.LabelOrNumber.TheVariants as targets
-use Rattle.asm_lines.specs.declared.line.Term.{Term}
-use Rattle.asm_lines.specs.declared.line.Terms.{Terms}
-use Rattle.asm_lines.specs.declared.line.Terms.TheVariants as terms
-use Rattle.asm_lines.specs.declared.line.Range.{Range}
-use Rattle.asm_lines.specs.declared.line.RegisterContent.{RegisterContent}
-use Rattle.asm_lines.specs.declared.line.RegisterContent.TheVariants as contents
+use Rattle.asm.specs.declared.numeral.Numeral.{Numeral}
+use Rattle.asm.specs.declared.line.AssemblyLine.{AssemblyLine}
+use Rattle.asm.specs.declared.line.AssemblyLine.TheVariants as lines
+use Rattle.asm.specs.declared.line.LabelOrNumber.{LabelOrNumber}
+use Rattle.asm.specs.declared.line.LabelOrNumber.TheVariants as targets
+use Rattle.asm.specs.declared.line.Term.{Term}
+use Rattle.asm.specs.declared.line.Terms.{Terms}
+use Rattle.asm.specs.declared.line.Terms.TheVariants as terms
+use Rattle.asm.specs.declared.line.Range.{Range}
+use Rattle.asm.specs.declared.line.RegisterContent.{RegisterContent}
+use Rattle.asm.specs.declared.line.RegisterContent.TheVariants as contents
 use Rattle.asm.specs.declared.error.AsmFault.{AsmFault}
 use Rattle.asm.specs.declared.error.AsmFault.TheVariants as faults
 use Rattle.asm.specs.Numbers.{natural_in}

@@ -1,7 +1,7 @@
 -- Which lines a part of the assembler takes.
 use Rattle.std.specs.Prelude.{Bool, true, false}
-use Rattle.asm_lines.specs.declared.line.AssemblyLine.{AssemblyLine}
-use Rattle.asm_lines.specs.declared.line.AssemblyLine.TheVariants as lines
+use Rattle.asm.specs.declared.line.AssemblyLine.{AssemblyLine}
+use Rattle.asm.specs.declared.line.AssemblyLine.TheVariants as lines
 
 -- a jump, a call or an exit
 abbrev pub is_jump : AssemblyLine → Bool

@@ -1,7 +1,7 @@
 //! From a text to the object that it spells.
 ghost use Rattle.std.specs.Prelude.{◌≡◌, ◌⊎◌, ℕ, Option, Some, None, Ok, Err, List, [], IfSome};
 ghost use Rattle.std.specs.Prelude.{IfErr, MatchResult, length, map, option_map};
-ghost use Rattle.asm_words.specs.Words.{Word};
+ghost use Rattle.asm.specs.Words.{Word};
 ghost use Rattle.asm.specs.Assembling.{hook_step, rank_step, instruction_step, state_step};
 ghost use Rattle.asm.specs.Assembling.{with_line_step, bytes_line_step, body_step, line_step};
 ghost use Rattle.asm.specs.Assembling.{has_slot, order_fault, slot_at};
@@ -15,10 +15,11 @@ ghost use Rattle.asm.specs.declared.error.AsmFault.{AsmFault};
 use crate::error::{AsmError, AsmFault};
 use crate::instructions::push_instruction;
 use crate::labels::{Place, place_of, places_of};
+use crate::line::{AssemblyLine, LabelOrNumber, RegisterContent, Terms};
 use crate::numbers::natural_32;
+use crate::numeral::Numeral;
+use crate::reading::read_lines;
 use crate::statements::{OpenStatement, push_open, rank_of, slot_of, statements_of};
-use asm_lines::{AssemblyLine, LabelOrNumber, RegisterContent, Terms, read_lines};
-use asm_words::Numeral;
 use isa::laws::code_has_one_spelling;
 use isa::{CodeBuilder, Hook, Register, encode};
 use object::Object;

@@ -3,16 +3,16 @@ ghost use Rattle.std.specs.Prelude.{◌≡◌, ◌⊎◌, ℕ, Option, true, fal
 ghost use Rattle.std.specs.Prelude.{OnErr};
 ghost use Rattle.asm.specs.Instructions.{or_range_fault, source_of, distance_to, distance_of};
 ghost use Rattle.asm.specs.Instructions.{instruction_of, code_step};
-ghost use Rattle.asm_lines.specs.Forms.{names_label};
+ghost use Rattle.asm.specs.Forms.{names_label};
 ghost use Rattle.asm.specs.declared.error.AsmFault.{AsmFault};
 ghost use Rattle.asm.specs.Shapes.{is_jump, is_register, is_access};
 ghost use Rattle.asm.specs.Assembling.{Takes};
 ghost use Rattle.asm.specs.Listing.{the_operand, instruction_line};
 
 use crate::error::AsmFault;
+use crate::line::{AssemblyLine, LabelOrNumber, Operand};
 use crate::numbers::{natural_64, signed_16, signed_32};
-use asm_lines::{AssemblyLine, LabelOrNumber, Operand};
-use asm_words::Numeral;
+use crate::numeral::Numeral;
 use isa::{BuildError, CodeBuilder, Instruction, Source};
 
 /// A number that fits its field, or `Range`.

@@ -1,12 +1,12 @@
 //! What the labels of a text name.
 ghost use Rattle.std.specs.Prelude.{◌≡◌, ◌≤◌, Some, None, length, IfOk, OnOk, if◌then◌else◌};
 ghost use Rattle.std.specs.Str.{bytes_eq};
-ghost use Rattle.asm_words.specs.Words.{Word};
-ghost use Rattle.asm_lines.specs.Views.{views};
+ghost use Rattle.asm.specs.Words.{Word};
+ghost use Rattle.asm.specs.AsmLinesViews.{views};
 ghost use Rattle.asm.specs.Assembling.{gives_label, slots_in, place_from};
 ghost use Rattle.asm.specs.Labels.{place_in, ◌or_else◌};
 
-use asm_lines::AssemblyLine;
+use crate::line::AssemblyLine;
 use indexmap::IndexMap;
 use std::alloc::{AllocError, Global};
 

@@ -5,7 +5,7 @@ ghost use Rattle.object.specs.Objects.{ObjectParts};
 ghost use Rattle.asm.specs.Assembling.{TextSpells, Refuses};
 ghost use Rattle.asm.specs.declared.error.AsmFault.{AsmFault};
 
-use asm_lines::one_reading;
+use crate::reading::one_reading;
 use isa::laws::code_has_one_spelling;
 
 /// A text spells at most one object.

@@ -2,7 +2,7 @@
 ghost use Rattle.std.specs.Prelude.{◌≡◌, ◌^◌, negsuc};
 ghost use Rattle.asm.specs.Numbers.{signed_in, natural_in};
 
-use asm_words::Numeral;
+use crate::numeral::Numeral;
 
 /// The signed number `-1 - less`.
 fn below_zero(less: u32) -> i64

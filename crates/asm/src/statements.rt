@@ -7,9 +7,9 @@ ghost use Rattle.asm.specs.Rules.{is_stated_number, term_of, rank_of, slot_of, n
 ghost use Rattle.asm.specs.Rules.{kind_of, bytes_of};
 
 use crate::error::AsmFault;
+use crate::line::{AssemblyLine, LabelOrNumber, Range, RegisterContent, Term, Terms};
 use crate::numbers::{natural_32, natural_64};
-use asm_lines::{AssemblyLine, LabelOrNumber, Range, RegisterContent, Term, Terms};
-use asm_words::Numeral;
+use crate::numeral::Numeral;
 use isa::{Map, Register};
 use object::{
     ContextOffset, Rank, RankTerm, StackBytes, StackOffset, StatedKind, StatedNumber, Statement,

@@ -7,10 +7,10 @@ ghost use Rattle.isa.specs.declared.code.Slot.{Slot};
 ghost use Rattle.isa.specs.Spelling.{Spells};
 ghost use Rattle.object.specs.declared.kind.StatedKind.{StatedKind};
 ghost use Rattle.object.specs.Sets.{has_byte};
-ghost use Rattle.asm_lines.specs.declared.line.AssemblyLine.{AssemblyLine};
-ghost use Rattle.asm_words.specs.declared.numeral.Numeral.{Numeral};
-ghost use Rattle.asm_lines.specs.Forms.{names_label};
-ghost use Rattle.asm_lines.specs.Written.{line_text};
+ghost use Rattle.asm.specs.declared.line.AssemblyLine.{AssemblyLine};
+ghost use Rattle.asm.specs.declared.numeral.Numeral.{Numeral};
+ghost use Rattle.asm.specs.Forms.{names_label};
+ghost use Rattle.asm.specs.Written.{line_text};
 ghost use Rattle.asm.specs.Rules.{term_of, rank_of, numbers_of, kind_of};
 ghost use Rattle.asm.specs.Assembling.{TextSpells};
 ghost use Rattle.asm.specs.Faults.{as_list_error};
@@ -22,10 +22,11 @@ ghost use Rattle.asm.specs.Listing.{the_range, the_content, with_lines, longest_
 ghost use Rattle.asm.specs.Listing.{statement_lines, listing_lines, text_of};
 ghost use Rattle.asm.specs.declared.error.ListError.{ListError};
 
+use crate::asm_lines_writing::write_line;
 use crate::error::ListError;
 use crate::instructions::line_of;
-use asm_lines::{AssemblyLine, LabelOrNumber, Range, RegisterContent, Term, Terms, write_line};
-use asm_words::Numeral;
+use crate::line::{AssemblyLine, LabelOrNumber, Range, RegisterContent, Term, Terms};
+use crate::numeral::Numeral;
 use isa::{Code, DecodeFault, Hook, Register, Slot, decode};
 use object::{Object, Rank, RankTerm, StackBytes, StatedKind, StatedNumber, Statement};
 use std::alloc::{AllocError, Global};

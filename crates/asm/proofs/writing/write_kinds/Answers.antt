@@ -1,8 +1,8 @@
 use Rattle.std.proofs.Common.{◌≡◌, ◌∙◌, ℕ, ◌+◌, ◌<◌, ◌++◌, [], length, drop, subst, sym, ap}
 use Rattle.std.proofs.Common.{get_or, string_bytes, arith}
 use Rattle.object.specs.declared.kind.StatedKind.{StatedKind}
-use Rattle.asm_lines.specs.declared.line.AssemblyLine.TheVariants as lines
-use Rattle.asm_lines.specs.Written.{line_text}
+use Rattle.asm.specs.declared.line.AssemblyLine.TheVariants as lines
+use Rattle.asm.specs.Written.{line_text}
 use Rattle.asm.specs.Listed.{Listed, AddsLine, AreStated, gives_number}
 use Rattle.asm.specs.Listing.{text_of, with_lines}
 use Rattle.asm.proofs.Registers.{kinds_end, kind_line, empty_step, stating, kinds_up_to}

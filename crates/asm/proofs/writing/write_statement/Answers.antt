@@ -1,5 +1,5 @@
 use Rattle.std.proofs.Common.{ℕ, string_bytes, ap, ◌∙◌}
-use Rattle.asm_words.specs.declared.numeral.Numeral.TheVariants as numerals
+use Rattle.asm.specs.declared.numeral.Numeral.TheVariants as numerals
 use Rattle.asm.proofs.States.{statement_listed}
 use Rattle.asm.proofs.Lines.{statement_written}
 use Rattle.asm.proofs.writing.write_statement.Goals as goal

@@ -1,0 +1,9 @@
+use Rattle.std.proofs.Common.{◌≡◌}
+use Rattle.std.specs.Prelude.{filter}
+use Rattle.asm.specs.AsmLinesViews.{views}
+use Rattle.asm.specs.Text.{has_bytes}
+use Rattle.asm.proofs.reading.words_of.Given as goal
+
+-- the words so far are the nonempty pieces so far
+abbrev pub invariant-loop-word : goal.invariant-loop-word
+invariant-loop-word l = views l.words.items ≡ filter has_bytes (views l.yielded)

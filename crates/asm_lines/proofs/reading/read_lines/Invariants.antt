@@ -1,9 +1,0 @@
-use Rattle.std.proofs.Common.{◌≡◌, length}
-use Rattle.asm_lines.specs.Views.{views, items}
-use Rattle.asm_lines.specs.Text.{Readings}
-use Rattle.asm_lines.proofs.reading.read_lines.Given as goal
-
--- the items so far are what the lines so far spell
-abbrev pub invariant-loop-line : goal.invariant-loop-line
-invariant-loop-line l = (length l.lines.items ≡ length l.names.items)
-    × Readings (views l.yielded) (items l.lines.items l.names.items)

@@ -1,6 +1,0 @@
-pub mod Forms
-pub mod Reading
-pub mod Views
-pub mod Text
-pub mod Written
-pub mod LineWords
