@@ -1,8 +1,8 @@
 -- What words stand for.
 use Rattle.std.specs.Prelude.{◌≡◌, ◌≤◌, ℕ, Option, Some, None, codes, decimal}
 use Rattle.clap.specs.Walk.{Text}
-use Rattle.simulated_histories.specs.declared.plan.Scenario.{Scenario}
-use Rattle.simulated_histories.specs.declared.plan.Scenario.TheVariants as scenarios
+use Rattle.simulated_networks.specs.declared.plan.Scenario.{Scenario}
+use Rattle.simulated_networks.specs.declared.plan.Scenario.TheVariants as scenarios
 use Rattle.simulated_networks.specs.declared.topology.TopologyShape.{TopologyShape}
 use Rattle.simulated_networks.specs.declared.topology.TopologyShape.TheVariants as kinds
 

@@ -2,7 +2,7 @@
 use crate::names::{scenario_word, topology_word};
 use crate::numbers::{numbers_of_counts, numbers_of_faults};
 use crate::page::Page;
-use simulated_histories::{Look, Outcome, Phase, ScenarioPlan};
+use simulated_networks::{Look, Outcome, Phase, ScenarioPlan};
 use std::io::Write;
 
 const PLAN: &str = concat!(

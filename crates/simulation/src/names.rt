@@ -1,11 +1,10 @@
 //! The words of topologies and scenarios.
 ghost use Rattle.std.specs.Prelude.{◌≡◌, IfSome, Some};
 ghost use Rattle.simulated_networks.specs.declared.topology.TopologyShape.{TopologyShape};
-ghost use Rattle.simulated_histories.specs.declared.plan.Scenario.{Scenario};
+ghost use Rattle.simulated_networks.specs.declared.plan.Scenario.{Scenario};
 ghost use Rattle.simulation.specs.Words.{scenario_word, topology_word};
 
-use simulated_histories::Scenario;
-use simulated_networks::TopologyShape;
+use simulated_networks::{Scenario, TopologyShape};
 
 /// The word of a topology.
 pub fn topology_word(kind: TopologyShape) -> &'static str

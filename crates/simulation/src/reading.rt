@@ -1,15 +1,14 @@
 //! Words that stand for values.
 ghost use Rattle.std.specs.Prelude.{◌≡◌, ◌≤◌, IfOk, codes};
 ghost use Rattle.clap.specs.Matches.{found_of, first_value};
-ghost use Rattle.simulated_histories.specs.declared.plan.Scenario.{Scenario};
+ghost use Rattle.simulated_networks.specs.declared.plan.Scenario.{Scenario};
 ghost use Rattle.simulated_networks.specs.declared.topology.TopologyShape.{TopologyShape};
 ghost use Rattle.simulation.specs.Words.{IsNumber, OrElse, scenario_word, topology_word};
 
 use crate::names::{scenario_of, topology_of};
 use address_texts::read_within;
 use clap::ArgMatches;
-use simulated_histories::Scenario;
-use simulated_networks::{Faults, InterfaceTimes, TopologyShape};
+use simulated_networks::{Faults, InterfaceTimes, Scenario, TopologyShape};
 
 /// What is wrong with the words.
 #[derive(Clone, Copy)]

@@ -2,8 +2,7 @@
 use crate::arguments::{told, whole};
 use crate::reading::{Reader, Wrong};
 use clap::{ArgMatches, Error};
-use simulated_histories::{ScenarioPlan, Search, Sought};
-use simulated_networks::TopologyShape;
+use simulated_networks::{ScenarioPlan, Search, Sought, TopologyShape};
 use std::alloc::Global;
 
 /// A search for histories of `seeds` seeds from `seed` on, and the network that is searched.

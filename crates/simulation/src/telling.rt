@@ -2,7 +2,7 @@
 use crate::names::scenario_word;
 use crate::numbers::{numbers_of_counts, numbers_of_faults};
 use crate::page::Page;
-use simulated_histories::{HistoryStep, Look, Outcome, Phase, Scenario, ScenarioPlan};
+use simulated_networks::{HistoryStep, Look, Outcome, Phase, Scenario, ScenarioPlan};
 use std::io::Write;
 
 const PHASE: &str = "\

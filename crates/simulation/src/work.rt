@@ -8,8 +8,10 @@ use crate::page::Page;
 use crate::requests::{SearchRequest, SimulationRequest, parse};
 use crate::telling::{tell_history, tell_run};
 use flood::Event;
-use simulated_histories::{HistorySetting, Outcome, ScenarioPlan, Search, play_scenario};
-use simulated_networks::{NetworkError, Random, Topology, announcements};
+use simulated_networks::{
+    HistorySetting, NetworkError, Outcome, Random, ScenarioPlan, Search, Topology, announcements,
+    play_scenario,
+};
 use std::alloc::{AllocError, Global};
 use std::io::Write;
 use std::sync::Wait;

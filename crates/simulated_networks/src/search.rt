@@ -4,9 +4,12 @@ ghost use Rattle.std.specs.Prelude.{◌≡◌, ◌+◌, ◌<◌, ◌≤◌, ◌+
 ghost use Rattle.std.specs.Prelude.{length, slice_set, take, vec_len};
 
 use crate::acts::{HistoryStep, chosen};
+use crate::fault::NetworkError;
 use crate::play::Play;
+use crate::random::{Faults, Random};
+use crate::router::InterfaceTimes;
+use crate::topology::Topology;
 use flood::Event;
-use simulated_networks::{Faults, InterfaceTimes, NetworkError, Random, Topology};
 use std::alloc::{AllocError, Global};
 
 /// What a history is to end with, after calm seconds.

@@ -1,9 +1,13 @@
 //! A network from its start over a change to rest.
+use crate::counts::Counts;
 use crate::director::{Director, ScenarioStep};
+use crate::fault::NetworkError;
+use crate::network::Network;
 use crate::phase::{Look, Phase};
 use crate::plan::{Scenario, ScenarioPlan};
+use crate::random::{Faults, Random};
+use crate::topology::Topology;
 use flood::Event;
-use simulated_networks::{Counts, Faults, Network, NetworkError, Random, Topology};
 use std::alloc::Global;
 
 /// What came of a plan.

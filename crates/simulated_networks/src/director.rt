@@ -1,6 +1,9 @@
 //! What is done with a network, second by second, in each scenario.
+use crate::destinations::prefix;
 use crate::plan::{Scenario, ScenarioPlan};
-use simulated_networks::{NOBODY, Random, Topology, prefix};
+use crate::random::Random;
+use crate::readings::NOBODY;
+use crate::topology::Topology;
 use std::alloc::Global;
 use std::mem::replace;
 use words::Prefix;

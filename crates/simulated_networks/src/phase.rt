@@ -1,5 +1,5 @@
 //! What was seen, second by second.
-use simulated_networks::TableFaults;
+use crate::seen::TableFaults;
 use std::alloc::Global;
 
 /// What was seen at the end of a second.

@@ -1,5 +1,7 @@
 //! What is to be played.
-use simulated_networks::{Faults, InterfaceTimes, TopologyShape};
+use crate::random::Faults;
+use crate::router::InterfaceTimes;
+use crate::topology::TopologyShape;
 
 /// What happens after the start.
 #[derive(Clone, Copy, PartialEq, Eq)]

@@ -1,11 +1,13 @@
 //! Acts, played one by one.
 use crate::acts::HistoryStep;
+use crate::destinations::prefix;
+use crate::fault::NetworkError;
 use crate::mail::Mail;
+use crate::router::{InterfaceTimes, holds_the_same, sees_full};
+use crate::routers::Routers;
 use crate::search::HistorySetting;
 use flood::{Core, Event};
-use simulated_networks::{
-    InterfaceTimes, LinkEnds, NetworkError, Routers, holds_the_same, prefix, sees_full,
-};
+use routes::LinkEnds;
 use std::alloc::AllocError;
 use words::Route;
 

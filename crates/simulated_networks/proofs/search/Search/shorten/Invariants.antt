@@ -1,5 +1,5 @@
 use Rattle.std.proofs.Common.{◌≤◌, vec_len}
-use Rattle.simulated_histories.proofs.search.Search.shorten.Given as goal
+use Rattle.simulated_networks.proofs.search.Search.shorten.Given as goal
 
 abbrev pub invariant-loop : goal.invariant-loop
 invariant-loop l = vec_len l.kept ≤ vec_len l.initial.kept

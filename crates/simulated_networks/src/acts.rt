@@ -1,5 +1,5 @@
 //! Single acts, and those that numbers choose.
-use simulated_networks::{Faults, Random};
+use crate::random::{Faults, Random};
 
 /// What is done with a network. Routers and destinations go by their places and numbers.
 #[derive(Clone, Copy)]
