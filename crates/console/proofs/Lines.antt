@@ -18,7 +18,7 @@ use Rattle.console.specs.Configurations.{Line, SayInterfaces, SaysInterface, Are
 use Rattle.console.specs.Configurations.{MayFollow, interface_of, without_last_feed}
 use Rattle.console.specs.Words.{Word}
 use Rattle.console.specs.Views.{views}
-use Rattle.address_texts.proofs.Addresses.{one_place}
+use Rattle.words.proofs.Addresses.{one_place}
 use Rattle.console.proofs.Seen.{view_at}
 use Rattle.console.specs.declared.configuration.ConfiguredInterface.{ConfiguredInterface}
 use Rattle.adjacency.specs.declared.interface.Interface.{Interface}

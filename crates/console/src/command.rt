@@ -7,10 +7,9 @@ ghost use Rattle.console.specs.declared.command.Command.{Command};
 ghost use Rattle.words.specs.declared.route.ExternalType.{ExternalType};
 
 use crate::reading::{is_text, words_of};
-use address_texts::{read_prefix, read_within};
 use isa::Hook;
 use std::alloc::{AllocError, Global};
-use words::{External, ExternalType, Prefix};
+use words::{External, ExternalType, Prefix, read_prefix, read_within};
 
 /// A command of the operator.
 #[derive(Clone, Copy, Debug)]

@@ -12,11 +12,10 @@ ghost use Rattle.words.specs.Text.{dotted_address, prefix_text};
 ghost use Rattle.console.specs.declared.configuration.ConfiguredInterface.{ConfiguredInterface};
 
 use crate::reading::{is_text, words_of};
-use address_texts::{read_address, read_address_and_length, read_within};
 use adjacency::Interface;
 use std::alloc::{AllocError, AllocFailed, Global};
 use thiserror::Error;
-use words::{Address, RouterId, Sequence};
+use words::{Address, RouterId, Sequence, read_address, read_address_and_length, read_within};
 
 /// An interface from a line of a configuration.
 #[derive(Clone, Copy, Debug)]

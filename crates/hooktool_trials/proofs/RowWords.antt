@@ -3,7 +3,7 @@ use Rattle.std.proofs.Common.{◌≡◌, ◌∙◌, ◌<◌, ℕ, List, ◌∷�
 use Rattle.std.proofs.Common.{ap, subst, length, get_or, lit<}
 use Rattle.std.specs.Prelude.{MatchOption, decimal}
 use Rattle.std.proofs.lemmas.Str.Pattern.{IsSplitOnceResult, split_after, split_parts}
-use Rattle.address_texts.proofs.Addresses.{high_in_prefix}
+use Rattle.words.proofs.Addresses.{high_in_prefix}
 use Rattle.words.specs.Prefixes.{Network}
 use Rattle.words.specs.Text.{prefix_text}
 use Rattle.words.specs.declared.route.TableRow.{TableRow}

@@ -4,7 +4,7 @@ use Rattle.std.proofs.Common.{length, get_or, lit<, arith}
 use Rattle.std.specs.Prelude.{MatchOption, decimal}
 use Rattle.std.proofs.lemmas.Fmt.{digits_decimal}
 use Rattle.std.proofs.lemmas.Str.Parse.{not_in_digits}
-use Rattle.address_texts.proofs.Decimals.{own}
+use Rattle.words.proofs.Decimals.{own}
 use Rattle.std.proofs.lemmas.Str.Pattern.{IsSplitOnceResult, split_after, split_parts}
 use Rattle.hooktool_trials.specs.Words.{IsSetting}
 use Rattle.hooktool_trials.specs.declared.settings.Setting.{Setting}

@@ -7,9 +7,8 @@ ghost use Rattle.hooktool_trials.specs.Words.{AreRows, IsRow, Reads, ReadsOrLack
 
 use crate::values::NotRead;
 use crate::wrong_words::WrongWord;
-use address_texts::{read_prefix, read_within};
 use std::alloc::Global;
-use words::TableRow;
+use words::{TableRow, read_prefix, read_within};
 
 /// The row that a word like 10.0.0.0/8=15 is.
 fn row_of(word: &str) -> Option<TableRow>

@@ -6,8 +6,8 @@ ghost use Rattle.hooktool_trials.specs.Words.{AreSettings, IsSetting, Reads, Rea
 
 use crate::values::NotRead;
 use crate::wrong_words::WrongWord;
-use address_texts::read_within;
 use std::alloc::Global;
+use words::read_within;
 
 /// A counter or cell, and the number that is added to the one or stored in the other.
 #[derive(Clone, Copy)]

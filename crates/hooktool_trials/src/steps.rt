@@ -10,9 +10,9 @@ use crate::arguments::{ASK, command_of};
 use crate::requests::{Question, question_of};
 use crate::values::NotRead;
 use crate::wrong_words::{WrongWord, text_of};
-use address_texts::read_within;
 use clap::{ArgMatches, Error};
 use std::alloc::{AllocError, Global};
+use words::read_within;
 
 /// An answer as a hook means it.
 #[derive(Clone, Copy)]

@@ -12,9 +12,8 @@ ghost use Rattle.hooktool_trials.specs.Words.{IsPrefix, IsTold, OrElse, Reads, e
 ghost use Rattle.hooktool_trials.specs.Words.{kind_word, type_word};
 
 use crate::wrong_words::WrongWord;
-use address_texts::{read_prefix, read_within};
 use clap::ArgMatches;
-use words::{Address, ExternalType, Prefix, RouteKind};
+use words::{Address, ExternalType, Prefix, RouteKind, read_prefix, read_within};
 
 /// Why nothing is read of words: this one has no meaning, or memory was refused.
 #[derive(Clone, Copy)]

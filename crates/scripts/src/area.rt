@@ -3,7 +3,6 @@ ghost use Rattle.std.specs.Prelude.{◌≤◌, length};
 ghost use Rattle.std.specs.FinMap as finite;
 
 use crate::telling::{push_hex, push_numbers};
-use address_texts::{read_address, read_within};
 use candidates::candidates;
 use console::table_text;
 use hex::FromHexError;
@@ -11,7 +10,7 @@ use lsdb::Lsdb;
 use routes::Root;
 use std::alloc::{AllocError, Global};
 use std::fmt::Write;
-use words::{Address, Route, RouterId, Second, Sequence};
+use words::{Address, Route, RouterId, Second, Sequence, read_address, read_within};
 
 /// The database, the router that calculates its routes, and what was printed so far.
 #[derive(Drop)]

@@ -1,8 +1,9 @@
 //! How the router of a script begins: what its first line says, or a later line `router`.
-use address_texts::{read_address, read_address_and_length, read_within};
 use flood::{Config, Interface};
 use std::alloc::{AllocError, Global};
-use words::{Address, RouterId, Second, Sequence};
+use words::{
+    Address, RouterId, Second, Sequence, read_address, read_address_and_length, read_within,
+};
 
 // The intervals of all interfaces, in seconds.
 #[derive(Clone, Copy)]

@@ -1,6 +1,8 @@
 //! What a line of a script says.
-use address_texts::{read_address, read_prefix, read_within};
-use words::{External, ExternalType, Key, LinkStateId, Prefix, RouterId, Second};
+use words::{
+    External, ExternalType, Key, LinkStateId, Prefix, RouterId, Second, read_address, read_prefix,
+    read_within,
+};
 
 /// What happens at the router.
 #[derive(Clone, Copy)]

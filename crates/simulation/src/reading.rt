@@ -6,9 +6,9 @@ ghost use Rattle.simulated_networks.specs.declared.topology.TopologyShape.{Topol
 ghost use Rattle.simulation.specs.Words.{IsNumber, OrElse, scenario_word, topology_word};
 
 use crate::names::{scenario_of, topology_of};
-use address_texts::read_within;
 use clap::ArgMatches;
 use simulated_networks::{Faults, InterfaceTimes, Scenario, TopologyShape};
+use words::read_within;
 
 /// What is wrong with the words.
 #[derive(Clone, Copy)]

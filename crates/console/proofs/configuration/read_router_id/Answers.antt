@@ -1,5 +1,5 @@
 use Rattle.std.proofs.Common.{◌∙◌, arith, sym}
-use Rattle.address_texts.proofs.Addresses.{one_address}
+use Rattle.words.proofs.Addresses.{one_address}
 use Rattle.console.proofs.configuration.read_router_id.Goals as goal
 
 pub returns-then-bits-eq0 : goal.returns-then-bits-eq0

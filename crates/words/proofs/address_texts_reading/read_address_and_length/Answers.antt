@@ -1,6 +1,6 @@
 use Rattle.std.proofs.Common.{arith}
-use Rattle.address_texts.proofs.Addresses.{no_place, place_parts, place_spelled}
-use Rattle.address_texts.proofs.reading.read_address_and_length.Goals as goal
+use Rattle.words.proofs.Addresses.{no_place, place_parts, place_spelled}
+use Rattle.words.proofs.address_texts_reading.read_address_and_length.Goals as goal
 
 pub returns-in_default : goal.returns-in_default
 returns-in_default c = λ n small few e. no_place c.args.word.now c.split_once.result

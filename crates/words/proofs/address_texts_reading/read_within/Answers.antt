@@ -1,6 +1,6 @@
 use Rattle.std.proofs.Common.{◌<◌, ◌^◌, arith}
-use Rattle.address_texts.proofs.Decimals.{one_number}
-use Rattle.address_texts.proofs.reading.read_within.Goals as goal
+use Rattle.words.proofs.Decimals.{one_number}
+use Rattle.words.proofs.address_texts_reading.read_within.Goals as goal
 
 pub returns-in_default : goal.returns-in_default
 returns-in_default c = λ n low high e.

@@ -1,6 +1,6 @@
 use Rattle.std.proofs.Common.{◌≡◌, drop}
 use Rattle.std.specs.Str.{all_ascii_digits}
-use Rattle.address_texts.proofs.reading.is_digits.Given as goal
+use Rattle.words.proofs.address_texts_reading.is_digits.Given as goal
 
 -- the bytes before this one are digits
 abbrev pub invariant-loop-byte : goal.invariant-loop-byte

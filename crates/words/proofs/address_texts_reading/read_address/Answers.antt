@@ -1,6 +1,6 @@
 use Rattle.std.proofs.Common.{◌∙◌, arith}
-use Rattle.address_texts.proofs.Addresses.{address_spelled, address_unread}
-use Rattle.address_texts.proofs.reading.read_address.Goals as goal
+use Rattle.words.proofs.Addresses.{address_spelled, address_unread}
+use Rattle.words.proofs.address_texts_reading.read_address.Goals as goal
 
 pub returns-in-Ok : goal.returns-in-Ok
 returns-in-Ok c = (

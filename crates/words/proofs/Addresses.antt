@@ -17,7 +17,7 @@ use Rattle.std.proofs.lemmas.Str.Pattern.{IsSplitOnceResult, split_after, split_
 use denote.Ref.{Bor}
 use Rattle.words.specs.Prefixes.{Network, IsNetwork}
 use Rattle.words.specs.Text.{dotted_address, prefix_text}
-use Rattle.address_texts.proofs.Decimals.{own}
+use Rattle.words.proofs.Decimals.{own}
 
 -- ---- addresses
 

@@ -1,5 +1,5 @@
-use Rattle.address_texts.proofs.Decimals.{not_digits, with_leading_zero, spelled, unread}
-use Rattle.address_texts.proofs.reading.read_decimal.Goals as goal
+use Rattle.words.proofs.Decimals.{not_digits, with_leading_zero, spelled, unread}
+use Rattle.words.proofs.address_texts_reading.read_decimal.Goals as goal
 
 pub returns-then-not-is_digits : goal.returns-then-not-is_digits
 returns-then-not-is_digits c = not_digits c.args.word.now (cc)

@@ -1,5 +1,5 @@
-use Rattle.address_texts.proofs.Addresses.{prefix_read}
-use Rattle.address_texts.proofs.reading.read_prefix.Goals as goal
+use Rattle.words.proofs.Addresses.{prefix_read}
+use Rattle.words.proofs.address_texts_reading.read_prefix.Goals as goal
 
 pub returns : goal.returns
 returns c = prefix_read c.args.word.now c.in_ok-address.address c.in_ok-address.length c.new.result

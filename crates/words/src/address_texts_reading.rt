@@ -7,8 +7,9 @@ ghost use Rattle.std.specs.Str.{all_ascii_digits};
 ghost use Rattle.words.specs.Prefixes.{Network, IsNetwork};
 ghost use Rattle.words.specs.Text.{dotted_address, prefix_text};
 
+use crate::address::Address;
+use crate::prefix::Prefix;
 use std::net::Ipv4Addr;
-use words::{Address, Prefix};
 
 /// Whether the word consists of decimal digits.
 fn is_digits(word: &str) -> bool
